@@ -1,4 +1,4 @@
--- A fault is the same, whatever is returned without one.
+-- If a reading has two faults, they are one, so a result with the first has the second.
 use Rattle.std.proofs.Common.{◌≡◌, Result, Err, ap, ◌∙◌}
 use Rattle.covread.specs.declared.fault.ReadFault.{ReadFault}
 

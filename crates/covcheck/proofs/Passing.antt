@@ -1,4 +1,5 @@
--- A pass over the lines of a text: what it counted and showed so far, and the lines that are left.
+-- A pass over the lines of a text: how many lines it has found that aren't read, the first of these, and the lines that it has
+-- still to pass.
 use Rattle.std.proofs.Common.{◌≡◌, ℕ, ◌+◌, inl, inr, List, [], ◌∷◌, length, Option, Some, None, refl, sym, subst, arith}
 use Rattle.std.specs.Prelude.{MatchOption, IfSome}
 use Rattle.covcheck.specs.declared.text_summary.SkippedLine.{SkippedLine}
@@ -8,12 +9,13 @@ use Rattle.covcheck.specs.Skipped.{AreThose, start_of}
 abbrev pub Line : Type 0
 Line = ℕ × List ℕ
 
--- this is the first of those lines, or it is still to come among the lines that are left
+-- if the pass has found a line, it is the first of `those`; if it hasn't, all of `those` are still to come
 abbrev pub IsFirstSoFar : Option SkippedLine → List Line → List Line → Type 0
 IsFirstSoFar None left those = those ≡ left
 IsFirstSoFar (Some first) left those = IsFirstOf those (Some first)
 
--- the lines counted so far, and those of the rest that aren't read, are all that aren't read
+-- the pass has found `count` lines that aren't read. Together with those of the rest, these are all lines that aren't read, and
+-- `first` is as above
 abbrev pub Passing : (Line → Type 0) → List Line → List Line → ℕ → Option SkippedLine → Type 0
 Passing holds all rest count first =
     (left : List Line) → AreThose holds rest left
@@ -22,12 +24,12 @@ Passing holds all rest count first =
 pub passing_begins : (holds : Line → Type 0) (all : List Line) → Passing holds all all 0 None
 passing_begins holds all left are = (left, are, omega arith, refl)
 
--- a line that is read
+-- a line that is read is passed: nothing changes
 pub passing_read : (holds : Line → Type 0) (all rest : List Line) (line : Line) (count : ℕ) (first : Option SkippedLine)
     → Passing holds all (line ∷ rest) count first → ¬ holds line → Passing holds all rest count first
 passing_read holds all rest line count first passing is_read left are = passing left (inr (is_read, are))
 
--- what is shown of the first line stays
+-- when a line that isn't read is passed, the first one found stays; if there was none, this line is the first
 first_stays : (line : Line) (left those : List Line) (first new : Option SkippedLine) → IsFirstSoFar first (line ∷ left) those
     → IfSome first (λ f. new ≡ Some f) → (first ≡ None → MatchOption new ⊥ (λ f. (f.at ≡ line.0) × (f.start.now ≡ start_of line.1)))
     → IsFirstSoFar new left those
@@ -35,7 +37,7 @@ first_stays line left those (Some f) new is stays begins = subst (λ (n : Option
 first_stays line left those None None is stays begins = absurd (begins refl)
 first_stays line left those None (Some f) is stays begins = subst (λ (t : List Line). IsFirstOf t (Some f)) (sym is) (begins refl)
 
--- a line that isn't read
+-- a line that isn't read is passed: the count is one more
 pub passing_skipped : (holds : Line → Type 0) (all rest : List Line) (line : Line) (count : ℕ) (first new : Option SkippedLine)
     → Passing holds all (line ∷ rest) count first → holds line
     → IfSome first (λ f. new ≡ Some f) → (first ≡ None → MatchOption new ⊥ (λ f. (f.at ≡ line.0) × (f.start.now ≡ start_of line.1)))
@@ -49,7 +51,7 @@ first_at_end : (those : List Line) (first : Option SkippedLine) → IsFirstSoFar
 first_at_end those None is = subst (λ (t : List Line). IsFirstOf t None) (sym is) tt
 first_at_end those (Some f) is = is
 
--- after the last line
+-- after the last line, the count and the first line are those of all lines that aren't read
 pub passing_ends : (holds : Line → Type 0) (all : List Line) (count : ℕ) (first : Option SkippedLine)
     → Passing holds all [] count first → (those : List Line) × AreThose holds all those × (count ≡ length those) × IsFirstOf those first
 passing_ends holds all count first passing =

@@ -1,4 +1,4 @@
--- The beginning of a line is what comes before the rest.
+-- The beginning of a line, as the code takes it: the text without what `after_word` and `after_cuts` leave of it.
 use Rattle.std.proofs.Common.{◌≡◌, ℕ, ◌+◌, ◌-◌, ◌≤◌, List, [], ◌∷◌, ◌++◌, length, take, refl, ap, ◌∙◌, arith, inl, inr}
 use Rattle.std.proofs.lemmas.Bool.{cases_Bool}
 use Rattle.std.proofs.lemmas.List.{length-append}
@@ -22,14 +22,14 @@ beginning_parts (b ∷ bs) =
       | inr other ↦ rw (other, other) (ap (λ (t : List ℕ). b ∷ t) (word_parts bs))
     ]
 
--- the rest is a part of the text
+-- what is left has at most as many bytes as the text
 pub left_fits : (text : List ℕ) → length (after_word (after_cuts text)) ≤ length text
 left_fits text =
     let e = ap length (beginning_parts text) in
     let f = length-append (beginning_of text) (after_word (after_cuts text)) in
     omega (arith, e, f)
 
--- the text without the rest
+-- the text without what is left is its beginning
 pub beginning_taken : (text : List ℕ) → take (length text - length (after_word (after_cuts text))) text ≡ beginning_of text
 beginning_taken text =
     let front = beginning_of text in

@@ -1,4 +1,4 @@
--- The members of a list of which something holds are one list.
+-- For a list and a condition, there is only one list of the elements that meet the condition.
 use Rattle.std.proofs.Common.{◌≡◌, inl, inr, List, [], ◌∷◌, sym, ap, ◌∙◌}
 use Rattle.covcheck.specs.Skipped.{AreThose}
 

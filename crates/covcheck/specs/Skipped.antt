@@ -12,7 +12,7 @@ IsSkippedRecord line = (line ≢ []) × Spells line Skip
 abbrev pub IsSkippedGcov : List ℕ → Type 0
 IsSkippedGcov line = (line ≢ []) × IsShapeOf line Other
 
--- the members of the list of which this holds, in their order
+-- `those` are the elements of the list for which `holds` is true, in their order
 abbrev pub AreThose : {X : Type 0} → (X → Type 0) → List X → List X → Type 0
 AreThose holds [] those = those ≡ []
 AreThose holds (x ∷ xs) those =
@@ -29,11 +29,11 @@ abbrev pub word_at : List ℕ → List ℕ
 word_at [] = []
 word_at (b ∷ bs) = if is_cut b then [] else b ∷ word_at bs
 
--- the same, with the colons, spaces and tabs that come before them
+-- the colons, spaces and tabs at the front, and the bytes after them up to the next colon, space or tab
 abbrev pub beginning_of : List ℕ → List ℕ
 beginning_of [] = []
 beginning_of (b ∷ bs) = if is_cut b then b ∷ beginning_of bs else b ∷ word_at bs
 
--- the beginning of a line within its first 16 bytes. It is empty for an empty line alone
+-- the beginning of a line, looked for in its first 16 bytes. It is empty only if the line is
 abbrev pub start_of : List ℕ → List ℕ
 start_of line = beginning_of (take 16 line)

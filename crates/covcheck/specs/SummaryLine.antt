@@ -3,7 +3,7 @@ use Rattle.std.specs.Prelude.{ℕ, ◌&&◌, nat_lt, if◌then◌else◌, List, 
 use Rattle.covcheck.specs.declared.text_summary.TextSummary.{TextSummary}
 use Rattle.covcheck.specs.declared.text_summary.SkippedLine.{SkippedLine}
 
--- a byte as it is shown: a question mark in place of a space, and of what isn't printable ASCII
+-- a byte as it is shown: a question mark (63) for a space and for any byte that isn't printable ASCII, any other byte as it is
 abbrev pub shown : ℕ → ℕ
 shown b = if nat_lt 32 b && nat_lt b 127 then b else 63
 

@@ -1,4 +1,4 @@
--- What a text that is read holds: its sections, their items, its odd lines, and the lines that aren't read.
+-- What a text holds that is read without a fault: its sections, their items, its odd lines, and the lines that aren't read.
 use Rattle.std.specs.Prelude.{◌≡◌, ℕ, List, [], ◌∷◌, length, Option, Some, None, Result, Ok, Err}
 use Rattle.std.specs.List.{enumerate_from}
 use Rattle.covline.specs.Lines.{lines_of}
@@ -8,19 +8,19 @@ use Rattle.covcheck.specs.declared.text_summary.TextSummary.{TextSummary}
 use Rattle.covcheck.specs.declared.text_summary.SkippedLine.{SkippedLine}
 use Rattle.covcheck.specs.Skipped.{AreThose, start_of}
 
--- the lines of a text of which this holds, each with its number; lines are counted from 1, empty ones too
+-- `lines` are the lines of the text for which `is_so` is true, each with its number. Lines are counted from 1, empty ones too
 abbrev pub AreLinesThat : (List ℕ → Type 0) → List ℕ → List (ℕ × List ℕ) → Type 0
 AreLinesThat is_so text lines = AreThose (λ (l : ℕ × List ℕ). is_so l.1) (enumerate_from 1 (lines_of text)) lines
 
--- the number and the beginning of the first of these lines; none if there is no line
+-- the number and the beginning of the first of these lines, or `None` if there are no lines
 abbrev pub IsFirstOf : List (ℕ × List ℕ) → Option SkippedLine → Type 0
 IsFirstOf [] None = Unit {0}
 IsFirstOf [] (Some first) = ⊥
 IsFirstOf (line ∷ lines) None = ⊥
 IsFirstOf (line ∷ lines) (Some first) = (first.at ≡ line.0) × (first.start.now ≡ start_of line.1)
 
--- what the text holds, which is read as this submission; the lines that aren't read are those of which `is_skipped`
--- holds
+-- the summary says what the text holds, if the text is read as this submission. The lines that aren't read are those for
+-- which `is_skipped` is true
 pub record Holds (is_skipped : List ℕ → Type 0) (text : List ℕ) (submission : SubmissionData) (summary : TextSummary) : Type 0 where
   pub sections : summary.sections ≡ length submission.sects
   pub items : summary.items ≡ items_in submission.sects
@@ -30,7 +30,7 @@ pub record Holds (is_skipped : List ℕ → Type 0) (text : List ℕ) (submissio
   pub skipped : summary.skipped ≡ length lines
   pub first : IsFirstOf lines summary.first
 
--- what a check returns for a text that is read as this: what it holds, or the fault
+-- what a check returns if the reader's result is this: the summary of the text, or the reader's fault
 abbrev pub Tells : (List ℕ → Type 0) → List ℕ → Result SubmissionData ReadFault → Result TextSummary ReadFault → Type 0
 Tells is_skipped text (Ok submission) (Ok summary) = Holds is_skipped text submission summary
 Tells is_skipped text (Ok submission) (Err told) = ⊥

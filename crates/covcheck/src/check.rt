@@ -23,9 +23,9 @@ pub fn check_trace<'a, A: Allocator + Copy>(
     alloc: A,
     text: &'a [u8],
 ) -> Result<TextSummary<'a>, ReadFault>
-    // The answer is about what the reader returns: what the text is read as, or that memory ran out after a path.
+    // The result fits an answer of the reader. This is what the text is read as, or `Memory`, which comes only after a path.
     ensures answers { (read : Result SubmissionData Fault) × Answers text.now read × GrowsLate text.now read × Tells IsSkippedRecord text.now read result }
-    // It is about what the text is read as, unless memory ran out.
+    // The result fits what the text is read as, or it is `Memory`.
     ensures only { (outcome : Result SubmissionData Fault) → IsOutcome text.now outcome → (result ≡ Err NoMemory) ⊎ Tells IsSkippedRecord text.now outcome result }
 {
     let submission = read_trace(alloc, text)?;
@@ -38,17 +38,17 @@ pub fn check_gcov<'a, A: Allocator + Copy>(
     alloc: A,
     text: &'a [u8],
 ) -> Result<TextSummary<'a>, ReadFault>
-    // The answer is about what the reader returns: what the text is read as, or that memory ran out after a path or a
-    // function.
+    // The result fits an answer of the reader. This is what the text is read as, or `Memory`, which comes only after a path or
+    // a function.
     ensures answers { (read : Result SubmissionData Fault) × gcov.Answers [] text.now read × gcov.GrowsLate text.now read × Tells IsSkippedGcov text.now read result }
-    // It is about what the text is read as, unless memory ran out.
+    // The result fits what the text is read as, or it is `Memory`.
     ensures only { (outcome : Result SubmissionData Fault) → gcov.IsOutcome [] text.now outcome → (result ≡ Err NoMemory) ⊎ Tells IsSkippedGcov text.now outcome result }
 {
     let submission = read_gcov(alloc, b"", text)?;
     Ok(summary_of(&submission, text, Format::Gcov))
 }
 
-/// What a text holds that was read as this submission.
+/// The summary of a text that was read as this submission.
 fn summary_of<'a, A: Allocator>(
     submission: &Submission<A>,
     text: &'a [u8],

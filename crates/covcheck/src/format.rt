@@ -1,4 +1,4 @@
-//! How a text is read, and which of its lines aren't.
+//! The formats that a text can have, and which lines aren't read in each.
 
 ghost use Rattle.std.specs.Prelude.{◌≡◌, ◌++◌, ◌↔◌, IsTrue, IfSome, codes};
 ghost use Rattle.covline.specs.Spells.{line_data, HasKey, Skip, Spells};
@@ -18,7 +18,7 @@ pub(crate) enum Format {
 }
 
 impl Format {
-    /// Whether the line isn't empty, and isn't read.
+    /// Whether the line isn't read in a text of this format. False for an empty line.
     #[inline]
     pub(crate) fn skips(self, line: &[u8]) -> bool
         ensures { IsTrue result ↔ IsSkippedIn self line.now }
@@ -30,8 +30,8 @@ impl Format {
     }
 }
 
-/// Whether the line of a tracefile isn't empty, and says nothing. Most lines begin with one of two keys, and needn't be read
-/// to know that they say something.
+/// Whether the line isn't read in a tracefile: it isn't empty, and says nothing. Most lines begin with `DA:` or `BRDA:`. For
+/// these the key alone gives the answer `false`, and their fields aren't looked at.
 #[inline]
 fn is_skipped_record(line: &[u8]) -> bool
     ensures { IsTrue result ↔ IsSkippedRecord line.now }
@@ -50,7 +50,7 @@ fn has_common_key(line: &[u8]) -> bool
     after_line_key(line).is_some() || after_branch_key(line).is_some()
 }
 
-/// What follows the key of a counted line.
+/// What follows `DA:`, if the line begins with it.
 #[inline]
 fn after_line_key(line: &[u8]) -> Option<&[u8]>
     ensures { IfSome result (λ rest. line.now ≡ codes "DA:" ++ rest.now) }
@@ -61,7 +61,7 @@ fn after_line_key(line: &[u8]) -> Option<&[u8]>
     }
 }
 
-/// What follows the key of a branch.
+/// What follows `BRDA:`, if the line begins with it.
 #[inline]
 fn after_branch_key(line: &[u8]) -> Option<&[u8]>
     ensures { IfSome result (λ rest. line.now ≡ codes "BRDA:" ++ rest.now) }
@@ -82,7 +82,7 @@ fn says_nothing(line: &[u8]) -> bool
     }
 }
 
-/// Whether this is said by lines that say nothing.
+/// Whether this is `TraceLine::Skip`.
 fn is_skip(says: TraceLine<'_>) -> bool
     ensures { IsTrue result ↔ (line_data says.entry ≡ Skip) }
 {

@@ -1,4 +1,4 @@
-//! Laws of what a check reports, as functions that do nothing: their contracts are the laws.
+//! Laws of what a check reports. Each law is the contract of a function that does nothing.
 
 ghost use Rattle.std.specs.Prelude.{◌≡◌, ◌≢◌, ◌<◌, ◌≤◌, ℕ, [], List, length};
 ghost use Rattle.covcheck.specs.TextSummary.{AreLinesThat};

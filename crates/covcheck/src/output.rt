@@ -23,7 +23,7 @@ pub fn summary_line<A: Allocator>(alloc: A, summary: &TextSummary<'_>) -> Result
     Ok(line)
 }
 
-/// Appends words and the number that follows them.
+/// Appends `words`, and then the number in decimal.
 fn put_number<A: Allocator>(line: &mut Vec<u8, A>, words: &[u8], number: u64) -> Result<(), Memory>
     ensures { OnOk result (line.new.items ≡ line.old.items ++ (words.now ++ decimal number)) }
 {
@@ -32,7 +32,7 @@ fn put_number<A: Allocator>(line: &mut Vec<u8, A>, words: &[u8], number: u64) ->
     Ok(())
 }
 
-/// Appends the beginning of the first line that isn't read, and its number, if there is one.
+/// Appends the beginning and the number of the first line that isn't read. Appends nothing if there is no such line.
 fn put_first<A: Allocator>(
     line: &mut Vec<u8, A>,
     first: Option<SkippedLine<'_>>,
@@ -57,7 +57,7 @@ fn put_shown<A: Allocator>(line: &mut Vec<u8, A>, text: &[u8]) -> Result<(), Mem
     Ok(())
 }
 
-/// The byte as it is shown: a question mark in place of a space, and of what isn't printable ASCII.
+/// The byte as it is shown: a question mark for a space and for any byte that isn't printable ASCII, and any other byte as it is.
 fn shown(byte: u8) -> u8
     ensures { result ≡ shown byte }
 {

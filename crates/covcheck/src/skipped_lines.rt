@@ -10,7 +10,7 @@ use crate::start::start_of;
 use crate::text_summary::SkippedLine;
 use covline::lines;
 
-/// What a pass found of the lines that aren't read.
+/// The lines of a text that aren't read: their number, and the first one.
 #[derive(Clone, Copy)]
 pub(crate) struct SkippedLines<'a> {
     /// How many there are.
@@ -19,7 +19,7 @@ pub(crate) struct SkippedLines<'a> {
     pub(crate) first: Option<SkippedLine<'a>>,
 }
 
-/// The lines of the text that aren't read.
+/// Finds the lines of the text that aren't read in this format.
 pub(crate) fn skipped_lines_in(text: &[u8], format: Format) -> SkippedLines<'_>
     ensures { (lines : List (ℕ × List ℕ)) × AreLinesThat (IsSkippedIn format) text.now lines × (result.count ≡ length lines) × IsFirstOf lines result.first }
 {
@@ -36,7 +36,7 @@ pub(crate) fn skipped_lines_in(text: &[u8], format: Format) -> SkippedLines<'_>
     SkippedLines { count, first }
 }
 
-/// The first line that isn't read: the one found before, or else this line, which has this number.
+/// The first line that isn't read: the one found so far, or if there is none, this line with its number.
 fn first_with<'a>(
     first: Option<SkippedLine<'a>>,
     line: &'a [u8],

@@ -7,8 +7,8 @@ ghost use Rattle.covcheck.specs.CheckSteps.{after_cuts, after_word};
 /// The most bytes that the beginning of a line can have.
 const MAX_SHOWN: usize = 16;
 
-/// The beginning of a line, within its first 16 bytes: colons, spaces and tabs at its front, and what follows them up
-/// to the next one.
+/// The beginning of a line: the colons, spaces and tabs at its front, and what follows them up to the next colon, space or tab.
+/// It ends after 16 bytes at the latest.
 pub(crate) fn start_of(line: &[u8]) -> &[u8]
     ensures { result.now ≡ start_of line.now }
 {
@@ -38,7 +38,7 @@ fn after_cuts(text: &[u8]) -> &[u8]
     rest
 }
 
-/// What follows the bytes before the first colon, space or tab.
+/// The text from its first colon, space or tab on. It is empty if the text has none of these.
 fn after_word(text: &[u8]) -> &[u8]
     ensures { result.now ≡ after_word text.now }
 {

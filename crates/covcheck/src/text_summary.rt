@@ -1,14 +1,14 @@
 //! What a text holds.
 
-/// What a text that is read holds.
+/// What a text holds that is read without a fault.
 #[derive(Clone, Copy, Debug)]
 pub struct TextSummary<'a> {
     /// How many sections it has.
     pub sections: u64,
     /// How many items these have.
     pub items: u64,
-    /// How many lines don't fit the others: counts of functions without a start line, and totals that differ from the
-    /// section's own.
+    /// How many lines are odd. A line is odd if it counts a function that has no start line, or if it states a total that isn't
+    /// the section's own.
     pub odd: u64,
     /// How many lines aren't read. Empty lines don't count.
     pub skipped: u64,
@@ -19,8 +19,8 @@ pub struct TextSummary<'a> {
 /// A line that isn't read.
 #[derive(Clone, Copy, Debug)]
 pub struct SkippedLine<'a> {
-    /// The beginning of the line, within its first 16 bytes: colons, spaces and tabs at the front, and what follows them
-    /// up to the next one. It has at least one byte.
+    /// The beginning of the line: the colons, spaces and tabs at its front, and what follows them up to the next colon, space or
+    /// tab. It has 1 to 16 bytes.
     pub start: &'a [u8],
     /// Its number in the text. Lines are counted from 1, empty ones too.
     pub at: u64,

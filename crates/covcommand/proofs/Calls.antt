@@ -1,4 +1,4 @@
--- Calls by their words, computed.
+-- The laws of single calls in `src/laws.rt`. Each is proved by computing what clap's definitions give.
 use Rattle.std.proofs.Common.{◌≡◌, List, [], ◌∷◌, true, refl, codes}
 use Rattle.clap.proofs.OnLiterals.{clap_on_literals}
 use Rattle.std.specs.Option.{option_map_or}

@@ -1,4 +1,5 @@
--- A list with a copy of one more element at its end.
+-- If a list has copies of some elements up to a place, and a copy of the element at this place is appended, it has copies of the
+-- elements up to the next place.
 use Rattle.std.proofs.Common.{◌≡◌, ℕ, ◌+◌, ◌<◌, List, [], ◌∷◌, ◌++◌, length, get_or, take, map, sym, ap, ◌∙◌}
 use Rattle.std.proofs.lemmas.List.{take_more, map-append, append_assoc}
 

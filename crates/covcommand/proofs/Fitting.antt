@@ -1,4 +1,4 @@
--- If clap has no fault for the words, the arguments of the subcommand have what they have to.
+-- If clap has no fault for the words, it found what the subcommand requires (`Fits`).
 use Rattle.std.proofs.Common.{◌≡◌, ◌∙◌, ◌||◌, not, ℕ, Bool, true, false, List, [], ◌∷◌, length, Option, Some, None, cond, refl, sym, ap, subst, option_map, codes, arith, eqb-true}
 use Rattle.std.specs.Prelude.{fold}
 use Rattle.std.specs.Option.{option_map_or}
@@ -53,7 +53,7 @@ test_keeps i again (v ∷ vs) rows none fit =
 abbrev annotated_built : ℕ → Rule
 annotated_built i = with_index i (filled annotated)
 
--- a flag that is given says "true"
+-- a use of the flag `--gcov` keeps the rows fitting: its value is then "true"
 annotated_keeps : (i : ℕ) → Keeps RowsFit (annotated_built i)
 annotated_keeps i again [] rows none fit =
     set_fits (codes "gcov") AsWritten (codes "true" ∷ []) rows ((λ e. no e), (λ e. (refl, refl))) fit
@@ -83,7 +83,7 @@ help_keeps i again values rows none fit =
     not_none : kind.DisplayHelp ∷ [] ≡ [] → ⊥
     not_none e = cc
 
--- ---- what the last checks want
+-- ---- what follows if clap's last checks have no fault
 
 wanted : (b rest : Bool) (k : ErrorKind) → cond (not b || rest) (k ∷ []) [] ≡ [] → (b ≡ true) × (cond rest (k ∷ []) [] ≡ [])
 wanted true rest k e = (refl, e)
@@ -147,7 +147,7 @@ summary_fits words none =
         let all = fold with_default rows (sub_at 1).rules in
         has_some (codes "FILE") all (given_row (codes "FILE") all (subst RowsFit (sym same) fit) (wanted _ _ _ none).0)
 
--- a tracefile and patterns, whatever the subcommand is called
+-- the arguments of `extract` and of `remove`: a tracefile, patterns, and `--help`
 abbrev filter_rules : List Rule
 filter_rules = with_index 1 (filled (single (codes "TRACEFILE"))) ∷ with_index 2 (filled (several (codes "PATTERN"))) ∷ with_index 3 (filled help_rule) ∷ []
 
@@ -253,7 +253,7 @@ check_fits words none =
       others = λ m s x r g. (refl, has.0, has.1);
     }
 
--- ---- the subcommand that is met
+-- ---- the subcommand that the words name
 
 abbrev EachSub : List Shape → Type 0
 EachSub [] = Unit {0}

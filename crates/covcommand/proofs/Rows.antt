@@ -1,5 +1,5 @@
--- Rows whose values are there, and fit: those of `--jobs` begin with a number from 1 to 64, and those of `--gcov` with what a
--- flag says.
+-- Rows that fit: each has at least one value. The first value of `--jobs` is a number from 1 to 64, and that of `--gcov` is
+-- "true" or "false".
 use Rattle.std.proofs.Common.{◌≡◌, ◌∙◌, ◌≤◌, ◌||◌, ◌⊎◌, inl, inr, Bool, pos, true, false, List, [], ◌∷◌, ◌++◌, length, Option, Some, None, cond, refl, sym, ap, subst, option_map, unwrap_or, option_and_then, ap₂, codes, arith}
 use Rattle.std.specs.Prelude.{slice_get}
 use Rattle.std.specs.Option.{option_map_or}
@@ -23,7 +23,7 @@ use Rattle.covcommand.specs.Found.{HasFlag, HasJobs, HasSome, HasTest}
 abbrev pub numbers : ValueParser
 numbers = parser.Signed (pos 1) (pos 64)
 
--- the values of an argument, and how they are read
+-- the argument has a value, and its first value fits, as does the way in which the values are read
 abbrev pub FitsValues : Text → Reading → List Text → Type 0
 FitsValues id how [] = ⊥
 FitsValues id how (v ∷ vs) = (bytes_eq id (codes "jobs") ≡ true → (accepts false numbers v ≡ true) × (how ≡ WithoutMinus))
@@ -56,7 +56,7 @@ more_fit : (id : Text) (how : Reading) (values more : List Text) → FitsValues 
 more_fit id how [] more fits = absurd fits
 more_fit id how (v ∷ values) more fits = fits
 
--- a use that replaces what was there, and one that adds to it
+-- rows still fit after a use of an argument that replaces its values
 pub set_fits : (id : Text) (how : Reading) (values : List Text) (rows : List Row) → FitsValues id how values → RowsFit rows
     → RowsFit (with_values id how CommandLine values (without id rows))
 set_fits id how values rows new fit =
@@ -64,6 +64,7 @@ set_fits id how values rows new fit =
     (at_row_fits id (λ r. []) [] rows fit (λ r e fits. tt) tt)
     (λ r e fits. (more_fit r.id r.reading r.values values fits, tt)) (new, tt)
 
+-- rows still fit after a use of an argument that adds values to it
 pub append_fits : (id : Text) (how : Reading) (source : ValueSource) (values : List Text) (rows : List Row) → FitsValues id how values → RowsFit rows
     → RowsFit (with_values id how source values rows)
 append_fits id how source values rows new fit =
@@ -84,7 +85,7 @@ found_fits id [] r fit e = absurd cc
 found_fits id (x ∷ rows) r fit e =
     find_step id (bytes_eq x.id id) x r (find (λ y. bytes_eq y.id id) rows) refl fit.0 (found_fits id rows r fit.1) e
 
--- the row of an id that is there
+-- the rows have a row with this id, and this row fits
 abbrev pub RowOf : Text → List Row → Type 0
 RowOf id rows = (r : Row) × (find (λ y. bytes_eq y.id id) rows ≡ Some r) × (bytes_eq r.id id ≡ true) × RowFits r
 
@@ -168,7 +169,7 @@ has_flag rows row =
 
 -- ---- defaults
 
--- an option or a flag, as it is read, and the word that it has by default
+-- an option or a flag: its id, how its values are read, and its default
 module _ (id : Text) (how : Reading) (word : Text) where
   at_row_has_step : (b : Bool) (x y : Row) (rows later : List Row) → bytes_eq y.id id ≡ b → bytes_eq x.id id ≡ b
       → has_row id later ≡ true → has_row id (cond b (x ∷ rows) (y ∷ later)) ≡ true
@@ -186,13 +187,13 @@ module _ (id : Text) (how : Reading) (word : Text) where
   defaulted_at own fits false rows has fit =
       (append_fits id how DefaultValue (word ∷ []) rows fits fit, defaulted_has own rows)
 
-  -- with its default it has a row
+  -- once its default is filled in, it has a row, and the rows still fit
   pub defaulted : bytes_eq id id ≡ true → FitsValues id how (word ∷ []) → (rows : List Row) → RowsFit rows
       → RowsFit (cond (has_row id rows) rows (default_rows id how (word ∷ []) rows))
       × (has_row id (cond (has_row id rows) rows (default_rows id how (word ∷ []) rows)) ≡ true)
   defaulted own fits rows fit = defaulted_at own fits (has_row id rows) rows refl fit
 
--- and an argument without a default changes nothing
+-- an argument without a default leaves the rows as they are
 pub not_defaulted : (b : Bool) (rows : List Row) → cond b rows rows ≡ rows
 not_defaulted true rows = refl
 not_defaulted false rows = refl

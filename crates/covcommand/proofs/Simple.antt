@@ -1,4 +1,4 @@
--- The program's command is one whose matches and faults clap defines.
+-- The program's command is simple, as clap's definitions of matches and faults require.
 use Rattle.std.proofs.Common.{◌≡◌, true, refl}
 use Rattle.clap.proofs.OnLiterals.{clap_on_literals}
 use Rattle.clap.specs.Simple.{is_simple}

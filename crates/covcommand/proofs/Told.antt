@@ -1,4 +1,4 @@
--- The fault for clap's answer.
+-- The fault that is made of clap's error, and the subcommand that clap's getters give.
 use Rattle.std.proofs.Common.{◌≡◌, ◌∙◌, ◌⊎◌, inl, inr, Option, Some, None, refl, sym, ap₂, subst, option_map}
 use Rattle.std.specs.Prelude.{Box}
 use Rattle.clap.specs.Kinds.{IsAmong, Kinds}
@@ -20,14 +20,14 @@ help_is_no_memory e = cc
 version_is_no_memory : kind.OutOfMemory ≡ kind.DisplayVersion → ⊥
 version_is_no_memory e = cc
 
--- out of memory stays out of memory
+-- if clap ran out of memory, the fault is `Memory`
 pub told_memory : (k : ErrorKind) (f : CommandFault) → Tells k f → k ≡ kind.OutOfMemory → f ≡ Memory
 told_memory k (Help text) told is = absurd (help_is_no_memory (sym is ∙ told))
 told_memory k (Line text) told is = absurd (told.2 is)
 told_memory k Memory told is = refl
 told_memory k (Version text) told is = absurd (version_is_no_memory (sym is ∙ told))
 
--- the fault is among the kinds that clap has for the words
+-- if clap ran out of memory, or its error is of one of its kinds for the words, the fault fits these kinds
 pub told_of : (k : ErrorKind) (kinds : Kinds) (f : CommandFault) → Tells k f → (k ≡ kind.OutOfMemory) ⊎ IsAmong k kinds → IsToldOf kinds f
 told_of k kinds (Help text) told (inl is) = absurd (help_is_no_memory (sym is ∙ told))
 told_of k kinds (Help text) told (inr among) = subst (λ (x : ErrorKind). IsAmong x kinds) told among
@@ -37,7 +37,7 @@ told_of k kinds Memory told has = tt
 told_of k kinds (Version text) told (inl is) = absurd (version_is_no_memory (sym is ∙ told))
 told_of k kinds (Version text) told (inr among) = subst (λ (x : ErrorKind). IsAmong x kinds) told among
 
--- a subcommand's name and rows, taken apart, are those of the subcommand
+-- if this is the name of the subcommand, and these are its rows, the subcommand is this name with these rows
 pub both_halves : {X Y : Type 0} (met : Option (X × Y)) (name : X) (rows : Y) → Some name ≡ option_map (λ p. p.0) met
     → Some rows ≡ option_map (λ p. p.1) met → met ≡ Some (name, rows)
 both_halves None name rows n r = absurd cc
@@ -46,7 +46,7 @@ both_halves (Some p) name rows n r =
     let same_rows : p.1 ≡ rows = cc in
     ap₂ (λ x y. Some (x, y)) same_name same_rows
 
--- clap gives the name of a subcommand by itself, and beside its rows
+-- the name that clap gives of a subcommand alone is the name that it gives together with the rows
 pub same_name : (m : ArgMatches) → subcommand_name_of m ≡ option_map (λ p. p.0) (subcommand_rows_of m)
 same_name m = go (out-ArgMatches m).subcommand
   where

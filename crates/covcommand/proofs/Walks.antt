@@ -1,4 +1,4 @@
--- What holds of the rows of a parse that has no fault: whatever each use of an argument keeps, all the words keep.
+-- If each use of an argument keeps a property of the rows, the rows of a whole parse without a fault have this property.
 use Rattle.std.proofs.Common.{◌≡◌, ◌&&◌, ℕ, Bool, zero, suc, true, false, List, [], ◌∷◌, length, drop, Option, Some, None, is_some, cond, refl, subst}
 use Rattle.std.specs.Prelude.{encode_utf8, slice_get, fold}
 use Rattle.std.specs.Option.{option_map_or}
@@ -12,7 +12,7 @@ use Rattle.clap.specs.Walk.{after_flag, after_step, arg_by_id, arg_by_index, arg
 use Rattle.clap.specs.Simple.{Shape}
 use Rattle.clap.specs.Faults.{bundle_fault, bundle_step_fault, check_fault, defaults_fault, flag_word_fault, flags_fault, level_fault, long_fault, option_fault, other_fault, positional_fault, react_fault, settle_fault, short_fault, step_fault, stray_fault, turn_fault, use_fault, walk_fault, word_fault}
 
--- neither part has a fault
+-- if two parts together have no fault, neither part has one
 pub no_faults : (a b : Kinds) → or_else a b ≡ [] → (a ≡ []) × (b ≡ [])
 no_faults [] b e = (refl, e)
 no_faults (k ∷ ks) b e = absurd cc
@@ -22,7 +22,7 @@ abbrev pub settled_after : Shape → List Text → List Row
 settled_after s words = (settled s.rules (walk s.rules [] nothing_held words).held).rows
 
 module _ (P : List Row → Type 0) where
-  -- a use of the argument without a fault keeps it
+  -- each use of the argument that has no fault keeps the property `P`
   abbrev pub Keeps : Rule → Type 0
   Keeps a = (again : Bool) (values : List Text) (rows : List Row) → use_fault again a values rows ≡ [] → P rows → P (used a values rows)
 
@@ -215,7 +215,8 @@ module _ (P : List Row → Type 0) where
       let parts = no_faults (turn_fault s names w word) (walk_fault s names (walked s.rules names w word) words) none in
       walk_keeps s names (walked s.rules names w word) words each parts.1 (turn_keeps s names w word each parts.0 p)
 
-  -- if a subcommand has no fault, they keep it, and what the last checks want is there
+  -- if a subcommand has no fault, `P` is true of its rows before the defaults are filled in, and clap's last checks have no fault
+  -- after that
   pub level_keeps : (s : Shape) (words : List Text) → EachKeeps s.rules → P [] → level_fault s [] nothing_held words false [] ≡ []
       → P (settled_after s words) × (check_fault s (fold with_default (settled_after s words) s.rules) false ≡ [])
   level_keeps s words each p none =

@@ -11,12 +11,12 @@ use Rattle.covcommand.specs.declared.asked.TextFormat.TheVariants as format
 abbrev pub values_of : Text → List Row → List Text
 values_of id rows = unwrap_or (all_of id rows) []
 
--- the number that clap gives of the option, in decimal digits; a plus may come before them
+-- the number that clap found for `--jobs`. Its value is decimal digits, and a plus may come before them
 abbrev pub IsNumberOf : List Row → ℕ → Type 0
 IsNumberOf rows jobs = (text : Text) × (one_of (codes "jobs") rows ≡ Some text)
     × (jobs ≡ digits_value 10 (without_leading_plus text))
 
--- the words of a tracefile and patterns, in their order
+-- the word for the tracefile, and then the words for the patterns, in their order
 abbrev pub tracefile_and_patterns : List Row → List Text
 tracefile_and_patterns rows = values_of (codes "TRACEFILE") rows ++ values_of (codes "PATTERN") rows
 
@@ -25,7 +25,8 @@ abbrev pub IsFormatOf : List Row → TextFormat → Type 0
 IsFormatOf rows format.Tracefile = one_of (codes "gcov") rows ≡ Some (codes "false")
 IsFormatOf rows format.Gcov = one_of (codes "gcov") rows ≡ Some (codes "true")
 
--- the words name this subcommand, and give its arguments these words: such a call asks for this command
+-- a call asks for this command: `met` is the subcommand that clap reads of its words (`None` for a session), with a row for each
+-- of its arguments, and the command has what the rows say
 abbrev pub AsksFor : Option (Text × List Row) → Command → Type 0
 AsksFor met Session = met ≡ None
 AsksFor met (Merge jobs names) = (rows : List Row) × (met ≡ Some (codes "merge", rows))
@@ -42,7 +43,7 @@ AsksFor met (Gcov test names) = (rows : List Row) × (met ≡ Some (codes "gcov"
 AsksFor met (Check how names) = (rows : List Row) × (met ≡ Some (codes "check", rows))
     × IsFormatOf rows how × (names ≡ values_of (codes "FILE") rows)
 
--- a merge has 1 to 64 jobs, and there is at least one name, with patterns at least two
+-- a merge has 1 to 64 jobs. Each subcommand has at least one name, and `extract` and `remove` have at least two
 abbrev pub IsInBounds : Command → Type 0
 IsInBounds Session = Unit {0}
 IsInBounds (Merge jobs names) = (1 ≤ jobs) × (jobs ≤ 64) × (1 ≤ length names)

@@ -48,7 +48,7 @@ merge = with_rule (with_rule (new_app (codes "merge")) (several (codes "FILE")))
 abbrev pub summary : App
 summary = with_rule (new_app (codes "summary")) (several (codes "FILE"))
 
--- a subcommand that keeps the files of a tracefile which match patterns, or which don't
+-- a subcommand that takes a tracefile and patterns: `extract` and `remove`
 abbrev pub filtering : Text → App
 filtering name = with_rule (with_rule (new_app name) (single (codes "TRACEFILE"))) (several (codes "PATTERN"))
 

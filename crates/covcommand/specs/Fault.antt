@@ -1,4 +1,4 @@
--- Why the words of a call give no command, and what is said of it.
+-- Why the words of a call give no command: the number and the exit status of each fault, and which errors of clap's lead to it.
 use Rattle.std.specs.Prelude.{◌≡◌, ◌≢◌, ℕ}
 use Rattle.clap.specs.Kinds.{IsAmong, Kinds}
 use Rattle.clap.specs.declared.error.kind.ErrorKind.{ErrorKind}
@@ -19,15 +19,15 @@ fault_status (Line text) = 2
 fault_status Memory = 3
 fault_status (Version text) = 0
 
--- the fault for an error of clap's of this kind; out of memory, if its text can't be made
+-- the fault for an error of clap's of this kind; it may be `Memory` for any kind, since making the error's text may fail
 abbrev pub Tells : ErrorKind → CommandFault → Type 0
 Tells k (Help text) = k ≡ kind.DisplayHelp
 Tells k (Line text) = (k ≢ kind.DisplayHelp) × (k ≢ kind.DisplayVersion) × (k ≢ kind.OutOfMemory)
 Tells k Memory = Unit {0}
 Tells k (Version text) = k ≡ kind.DisplayVersion
 
--- help and the version are the fault only if clap's kinds for the words have them, and words that don't fit only if they
--- have another kind
+-- the fault for words for which clap has errors of these kinds. It is `Help` or `Version` only if the kind for that is among
+-- them, and `Line` only if another kind is
 abbrev pub IsToldOf : Kinds → CommandFault → Type 0
 IsToldOf kinds (Help text) = IsAmong kind.DisplayHelp kinds
 IsToldOf kinds (Line text) = (k : ErrorKind) × IsAmong k kinds × (k ≢ kind.DisplayHelp) × (k ≢ kind.DisplayVersion)

@@ -1,4 +1,4 @@
--- Private steps: what clap found for the arguments of a subcommand.
+-- Definitions for private steps: what clap found for the arguments of a subcommand.
 use Rattle.std.specs.Prelude.{◌≡◌, ◌⊎◌, ◌≤◌, List, Some, true, false, codes, length, pos}
 use Rattle.std.specs.Str.{bytes_eq}
 use Rattle.clap.specs.Lexer.{without_minus}
@@ -6,26 +6,26 @@ use Rattle.clap.specs.Values.{IsSignedIn}
 use Rattle.clap.specs.Walk.{Row, Text, first_of, one_of}
 use Rattle.covcommand.specs.Asked.{values_of}
 
--- there is a word
+-- clap found at least one word for the argument
 abbrev pub HasSome : Text → List Row → Type 0
 HasSome id rows = 1 ≤ length (values_of id rows)
 
--- there is a name of a test
+-- clap found a word for `--test`
 abbrev pub HasTest : List Row → Type 0
 HasTest rows = (text : Text) × (first_of (codes "test") rows ≡ Some text)
 
--- there is a number of jobs
+-- clap found a number from 1 to 64 for `--jobs`
 abbrev pub HasJobs : List Row → Type 0
 HasJobs rows = (text : Text) × (one_of (codes "jobs") rows ≡ Some (without_minus text)) × IsSignedIn (pos 1) (pos 64) text
 
--- the flag is set or it isn't
+-- clap says of the flag `--gcov` that it is set, or that it isn't
 abbrev pub HasFlag : List Row → Type 0
 HasFlag rows = (one_of (codes "gcov") rows ≡ Some (codes "true")) ⊎ (one_of (codes "gcov") rows ≡ Some (codes "false"))
 
 abbrev pub HasFilter : List Row → Type 0
 HasFilter rows = HasSome (codes "TRACEFILE") rows × HasSome (codes "PATTERN") rows
 
--- the arguments of the subcommand of this name have what they have to
+-- clap found for the arguments of the subcommand of this name what the subcommand requires
 pub record Fits (name : Text) (rows : List Row) : Type 0 where
   pub merge : bytes_eq name (codes "merge") ≡ true → HasJobs rows × HasSome (codes "FILE") rows
   pub summary : bytes_eq name (codes "summary") ≡ true → HasSome (codes "FILE") rows

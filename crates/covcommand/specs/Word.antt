@@ -13,7 +13,7 @@ shown byte = if nat_le 32 byte && nat_le byte 126 then byte else 63
 abbrev pub not_text : (place : ℕ) → (word : List ℕ) → List ℕ
 not_text place word = codes "error: word " ++ decimal place ++ codes " isn't UTF-8: " ++ map shown word ++ codes "\n"
 
--- the word isn't UTF-8, and that is the fault; or memory ran out
+-- the fault of a word at this place: the line that complains about it, if the word isn't UTF-8, or `Memory`
 abbrev pub IsWordFault : (place : ℕ) → (word : List ℕ) → CommandFault → Type 0
 IsWordFault place word (Help text) = ⊥
 IsWordFault place word (Line text) = (IsUtf8 word → ⊥) × (string_bytes text ≡ not_text place word)

@@ -20,12 +20,12 @@ pub enum Command {
         /// The files' paths, at least one.
         names: Names,
     },
-    /// `extract`: the sections of the tracefile whose file matches a pattern.
+    /// `extract`: the tracefile's sections of those source files that match a pattern.
     Extract {
         /// The tracefile's path, followed by the patterns, at least one.
         names: Names,
     },
-    /// `remove`: the sections of the tracefile whose file matches no pattern.
+    /// `remove`: the tracefile's sections of those source files that match no pattern.
     Remove {
         /// The tracefile's path, followed by the patterns, at least one.
         names: Names,

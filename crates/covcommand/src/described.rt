@@ -119,7 +119,7 @@ fn tracefile<'a>(alloc: Global) -> Arg<'a>
         .help(help::TRACEFILE)
 }
 
-/// The number of jobs.
+/// `--jobs N`, the number of jobs.
 fn jobs<'a>(alloc: Global) -> Arg<'a>
     ensures { IsLocal line.jobs result }
 {
@@ -132,7 +132,7 @@ fn jobs<'a>(alloc: Global) -> Arg<'a>
         .help(help::JOBS)
 }
 
-/// The name of a test.
+/// `--test NAME`, the name of a test.
 fn test<'a>(alloc: Global) -> Arg<'a>
     ensures { IsLocal line.test result }
 {
@@ -144,7 +144,7 @@ fn test<'a>(alloc: Global) -> Arg<'a>
         .help(help::TEST)
 }
 
-/// The flag that says that the files are gcov's.
+/// The flag `--gcov`, which says that gcov wrote the files.
 fn annotated<'a>(alloc: Global) -> Arg<'a>
     ensures { IsLocal line.annotated result }
 {

@@ -11,7 +11,7 @@ pub enum CommandFault {
     /// Fault 1: help was asked for. This is its text, for standard output.
     #[error("{0}")]
     Help(String),
-    /// Fault 2: the words don't fit. This says why, and how to call, for standard error.
+    /// Fault 2: the words don't fit. The text says why, and how to call the program, for standard error.
     #[error("{0}")]
     Line(String),
     /// Fault 3: memory was refused.
@@ -50,7 +50,7 @@ impl CommandFault {
         }
     }
 
-    /// The fault for an error of clap's, with its text; `Memory` if that can't be made.
+    /// The fault for an error of clap's, with the error's text. `Memory` if clap ran out of memory or if the text can't be made.
     pub(crate) fn of(alloc: Global, error: &LineError) -> CommandFault
         ensures { Tells (kind_of error.now) result }
     {

@@ -7,7 +7,7 @@ pub const VERSION: &str = "0.9.0";
 /// What the program is for.
 pub(crate) const PROGRAM: &str = "Merges, filters and sums up coverage data of lcov and gcov";
 
-/// After the list of the subcommands: the session, the calls of lcov, the exit statuses.
+/// What the program's help has after the list of the subcommands: the session, the calls of lcov, the exit statuses.
 pub(crate) const PROGRAM_END: &str = "\
 Without a subcommand a session is read from standard input: a command on each
 line, answered on standard output. covcollect(1) has its commands.

@@ -1,4 +1,4 @@
-//! Calls by their words: what clap's definitions come to for this program's command line.
+//! Laws of single calls: what clap's definitions say of these words for this program's command line.
 
 ghost use Rattle.std.specs.Prelude.{◌≡◌, [], ◌∷◌, true, codes};
 ghost use Rattle.clap.specs.Words.{takes, fault_of};
@@ -9,7 +9,7 @@ ghost use Rattle.covcommand.specs.CommandLine.{covcollect};
 ghost use Rattle.covcommand.specs.declared.asked.Command.TheVariants.{Check};
 ghost use Rattle.covcommand.specs.declared.asked.TextFormat.TheVariants as format;
 
-/// A call of each kind is taken: for these words `command` has no refusal but `Memory`.
+/// A call of each kind is taken: for these words the only fault of `command` is `Memory`.
 pub fn calls_are_taken()
     ensures session { takes covcollect (codes "covcollect" ∷ []) ≡ true }
     ensures merge { takes covcollect (codes "covcollect" ∷ codes "merge" ∷ codes "--jobs" ∷ codes "64" ∷ codes "a.info" ∷ []) ≡ true }
@@ -20,8 +20,8 @@ pub fn calls_are_taken()
     ensures check { takes covcollect (codes "covcollect" ∷ codes "check" ∷ codes "--gcov" ∷ codes "a.c.gcov" ∷ []) ≡ true }
 {}
 
-/// What calls of `check` ask for: gcov's text if the flag is among the words, before or after the files, and tracefiles if it
-/// isn't. After `--` it is a file's name.
+/// What calls of `check` ask for. With the flag `--gcov`, before or after the files, the files are gcov's; without it they are
+/// tracefiles. After `--`, the word `--gcov` is the name of a file.
 pub fn checks_by_their_words()
     ensures tracefile { AsksFor (subcommand_of covcollect (codes "covcollect" ∷ codes "check" ∷ codes "a.info" ∷ []))
         (Check format.Tracefile (codes "a.info" ∷ [])) }
@@ -33,7 +33,7 @@ pub fn checks_by_their_words()
         (Check format.Tracefile (codes "--gcov" ∷ [])) }
 {}
 
-/// Calls that are refused, and with which of clap's kinds of error. The program has a version, a subcommand has none.
+/// Calls that are refused, with clap's kind of error for each. The program takes `--version`, but its subcommands don't.
 pub fn calls_are_refused()
     ensures jobs { fault_of covcollect (codes "covcollect" ∷ codes "merge" ∷ codes "--jobs" ∷ codes "65" ∷ codes "a.info" ∷ [])
         ≡ kind.ValueValidation ∷ [] }

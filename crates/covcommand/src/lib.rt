@@ -1,7 +1,7 @@
 //! The command line of the coverage collector: which words ask for what, and what its help says.
 //!
-//! `word_at` takes a word of a call as text, `described` describes the command to clap, `command` reads the words, and `help`
-//! has the texts for the user.
+//! `word_at` makes a `String` of a word of a call, if it is UTF-8. `described` describes the command line to clap. `command`
+//! finds what the words ask for. `help` has the texts for the user.
 //!
 //! A sketch: what some words ask for. Summary, extract, remove and gcov have variants of their own too.
 //!

@@ -4,7 +4,7 @@ use covline::Memory;
 use std::alloc::Global;
 use std::marker::Model;
 
-/// The positional words of a call in their order: paths, and patterns. Contracts see the list of their bytes.
+/// The positional words of a call in their order: paths, and patterns. Contracts see a list with the bytes of each word.
 #[derive(Drop)]
 pub struct Names {
     words: Vec<String>,
@@ -23,7 +23,7 @@ impl Names {
     ghost use Rattle.std.specs.Prelude.{◌≡◌, ◌++◌, [], ◌∷◌, OnOk, OnErr, map};
     ghost use Rattle.std.specs.String.{string_bytes};
 
-    /// No names.
+    /// The empty list.
     pub fn new(alloc: Global) -> Names
         ensures { result ≡ [] }
     {

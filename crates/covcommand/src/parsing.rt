@@ -1,4 +1,4 @@
-//! The words of a call, as a command.
+//! Parsing the words of a call into a command.
 
 ghost use Rattle.std.specs.Prelude.{◌≡◌, ◌≤◌, ◌++◌, [], IfOk, IfErr, OnOk, map, true, Some, codes, length};
 ghost use Rattle.std.specs.String.{string_bytes};
@@ -19,8 +19,8 @@ use std::alloc::Global;
 
 /// What the words of a call ask for. The first word is the program's name.
 ///
-/// Faults: `Help` or `Version` if that is asked for, `Line` if the words don't fit, each with its text; and `Memory`. If clap
-/// takes the words, `Memory` alone.
+/// Faults: `Help` or `Version` if the words ask for one of these, `Line` if they don't fit, each with its text; and `Memory`. If
+/// clap takes the words, `Memory` is the only fault.
 pub fn command(alloc: Global, words: &[String]) -> Result<Command, CommandFault>
     ensures asks { IfOk result (AsksFor (subcommand_of covcollect (map string_bytes words.now))) }
     ensures bounds { IfOk result IsInBounds }
@@ -39,7 +39,7 @@ pub fn command(alloc: Global, words: &[String]) -> Result<Command, CommandFault>
     }
 }
 
-/// What the subcommand asks for, by what clap found for its arguments.
+/// What the subcommand of this name asks for, with the values that clap found for its arguments.
 fn command_from(alloc: Global, name: &str, found: &ArgMatches<'_>) -> Result<Command, CommandFault>
     requires { Fits name.now (rows_of (found_of found.now)) }
     ensures asks { IfOk result (AsksFor (Some (name.now, rows_of (found_of found.now)))) }
@@ -71,7 +71,7 @@ fn command_from(alloc: Global, name: &str, found: &ArgMatches<'_>) -> Result<Com
     }
 }
 
-/// The number of jobs.
+/// The number that clap found for `--jobs`.
 fn jobs_of(found: &ArgMatches<'_>) -> u32
     requires { HasJobs (rows_of (found_of found.now)) }
     ensures number { IsNumberOf (rows_of (found_of found.now)) result }
@@ -103,7 +103,7 @@ fn filter_of(alloc: Global, found: &ArgMatches<'_>) -> Result<Names, Memory>
     Ok(names)
 }
 
-/// The name of the test.
+/// The name that clap found for `--test`.
 fn test_of(alloc: Global, found: &ArgMatches<'_>) -> Result<Bytes, Memory>
     requires { HasTest (rows_of (found_of found.now)) }
     ensures { IfOk result (λ test. first_of (codes "test") (rows_of (found_of found.now)) ≡ Some test) }
@@ -112,7 +112,7 @@ fn test_of(alloc: Global, found: &ArgMatches<'_>) -> Result<Bytes, Memory>
     Bytes::of(alloc, name.as_bytes())
 }
 
-/// How the files are read.
+/// How the files are read: as gcov's if clap found the flag `--gcov`, else as tracefiles.
 fn format_of(found: &ArgMatches<'_>) -> TextFormat
     requires { HasFlag (rows_of (found_of found.now)) }
     ensures { IsFormatOf (rows_of (found_of found.now)) result }

@@ -1,4 +1,4 @@
-//! A word of a call, which has to be text.
+//! A word of a call, which has to be UTF-8.
 
 ghost use Rattle.std.specs.Prelude.{◌≡◌, ◌++◌, ◌∷◌, [], IfOk, IfErr, OnOk, codes, encode_utf8, map};
 ghost use Rattle.std.specs.Str.{IsUtf8};
@@ -11,7 +11,7 @@ use covline::Memory;
 use itoa::Buffer;
 use std::alloc::Global;
 
-/// The word of a call at this place, as text. The program's name is at place 1.
+/// The word of a call at this place, as a `String`. The program's name is at place 1.
 ///
 /// Faults: `Line` if the word isn't UTF-8: its text has the word's place and shows the word, with `?` for each byte that isn't
 /// printable ASCII. And `Memory`.
@@ -26,7 +26,7 @@ pub fn word_at(alloc: Global, place: usize, word: &[u8]) -> Result<String, Comma
     }
 }
 
-/// What is said of a word that isn't text.
+/// The line that complains about a word that isn't UTF-8.
 fn not_text(alloc: Global, place: usize, word: &[u8]) -> Result<String, Memory>
     ensures { IfOk result (λ text. string_bytes text ≡ not_text place word.now) }
 {
@@ -48,7 +48,7 @@ fn push_shown(text: &mut String, bytes: &[u8]) -> Result<(), Memory>
     Ok(())
 }
 
-/// A byte as it is shown.
+/// The byte as it is shown: printable ASCII, with the space, as it is, and any other byte as a question mark.
 fn shown(byte: u8) -> char
     ensures { encode_utf8 result ≡ shown byte ∷ [] }
 {

@@ -1,4 +1,4 @@
--- The first line of a text, if it says how often a branch was taken.
+-- Texts that begin with a `BRDA:` line: how this line is read in one pass, and what it says.
 use Rattle.std.proofs.Common.{◌≡◌, ◌≢◌, ℕ, ◌<◌, ◌^◌, inl, inr, Bool, true, false, cond, eqb, List, [], ◌∷◌, ◌++◌, All, Option, Some, None, option_map, refl, sym, ap, subst, ◌∙◌, arith, append_assoc}
 use Rattle.std.specs.Prelude.{codes, IfSome, MatchOption}
 use Rattle.std.specs.Option.{option_and_then}
@@ -17,7 +17,7 @@ use Rattle.covline.proofs.Cut.{HasNoFeed, NoReturn, cut_at, lines_at, strip-none
 use Rattle.covline.proofs.ReadNumbers.{field_is, number_is}
 use Rattle.covline.proofs.SmallNumbers.{HasNumber, after_some, mapped_some, same_some, small_field_has, small_is, small_number_has}
 
--- bytes above a line feed and a carriage return
+-- each byte is above 13, so none is a line feed (10) or a carriage return (13)
 abbrev IsClean : List ℕ → Type 0
 IsClean [] = Unit {0}
 IsClean (b ∷ bs) = (13 < b) × IsClean bs
@@ -40,7 +40,8 @@ no_return [] clean (b ∷ before) e = absurd cc
 no_return (x ∷ xs) clean [] e = let same : x ≡ carriage_return = cc in let above = clean.0 in omega (arith, same, above)
 no_return (x ∷ xs) clean (b ∷ before) e = let same : xs ≡ before ++ carriage_return ∷ [] = cc in no_return xs clean.1 before same
 
--- a line of such bytes, and what it says
+-- if a line has only such bytes, it is the first line of each text that begins with it and a line feed; so the text's first line
+-- says what this line spells
 clean_line : (line rest : List ℕ) (says : LineData) → IsClean line → Spells line says → BeginsWithLine (line ++ line_feed ∷ rest) says rest
 clean_line line rest says clean spells = record {
   line = line;
@@ -87,7 +88,7 @@ small_taken : (line block branch : ℕ) (taken : Option ℕ) → line < 2 ^ 64 �
 small_taken line block branch None l k b small = (l, k, b)
 small_taken line block branch (Some n) l k b small = (l, k, b, omega (arith, small))
 
--- a word that says how often, and what follows it
+-- the text begins with a field that says how often a branch was taken, and `rest` follows this field
 record HasTaken (text rest : List ℕ) (taken : Option ℕ) : Type 0 where
   word : List ℕ
   is : IsTaken word taken
@@ -128,7 +129,7 @@ taken_is (d ∷ ds) rest (Some n) is small =
 field_parts : (fields rest : List ℕ) (n : ℕ) (f : HasNumber fields rest n (λ digits. digits ++ comma ∷ [])) → fields ≡ f.digits ++ comma ∷ rest
 field_parts fields rest n f = f.parts ∙ append_assoc f.digits (comma ∷ []) rest
 
--- the parts of a branch line, if it is read in one pass
+-- if each part of a `BRDA:` line is read from what the part before leaves, the text begins with this line
 branch_line_of : (text fields : List ℕ) (line block branch : ℕ × List ℕ) (taken : Option ℕ × List ℕ) (rest : List ℕ) → after_key (codes "BRDA:") text ≡ Some fields
     → small_front (field_at fields) ≡ Some line → small_front (field_at line.1) ≡ Some block → small_front (field_at block.1) ≡ Some branch → taken_front branch.1 ≡ Some taken
     → after_feed taken.1 ≡ Some rest → BeginsWithBranchLine text (record { line = line.0; block = block.0; branch = branch.0 }) taken.0 rest
@@ -172,7 +173,7 @@ branch_line_from text read e =
     let end = mapped_some (λ (rest : List ℕ). ((point, taken.0), rest)) (after_feed taken.1) read e5 in
     subst (λ (r : Read). BeginsWithBranchLine text r.0.0 r.0.1 r.1) end.2 (branch_line_of text fields line block branch taken end.0 key first second third fourth end.1))))))
 
--- and each such line is read so
+-- conversely, if a text begins with such a line, the line is read in one pass
 branch_line_read : (text : List ℕ) (point : BranchPoint) (taken : Option ℕ) (rest : List ℕ) → BeginsWithBranchLine text point taken rest → branch_front text ≡ Some ((point, taken), rest)
 branch_line_read text point taken rest begins =
     let end : List ℕ = begins.word ++ line_feed ∷ rest in
@@ -187,7 +188,7 @@ branch_line_read text point taken rest begins =
     small_field : (digits after : List ℕ) (n : ℕ) → IsNumeral digits n → n < 2 ^ 64 → small_front (field_at (digits ++ comma ∷ after)) ≡ Some (n, after)
     small_field digits after n numeral small = ap small_front (field_is digits after n numeral) ∙ small_is n after small
 
--- such a first line says the record that is read
+-- if a text begins with such a line, this first line says the branch's record
 branch_line_says : (text : List ℕ) (point : BranchPoint) (taken : Option ℕ) (rest : List ℕ) → BeginsWithBranchLine text point taken rest
     → BeginsWithLine text (Branch point.line point.block point.branch taken) rest
 branch_line_says text point taken rest begins =
@@ -195,7 +196,7 @@ branch_line_says text point taken rest begins =
     (branch_line begins.digits begins.blocks begins.branches begins.word rest point.line point.block point.branch taken begins.line_is begins.block_is begins.branch_is begins.taken_is
     (clean_taken begins.word taken begins.taken_is) (small_taken point.line point.block point.branch taken begins.line_small begins.block_small begins.branch_small begins.taken_small))
 
--- ---- what the reader of such lines answers
+-- ---- the contract of `try_branch_line`
 
 abbrev pub branch_seen : BranchLine → Read
 branch_seen f = ((branch_point_data f.point, f.taken), f.rest.now)

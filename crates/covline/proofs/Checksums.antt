@@ -1,4 +1,5 @@
--- Which texts are checksums, as a test, and how the checksum after a count is read.
+-- Checksums: the test `is_checksum` agrees with the definition `IsChecksum`, and a checksum at the front of a text or after a
+-- count is read.
 use Rattle.std.proofs.Common.{◌≡◌, ◌≢◌, ◌↔◌, ◌⊎◌, inl, inr, ℕ, Bool, true, false, ◌&&◌, not, eqb, List, [], ◌∷◌, ◌++◌, length, take, ◌+◌, ◌-◌, ◌≤◌, All, Option, Some, None, refl, sym, ap, ◌∙◌, arith}
 use Rattle.std.specs.Prelude.{IsTrue}
 use Rattle.std.proofs.lemmas.Bool.{and_from, and_parts, ne_eqb, eq-eqb, cases_eq, cases_Bool, false≢true}
@@ -44,7 +45,7 @@ pub checksum_from : (text : List ℕ) → is_checksum text ≡ true → IsChecks
 checksum_from [] e = absurd (false≢true e)
 checksum_from (b ∷ bs) e = record { some = omega arith; each = all_from (b ∷ bs) e }
 
--- a result that is true of checksums alone is the test's
+-- a result that is true exactly if the text is a checksum equals the test
 pub checksum_test : (text : List ℕ) (test : Bool) → IsTrue test ↔ IsChecksum text → is_checksum text ≡ test
 checksum_test text true told = checksum_is text (told.0 refl)
 checksum_test text false told =
@@ -76,7 +77,7 @@ bytes_are text =
     let size : length text - length after ≡ length bytes = omega (arith, e) in
     ap (λ (n : ℕ). take n text) size ∙ ap (λ (u : List ℕ). take (length bytes) u) (checksum_parts text) ∙ take-append_seam bytes after
 
--- the bytes before the rest are the checksum
+-- if `rest` is what follows the bytes that a checksum may have, the bytes before it are the checksum at the front
 pub front_is : (text rest : List ℕ) → rest ≡ after_checksum text → some_front (take (length text - length rest) text) rest ≡ checksum_front text
 front_is text rest e =
     ap (λ (u : List ℕ). some_front (take (length text - length u) text) u) e ∙ ap (λ (u : List ℕ). some_front u (after_checksum text)) (bytes_are text)
@@ -91,7 +92,7 @@ whole_front (b ∷ bs) rest e = refl
 
 -- ---- after a count
 
--- nothing follows the count, or a comma and a checksum
+-- the text after a count: it is empty, or a comma and this checksum
 abbrev pub IsAfterCount : List ℕ → Option (List ℕ) → Type 0
 IsAfterCount rest None = rest ≡ []
 IsAfterCount rest (Some checksum) = (rest ≡ comma ∷ checksum) × IsChecksum checksum

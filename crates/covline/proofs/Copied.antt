@@ -1,4 +1,5 @@
--- A copy of a list, seen as plain data, with one more element.
+-- A list that is copied element by element, as plain data. If the copy has the elements up to a place, and the element at this
+-- place is appended, the copy has the elements up to the next place.
 use Rattle.std.proofs.Common.{◌≡◌, ℕ, ◌+◌, ◌<◌, List, [], ◌∷◌, ◌++◌, length, get_or, take, map, sym, ap, ◌∙◌}
 use Rattle.std.proofs.lemmas.List.{take_more, map-append}
 

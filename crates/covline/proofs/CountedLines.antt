@@ -1,4 +1,4 @@
--- The first line of a text, if it counts a source line, with a checksum or without.
+-- Texts that begin with a `DA:` line, with a checksum or without: how this line is read in one pass, and what it says.
 use Rattle.std.proofs.Common.{◌≡◌, ℕ, ◌<◌, ◌^◌, inl, inr, Bool, true, false, cond, eqb, List, [], ◌∷◌, ◌++◌, length, All, Option, Some, None, option_map, refl, sym, ap, subst, ◌∙◌, arith, append_assoc}
 use Rattle.std.specs.Prelude.{codes, IfSome, MatchOption}
 use Rattle.std.specs.Option.{option_and_then}
@@ -17,7 +17,8 @@ use Rattle.covline.proofs.Checksums.{byte_from, byte_is, checksum_parts}
 use Rattle.covline.proofs.ReadNumbers.{field_is, number_is}
 use Rattle.covline.proofs.SmallNumbers.{after_some, mapped_some, same_some, small_field_has, small_is, small_number_has}
 
--- a line that a line feed ends, and what it says
+-- if a line has no line feed and doesn't end in a carriage return, it is the first line of each text that begins with it and a
+-- line feed; so the text's first line says what this line spells
 good_line : (line rest : List ℕ) (says : LineData) → IsGoodTest line → Spells line says → BeginsWithLine (line ++ line_feed ∷ rest) says rest
 good_line line rest says good spells = record {
   line = line;
@@ -64,7 +65,7 @@ module _ (digits counts checksum rest : List ℕ) (line count : ℕ) where
       subst (λ (t : List ℕ). BeginsWithLine t (Line line count (Some checksum)) rest) (sym ended)
       (good_line whole rest (Line line count (Some checksum)) good (record { form = (digits, counts, refl, numeral, inl counted, checked); small = (small, omega (arith, few)) }))
 
--- the same without a checksum
+-- a `DA:` line without a checksum; the module above is of lines with one
 module _ (digits counts rest : List ℕ) (line count : ℕ) where
   abbrev short : List ℕ
   short = codes "DA:" ++ (digits ++ comma ∷ counts)
@@ -80,7 +81,7 @@ module _ (digits counts rest : List ℕ) (line count : ℕ) where
       subst (λ (t : List ℕ). BeginsWithLine t (Line line count None) rest) (sym short_ended)
       (good_line short rest (Line line count None) (IsGoodTest-plain short plain) (record { form = (digits, counts, refl, numeral, inl counted); small = (small, omega (arith, few)) }))
 
--- such a first line says the record that is read
+-- if a text begins with a `DA:` line of either form, this first line says the record of the source line
 said : (digits counts end rest : List ℕ) (line count : ℕ) (checksum : Option (List ℕ)) → IsNumeral digits line → IsNumeral counts count → EndsCount end checksum rest → line < 2 ^ 64 → count < 2 ^ 64
     → BeginsWithLine (codes "DA:" ++ (digits ++ comma ∷ (counts ++ end))) (Line line count checksum) rest
 said digits counts end rest line count None numeral counted ends small few =
@@ -113,12 +114,12 @@ checksum_front_is checksum rest checked =
     let read = checksum_read checksum rest checked.each in
     ap (λ (u : List ℕ). some_front u (after_checksum (checksum ++ line_feed ∷ rest))) read.0 ∙ ap (some_front checksum) read.1 ∙ some_front_is checksum (line_feed ∷ rest) checked.some
 
--- each end is read so
+-- if a text is such an end, `count_end` reads it as this end
 count_end_is : (end : List ℕ) (checksum : Option (List ℕ)) (rest : List ℕ) → EndsCount end checksum rest → count_end end ≡ Some (checksum, rest)
 count_end_is end None rest ends = ap count_end ends
 count_end_is end (Some checksum) rest ends = ap count_end ends.0 ∙ ap (option_and_then checked_end) (checksum_front_is checksum rest ends.1)
 
--- the bytes at the front are those of a checksum
+-- each of the bytes that `checksum_bytes` takes from the front is one that a checksum may have
 each_byte : (text : List ℕ) → All IsChecksumByte (checksum_bytes text)
 each_byte [] = All-nil IsChecksumByte
 each_byte (b ∷ bs) =
@@ -148,7 +149,7 @@ checked_from text end e =
     let checked : IsChecksum front.0 = subst IsChecksum some.1 (record { some = some.0; each = each_byte text }) in
     subst (λ (r : Option (List ℕ) × List ℕ). EndsCount (comma ∷ text) r.0 r.1) feed.2 (ap (λ (u : List ℕ). comma ∷ u) parts, checked))
 
--- what is read is such an end
+-- conversely, what `count_end` reads is such an end
 count_end_from : (text : List ℕ) (end : Option (List ℕ) × List ℕ) → count_end text ≡ Some end → EndsCount text end.0 end.1
 count_end_from [] end e = absurd (none-some end e)
 count_end_from (b ∷ bs) end e =
@@ -166,7 +167,7 @@ count_end_from (b ∷ bs) end e =
 abbrev Read : Type 0
 Read = (ℕ × ℕ) × (Option (List ℕ) × List ℕ)
 
--- the parts of a counted line, if it is read in one pass
+-- if each part of a `DA:` line is read from what the part before leaves, the text begins with this line
 counted_line_of : (text fields : List ℕ) (line count : ℕ × List ℕ) (end : Option (List ℕ) × List ℕ) → after_key (codes "DA:") text ≡ Some fields → small_front (field_at fields) ≡ Some line
     → small_front (number_at line.1) ≡ Some count → count_end count.1 ≡ Some end → BeginsWithCountedLine text line.0 count.0 end.0 end.1
 counted_line_of text fields line count end key field number last =
@@ -195,14 +196,14 @@ counted_line_from text read e =
     let end = mapped_some (λ (last : Option (List ℕ) × List ℕ). ((line.0, count.0), last)) (count_end count.1) read e3 in
     subst (λ (r : Read). BeginsWithCountedLine text r.0.0 r.0.1 r.1.0 r.1.1) end.2 (counted_line_of text fields line count end.0 key field number end.1))))
 
--- an end doesn't begin with a digit
+-- the count is read up to such an end, because an end doesn't begin with a digit
 counts_read : (counts end : List ℕ) (count : ℕ) (checksum : Option (List ℕ)) (rest : List ℕ) → IsNumeral counts count → EndsCount end checksum rest → number_at (counts ++ end) ≡ Some (sized_number count, end)
 counts_read counts end count None rest counted ends =
     subst (λ (e : List ℕ). number_at (counts ++ e) ≡ Some (sized_number count, e)) (sym ends) (number_is counts (line_feed ∷ rest) count counted refl)
 counts_read counts end count (Some checksum) rest counted ends =
     subst (λ (e : List ℕ). number_at (counts ++ e) ≡ Some (sized_number count, e)) (sym ends.0) (number_is counts (comma ∷ (checksum ++ line_feed ∷ rest)) count counted refl)
 
--- and each such line is read so
+-- conversely, if a text begins with such a line, the line is read in one pass
 counted_line_read : (text : List ℕ) (line count : ℕ) (checksum : Option (List ℕ)) (rest : List ℕ) → BeginsWithCountedLine text line count checksum rest
     → counted_front text ≡ Some ((line, count), (checksum, rest))
 counted_line_read text line count checksum rest begins =
@@ -215,7 +216,7 @@ counted_line_read text line count checksum rest begins =
     ∙ ap (option_and_then (counted_end line)) number
     ∙ ap (option_map (λ (end : Option (List ℕ) × List ℕ). ((line, count), end))) (count_end_is begins.end checksum rest begins.end_is)
 
--- ---- what the reader of such lines answers
+-- ---- the contract of `try_count_line`
 
 abbrev pub counted_seen : CountLine → Read
 counted_seen f = ((f.line, f.count), (option_map (λ c. c.now) f.checksum, f.rest.now))

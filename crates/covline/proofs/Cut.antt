@@ -1,4 +1,4 @@
--- How a text is cut into lines, from its beginning and at its first line feed.
+-- How a text is cut into lines: into all its lines, as the definitions do, and at its first line feed, as the code does.
 use Rattle.std.proofs.Common.{◌≡◌, ◌≢◌, ℕ, suc, ◌+◌, ◌<◌, ◌≤◌, Bool, true, false, cond, eqb, List, [], ◌∷◌, ◌++◌, length, get_or, take, drop, map, refl, sym, ap, ◌∙◌, arith, append_assoc, replicate, lit<}
 use Rattle.std.specs.Prelude.{All}
 use Rattle.std.specs.List.{concat, sum_by, flat_map}
@@ -176,7 +176,7 @@ every_line : (pieces : List (List ℕ)) → All IsGoodTest (map line_of pieces)
 every_line [] = All-nil IsGoodTest
 every_line (piece ∷ pieces) = All-cons IsGoodTest (line_of piece) (map line_of pieces) (IsGoodTest-line piece) (every_line pieces)
 
--- each line of a text is a good text
+-- no line of a text has a line feed or ends in a carriage return
 pub IsGoodTest-lines : (text : List ℕ) → All IsGoodTest (lines_of text)
 IsGoodTest-lines text = every_line (pieces_of text)
 
@@ -211,7 +211,7 @@ HasNoFeed-take text i none =
     let below : k < i = omega (arith, length-take i text) in
     none k (omega arith) below (eq-eqb (get_or text k 0) line_feed (sym (get_or-take i text k 0 below) ∙ e)))
 
--- if there is a line feed at this place, the text before it is the first line, and the text after it is the rest
+-- if the first line feed is at this place, the text is the bytes before it, a line feed, and the bytes after it
 parts_at : (text : List ℕ) (i : ℕ) → NoneBefore (Passes (is_byte line_feed) text) 0 (length text) i → Passes (is_byte line_feed) text i → text ≡ take i text ++ line_feed ∷ drop (i + 1) text
 parts_at text i first here =
     let after : drop i text ≡ line_feed ∷ drop (i + 1) text = drop_more text i 0 first.high ∙ ap (λ (b : ℕ). b ∷ drop (i + 1) text) (eqb-true (get_or text i 0) line_feed here) in
@@ -233,17 +233,18 @@ cut_whole b bs none = record {
   after = sym (append-nil (b ∷ bs));
 }
 
--- the first line, both if the search found a line feed after it and if it found none
+-- if the search found a line feed, the code's line and rest are the first cut of the text
 pub first_cut_at : (text line rest : List ℕ) (i : ℕ) → NoneBefore (Passes (is_byte line_feed) text) 0 (length text) i × Passes (is_byte line_feed) text i → line ≡ strip (take i text) → rest ≡ drop (i + 1) text → IsFirstCut text line rest
 first_cut_at text line rest i found line-is rest-is =
     rw (line-is, rest-is) (cut_at text (take i text) (drop (i + 1) text) (HasNoFeed-take text i found.0.before) (parts_at text i found.0 found.1))
 
+-- likewise if it found none, and the line is the whole text
 pub first_cut_whole : (text line rest : List ℕ) → 0 < length text → Nowhere (Passes (is_byte line_feed) text) 0 (length text) → line ≡ strip text → length rest ≡ 0 → IsFirstCut text line rest
 first_cut_whole [] line rest some none line-is empty = absurd (omega (arith, some))
 first_cut_whole (b ∷ bs) line [] some none line-is empty = rw line-is (cut_whole b bs (HasNoFeed-from (b ∷ bs) none))
 first_cut_whole text line (b ∷ bs) some none line-is empty = absurd (omega (arith, empty))
 
--- the lines of the text are then that line and those of the rest
+-- the lines of a text that is cut like this are the first line and those of the rest
 pub lines_after : (text line rest : List ℕ) → IsFirstCut text line rest → lines_of text ≡ line ∷ lines_of rest
 lines_after text line rest cut = ap (map line_of) cut.first ∙ ap (λ (l : List ℕ). l ∷ lines_of rest) (sym cut.line_is)
 
@@ -261,7 +262,7 @@ some_cut : (b : ℕ) (pieces : List (List ℕ)) (test : Bool) → 0 < length (co
 some_cut b pieces true = omega arith
 some_cut b pieces false = some_onto b pieces
 
--- a text that ends in a line feed has a piece
+-- a text that ends in a line feed has at least one piece
 some_pieces : (front : List ℕ) → 0 < length (pieces_of (front ++ line_feed ∷ []))
 some_pieces [] = lit< tt
 some_pieces (b ∷ bs) = some_cut b (pieces_of (bs ++ line_feed ∷ [])) (eqb b line_feed)
@@ -276,11 +277,11 @@ pieces-append (b ∷ bs) rest =
     let test = eqb b line_feed in
     ap (λ (ps : List (List ℕ)). cond test ((b ∷ []) ∷ ps) (onto_first b ps)) (pieces-append bs rest) ∙ cut_first b (pieces_of (bs ++ line_feed ∷ [])) (pieces_of rest) test (some_pieces bs)
 
--- after a line feed the lines of the rest follow
+-- the lines of a text with a line feed in it are those up to this line feed, and then those of the text after it
 pub lines-append : (front rest : List ℕ) → lines_of (front ++ line_feed ∷ rest) ≡ lines_of (front ++ line_feed ∷ []) ++ lines_of rest
 lines-append front rest = ap (λ (ps : List (List ℕ)). map line_of ps) (pieces-append front rest) ∙ map-append line_of (pieces_of (front ++ line_feed ∷ [])) (pieces_of rest)
 
--- good lines with a line feed after each are the lines of that text
+-- if all these lines fit into one line, the text that has each with a line feed after it has exactly these lines
 pub lines-joined : (lines : List (List ℕ)) → All IsGoodTest lines → lines_of (flat_map (λ line. line ++ line_feed ∷ []) lines) ≡ lines
 lines-joined [] good = refl
 lines-joined (line ∷ lines) good =
@@ -296,7 +297,7 @@ parts_stripped : (b : ℕ) (bs : List ℕ) (n : ℕ) → (m : ℕ) × (b ∷ (bs
 parts_stripped b [] n = parts_one b n (eqb b carriage_return) refl
 parts_stripped b (c ∷ cs) n = (n, refl)
 
--- only carriage returns were taken off
+-- `strip` takes only carriage returns off the end of a text
 pub strip-parts : (text : List ℕ) → (n : ℕ) × (text ≡ strip text ++ replicate n carriage_return)
 strip-parts [] = (0, refl)
 strip-parts (b ∷ bs) =

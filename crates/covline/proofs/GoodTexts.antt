@@ -1,4 +1,5 @@
--- Which texts fit into one line: how the fact passes to parts and to joined texts.
+-- Texts that fit into one line (`IsGoodTest`). If a text does, so does what follows any front of it. If two texts do, so do both
+-- joined. A checksum does.
 use Rattle.std.proofs.Common.{◌≡◌, ◌≢◌, ℕ, ◌<◌, List, [], ◌∷◌, ◌++◌, length, drop, refl, sym, ap, ◌∙◌, append_assoc, arith}
 use Rattle.std.specs.Prelude.{All}
 use Rattle.std.proofs.lemmas.List.{append-nil, drop_at}
@@ -6,7 +7,7 @@ use Rattle.std.proofs.lemmas.List.Elements.{All-head, All-append, All-drop, All-
 use Rattle.covline.specs.Lines.{line_feed, carriage_return}
 use Rattle.covline.specs.Lawful.{IsChecksum, IsChecksumByte, IsGoodTest}
 
--- if a text ends in a byte, so does each part at its end that isn't empty
+-- if a text ends in this byte, what follows any front of it ends in the same byte, unless it is empty
 last_of_part : (front : List ℕ) (b : ℕ) (bs whole : List ℕ) (c : ℕ) → front ++ b ∷ bs ≡ whole ++ c ∷ [] → (rest : List ℕ) × (b ∷ bs ≡ rest ++ c ∷ [])
 last_of_part [] b bs whole c e = (whole, e)
 last_of_part (x ∷ []) b bs [] c e = absurd cc
@@ -18,7 +19,7 @@ last_of_part (x ∷ front) b bs (w ∷ whole) c e =
 pub All-part : {X : Type 0} (P : X → Type 0) (front rest : List X) → All P (front ++ rest) → All P rest
 All-part P front rest all = All-same P rest (drop (length front) (front ++ rest)) (sym (drop_at front rest (length front) refl)) (All-drop P (length front) (front ++ rest) all)
 
--- what follows the front of a good text is a good text
+-- if a text fits into one line, so does what follows any front of it
 pub IsGoodTest-after : (front rest : List ℕ) → IsGoodTest (front ++ rest) → IsGoodTest rest
 IsGoodTest-after front rest good = record {
   one_line = All-part (λ b. b ≢ line_feed) front rest good.one_line;
@@ -37,7 +38,7 @@ IsGoodTest-append front rest good last = record {
   no_return = no_return_joined front rest good last;
 }
 
--- bytes above the carriage return: those of a key, a number or a comma
+-- the byte is above the carriage return, as the bytes of keys and numbers and the comma are
 abbrev pub IsPlain : ℕ → Type 0
 IsPlain b = carriage_return < b
 

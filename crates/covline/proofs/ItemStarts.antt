@@ -1,4 +1,4 @@
--- A list of items in which one gets another start line.
+-- A list of items in which the start line of one function's item is replaced.
 use Rattle.std.proofs.Common.{◌≡◌, ℕ, zero, suc, ◌<◌, List, [], ◌∷◌, ◌++◌, length, get_or, set, map, refl, sym, ap, ◌∙◌, arith}
 use Rattle.std.proofs.Math.Seq.{get_or-append_seam}
 use Rattle.std.proofs.lemmas.List.{map-set, set_at, get_or-map}
@@ -14,7 +14,7 @@ all_fit_set (y ∷ ys) zero x all fits = (fits, all.1)
 all_fit_set (y ∷ ys) (suc at) x all fits = (all.0, all_fit_set ys at x all.1 fits)
 
 module _ {A : Type 0} where
-  -- the item that was there
+  -- the item that the code finds at this place is the one between `before` and `after`
   pub stood : (items : List (Item A)) (at : ℕ) (before after : List ItemData) (item : ItemData) (d : Item A) → map item_data items ≡ before ++ item ∷ after → at ≡ length before → at < length items
       → item_data (get_or items at d) ≡ item
   stood items at before after item d e place low =

@@ -33,7 +33,7 @@ numeral_more n ds big front = record {
 within : (n : ℕ) → n < 2 ^ 128 → n < 10 ^ 64
 within n small = omega (arith, small)
 
--- a number of 128 bits in decimal is a numeral that says it, and so is one of 64
+-- a number below 2^128, printed in decimal, is a numeral that says this number
 pub IsNumeral-decimal : (n : ℕ) → n < 2 ^ 128 → IsNumeral (decimal n) n
 IsNumeral-decimal n small = decimal_by_steps_wide (λ m ds. IsNumeral ds m) numeral_one numeral_more n (within n small)
 
@@ -88,16 +88,16 @@ good_number front n plain small = IsGoodTest-plain (front ++ decimal n) (All-app
 good_after_comma : (rest : List ℕ) → IsGoodTest rest → IsGoodTest (comma ∷ rest)
 good_after_comma rest good = IsGoodTest-append (comma ∷ []) rest (IsGoodTest-plain (comma ∷ []) (All-cons IsPlain comma [] (lit< tt) (All-nil IsPlain))) good
 
--- a number, a comma, and what follows
+-- a front, a number, a comma and a text fit into one line together if the text does
 good_field : (front : List ℕ) (n : ℕ) (rest : List ℕ) → All IsPlain front → n < 2 ^ 128 → IsGoodTest rest → IsGoodTest ((front ++ decimal n) ++ comma ∷ rest)
 good_field front n rest plain small good =
     IsGoodTest-append (front ++ decimal n) (comma ∷ rest) (good_number front n plain small) (good_after_comma rest good)
 
--- no front: the number comes first
+-- the same without a front
 good_first : (n : ℕ) (rest : List ℕ) → n < 2 ^ 128 → IsGoodTest rest → IsGoodTest (decimal n ++ comma ∷ rest)
 good_first n rest small good = good_field [] n rest (All-nil IsPlain) small good
 
--- whether a branch's block was never executed, or was
+-- a branch's record fits into one line if the text of its last field does
 good_branch : (number block branch : ℕ) (text : List ℕ) → number < 2 ^ 64 → block < 2 ^ 64 → branch < 2 ^ 64 → IsGoodTest text → IsGoodTest (codes "BRDA:" ++ decimal number ++ comma ∷ (decimal block ++ comma ∷ (decimal branch ++ comma ∷ text)))
 good_branch number block branch text first second third good =
     good_field (codes "BRDA:") number (decimal block ++ comma ∷ (decimal branch ++ comma ∷ text)) plain_branch (wide number first)
@@ -180,6 +180,6 @@ spells_printed (Total kind value) reads = record {
 spells_printed End reads = record { form = ([], sym (append-nil (codes "end_of_record"))); small = tt }
 spells_printed Skip reads = absurd reads.texts
 
--- what is printed for a record reads back as it
+-- the text that is printed for a record has one line, and this line spells the record
 pub printed-spells : (says : LineData) → IsReadable says → (lines_of (printed says) ≡ line_text says ∷ []) × Spells (line_text says) says
 printed-spells says reads = (lines_printed says reads, spells_printed says reads)

@@ -1,5 +1,5 @@
--- The fields of each key: what has the key's form is read as what it says, if its numbers are small enough, and what
--- doesn't have it is refused.
+-- The fields after each key. Fields that have the key's form are read as what they say, if their numbers are small enough.
+-- Fields that don't have the form are refused.
 use Rattle.std.proofs.Common.{◌≡◌, ℕ, ◌^◌, ◌<◌, ◌⊎◌, inl, inr, List, [], ◌∷◌, ◌++◌, length, Option, Some, None, option_map, Result, Ok, Err, refl, ap, ◌∙◌, arith}
 use Rattle.std.specs.Prelude.{codes}
 use Rattle.std.proofs.lemmas.Bool.{cases_lt}
@@ -11,7 +11,7 @@ use Rattle.covline.specs.Reading.{Fields, sized_number, with_fit, with_count, wi
 use Rattle.covline.proofs.ReadNumbers.{Stops, fit_small, fit_large, count_small, count_large, field_is, BeginsWithField, field_or_none, field_read, count_is, BeginsWithCount, count_or_none, count_read, comma_or_none, taken_is, taken_or_none}
 use Rattle.covline.proofs.Checksums.{IsAfterCount, checksum_read, checksum_or_none}
 
--- what a record of this form is read as, by the size of its numbers
+-- what a line of this record's form is read as: the record, or `NumberTooLarge` if its numbers aren't small
 abbrev pub sized : LineData → Result LineData LineFault
 sized (Test name) = Ok (Test name)
 sized (Path path) = Ok (Path path)
@@ -37,11 +37,11 @@ sized_small (Total kind value) small = rw (fit_small value small) refl
 sized_small End small = refl
 sized_small Skip small = refl
 
--- numbers are small, or what is read is too large
+-- `small` holds, or it doesn't and `NumberTooLarge` is read
 abbrev IsSized : Type 0 → Result LineData LineFault → Type 0
 IsSized small read = small ⊎ ((¬ small) × (read ≡ Err NumberTooLarge))
 
--- the last number of a record, and one before others
+-- the last number of a record, if it isn't a count
 last_sized : (n : ℕ) (says : ℕ → Result LineData LineFault) → IsSized (n < 2 ^ 64) (with_fit (sized_number n) says)
 last_sized n says =
     elim (cases_lt n (2 ^ 64)) [
@@ -49,6 +49,7 @@ last_sized n says =
       | inr le ↦ inr (λ lt. omega (arith, lt), rw (fit_large n le) refl)
     ]
 
+-- the last number of a record, if it is a count
 last_counted : (n : ℕ) (says : ℕ → Result LineData LineFault) → IsSized (n < 2 ^ 128) (with_count (sized_number n) says)
 last_counted n says =
     elim (cases_lt n (2 ^ 128)) [
@@ -56,6 +57,7 @@ last_counted n says =
       | inr le ↦ inr (λ lt. omega (arith, lt), rw (count_large n le) refl)
     ]
 
+-- a number with others after it
 more_sized : (n : ℕ) (says : ℕ → Result LineData LineFault) (small : Type 0) → IsSized small (says n) → IsSized ((n < 2 ^ 64) × small) (with_fit (sized_number n) says)
 more_sized n says small others =
     elim (cases_lt n (2 ^ 64)) [
@@ -66,22 +68,24 @@ more_sized n says small others =
       | inr le ↦ inr (λ all. omega (arith, all.0), rw (fit_large n le) refl)
     ]
 
--- what a branch is read as, once its three numbers are small
+-- what a branch is read as once its line, block and number are known to be small
 abbrev after_branch : Option ℕ → ℕ → ℕ → ℕ → Result LineData LineFault
 after_branch taken number block b = with_taken number block b (option_map sized_number taken)
 
+-- what a branch is read as once its line and block are known to be small
 abbrev after_block : ℕ → Option ℕ → ℕ → ℕ → Result LineData LineFault
 after_block branch taken number k = with_fit (sized_number branch) (after_branch taken number k)
 
+-- what a branch is read as once its line is known to be small
 abbrev after_number : ℕ → ℕ → Option ℕ → ℕ → Result LineData LineFault
 after_number block branch taken l = with_fit (sized_number block) (after_block branch taken l)
 
--- the same for an equivalent condition
+-- if `IsSized` holds with a condition, it holds with any equivalent one
 resized : {P Q : Type 0} (read : Result LineData LineFault) → (P → Q) → (Q → P) → IsSized P read → IsSized Q read
 resized read there back (inl small) = inl (there small)
 resized read there back (inr large) = inr (λ small. large.0 (back small), large.1)
 
--- a branch's numbers one by one
+-- a branch's numbers are small, or it is read as too large: its numbers are looked at one by one
 branch_sized : (number block branch : ℕ) (taken : Option ℕ) → IsSized (HasSmallNumbers (Branch number block branch taken)) (sized (Branch number block branch taken))
 branch_sized number block branch None =
     resized (sized (Branch number block branch None)) (λ small. (small.0, small.1.0, small.1.1)) (λ small. (small.0, (small.1, small.2)))
@@ -93,7 +97,7 @@ branch_sized number block branch (Some taken) =
     (more_sized block (after_block branch (Some taken) number) ((branch < 2 ^ 64) × (taken < 2 ^ 128))
     (more_sized branch (after_branch (Some taken) number block) (taken < 2 ^ 128) (last_counted taken (λ t. Ok (Branch number block branch (Some t)))))))
 
--- the numbers are small, or the record is read as too large
+-- the numbers of a record are small, or `NumberTooLarge` is read
 pub small_or_large : (says : LineData) → IsSized (HasSmallNumbers says) (sized says)
 small_or_large (Test name) = inl tt
 small_or_large (Path path) = inl tt
@@ -126,7 +130,7 @@ branch_read digits blocks branches text number block branch taken numbers block_
       taken_is text taken taken_so,
     ) refl
 
--- after the count of a line no digit follows
+-- what follows a line's count doesn't begin with a digit
 after_stops : (rest : List ℕ) (checksum : Option (List ℕ)) → IsAfterCount rest checksum → Stops rest
 after_stops [] checksum after = tt
 after_stops (b ∷ bs) None after = absurd cc

@@ -1,5 +1,5 @@
--- The laws of reading a line: a line of some form is read as what the form says, if its numbers are small enough, and a
--- line without a form is refused as the definitions ask. So each line has one meaning or one fault.
+-- The laws of reading a line. A line that has some form is read as what the form says, if its numbers are small enough. A line
+-- that has no form is refused with the fault of `HasFault`. So each line has one meaning or one fault.
 use Rattle.std.proofs.Common.{◌≡◌, ◌≢◌, ℕ, ◌<◌, ◌⊎◌, inl, inr, Bool, true, false, List, [], ◌∷◌, ◌++◌, length, Option, Some, None, Result, Ok, Err, refl, sym, ap, subst, ◌∙◌, arith}
 use Rattle.std.proofs.lemmas.List.{append-nil}
 use Rattle.std.proofs.lemmas.Option.{none-some}
@@ -66,15 +66,16 @@ form_read line Skip form = skip_read forms line form.0 form.1
 abbrev SaysSomething : List ℕ → Type 0
 SaysSomething line = (says : LineData) × HasForm line says
 
--- the line has a form, or is refused as malformed, or lacks its path
+-- the line has a form, or it is read as `BadLine`, or it is `SF:` without a path
 abbrev IsJudged : List ℕ → Result LineData LineFault → Type 0
 IsJudged line read = SaysSomething line ⊎ (((read ≡ Err BadLine) × (line ≢ codes "SF:")) ⊎ (line ≡ codes "SF:"))
 
--- a key's reader judges each line that begins with the key
+-- each line that begins with the key is as `IsJudged` says, with what the key's reader reads
 abbrev Judges : List ℕ × Fields → Type 0
 Judges form = (rest : List ℕ) → IsJudged (form.0 ++ rest) (form.1 rest)
 
--- as in IsJudged, or the line begins with none of the keys
+-- the same for a line that is read by a table of keys. Beside the cases of `IsJudged`, the line may begin neither with one of
+-- the keys nor with `end_of_record`
 abbrev IsJudgedBy : List (List ℕ × Fields) → List ℕ → Type 0
 IsJudgedBy table line =
     SaysSomething line ⊎ (((read_by table line ≡ Err BadLine) × (line ≢ codes "SF:") × BeginsWithOneOf (keys_in table) line) ⊎ ((line ≡ codes "SF:") ⊎ (¬ BeginsWithOneOf (keys_in table) line × ¬ Begins line (codes "end_of_record"))))
@@ -107,7 +108,7 @@ judged (form ∷ others) each line =
       | inr other ↦ judged_later form others line other (judged others each.1 line)
     ]
 
--- ---- the readers judge
+-- ---- the readers of all keys are as `Judges` says
 
 not_path : (line : List ℕ) → after_key (codes "SF:") line ≡ None → line ≢ codes "SF:"
 not_path line other e = none-some [] (sym other ∙ ap (after_key (codes "SF:")) e)
@@ -163,7 +164,7 @@ forms_judge = (
   ),
 )
 
--- each line has a form, or is malformed, or lacks its path
+-- each line has a form, or it has a key and is read as `BadLine`, or it is `SF:` without a path
 pub form_or_fault : (line : List ℕ) → SaysSomething line ⊎ (((read_of line ≡ Err BadLine) × (line ≢ codes "SF:") × HasKey line) ⊎ (line ≡ codes "SF:"))
 unfolding read_of
 form_or_fault line =
@@ -176,7 +177,7 @@ form_or_fault line =
 
 -- ---- the laws
 
--- what the line says, or its fault
+-- the result is what the line says, or the line's fault
 abbrev pub HasMeaning : List ℕ → Result LineData LineFault → Type 0
 HasMeaning line (Ok says) = Spells line says
 HasMeaning line (Err fault) = HasFault line fault
@@ -195,7 +196,7 @@ form_means line says form =
       | inr large ↦ meaning_at line (Err NumberTooLarge) (form_read line says form ∙ large.1) (says, form, large.0)
     ]
 
--- which fault a result has, as tests
+-- whether the result is the fault `BadLine`
 abbrev is_bad : Result LineData LineFault → Bool
 is_bad (Ok says) = false
 is_bad (Err BadLine) = true
@@ -212,7 +213,7 @@ sized_isnt_bad says e =
 bad_has_no_form : (line : List ℕ) (says : LineData) → read_of line ≡ Err BadLine → ¬ HasForm line says
 bad_has_no_form line says bad form = sized_isnt_bad says (sym (form_read line says form) ∙ bad)
 
--- what is read is what the line says, or its fault
+-- what `read_of` gives is what the line says, or the line's fault
 pub meaning_of : (line : List ℕ) → HasMeaning line (read_of line)
 meaning_of line =
     elim (form_or_fault line) [
@@ -221,7 +222,7 @@ meaning_of line =
       | inr (inr path) ↦ meaning_at line (Err EmptyPath) (ap read_of path ∙ path_missing) path
     ]
 
--- what a line says is read
+-- if a line spells a record, `read_of` gives this record
 pub spelled_read : (line : List ℕ) (says : LineData) → Spells line says → read_of line ≡ Ok says
 spelled_read line says spelled = form_read line says spelled.form ∙ sized_small says spelled.small
 
@@ -232,7 +233,7 @@ large_read line says form large =
       | inr too ↦ form_read line says form ∙ too.1
     ]
 
--- a line's fault is answered
+-- if a line has a fault, `read_of` gives this fault
 pub fault_read : (line : List ℕ) (fault : LineFault) → HasFault line fault → read_of line ≡ Err fault
 fault_read line EmptyPath fault = ap read_of fault ∙ path_missing
 fault_read line NumberTooLarge fault = large_read line fault.0 fault.1 fault.2
@@ -243,7 +244,7 @@ fault_read line BadLine fault =
       | inr (inr path) ↦ absurd (fault.1 path)
     ]
 
--- ---- what a function that returns what is read can promise
+-- ---- the contract of a function whose result is that of `read_of`
 
 pub ok_spells : (line : List ℕ) (r : Result TraceLine LineFault) → Gives r (read_of line) → IfOk r (λ t. Spells line (line_data t))
 ok_spells line (Ok t) gives = let P : Result LineData LineFault → Type 0 = λ m. HasMeaning line m in subst P gives (meaning_of line)

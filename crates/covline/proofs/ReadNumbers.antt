@@ -1,5 +1,5 @@
--- Reading a number and a count, alone or before a comma: what a numeral is read as, and that each text begins with a
--- numeral or isn't read.
+-- Reading a number and a count, alone or before a comma. A numeral is read as its number. A text that doesn't begin with a
+-- numeral isn't read.
 use Rattle.std.proofs.Common.{◌≡◌, ◌≢◌, ℕ, ◌+◌, ◌-◌, ◌*◌, ◌^◌, ◌<◌, ◌≤◌, ◌⊎◌, inl, inr, Bool, true, false, cond, eqb, ltb, leb, List, [], ◌∷◌, ◌++◌, All, Option, Some, None, Ok, Err, refl, sym, ap, subst, ◌∙◌, arith, fold, option_map}
 use Rattle.std.proofs.lemmas.Bool.{lt-ltb, le-ltb, le-leb, and_from, and_parts, leb-true, cases_lt, cases_eq, cases_Bool, eq-eqb, ne_eqb}
 use Rattle.std.proofs.lemmas.List.{append-nil}
@@ -16,7 +16,7 @@ digit_is b d = and_from (leb 48 b) (leb b 57) (le-leb 48 b d.0) (le-leb b 57 d.1
 pub digit_from : (b : ℕ) → is_digit b ≡ true → IsDigit b
 digit_from b e = let p = and_parts (leb 48 b) (leb b 57) e in (leb-true 48 b p.0, leb-true b 57 p.1)
 
--- no digit comes first
+-- the text doesn't begin with a digit
 abbrev pub Stops : List ℕ → Type 0
 Stops [] = Unit {0}
 Stops (b ∷ bs) = is_digit b ≡ false
@@ -50,7 +50,7 @@ with_digit-sized_number n b =
 
 -- ---- whether it fits
 
--- a number as one of 64 bits, and as a count
+-- a number fits exactly if it is below 2^64, and a count exactly if it is below 2^128
 pub fit_small : (n : ℕ) → n < 2 ^ 64 → fit (sized_number n) ≡ Ok n
 fit_small n lt = ap fit (sized_number_small n lt)
 
@@ -100,7 +100,7 @@ number_is (d ∷ ds) rest n numeral stops =
     let same : Some (digits_from (Value 0) (d ∷ ds ++ rest)) ≡ Some (sized_number n, rest) = ap (λ (p : Number × List ℕ). Some p) all ∙ ap (λ (v : Number). Some (v, rest)) value in
     number_at-digit d (ds ++ rest) test ∙ same
 
--- the digits at the front
+-- a text in two parts: all digits at its front, and the rest, which doesn't begin with a digit
 record Front (text : List ℕ) : Type 0 where
   digits : List ℕ
   rest : List ℕ
@@ -117,7 +117,7 @@ front_of (b ∷ bs) =
       | inr other ↦ record { digits = []; rest = b ∷ bs; parts = refl; each = All-nil IsDigit; stops = other }
     ]
 
--- the text begins with a numeral
+-- the text begins with a numeral, and no digit follows this
 pub record BeginsWithNumeral (text : List ℕ) : Type 0 where
   pub digits : List ℕ
   pub rest : List ℕ
@@ -131,7 +131,7 @@ number_or_none text [] (b ∷ bs) parts each stops = inr (rw (parts, stops) refl
 number_or_none text (d ∷ ds) rest parts each stops =
     inl (record { digits = d ∷ ds; rest = rest; parts = parts; numeral = record { some = omega arith; each = each; value = refl }; stops = stops })
 
--- each text begins with a numeral, or isn't read
+-- each text begins with a numeral, or `number_at` reads no number
 pub numeral_or_none : (text : List ℕ) → BeginsWithNumeral text ⊎ (number_at text ≡ None)
 numeral_or_none text = let front = front_of text in number_or_none text front.digits front.rest front.parts front.each front.stops
 
@@ -180,7 +180,7 @@ count_is text rest n (inr below) stops =
     ∙ ap (option_map as_zero) (number_is below.0 rest below.1 below.3 stops)
     ∙ ap (λ (v : Number). Some (v, rest)) zero_is
 
--- the text begins with a count
+-- the text begins with a count, and no digit follows this
 pub record BeginsWithCount (text : List ℕ) : Type 0 where
   pub counted : List ℕ
   pub rest : List ℕ
@@ -203,7 +203,7 @@ from_plain : (text : List ℕ) → BeginsWithNumeral text → BeginsWithCount te
 from_plain text front =
     record { counted = front.digits; rest = front.rest; count = digits_value front.digits; parts = front.parts; counts = inl front.numeral; stops = front.stops }
 
--- each text begins with a count, or isn't read
+-- each text begins with a count, or `count_at` reads no count
 pub count_or_none : (text : List ℕ) → BeginsWithCount text ⊎ (count_at text ≡ None)
 count_or_none [] = inr refl
 count_or_none (b ∷ bs) =
@@ -223,7 +223,7 @@ count_or_none (b ∷ bs) =
 pub field_is : (digits rest : List ℕ) (n : ℕ) → IsNumeral digits n → field_at (digits ++ comma ∷ rest) ≡ Some (sized_number n, rest)
 field_is digits rest n numeral = ap field_of (number_is digits (comma ∷ rest) n numeral refl)
 
--- the text has a comma at its front
+-- the text begins with a comma
 abbrev pub HasComma : List ℕ → Type 0
 HasComma text = (rest : List ℕ) × (text ≡ comma ∷ rest)
 
@@ -277,7 +277,7 @@ taken_is (b ∷ []) (Some n) numeral =
     rw test (ap (option_map (λ (v : Number). Some v)) (whole_is (b ∷ []) n numeral))
 taken_is (b ∷ c ∷ cs) (Some n) numeral = ap (option_map (λ (v : Number). Some v)) (whole_is (b ∷ c ∷ cs) n numeral)
 
--- what isn't a numeral isn't read
+-- if `taken_of` reads the text as a whole number, the text says how often a branch was taken, or nothing is read
 taken_from : (text : List ℕ) → taken_of text ≡ option_map (λ (v : Number). Some v) (number_of text) → ((taken : Option ℕ) × IsTaken text taken) ⊎ (taken_of text ≡ None)
 taken_from text plain =
     elim (whole_or_none text) [

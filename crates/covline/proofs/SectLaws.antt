@@ -23,16 +23,17 @@ in_data sects i s at = omega (arith, length-map sects sect_data, at.within)
 data_at : {A : Type 0} (sects : List (Sect A)) (i : ℕ) (s : Sect A) → IsAt sects i s → (d : SectData) → get_or (map sect_data sects) i d ≡ sect_data s
 data_at sects i s at d = get_or-map sect_data sects i s d at.within ∙ ap sect_data (sym at.is)
 
--- how many items there are with this section, which are some of all
+-- the sections up to this one have as many items as those before it and this one together
 pub items_more : {A : Type 0} (sects : List (Sect A)) (i : ℕ) (s : Sect A) → IsAt sects i s → items_in (take (i + 1) (map sect_data sects)) ≡ items_in (take i (map sect_data sects)) + length s.items
 items_more sects i s at =
     sum_by_more (λ d. length d.items) (map sect_data sects) i (sect_data s) (in_data sects i s at) ∙ ap (λ (d : SectData). items_in (take i (map sect_data sects)) + length d.items) (data_at sects i s at (sect_data s))
 
+-- these are at most as many as the items of all sections
 pub items_within : {A : Type 0} (sects : List (Sect A)) (i : ℕ) (s : Sect A) → IsAt sects i s → items_in (take i (map sect_data sects)) + length s.items ≤ items_in (map sect_data sects)
 items_within sects i s at =
     omega (arith, sum_by_more_le (λ d. length d.items) (map sect_data sects) i (sect_data s) (in_data sects i s at), ap (λ (d : SectData). length d.items) (data_at sects i s at (sect_data s)))
 
--- what holds of the sections so far and of this one holds of the sections up to it
+-- if P holds of all sections before this one and of this one, it holds of all sections up to this one
 pub All-one_more : {A : Type 0} (P : SectData → Type 0) (sects : List (Sect A)) (i : ℕ) (s : Sect A) → IsAt sects i s → All P (take i (map sect_data sects)) → P (sect_data s) → All P (take (i + 1) (map sect_data sects))
 All-one_more P sects i s at so_far here =
     All-more P (map sect_data sects) i (sect_data s) (in_data sects i s at) so_far (subst P (sym (data_at sects i s at (sect_data s))) here)
@@ -50,7 +51,7 @@ unlawful_at sects i s at so_far here =
     let after : drop i all ≡ sect_data s ∷ drop (i + 1) all = drop_more all i (sect_data s) lt ∙ ap (λ (d : SectData). d ∷ drop (i + 1) all) (data_at sects i s at (sect_data s)) in
     (take i all, sect_data s, drop (i + 1) all, sym (take-append-drop i all) ∙ ap (λ (ds : List SectData). take i all ++ ds) after, omega (arith, length-take i all), so_far, here)
 
--- sections of which one is unlawful aren't all lawful
+-- if there is a first unlawful section, the sections aren't all lawful
 pub unlawful_among : (sects : List SectData) (k : ℕ) → IsFirstUnlawful sects k → ¬ All IsLawfulSect sects
 unlawful_among sects k first all =
     let whole : All IsLawfulSect (first.0 ++ first.1 ∷ first.2) = All-same IsLawfulSect (first.0 ++ first.1 ∷ first.2) sects (sym first.3) all in
@@ -58,7 +59,7 @@ unlawful_among sects k first all =
 
 -- ---- texts of items
 
--- each item of the code has lawful texts
+-- each of these items, which are those of the Rattle code, has lawful texts
 abbrev pub HaveLawfulTexts : {A : Type 0} → List (Item A) → Type 0
 HaveLawfulTexts items = All (λ item. IsLawfulItem (item_data item)) items
 
@@ -69,7 +70,7 @@ lawful_each (item ∷ items) lawful = All-cons (λ i. IsLawfulItem (item_data i)
 lawful_all : {A : Type 0} (items : List (Item A)) (seen : List ItemData) → map item_data items ≡ seen → HaveLawfulTexts items → AllByRecursion IsLawfulItem seen
 lawful_all items seen e lawful = subst (AllByRecursion IsLawfulItem) e (recursion_from_All IsLawfulItem (map item_data items) (All-map IsLawfulItem item_data items lawful))
 
--- a section with good names is lawful if the texts of its items are
+-- a section whose test and file have good names is lawful exactly if the texts of its items are
 pub lawful_sect : {A : Type 0} (s : SectData) (test file : List ℕ) (items : List (Item A)) → test ≡ s.test → file ≡ s.file → map item_data items ≡ s.items → IsGoodTest test → IsGoodName file → HaveLawfulTexts items ↔ IsLawfulSect s
 lawful_sect s test file items same_test same_file same_items good_test good_file = (
   λ lawful. record { test = subst IsGoodTest same_test good_test; file = subst IsGoodName same_file good_file; items = lawful_all items s.items same_items lawful },
@@ -81,7 +82,7 @@ lawful_sect s test file items same_test same_file same_items good_test good_file
 abbrev pub submission : List SectData → ℕ → SubmissionData
 submission sects odd = record { sects = sects; odd = odd }
 
--- what the tests of the sections show of the submission
+-- sections that pass all checks make a lawful submission
 pub lawful_from : (all sects : List SectData) (items odd : ℕ) → all ≡ sects → (items ≡ items_in all) × (items ≤ max_items) → AllByRecursion (λ s. AllFit s.items) all → All IsLawfulSect all → odd < 2 ^ 64 → IsLawful (submission sects odd) × (items ≡ items_in sects)
 lawful_from all sects items odd e counted fit texts small =
     let few : items_in all ≤ max_items = omega arith in

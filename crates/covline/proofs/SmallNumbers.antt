@@ -1,4 +1,4 @@
--- The numbers of 64 bits at the front of a text, and what follows them.
+-- The number at the front of a text, if it is below 2^64, and what follows it.
 use Rattle.std.proofs.Common.{◌≡◌, ℕ, ◌<◌, ◌^◌, inl, inr, List, [], ◌∷◌, ◌++◌, Option, Some, None, option_map, refl, sym, ap, subst, ◌∙◌, append_assoc}
 use Rattle.std.proofs.lemmas.Bool.{cases_lt}
 use Rattle.std.proofs.lemmas.Option.{none-some, option_and_then_some}
@@ -20,7 +20,7 @@ value_of n v e =
       ]
     ]
 
--- ---- from what the readers of the parts answer
+-- ---- what the results of the readers show of the text
 
 pub same_some : {A : Type 0} (x y : A) → Some x ≡ Some y → x ≡ y
 same_some x y e = cc
@@ -32,7 +32,8 @@ after_some key line rest e =
       | inr other ↦ absurd (none-some rest (sym (e ∙ after_key-none key line other)))
     ]
 
--- digits, the number that they say and what follows them
+-- `front` is some digits as `before` puts them (with a comma after them, or alone), followed by `rest`. The digits say this
+-- number, which is below 2^64
 pub record HasNumber (front rest : List ℕ) (n : ℕ) (before : List ℕ → List ℕ) : Type 0 where
   pub digits : List ℕ
   pub numeral : IsNumeral digits n

@@ -1,5 +1,5 @@
--- First lines that are read without being cut: `DA:` and `BRDA:` lines of digits (or `-` for how often a branch was
--- taken), with numbers below 2^64, that end in a line feed.
+-- First lines of texts that are read without being cut. They are `DA:` and `BRDA:` lines that end in a line feed. Their numbers
+-- are digits alone and below 2^64; the last field of a `BRDA:` line may also be `-`.
 use Rattle.std.specs.Prelude.{◌≡◌, ℕ, ◌<◌, ◌^◌, ◌==◌, if◌then◌else◌, List, [], ◌∷◌, ◌++◌, Option, Some, None, codes, option_map}
 use Rattle.std.specs.Option.{option_and_then}
 use Rattle.covline.specs.declared.reader.Number.{Number}
@@ -10,12 +10,13 @@ use Rattle.covline.specs.Points.{BranchPoint}
 use Rattle.covline.specs.Spells.{comma, minus, IsNumeral, IsTaken}
 use Rattle.covline.specs.Reading.{after_key, field_at, is_checksum_byte, number_at}
 
--- after a line's count: a line feed, or a comma, this checksum and a line feed
+-- the text after a line's count: a line feed, or a comma, this checksum and a line feed; `rest` follows the line feed
 abbrev pub EndsCount : List ℕ → Option (List ℕ) → List ℕ → Type 0
 EndsCount text None rest = text ≡ line_feed ∷ rest
 EndsCount text (Some checksum) rest = (text ≡ comma ∷ (checksum ++ line_feed ∷ rest)) × IsChecksum checksum
 
--- the text begins with `DA:`, the digits of these numbers, this checksum if there is one, and a line feed; this follows
+-- the text begins with `DA:`, the digits of these two numbers, this checksum if there is one, and a line feed; `rest` follows
+-- the line feed
 pub record BeginsWithCountedLine (text : List ℕ) (line count : ℕ) (checksum : Option (List ℕ)) (rest : List ℕ) : Type 0 where
   pub digits : List ℕ
   pub counts : List ℕ
@@ -32,7 +33,8 @@ abbrev pub IsSmallIfAny : Option ℕ → Type 0
 IsSmallIfAny None = Unit {0}
 IsSmallIfAny (Some n) = n < 2 ^ 64
 
--- the text begins with `BRDA:`, the digits of these numbers (or `-` for the last one) and a line feed; this follows
+-- the text begins with `BRDA:`, the digits of these four numbers (or `-` for the last one), and a line feed; `rest` follows the
+-- line feed
 pub record BeginsWithBranchLine (text : List ℕ) (point : BranchPoint) (taken : Option ℕ) (rest : List ℕ) : Type 0 where
   pub digits : List ℕ
   pub blocks : List ℕ
@@ -59,44 +61,48 @@ small_of TooLarge = None
 abbrev pub small_front : Option (Number × List ℕ) → Option (ℕ × List ℕ)
 small_front front = option_and_then (λ (f : Number × List ℕ). option_map (λ (n : ℕ). (n, f.1)) (small_of f.0)) front
 
--- how often a branch was taken, and what follows it
+-- the field at the front that says how often a branch was taken, and what follows it
 abbrev pub taken_front : List ℕ → Option (Option ℕ × List ℕ)
 taken_front [] = None
 taken_front (b ∷ bs) = if b == minus then Some (None, bs) else option_map (λ (f : ℕ × List ℕ). (Some f.0, f.1)) (small_front (number_at (b ∷ bs)))
 
--- what follows a line feed
+-- what follows a line feed, if the text begins with one
 abbrev pub after_feed : List ℕ → Option (List ℕ)
 after_feed text = after_key (line_feed ∷ []) text
 
--- the bytes at the front that a checksum may have, and what follows them
+-- the bytes at the front that a checksum may have
 abbrev pub checksum_bytes : List ℕ → List ℕ
 checksum_bytes [] = []
 checksum_bytes (b ∷ bs) = if is_checksum_byte b then b ∷ checksum_bytes bs else []
 
+-- what follows these bytes
 abbrev pub after_checksum : List ℕ → List ℕ
 after_checksum [] = []
 after_checksum (b ∷ bs) = if is_checksum_byte b then after_checksum bs else b ∷ bs
 
--- a checksum isn't empty
+-- the two lists, if the first isn't empty: a checksum isn't
 abbrev pub some_front : List ℕ → List ℕ → Option (List ℕ × List ℕ)
 some_front [] rest = None
 some_front (b ∷ bs) rest = Some (b ∷ bs, rest)
 
+-- the checksum at the front, and what follows it
 abbrev pub checksum_front : List ℕ → Option (List ℕ × List ℕ)
 checksum_front text = some_front (checksum_bytes text) (after_checksum text)
 
--- the checksum after a count, if any, and what follows the line feed
+-- the checksum that was read, and what follows the line feed after it
 abbrev pub checked_end : List ℕ × List ℕ → Option (Option (List ℕ) × List ℕ)
 checked_end front = option_map (λ (rest : List ℕ). (Some front.0, rest)) (after_feed front.1)
 
+-- no checksum, and what follows the line feed
 abbrev pub plain_end : List ℕ → Option (Option (List ℕ) × List ℕ)
 plain_end text = option_map (λ (rest : List ℕ). (None, rest)) (after_feed text)
 
+-- the checksum after a count, if there is one, and what follows the line feed
 abbrev pub count_end : List ℕ → Option (Option (List ℕ) × List ℕ)
 count_end [] = None
 count_end (b ∷ bs) = if b == comma then option_and_then checked_end (checksum_front bs) else plain_end (b ∷ bs)
 
--- a counted line, from its line, its count and what follows these
+-- a `DA:` line, read to its end once its line and its count are read
 abbrev pub counted_end : ℕ → ℕ × List ℕ → Option ((ℕ × ℕ) × (Option (List ℕ) × List ℕ))
 counted_end line count = option_map (λ (end : Option (List ℕ) × List ℕ). ((line, count.0), end)) (count_end count.1)
 
@@ -106,10 +112,11 @@ counted_after_line line = option_and_then (counted_end line.0) (small_front (num
 abbrev pub counted_after_key : List ℕ → Option ((ℕ × ℕ) × (Option (List ℕ) × List ℕ))
 counted_after_key fields = option_and_then counted_after_line (small_front (field_at fields))
 
+-- the `DA:` line at the front: its line and its count, its checksum if there is one, and what follows the line feed
 abbrev pub counted_front : List ℕ → Option ((ℕ × ℕ) × (Option (List ℕ) × List ℕ))
 counted_front text = option_and_then counted_after_key (after_key (codes "DA:") text)
 
--- a branch, from its point, how often it was taken and what follows these
+-- a `BRDA:` line, read to its end once its four fields are read
 abbrev pub branch_end : BranchPoint → Option ℕ × List ℕ → Option ((BranchPoint × Option ℕ) × List ℕ)
 branch_end point taken = option_map (λ (rest : List ℕ). ((point, taken.0), rest)) (after_feed taken.1)
 
@@ -125,5 +132,6 @@ branch_after_line line = option_and_then (branch_after_block line.0) (small_fron
 abbrev pub branch_after_key : List ℕ → Option ((BranchPoint × Option ℕ) × List ℕ)
 branch_after_key fields = option_and_then branch_after_line (small_front (field_at fields))
 
+-- the `BRDA:` line at the front: its branch, how often that was taken, and what follows the line feed
 abbrev pub branch_front : List ℕ → Option ((BranchPoint × Option ℕ) × List ℕ)
 branch_front text = option_and_then branch_after_key (after_key (codes "BRDA:") text)

@@ -1,4 +1,5 @@
--- Which submissions are lawful: their names and checksums fit the lines of a tracefile, and their items aren't too many.
+-- Which submissions are lawful. Their names and checksums fit into the lines of a tracefile, their numbers aren't too large, and
+-- their items aren't too many.
 use Rattle.std.specs.Prelude.{◌≡◌, ◌≢◌, ℕ, ◌<◌, ◌≤◌, ◌^◌, List, [], ◌∷◌, ◌++◌, length, Some, None, All}
 use Rattle.std.specs.List.{AllByRecursion}
 use Rattle.covline.specs.declared.submission.BadSubmission.{BadSubmission}
@@ -28,7 +29,8 @@ pub record IsChecksumByte (b : ℕ) : Type 0 where
   pub no_return : b ≢ carriage_return
   pub no_feed : b ≢ line_feed
 
--- the checksum of a line's text, which is taken as it is (geninfo(1), FILES: DA)
+-- the checksum of a source line: one or more bytes that a checksum may have. It isn't compared with the source
+-- (geninfo(1), FILES: DA)
 pub record IsChecksum (checksum : List ℕ) : Type 0 where
   pub some : 0 < length checksum
   pub each : All IsChecksumByte checksum
@@ -63,7 +65,7 @@ pub record IsLawful (s : SubmissionData) : Type 0 where
   pub fit : AllByRecursion (λ sect. AllFit sect.items) s.sects
   pub odd_fits : s.odd < 2 ^ 64
 
--- the first section with an unlawful text has this number
+-- the first section with an unlawful text has this number, counted from 0
 abbrev pub IsFirstUnlawful : List SectData → ℕ → Type 0
 IsFirstUnlawful sects k =
     (before : List SectData) × (bad : SectData) × (after : List SectData)
@@ -74,7 +76,7 @@ abbrev pub IsRefusedAs : List SectData → BadSubmission → Type 0
 IsRefusedAs sects TooMany = max_items < items_in sects
 IsRefusedAs sects (BadText k) = (items_in sects ≤ max_items) × IsFirstUnlawful sects k
 
--- the number of the reason, which stays the same in all versions
+-- the number of the fault, which stays the same in all versions
 abbrev pub refusal_number : BadSubmission → ℕ
 refusal_number TooMany = 1
 refusal_number (BadText sect) = 2

@@ -14,8 +14,8 @@ JoinedAgain = (text : List ℕ) → concat (pieces_of text) ≡ text
 abbrev pub GoodLines : Type 0
 GoodLines = (text : List ℕ) → All IsGoodTest (lines_of text)
 
--- what follows the front of such a line, as a name follows its key, has no line feed and doesn't end in a carriage return
--- either
+-- if a line has no line feed and doesn't end in a carriage return, the same is true of any end of it, such as the name after
+-- a key
 abbrev pub GoodRest : Type 0
 GoodRest = (front rest : List ℕ) → IsGoodTest (front ++ rest) → IsGoodTest rest
 
@@ -31,11 +31,12 @@ FewBytes = (text : List ℕ) → sum_by length (lines_of text) ≤ length text
 abbrev pub OnlyReturnsOff : Type 0
 OnlyReturnsOff = (text : List ℕ) → (n : ℕ) × (text ≡ strip text ++ replicate n carriage_return)
 
--- if a text that ends in a line feed is joined to another, its lines come first and then those of the other
+-- if a text follows one that ends in a line feed, the lines of both together are those of the first and then those of the second
 abbrev pub OneAfterOther : Type 0
 OneAfterOther = (front rest : List ℕ) → lines_of (front ++ line_feed ∷ rest) ≡ lines_of (front ++ line_feed ∷ []) ++ lines_of rest
 
--- a text made of such lines, each with a line feed after it, has these lines
+-- if lines have no line feed and don't end in a carriage return, the text that has each of them with a line feed after it has
+-- exactly these lines
 abbrev pub MadeOfLines : Type 0
 MadeOfLines = (lines : List (List ℕ)) → All IsGoodTest lines → lines_of (flat_map (λ line. line ++ line_feed ∷ []) lines) ≡ lines
 

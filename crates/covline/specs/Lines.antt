@@ -1,5 +1,5 @@
--- The lines of a text. A text is cut at each line feed, the last of which may be missing; carriage returns at the
--- end of a line don't belong to it.
+-- The lines of a text. A text is cut after each line feed. The last line may have no line feed. Line feeds, and the carriage
+-- returns at the end of a line, don't belong to the line.
 use Rattle.std.specs.Prelude.{◌≡◌, ℕ, List, [], ◌∷◌, ◌++◌, ◌==◌, map, if◌then◌else◌}
 
 abbrev pub line_feed : ℕ
@@ -23,17 +23,17 @@ abbrev pub before_feed : List ℕ → List ℕ
 before_feed [] = []
 before_feed (b ∷ bs) = if b == line_feed then [] else b ∷ before_feed bs
 
--- a byte before a line that has lost the carriage returns at its end
+-- puts a byte before a line that has no carriage returns at its end. A carriage return before an empty line is left out
 abbrev pub before_stripped : ℕ → List ℕ → List ℕ
 before_stripped b [] = if b == carriage_return then [] else b ∷ []
 before_stripped b (c ∷ cs) = b ∷ c ∷ cs
 
--- without the carriage returns at the end
+-- the text without the carriage returns at its end
 abbrev pub strip : List ℕ → List ℕ
 strip [] = []
 strip (b ∷ bs) = before_stripped b (strip bs)
 
--- the line that a piece is
+-- the line of a piece: without its line feed, and without the carriage returns before that
 abbrev pub line_of : List ℕ → List ℕ
 line_of piece = strip (before_feed piece)
 
@@ -41,7 +41,7 @@ line_of piece = strip (before_feed piece)
 abbrev pub lines_of : List ℕ → List (List ℕ)
 lines_of text = map line_of (pieces_of text)
 
--- the text is its first piece, which has this line, and this rest
+-- the text is cut after its first piece: `line` is the line of this piece, and `rest` is what follows the piece
 pub record IsFirstCut (text line rest : List ℕ) : Type 0 where
   pub piece : List ℕ
   pub first : pieces_of text ≡ piece ∷ pieces_of rest

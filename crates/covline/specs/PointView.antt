@@ -1,4 +1,4 @@
--- A branch of the code, seen as plain data.
+-- The `BranchPoint` of the Rattle code, as plain data.
 use Rattle.covline.specs.Points.{BranchPoint}
 use Rattle.covline.specs.declared.point.BranchPoint as code
 

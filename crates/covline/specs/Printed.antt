@@ -9,7 +9,7 @@ abbrev pub taken_text : Option ℕ → List ℕ
 taken_text None = minus ∷ []
 taken_text (Some taken) = decimal taken
 
--- the checksum after a line's count, if it has one
+-- what is printed after a line's count: a comma and the checksum, or nothing if the line has none
 abbrev pub checksum_text : Option (List ℕ) → List ℕ
 checksum_text None = []
 checksum_text (Some checksum) = comma ∷ checksum

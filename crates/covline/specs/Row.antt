@@ -5,7 +5,7 @@ use Rattle.covline.specs.declared.item.Item.{Item}
 use Rattle.covline.specs.declared.item.Item.TheVariants as items
 
 -- one count of a source file (geninfo(1), FILES): of an instrumented line, with the checksum of its text if there is
--- one (DA); of a function with its start line (FN, FNDA); of a branch, none if its block was never executed (BRDA)
+-- one (DA); of a function with its start line (FN, FNDA); of a branch, `None` if its block was never executed (BRDA)
 pub data ItemData : Type 0 where
   LineItem : (line count : ℕ) (checksum : Option (List ℕ)) → ItemData
   FuncItem : (name : List ℕ) (line count : ℕ) → ItemData
@@ -17,7 +17,7 @@ pub record SectData : Type 0 where
   pub file : List ℕ
   pub items : List ItemData
 
--- what one text says: its sections, and how many of its lines don't fit the rest
+-- what one text says: its sections, and how many of its lines are odd
 pub record SubmissionData : Type 0 where
   pub sects : List SectData
   pub odd : ℕ
@@ -28,13 +28,13 @@ pub record Row : Type 0 where
   pub file : List ℕ
   pub item : ItemData
 
--- an item of the code, seen as plain data
+-- the `Item` of the Rattle code, as plain data
 abbrev pub item_data : {A : Type 0} → Item A → ItemData
 item_data (items.Line line count checksum) = LineItem line count checksum
 item_data (items.Func name line count) = FuncItem name line count
 item_data (items.Branch line block branch taken) = BranchItem line block branch taken
 
--- a function's item with another start line; an item of another kind is as it was
+-- a function's item with this start line in place of its own; an item of another kind is unchanged
 abbrev pub with_start : ℕ → ItemData → ItemData
 with_start line (FuncItem name start count) = FuncItem name line count
 with_start line (LineItem number count checksum) = LineItem number count checksum
@@ -47,6 +47,6 @@ rows_of_sect s = map (λ i. record { test = s.test; file = s.file; item = i }) s
 abbrev pub rows_of : SubmissionData → List Row
 rows_of s = flat_map rows_of_sect s.sects
 
--- how many items sections have
+-- how many items the sections have in all
 abbrev pub items_in : List SectData → ℕ
 items_in sects = sum_by (λ s. length s.items) sects

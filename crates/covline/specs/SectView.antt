@@ -1,4 +1,4 @@
--- A section of the code, seen as plain data.
+-- The `Sect` of the Rattle code, as plain data.
 use Rattle.covline.specs.declared.sect.Sect.{Sect}
 use Rattle.covline.specs.Row.{SectData}
 

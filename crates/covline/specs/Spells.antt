@@ -46,7 +46,7 @@ minus = 45
 abbrev pub IsDigit : ℕ → Type 0
 IsDigit b = (48 ≤ b) × (b ≤ 57)
 
--- what digits say in decimal
+-- the number that the digits say in decimal
 abbrev pub digits_value : List ℕ → ℕ
 digits_value digits = fold (λ n b. n * 10 + (b - 48)) 0 digits
 
@@ -74,7 +74,7 @@ key_of BranchHit = codes "BRH:"
 key_of LineFound = codes "LF:"
 key_of LineHit = codes "LH:"
 
--- the twelve keys of version 1
+-- the twelve keys of LCOV 1.x
 abbrev pub keys : List (List ℕ)
 keys = codes "TN:" ∷ codes "SF:" ∷ codes "FN:" ∷ codes "FNDA:" ∷ codes "FNF:" ∷ codes "FNH:" ∷ codes "BRDA:" ∷ codes "BRF:" ∷ codes "BRH:" ∷ codes "DA:" ∷ codes "LF:" ∷ codes "LH:" ∷ []
 
@@ -86,7 +86,7 @@ BeginsWithOneOf (key ∷ others) line = Begins line key ⊎ BeginsWithOneOf othe
 abbrev pub HasKey : List ℕ → Type 0
 HasKey line = BeginsWithOneOf keys line
 
--- the form of each record, whatever the size of its numbers
+-- the line has the form of this record, whatever the size of its numbers
 abbrev pub HasForm : List ℕ → LineData → Type 0
 HasForm line (Test name) = line ≡ codes "TN:" ++ name
 HasForm line (Path path) = (line ≡ codes "SF:" ++ path) × (0 < length path)
@@ -124,7 +124,7 @@ pub record Spells (line : List ℕ) (says : LineData) : Type 0 where
   pub form : HasForm line says
   pub small : HasSmallNumbers says
 
--- the text's first line says this, and this is the text after the line
+-- the text's first line says `says`, and `rest` is the text after that line
 pub record BeginsWithLine (text : List ℕ) (says : LineData) (rest : List ℕ) : Type 0 where
   pub line : List ℕ
   pub cut : lines_of text ≡ line ∷ lines_of rest

@@ -4,7 +4,7 @@ use crate::memory::Memory;
 use std::alloc::{Allocator, Global};
 use std::marker::Model;
 
-/// A text of bytes that owns its memory. Contracts see the list of its bytes.
+/// Bytes that own their memory: a name, a path, a checksum or a whole text. Contracts see the list of these bytes.
 #[derive(Drop)]
 pub struct Bytes<A: Allocator = Global> {
     text: Vec<u8, A>,
@@ -28,7 +28,8 @@ impl<A: Allocator> Bytes<A> {
         }
     }
 
-    /// The empty text, with room for `bytes` bytes: up to that length it doesn't grow.
+    /// The empty text, with room for `bytes` bytes. Appending allocates nothing until the text is longer than that. Room for 0
+    /// bytes is never refused.
     pub fn with_room(alloc: A, bytes: usize) -> Result<Bytes<A>, Memory>
         ensures empty { IfOk result (λ b. b ≡ []) }
         ensures nothing { bytes ≡ 0 → IsOk result }

@@ -31,7 +31,7 @@ pub fn count_items<A: Allocator>(sects: &[Sect<A>]) -> Option<u64>
     Some(items)
 }
 
-/// The index of the first section with an unlawful text.
+/// The index of the first section with an unlawful text, or `None` if all texts are lawful.
 pub fn first_unlawful<A: Allocator>(sects: &[Sect<A>]) -> Option<usize>
     ensures { let all = map sect_data sects.now in
         MatchOption result (All IsLawfulSect all) (IsFirstUnlawful all) }
@@ -58,7 +58,7 @@ fn are_lawful<A: Allocator>(items: &[Item<A>]) -> bool
     items.iter().all(|item| is_lawful_item(item))
 }
 
-/// Whether the item's text is lawful, if it has one.
+/// Whether the item's name or checksum is lawful. True for an item that has neither.
 fn is_lawful_item<A: Allocator>(item: &Item<A>) -> bool
     ensures { IsTrue result ↔ IsLawfulItem (item_data item.now) }
 {

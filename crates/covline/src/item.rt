@@ -134,7 +134,7 @@ impl<A: Allocator> Item<A> {
         }
     }
 
-    /// Whether this is the item of this branch, taken as often.
+    /// Whether this is the item of this branch, with the same `taken`.
     fn is_branch(&self, line: u64, block: u64, branch: u64, taken: Option<u128>) -> bool
         ensures { IsTrue result ↔ (BranchItem line block branch taken ≡ item_data self.now) }
     {
@@ -202,7 +202,7 @@ impl<A: Allocator + Copy> Item<A> {
         }
     }
 
-    /// An equal checksum, in memory of its own, if there is one.
+    /// A copy of the checksum, in memory of its own, or `None` if there is no checksum.
     fn copy_checksum(checksum: &Option<Bytes<A>>, alloc: A) -> Result<Option<Bytes<A>>, Memory>
         ensures { IfOk result (λ c. c ≡ checksum.now) }
     {
@@ -313,14 +313,14 @@ impl<A: Allocator> Items<A> {
         true
     }
 
-    /// Frees the list's unused room, once no more items come.
+    /// Frees the list's unused room. It is called when no more items are to be appended.
     pub fn shrink(&mut self)
         ensures { self.new ≡ self.old }
     {
         self.items.shrink_to_fit();
     }
 
-    /// The items in order, each to be moved elsewhere.
+    /// Consumes the list and returns its items, in order.
     pub fn into_vec(self) -> Vec<Item<A>, A>
         ensures { map item_data result.items ≡ self }
     {

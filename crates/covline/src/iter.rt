@@ -1,4 +1,5 @@
-//! The iterator of the lines of a text. It is apart from `lines`, since names in one module may not differ only in case.
+//! The iterator over the lines of a text. It has a module of its own, because names in one module may not differ only in case,
+//! as `Lines` and the function `lines` do.
 
 use crate::text_lines::first_line;
 use std::marker::Model;

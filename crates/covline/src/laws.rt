@@ -1,15 +1,16 @@
-//! Laws of the definitions that the contracts cite. Their functions do nothing.
+//! Laws of the definitions that the contracts cite. Each law is a function that does nothing.
 
 ghost use Rattle.std.specs.Prelude.{◌≡◌, ◌⊎◌, ℕ, List};
 ghost use Rattle.covline.specs.declared.trace_line.LineFault.{LineFault};
 ghost use Rattle.covline.specs.Spells.{LineData, Spells, HasFault};
 ghost use Rattle.covline.specs.LineLaws.{JoinedAgain, GoodLines, GoodRest, FewLines, FewBytes, OnlyReturnsOff, OneAfterOther, MadeOfLines, PrintedSpells};
 
-/// The lines of a text make up the text. Its pieces, each cut after a line feed, are joined to the same text; a line is
-/// its piece without the line feed and the carriage returns before it. Neither a line nor what follows a key in it has
-/// a line feed or ends in a carriage return. There are at most as many lines as bytes, and together the lines have at
-/// most as many bytes as the text. If a text that ends in a line feed is joined to another, its lines come first and
-/// then those of the other. A text made of such lines has these lines.
+/// The lines of a text make up the text. The text is cut after each line feed, and the pieces, joined again, are the text. A
+/// line is a piece without its line feed and the carriage returns before that. Neither a line nor any end of a line (such as
+/// the name after a key) has a line feed or ends in a carriage return. There are at most as many lines as bytes, and together
+/// the lines have at most as many bytes as the text. If a text follows one that ends in a line feed, the lines of both together
+/// are those of the first and then those of the second. If lines have no line feed and don't end in a carriage return, the text
+/// that has each of them with a line feed after it has exactly these lines.
 pub fn lines_are_the_text()
     ensures joined { JoinedAgain }
     ensures good_lines { GoodLines }

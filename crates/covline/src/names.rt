@@ -10,7 +10,7 @@ pub fn good_test(name: &[u8]) -> bool
     !name.contains(&b'\n') && name.last() != Some(&b'\r')
 }
 
-/// Whether a file or a function can have this name: a test can, and it isn't empty.
+/// Whether a file or a function can have this name: it isn't empty, has no line feed and doesn't end in a carriage return.
 pub(crate) fn good_name(name: &[u8]) -> bool
     ensures { IsTrue result ↔ IsGoodName name.now }
 {

@@ -12,8 +12,8 @@ use crate::tail::Tail;
 use crate::trace_line::{TotalKind, TraceLine};
 use std::alloc::Allocator;
 
-/// Appends the line that says this, with a line feed. A skipped line appends nothing and is never refused. On `Memory`
-/// the text stays as it was.
+/// Appends the record as a line, and a line feed. For `Skip` it appends nothing and is never refused. On `Memory` the text stays
+/// as it was.
 pub fn put_line<A: Allocator>(line: &TraceLine<'_>, text: &mut Bytes<A>) -> Result<(), Memory>
     ensures ok { OnOk result (text.new ≡ text.old ++ printed (line_data line.now)) }
     ensures err { OnErr result (text.new ≡ text.old) }
@@ -30,7 +30,8 @@ pub fn put_line<A: Allocator>(line: &TraceLine<'_>, text: &mut Bytes<A>) -> Resu
     put
 }
 
-/// Appends the line. On `Memory` a part of it may be left at the end of the text, as with the functions below.
+/// Appends the line and a line feed. On `Memory` a part of it may be left at the end of the text. The same holds of
+/// `append_text`, `append_named` and `append_count`.
 fn append_line<A: Allocator>(line: &TraceLine<'_>, text: &mut Bytes<A>) -> Result<(), Memory>
     ensures ok { OnOk result (text.new ≡ text.old ++ printed (line_data line.now)) }
     ensures err { OnErr result ((more : List ℕ) × (text.new ≡ text.old ++ more)) }
@@ -114,7 +115,7 @@ fn append_branch<A: Allocator>(
     text.append(line.get())
 }
 
-/// Puts how often a branch was taken before the rest of its line.
+/// Puts the field that says how often a branch was taken before the bytes that the line has so far.
 #[inline]
 fn put_taken(taken: Option<u128>, line: &mut Tail)
     requires { length line.old + 39 ≤ 168 }
@@ -144,7 +145,7 @@ fn append_count<A: Allocator>(
     }
 }
 
-/// The record of an instrumented line up to the byte after its count.
+/// The front of an instrumented line's record: the key, the line, the count and the byte `end` after the count.
 #[inline]
 fn line_up_to(line: u64, count: u128, end: u8) -> Tail
     ensures { result ≡ codes "DA:" ++ decimal line ++ comma ∷ decimal count ++ end ∷ [] }
@@ -157,7 +158,7 @@ fn line_up_to(line: u64, count: u128, end: u8) -> Tail
     front
 }
 
-/// Appends a total.
+/// Appends the record of a total: its key and a number.
 fn append_total<A: Allocator>(
     kind: TotalKind,
     value: u64,

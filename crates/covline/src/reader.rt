@@ -1,5 +1,5 @@
-//! Reading one line of a tracefile: its key by its first bytes, then the key's fields from left to right, each key by a
-//! function of its own. Nothing is copied.
+//! Reading one line of a tracefile. The first bytes say which key the line has. Then the key's fields are read from left to
+//! right, by a function for this key. Nothing is copied.
 
 ghost use Rattle.std.specs.Prelude.{◌≡◌, ◌≤◌, ◌+◌, ◌*◌, ◌-◌, ◌++◌, ◌∷◌, ℕ, All, List, Option, [], None, Some, Ok, codes, option_map, Err, MatchOption, MatchResult, IfOk, IfErr, IfSome};
 ghost use Rattle.covline.specs.declared.trace_line.LineFault.{LineFault};
@@ -14,19 +14,19 @@ use crate::names::{good_checksum, is_checksum_byte};
 use crate::point::BranchPoint;
 use crate::trace_line::{LineFault, TotalKind, TraceLine};
 
-/// The number that digits say, by its size.
+/// The number that digits say. The variant shows how large it is.
 #[derive(Clone, Copy)]
 enum Number {
-    /// A number of 64 bits, as most are.
+    /// A number below 2^64. Most numbers are.
     Value(u64),
-    /// A larger one of 128 bits.
+    /// A number of at least 2^64 and below 2^128.
     U128(u128),
     /// 2^128 or more.
     TooLarge,
 }
 
 impl Number {
-    /// A number of 128 bits.
+    /// The number, in the variant of its size.
     fn of(value: u128) -> Number
         ensures { result ≡ sized_number value }
     {
@@ -93,10 +93,10 @@ fn push_wide(value: u128, digit: u8) -> Number
 }
 
 /// The largest number that stays below 2^64 whatever digit is appended. All numbers of 18 digits are below it, so a number of
-/// up to 19 digits is read without a checked step.
+/// up to 19 digits is read without overflow checks.
 const MOST_BEFORE_DIGIT: u64 = 1_844_674_407_370_955_160;
 
-/// The digits at the front of the text, and what follows them.
+/// The number that the digits at the front of the text say, and what follows them. It is 0 if there are none.
 fn read_digits(text: &[u8]) -> (Number, &[u8])
     ensures value { result.0 ≡ (digits_from (Number.Value 0) text.now).0 }
     ensures rest { result.1.now ≡ (digits_from (Number.Value 0) text.now).1 }
@@ -134,7 +134,7 @@ fn read_more_digits(front: Number, text: &[u8]) -> (Number, &[u8])
     (number, rest)
 }
 
-/// The number at the front of the text, of one digit at least, and what follows it.
+/// The number at the front of the text, and what follows it. `None` if the text doesn't begin with a digit.
 fn read_number(text: &[u8]) -> Option<(Number, &[u8])>
     ensures { option_map (λ front. (front.0, front.1.now)) result ≡ number_at text.now }
 {
@@ -144,7 +144,7 @@ fn read_number(text: &[u8]) -> Option<(Number, &[u8])>
     }
 }
 
-/// The text as a number.
+/// The number that the text is, or `None` if the text isn't one or more digits.
 fn read_whole(text: &[u8]) -> Option<Number>
     ensures { result ≡ number_of text.now }
 {
@@ -166,7 +166,7 @@ fn read_count(text: &[u8]) -> Option<(Number, &[u8])>
     Some((Number::Value(0), rest))
 }
 
-/// The number, and what follows the comma that has to come next.
+/// The number, and what follows the comma at the front of `rest`. `None` if `rest` doesn't begin with a comma.
 fn split_comma(number: Number, rest: &[u8]) -> Option<(Number, &[u8])>
     ensures { option_map (λ front. (front.0, front.1.now)) result ≡ before_comma number rest.now }
 {
@@ -184,7 +184,7 @@ fn read_field(text: &[u8]) -> Option<(Number, &[u8])>
     split_comma(number, rest)
 }
 
-/// How often a branch was taken: no number for `-`.
+/// How often a branch was taken: `Some(None)` for `-`, and `None` if the text is neither `-` nor a number.
 fn read_taken(text: &[u8]) -> Option<Option<Number>>
     ensures { result ≡ taken_of text.now }
 {
@@ -201,7 +201,8 @@ fn whole_checksum(text: &[u8]) -> Option<&[u8]>
     good_checksum(text).then_some(text)
 }
 
-/// The checksum after a line's count, if any: nothing follows the count, or a comma and a checksum.
+/// The checksum in the text that follows a line's count. `Some(None)` if the text is empty, and `None` if it is anything else
+/// than a comma and a checksum.
 fn read_checksum(text: &[u8]) -> Option<Option<&[u8]>>
     ensures { option_map (option_map (λ c. c.now)) result ≡ checksum_of text.now }
 {
@@ -212,7 +213,7 @@ fn read_checksum(text: &[u8]) -> Option<Option<&[u8]>>
     }
 }
 
-/// The fields of `FN:`.
+/// Reads the fields after `FN:`.
 fn start_record(fields: &[u8]) -> Result<TraceLine<'_>, LineFault>
     ensures { Gives result (start_fields fields.now) }
 {
@@ -223,7 +224,7 @@ fn start_record(fields: &[u8]) -> Result<TraceLine<'_>, LineFault>
     Ok(TraceLine::FuncStart { line, name })
 }
 
-/// The fields of `FNDA:`.
+/// Reads the fields after `FNDA:`.
 fn calls_record(fields: &[u8]) -> Result<TraceLine<'_>, LineFault>
     ensures { Gives result (calls_fields fields.now) }
 {
@@ -237,7 +238,7 @@ fn calls_record(fields: &[u8]) -> Result<TraceLine<'_>, LineFault>
     Ok(TraceLine::FuncCount { count, name })
 }
 
-/// The fields of `BRDA:`.
+/// Reads the fields after `BRDA:`.
 fn branch_record(fields: &[u8]) -> Result<TraceLine<'_>, LineFault>
     ensures { Gives result (branch_fields fields.now) }
 {
@@ -280,7 +281,7 @@ fn fit_branch<'a>(
     })
 }
 
-/// The fields of `DA:`.
+/// Reads the fields after `DA:`.
 fn line_record(fields: &[u8]) -> Result<TraceLine<'_>, LineFault>
     ensures { Gives result (line_fields fields.now) }
 {
@@ -302,7 +303,7 @@ fn line_record(fields: &[u8]) -> Result<TraceLine<'_>, LineFault>
     })
 }
 
-/// The field of a total.
+/// Reads the field after the key of a total.
 fn total_record(kind: TotalKind, field: &[u8]) -> Result<TraceLine<'_>, LineFault>
     ensures { Gives result (total_fields kind field.now) }
 {
@@ -313,7 +314,7 @@ fn total_record(kind: TotalKind, field: &[u8]) -> Result<TraceLine<'_>, LineFaul
     Ok(TraceLine::Total { kind, value })
 }
 
-/// The field of `SF:`.
+/// Reads the field after `SF:`, which may not be empty.
 fn path_record(path: &[u8]) -> Result<TraceLine<'_>, LineFault>
     ensures { Gives result (path_fields path.now) }
 {
@@ -451,7 +452,7 @@ fn read_after(first: u8, rest: &[u8]) -> Result<TraceLine<'_>, LineFault>
     }
 }
 
-/// Reads a line: its key by its first byte, then the key's fields.
+/// Reads a line. An empty line says nothing.
 #[tactic(auto, unfolding(crate::specs::Reading::read_of))]
 fn read_any(line: &[u8]) -> Result<TraceLine<'_>, LineFault>
     ensures { Gives result (read_of line.now) }
@@ -494,7 +495,7 @@ fn after_feed(text: &[u8]) -> Option<&[u8]>
     }
 }
 
-/// The first line of a text that counts a source line, with its checksum if it has one, and the rest of the text.
+/// What the first line of a text says if it is a `DA:` line, and the rest of the text.
 #[derive(Clone, Copy)]
 pub struct CountLine<'a> {
     /// The line of the source file.
@@ -507,7 +508,7 @@ pub struct CountLine<'a> {
     pub rest: &'a [u8],
 }
 
-/// What follows the bytes at the front of the text that a checksum may have.
+/// Skips the bytes at the front of the text that a checksum may have, and returns what follows them.
 fn after_checksum(text: &[u8]) -> &[u8]
     ensures { result.now ≡ after_checksum text.now }
 {
@@ -521,7 +522,7 @@ fn after_checksum(text: &[u8]) -> &[u8]
     rest
 }
 
-/// The checksum at the front of the text, if any, and what follows it.
+/// The checksum at the front of the text, and what follows it. `None` if there is no checksum.
 fn front_checksum(text: &[u8]) -> Option<(&[u8], &[u8])>
     ensures { option_map (λ front. (front.0.now, front.1.now)) result ≡ checksum_front text.now }
 {
@@ -533,7 +534,8 @@ fn front_checksum(text: &[u8]) -> Option<(&[u8], &[u8])>
     Some((checksum, rest))
 }
 
-/// The checksum after a line's count, if any, and what follows the line feed.
+/// The checksum after a line's count, if there is one, and what follows the line feed. `None` if the count isn't followed by a
+/// line feed, or by a comma, a checksum and a line feed.
 fn split_count_end(text: &[u8]) -> Option<(Option<&[u8]>, &[u8])>
     ensures { option_map (λ end. (option_map (λ c. c.now) end.0, end.1.now)) result ≡ count_end text.now }
 {
@@ -544,9 +546,9 @@ fn split_count_end(text: &[u8]) -> Option<(Option<&[u8]>, &[u8])>
     Some((None, after_feed(text)?))
 }
 
-/// Reads the first line if it is `DA:<line>,<count>` or `DA:<line>,<count>,<checksum>` of digits, with numbers below 2^64, and
-/// ends in a line feed. Most lines of a tracefile do, so these are read in one pass. For any other first line it returns
-/// `None`, and the caller cuts and reads that.
+/// Reads the first line of the text in one pass, if it is `DA:<line>,<count>` or `DA:<line>,<count>,<checksum>` and ends in a
+/// line feed, and if both numbers are digits alone and below 2^64. Most lines of a tracefile are such lines. For any other first
+/// line it returns `None`. Then the caller cuts the line and reads it.
 #[inline]
 pub fn try_count_line(text: &[u8]) -> Option<CountLine<'_>>
     ensures says { IfSome result (λ f. BeginsWithLine text.now (Line f.line f.count (option_map (λ c. c.now) f.checksum)) f.rest.now) }
@@ -556,7 +558,7 @@ pub fn try_count_line(text: &[u8]) -> Option<CountLine<'_>>
     front_counted(text)
 }
 
-/// Reads such a first line from left to right.
+/// Reads the first line for `try_count_line`, from left to right.
 #[inline]
 fn front_counted(text: &[u8]) -> Option<CountLine<'_>>
     ensures { option_map (λ f. ((f.line, f.count), (option_map (λ c. c.now) f.checksum, f.rest.now))) result ≡ counted_front text.now }
@@ -572,7 +574,7 @@ fn front_counted(text: &[u8]) -> Option<CountLine<'_>>
     })
 }
 
-/// The first line of a text that says how often a branch was taken, and the rest of the text.
+/// What the first line of a text says if it is a `BRDA:` line, and the rest of the text.
 #[derive(Clone, Copy)]
 pub struct BranchLine<'a> {
     /// The branch.
@@ -583,7 +585,7 @@ pub struct BranchLine<'a> {
     pub rest: &'a [u8],
 }
 
-/// The number of 64 bits at the front of the text, and what follows the comma after it.
+/// The number at the front of the text, if it is below 2^64, and what follows the comma after it.
 fn small_field(text: &[u8]) -> Option<(u64, &[u8])>
     ensures { option_map (λ front. (front.0, front.1.now)) result ≡ small_front (field_at text.now) }
 {
@@ -591,7 +593,7 @@ fn small_field(text: &[u8]) -> Option<(u64, &[u8])>
     Some((number.small()?, rest))
 }
 
-/// The number of 64 bits at the front of the text, and what follows it.
+/// The number at the front of the text, if it is below 2^64, and what follows it.
 fn small_number(text: &[u8]) -> Option<(u64, &[u8])>
     ensures { option_map (λ front. (front.0, front.1.now)) result ≡ small_front (number_at text.now) }
 {
@@ -599,7 +601,8 @@ fn small_number(text: &[u8]) -> Option<(u64, &[u8])>
     Some((number.small()?, rest))
 }
 
-/// How often a branch was taken (below 2^64; no number for `-`), at the front of the text, and what follows it.
+/// The field at the front of the text that says how often a branch was taken, and what follows it. The field is `-`, which
+/// gives `None`, or a number below 2^64.
 fn front_taken(text: &[u8]) -> Option<(Option<u64>, &[u8])>
     ensures { option_map (λ front. (front.0, front.1.now)) result ≡ taken_front text.now }
 {
@@ -610,9 +613,9 @@ fn front_taken(text: &[u8]) -> Option<(Option<u64>, &[u8])>
     Some((Some(taken), rest))
 }
 
-/// Reads the first line if it is `BRDA:<line>,<block>,<branch>,<taken>` of digits (or `-` for how often the branch was taken),
-/// with numbers below 2^64, and ends in a line feed: in one pass, as `try_count_line` does. For any other first line it returns
-/// `None`, and the caller cuts and reads that.
+/// Reads the first line of the text in one pass, as `try_count_line` does, if it is `BRDA:<line>,<block>,<branch>,<taken>` and
+/// ends in a line feed. All four fields have to be digits, with numbers below 2^64; the last one may also be `-`. For any other
+/// first line it returns `None`. Then the caller cuts the line and reads it.
 #[inline]
 pub fn try_branch_line(text: &[u8]) -> Option<BranchLine<'_>>
     ensures says { IfSome result (λ f. BeginsWithLine text.now (Branch f.point.line f.point.block f.point.branch f.taken) f.rest.now) }
@@ -622,7 +625,7 @@ pub fn try_branch_line(text: &[u8]) -> Option<BranchLine<'_>>
     front_branch(text)
 }
 
-/// Reads such a first line from left to right.
+/// Reads the first line for `try_branch_line`, from left to right.
 #[inline]
 fn front_branch(text: &[u8]) -> Option<BranchLine<'_>>
     ensures { option_map (λ f. ((branch_point_data f.point, f.taken), f.rest.now)) result ≡ branch_front text.now }

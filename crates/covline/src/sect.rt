@@ -13,7 +13,7 @@ pub struct Sect<A: Allocator = Global> {
     pub test: Bytes<A>,
     /// The source file's path (`SF:`).
     pub file: Bytes<A>,
-    /// The counts, in the order of their lines.
+    /// The items, in the order in which the text says them.
     pub items: Items<A>,
 }
 
@@ -127,7 +127,7 @@ impl<A: Allocator> Sects<A> {
         true
     }
 
-    /// Frees the unused room of the list itself, once no more sections come.
+    /// Frees the list's unused room, but none inside its sections. It is called when no more sections are to be appended.
     pub fn shrink(&mut self)
         ensures { self.new ≡ self.old }
     {

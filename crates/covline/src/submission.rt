@@ -22,7 +22,7 @@ impl BadSubmission {
     ghost use Rattle.std.specs.Prelude.{◌≡◌};
     ghost use Rattle.covline.specs.Lawful.{refusal_number};
 
-    /// The number of the reason, from 1.
+    /// The number of the fault, 1 or 2.
     pub fn number(self) -> u32
         ensures { result ≡ refusal_number self }
     {
@@ -33,8 +33,8 @@ impl BadSubmission {
     }
 }
 
-/// What one text says: at most 67,108,864 items in sections with lawful texts, and its number of odd lines, which don't fit
-/// the others. Contracts see the sections and that number.
+/// What one text says: its sections and its number of odd lines. The sections have at most 67,108,864 items in all, and their
+/// texts are lawful. A line is odd if it doesn't fit its section. Contracts see the sections and the number.
 #[derive(Drop)]
 pub struct Submission<A: Allocator = Global> {
     sects: Sects<A>,
@@ -92,8 +92,8 @@ impl<A: Allocator> Submission<A> {
         Ok(Submission { sects, items, odd })
     }
 
-    /// The submission of sections that are known to be lawful, with the number of odd lines of their text: nothing is tested
-    /// again.
+    /// The submission of sections that are known to be lawful, with the number of odd lines of their text. The names and
+    /// checksums of the sections aren't tested again.
     pub fn of_lawful(sects: Sects<A>, odd: u64) -> Submission<A>
         requires { IsLawful (record { sects = sects; odd = odd }) }
         ensures { result ≡ record { sects = sects; odd = odd } }
@@ -125,8 +125,8 @@ impl<A: Allocator> Submission<A> {
         self.items
     }
 
-    /// The number of odd lines in the text: counts of functions without a start line, and totals that differ from the
-    /// section's own.
+    /// The number of odd lines in the text. A line is odd if it counts a function that has no start line, or if it states a
+    /// total that isn't the section's own.
     pub fn odd(&self) -> u64
         ensures { result ≡ self.now.odd }
     {

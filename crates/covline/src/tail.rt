@@ -6,7 +6,8 @@ ghost use Rattle.covline.specs.Spells.{comma};
 use itoa::{Buffer, write_digits};
 use std::marker::Model;
 
-/// How many bytes there is room for: a key, four numbers of at most 39 digits, a comma after each, and a line feed.
+/// How many bytes there is room for. A line has at most a key of 5 bytes, four numbers of up to 39 digits, a comma after each,
+/// and a line feed.
 const ROOM: usize = 168;
 
 /// The end of a line of numbers, put together from its last byte to its first. Contracts see its bytes.

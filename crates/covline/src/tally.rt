@@ -8,7 +8,7 @@ ghost use Rattle.std.specs.Prelude.{◌≡◌, ◌+◌, ◌<◌, ◌≤◌, ◌^
 pub struct Tally {
     /// How many there are.
     pub found: u64,
-    /// Those of them with an execution count above 0.
+    /// How many of them have an execution count above 0.
     pub hit: u64,
     ghost fewer: { hit ≤ found },
 }
@@ -17,7 +17,7 @@ impl Tally {
     /// The tally of no points.
     pub const NONE: Tally = Tally { found: 0, hit: 0 };
 
-    /// The tally with one more point.
+    /// The tally with one more point, which is hit or not.
     pub fn and(self, is_hit: bool) -> Tally
         requires { self.found + 1 < 2 ^ 64 }
         ensures found { result.found ≡ self.found + 1 }

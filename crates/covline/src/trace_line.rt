@@ -5,7 +5,7 @@ ghost use Rattle.covline.specs.Spells.{fault_number};
 
 use thiserror::Error;
 
-/// Which of a section's own totals a line states.
+/// Which total of a section a line states.
 #[derive(Clone, Copy, Debug, PartialEq, Eq)]
 pub enum TotalKind {
     /// `FNF:`, the functions with a start line.
@@ -22,7 +22,7 @@ pub enum TotalKind {
     LineHit,
 }
 
-/// What one line says. Texts are slices of the line.
+/// What one line says. Names, paths and checksums are slices of the line.
 #[derive(Clone, Copy, Debug)]
 pub enum TraceLine<'a> {
     /// `TN:<name>`, the test name of the sections that follow. It may be empty.
@@ -80,7 +80,7 @@ pub enum LineFault {
 }
 
 impl LineFault {
-    /// The number of the fault, from 1.
+    /// The number of the fault, 1 to 3.
     pub fn number(self) -> u32
         ensures { result ≡ fault_number self }
     {

@@ -1,4 +1,4 @@
--- What holds of each member of a list: of joined lists, of their parts and of mapped ones.
+-- What holds of each element of a list, for joined lists, for their parts, and for mapped lists.
 use Rattle.std.proofs.Common.{List, [], ◌∷◌, ◌++◌}
 use Rattle.std.specs.List.{flat_map, AllByRecursion}
 

@@ -32,7 +32,7 @@ section_path : (above : List GcovLine) (section : Option SectionData) → Sectio
 section_path above None stands some = absurd (false≢true some)
 section_path above (Some s) stands some = stands.0
 
--- a section is open after some first lines
+-- if a section is open after some first lines, keeping began in these
 open_begun : (test : List ℕ) (before after all : List (List ℕ)) (above : List GcovLine) (held : HeldData) → all ≡ before ++ after → Above test before above held → is_some held.section ≡ true → HasBegun all
 open_begun test before after all above held e h some = record {
   before = before;
@@ -47,7 +47,7 @@ or_last : (a b : Bool) → a ≡ false → (a || b) ≡ true → b ≡ true
 or_last true b f h = absurd (false≢true (sym f))
 or_last false b f h = h
 
--- a line goes on and makes lists grow after some first lines
+-- if the next line isn't faulty and makes lists grow, keeping began, at the latest with this line
 pub line_begun : (test : List ℕ) (before rest all : List (List ℕ)) (above : List GcovLine) (held : HeldData) (line : List ℕ) (at : ℕ) (says : Says)
     → all ≡ before ++ line ∷ rest → Above test before above held → at ≡ length before → LineSays line says → is_ok (line_step test (at + 1) held says) ≡ true → line_grows held says ≡ true → HasBegun all
 line_begun test before rest all above held line at (Err why) e h number spells ok grows = absurd (false≢true ok)
@@ -78,7 +78,7 @@ err_isnt_ok fault x a e f = cc
 err_same : (x y : ReadFault) (a : Stepped) → a ≡ Err x → a ≡ Err y → x ≡ y
 err_same x y a e f = cc
 
--- a section is open after the last line
+-- if a section is open after the last line, keeping began
 end_begun : (test text : List ℕ) (held : HeldData) → whole_run test text ≡ Ok held → is_some held.section ≡ true → HasBegun (lines_of text)
 end_begun test text held e some =
     elim (ending test text) [
@@ -139,7 +139,7 @@ late_end : (test text : List ℕ) (held : HeldData) (answer : Result SubmissionD
 late_end test text held answer e (inl none) = λ same. end_begun test text held e none.1
 late_end test text held answer e (inr is) = λ same. absurd (end_isnt (is_empty held.waiting) (submission_held test held) (sym is ∙ same))
 
--- the reader keeps the test's name
+-- the answer after the last line is that memory ran out only if keeping began. `kept` is the test's name that the reader holds
 pub late_own : (test kept text : List ℕ) (held : HeldData) (answer : Result SubmissionData ReadFault) → kept ≡ test → whole_run test text ≡ Ok held → EndsTo answer (is_some held.section) (ends kept held) → GrowsLate text answer
 late_own test kept text held answer same e ended = late_end test text held answer e (subst (λ (t : List ℕ). EndsTo answer (is_some held.section) (ends t held)) same ended)
 
@@ -161,7 +161,7 @@ or_parts : (a b : Bool) → (a || b) ≡ false → (a ≡ false) × (b ≡ false
 or_parts true b e = absurd (false≢true (sym e))
 or_parts false b e = (refl, e)
 
--- lines without a fault reach no further than to the first faulty one
+-- if keeping doesn't begin before the first faulty line, it begins in no first lines without a fault: these end before that line
 reach : (above : List GcovLine) (before : List (List ℕ)) (line : List ℕ) (after : List (List ℕ)) (said : List GcovLine) (fault : ReadFault) (first rest : List (List ℕ)) (more : List GcovLine)
     → before ++ line ∷ after ≡ first ++ rest → AllSay above before said → IsFaultAt (length (above ++ said) + 1) (above ++ said) line fault → AllSay above first more
     → list_any begins_keeping said ≡ false → list_any begins_keeping more ≡ true → ⊥

@@ -1,4 +1,4 @@
--- What was read makes a submission: its texts fit into lines, its numbers fit 64 bits, and its items aren't too many.
+-- What gcov's output is read as is lawful: its names fit into lines, its numbers into 64 bits, and its items aren't too many.
 use Rattle.std.proofs.Common.{◌≡◌, ◌≢◌, ℕ, ◌+◌, ◌<◌, ◌≤◌, ◌^◌, inl, inr, Bool, true, false, cond, eqb, List, [], ◌∷◌, ◌++◌, length, map, Option, Some, None, Result, Ok, Err, refl, sym, ap, subst, ◌∙◌, arith}
 use Rattle.std.specs.Prelude.{codes, All, option_map, ◌||◌, if◌then◌else◌}
 use Rattle.std.specs.Str.{bytes_eq}
@@ -81,7 +81,7 @@ source_good mark line =
       ]
     ]
 
--- all bytes of a front part
+-- what holds of all bytes holds of those at the front
 all_of_front : (P : ℕ → Type 0) (front rest : List ℕ) → All P (front ++ rest) → All P front
 all_of_front P front rest all = subst (λ (t : List ℕ). All P t) (take-append_seam front rest) (All-take P (length front) (front ++ rest) all)
 
@@ -137,7 +137,7 @@ abbrev IsGoodSection : Option SectionData → Type 0
 IsGoodSection None = Unit {0}
 IsGoodSection (Some s) = IsGoodName s.file × AllByRecursion IsGoodItem s.items × IsSmallPlace s.place
 
--- how many items there are, and may still come from what waits
+-- how many items there are, with one for each function that waits
 abbrev held_items : List ℕ → HeldData → ℕ
 held_items test held = items_in (held.sects ++ closed test held.section) + length held.waiting
 

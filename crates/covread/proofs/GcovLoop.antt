@@ -22,7 +22,8 @@ use Rattle.covread.proofs.GcovLawful.{lawful_run}
 
 -- ---- one line after the other
 
--- what is left of the text leads to the same end as the whole text, after lines without a fault
+-- the reader took `at` lines of the text without a fault, and holds this. From here, the run over the rest of the text ends as
+-- the run over the whole text does
 pub record Reading (test text rest : List ℕ) (held : HeldData) (at : ℕ) : Type 0 where
   pub same : run test at held (lines_of rest) ≡ whole_run test text
   pub before : List (List ℕ)
@@ -41,7 +42,7 @@ reading_begins test text rest held e f = record {
   known = record { said = tt; stands = subst (λ (h : HeldData). Stands test [] h) (sym e) (stands_at_first test) };
 }
 
--- the place of the line that is next
+-- in the text, the next line comes right after the lines that were taken
 place_is : (test text rest line left : List ℕ) (held : HeldData) (at : ℕ) (r : Reading test text rest held at) → lines_of rest ≡ line ∷ lines_of left → lines_of text ≡ r.before ++ line ∷ lines_of left
 place_is test text rest line left held at r e = r.place ∙ ap (λ (ls : List (List ℕ)). r.before ++ ls) e
 
@@ -50,7 +51,7 @@ stepped_on : (test text rest line left : List ℕ) (held : HeldData) (at : ℕ) 
 stepped_on test text rest line left held at stepped r e f =
     ap (λ (s : Stepped). run_on s (λ next. run test (at + 1) next (lines_of left))) (sym f) ∙ ap (run test at held) (sym e) ∙ r.same
 
--- what is known after one more line
+-- what is known of the lines above still holds if there is one more
 known_more : (test : List ℕ) (before : List (List ℕ)) (above : List GcovLine) (held next : HeldData) (line : List ℕ) (at : ℕ) (says : Says) → Above test before above held → at ≡ length before
     → LineSays line says → line_step test (at + 1) held says ≡ Ok next → (more : GcovLine) × Above test (before ++ line ∷ []) (above ++ more ∷ []) next
 known_more test before above held next line at (Err why) h number spells f = absurd cc
@@ -81,7 +82,7 @@ pub reading_room : (test text rest line left : List ℕ) (held : HeldData) (at :
 reading_room test text rest line left held at short r e =
     omega (arith, r.number, ap length (place_is test text rest line left held at r e), length-append r.before (line ∷ lines_of left), few_lines text, short)
 
--- the step was refused: memory ran out where lists grow, or the line is faulty
+-- why the code's step returned this fault: memory ran out where lists grow, or the line is faulty
 abbrev pub StopsBy : List ℕ → HeldData → List ℕ → ℕ → ReadFault → Type 0
 StopsBy test held line at fault =
     ((fault ≡ faults.Memory) × (is_ok (line_step test (at + 1) held (read line)) ≡ true) × (line_grows held (read line) ≡ true)) ⊎ (line_step test (at + 1) held (read line) ≡ Err fault)
@@ -95,7 +96,7 @@ reading_stop test text rest line left held at fault r e (inr f) = inr (sym (step
 pub reading_end : (test text rest : List ℕ) (held : HeldData) (at : ℕ) → Reading test text rest held at → lines_of rest ≡ [] → whole_run test text ≡ Ok held
 reading_end test text rest held at r e = sym r.same ∙ ap (run test at held) e
 
--- the reader keeps the test's name
+-- as `reading_more`, with the test's name that the reader holds
 pub own_more : (test own text rest line left : List ℕ) (held next : HeldData) (at : ℕ) → own ≡ test → Reading test text rest held at → lines_of rest ≡ line ∷ lines_of left → line_step own (at + 1) held (read line) ≡ Ok next
     → Reading test text left next (at + 1)
 own_more test own text rest line left held next at same r e f =
@@ -140,22 +141,24 @@ pushed_more line first before after funcs i d name lt e f h =
     ∙ ap (λ (is : List ItemData). is ++ func_item line (func_data (get_or funcs i d)) ∷ []) e
     ∙ sym (pushed_one line first funcs i d lt)
 
--- a function is lost at the end
+-- if functions wait at the end, the outcome is `LostFunction`
 pub lost_end : (test : List ℕ) (funcs : List Function) (section : Option SectionData) (sects : List SectData) → false ≡ eqb (length funcs) 0
     → Err faults.LostFunction ≡ ends test (record { waiting = map func_data funcs; section = section; sects = sects })
 lost_end test [] section sects e = absurd cc
 lost_end test (f ∷ fs) section sects e = refl
 
--- a path that isn't taken, and one that is
+-- an empty path is a fault
 pub no_path : (test : List ℕ) (at : ℕ) (held : HeldData) (path : List ℕ) → true ≡ eqb (length path) 0 → step_path test at held path ≡ Err (faults.NoSource at)
 no_path test at held [] e = refl
 no_path test at held (b ∷ bs) e = let ne : length (b ∷ bs) ≢ 0 = omega arith in let d = ne_eqb (length (b ∷ bs)) 0 ne in absurd cc
 
+-- any other path is a fault if functions wait
 pub lost_path : (test : List ℕ) (at : ℕ) (held : HeldData) (path : List ℕ) → false ≡ eqb (length path) 0 → false ≡ is_empty held.waiting
     → step_path test at held path ≡ Err faults.LostFunction
 lost_path test at held [] e lost = absurd cc
 lost_path test at held (b ∷ bs) e lost = rw (← lost) refl
 
+-- any other path begins a section if no function waits
 pub taken_path : (test : List ℕ) (at : ℕ) (held : HeldData) (path : List ℕ) → false ≡ eqb (length path) 0 → true ≡ is_empty held.waiting
     → step_path test at held path ≡ Ok (begun test path held)
 taken_path test at held [] e none = absurd cc

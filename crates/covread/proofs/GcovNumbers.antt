@@ -45,7 +45,7 @@ next_value : (digits : List ℕ) (i b n : ℕ) → take (i + 1) digits ≡ take 
 next_value digits i b n next before =
     ap (λ (k : ℕ). k * 10 + (b - 48)) (value_is n (digits_value (take i digits)) before) ∙ sym (ap digits_value next ∙ value-more (take i digits) b)
 
--- the number of the digits up to here, and of one more
+-- the number of the first i + 1 digits, from the number of the first i
 pub digits_more : (digits : List ℕ) (i b n m : ℕ) → take (i + 1) digits ≡ take i digits ++ b ∷ [] → Some n ≡ number_of (take i digits) → fitting (n * 10 + (b - 48)) ≡ Some m → Some m ≡ number_of (take (i + 1) digits)
 digits_more digits i b n m next before e = sym e ∙ ap fitting (next_value digits i b n next before)
 

@@ -13,7 +13,7 @@ use Rattle.covread.specs.GcovReading.{front_of, rest_of, some_front, ends_word, 
 
 -- ---- bytes of a kind at the front
 
--- no byte of the kind comes
+-- the bytes don't begin with one of this kind
 abbrev pub Stops : (ℕ → Bool) → List ℕ → Type 0
 Stops kind [] = Unit {0}
 Stops kind (b ∷ bs) = kind b ≡ false
@@ -60,7 +60,7 @@ rest_stops kind (b ∷ bs) =
       | inr fails ↦ rw fails fails
     ]
 
--- at least one byte of the kind is at the front
+-- the text begins with at least one byte of this kind, and `some_front` finds all those at the front
 pub record HasFront (kind : ℕ → Bool) (text : List ℕ) : Type 0 where
   pub front : List ℕ
   pub rest : List ℕ

@@ -72,7 +72,7 @@ until-other above (x ∷ xs) ys some = ap (λ (is : List ItemData). items_given 
 
 -- ---- the sections
 
--- more items in the last section
+-- the sections, with more items in the last one
 abbrev pub extended : List SectData → List ItemData → List SectData
 extended [] items = []
 extended (s ∷ []) items = record { test = s.test; file = s.file; items = s.items ++ items } ∷ []

@@ -1,4 +1,4 @@
--- What the reader holds between two lines is what the lines above say at their places.
+-- What the reader holds between two lines follows from what the lines above say.
 use Rattle.std.proofs.Common.{◌≡◌, ℕ, Bool, true, false, List, [], ◌∷◌, ◌++◌, Option, Some, None, Ok, Err, refl, sym, ap, ◌∙◌, inl, inr, ◌⊎◌, map}
 use Rattle.std.specs.Prelude.{◌||◌, option_map, is_some}
 use Rattle.std.specs.Option.{option_or}
@@ -15,7 +15,8 @@ use Rattle.covread.specs.GcovItems.{is_path, is_source, source_number, block_num
 use Rattle.covread.specs.GcovSteps.{SectionData, HeldData, empty, closed, section_with, begun, step_func, in_block, section_in_block, step_block, step}
 use Rattle.covread.proofs.GcovPlaces.{any-yes, any-no, after_last-yes, after_last-no, last_given-more, extended, extended-last, sects-path, sects-more}
 
--- the place of branches
+-- this is where a branch below these lines belongs: the last source line and its last block; `None` if no source line comes
+-- after the last path
 abbrev pub PlaceStands : List GcovLine → Option BranchAnchor → Type 0
 PlaceStands above None = has_line above ≡ false
 PlaceStands above (Some p) = (has_line above ≡ true) × (line_above above ≡ Some p.line) × (block_above above ≡ p.block)
@@ -32,11 +33,11 @@ pub record Stands (test : List ℕ) (above : List GcovLine) (held : HeldData) : 
 pub stands_at_first : (test : List ℕ) → Stands test [] empty
 stands_at_first test = record { waits = refl; sects = refl; section = refl }
 
--- a source line and a path are heads: the functions between them and a source line below begin there
+-- a head is a source line or a path. The functions that wait are those after the last head
 abbrev is_head : GcovLine → Bool
 is_head says = is_source says || is_path says
 
--- ---- a line that is no head leaves what is above a head
+-- ---- what one more line changes of the waiting functions, the path and the source line
 
 waits_same : (above : List GcovLine) (says : GcovLine) → is_head says ≡ false → waiting (above ++ says ∷ []) ≡ waiting above ++ func_said says
 waits_same above says fails =
@@ -76,7 +77,7 @@ no_items test above says fails given =
 
 -- ---- each kind of line
 
--- what a line that is no head, and no block, leaves of the place
+-- a line that is no path, no source line and no block line leaves the place of branches as it is
 place_same : (above : List GcovLine) (says : GcovLine) (place : Option BranchAnchor) → is_path says ≡ false → source_number says ≡ None → block_number says ≡ None
     → PlaceStands above place → PlaceStands (above ++ says ∷ []) place
 place_same above says None no_path no_source no_block stands = line_same above says no_path (ap (λ (o : Option ℕ). is_some o) no_source) ∙ stands
@@ -88,7 +89,7 @@ place_same above says (Some p) no_path no_source no_block stands = (
       ∙ stands.2,
 )
 
--- a line of one of these kinds leaves the section as it is
+-- such a line leaves the section as it is
 section_same : (above : List GcovLine) (says : GcovLine) (section : Option SectionData) → is_path says ≡ false → source_number says ≡ None → block_number says ≡ None
     → SectionStands above section → SectionStands (above ++ says ∷ []) section
 section_same above says None no_path no_source no_block stands = path_same above says no_path ∙ stands
@@ -96,7 +97,7 @@ section_same above says (Some s) no_path no_source no_block stands = (path_same 
 
 -- ---- the steps
 
--- a step goes on if the line's place is right, and else returns the fault
+-- a step goes on if the line has no fault of its place. Otherwise it returns this fault
 abbrev pub Goes : List ℕ → ℕ → List GcovLine → HeldData → GcovLine → Type 0
 Goes test at above held says =
     ((next : HeldData) × (step test at held says ≡ Ok next) × (place_fault at above says ≡ None) × Stands test (above ++ says ∷ []) next)

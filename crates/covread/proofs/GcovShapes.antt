@@ -65,7 +65,7 @@ block_found mark number gap block rest gaps digits ends =
 
 -- ---- a numbered line begins with neither of the other keys
 
--- the line doesn't begin as those on template instances
+-- the line doesn't begin with `-----`
 record IsPlain (line : List ℕ) : Type 0 where
   plain : after_key (codes "-----") line ≡ None
 
@@ -118,7 +118,7 @@ function_read rest s found = rw found refl
 
 -- ---- a line that has a shape is found to have it
 
--- a shape that says something of the line
+-- one of the first six shapes
 abbrev IsSome : Shape → Type 0
 IsSome Other = ⊥
 IsSome shape = Unit {0}
@@ -154,7 +154,7 @@ shape_read line Other some form plain = absurd some
 
 -- ---- what is found fits
 
--- the shape that is found, if one is
+-- if a shape was found, the line has its form
 abbrev Fits : List ℕ → Option Shape → Type 0
 Fits line found = IfSome found (λ shape. HasShape line shape)
 
@@ -190,7 +190,7 @@ function_fits line text e =
       | inr none ↦ rw none tt
     ]
 
--- the front of a branch line
+-- what follows `branch` in a line begins with spaces, a number and spaces
 record HasBranch (line text : List ℕ) : Type 0 where
   gap : List ℕ
   branch : List ℕ
@@ -275,7 +275,7 @@ branch_fits line text e =
       | inr none ↦ rw none tt
     ]
 
--- the front of a numbered line
+-- a line begins with a mark, a colon and a number
 record HasNumber (line : List ℕ) : Type 0 where
   indent : List ℕ
   mark : List ℕ
@@ -414,7 +414,8 @@ place_first (Block line block) = omega arith
 place_first (Numbered mark line text) = omega arith
 place_first Other = omega arith
 
--- a line of instances has no shape before its own; another one has that which is found
+-- the line has no shape before the one that is found. If it begins with `-----`, the first of all shapes is found. Any other line
+-- that had such a shape would be found to have it
 none_before : (line : List ℕ) (other : Shape) → place_of other < place_of (shape_of line) → ¬ HasShape line other
 none_before line other lt form =
     elim (key_or_none (codes "-----") line) [

@@ -1,4 +1,4 @@
--- All lines of a text: the reader's run over them is what the definitions ask for, and there is nothing else.
+-- All lines of a text: the reader's run over them gives an outcome by the definitions, and there is no other outcome.
 use Rattle.std.proofs.Common.{◌≡◌, ◌≢◌, ℕ, ◌+◌, ◌<◌, ◌≤◌, ◌⊎◌, inl, inr, Bool, true, false, cond, List, [], ◌∷◌, ◌++◌, length, Option, Some, None, Result, Ok, Err, refl, sym, ap, subst, ◌∙◌, append_assoc, arith}
 use Rattle.std.specs.Prelude.{All}
 use Rattle.std.proofs.lemmas.Bool.{cases_Bool, cases_lt, cases_eq, false≢true}
@@ -59,7 +59,7 @@ all_say-length above (l ∷ lines) (s ∷ said) all = omega (arith, all_say-leng
 
 -- ---- the run, forward
 
--- what the lines up to the end lead to
+-- how the run over all lines ends: with what the reader holds then, or with the first fault
 pub data Ending (test : List ℕ) (all : List (List ℕ)) (stepped : Stepped) : Type 0 where
   To : (held : HeldData) (said : List GcovLine) → stepped ≡ Ok held → AllSay [] all said → Stands test said held → Ending test all stepped
   At : (fault : ReadFault) → stepped ≡ Err fault → IsFirstFault all fault → Ending test all stepped
@@ -67,7 +67,7 @@ pub data Ending (test : List ℕ) (all : List (List ℕ)) (stepped : Stepped) : 
 ending_same : (test : List ℕ) (all : List (List ℕ)) (x y : Stepped) → x ≡ y → Ending test all y → Ending test all x
 ending_same test all x y e h = subst (λ (s : Stepped). Ending test all s) (sym e) h
 
--- what is known of the lines above
+-- what is known of the lines above: they say this without a fault, and the reader holds what follows from that
 pub record Above (test : List ℕ) (before : List (List ℕ)) (above : List GcovLine) (held : HeldData) : Type 0 where
   pub said : AllSay [] before above
   pub stands : Stands test above held
@@ -124,7 +124,7 @@ abbrev pub then_ends : List ℕ → Stepped → Result SubmissionData ReadFault
 then_ends test (Err fault) = Err fault
 then_ends test (Ok held) = ends test held
 
--- what a text that isn't too long is read as, of a test that can have its name
+-- what a text is read as, if it isn't too long and the test's name is good
 abbrev pub whole : List ℕ → List ℕ → Result SubmissionData ReadFault
 whole test text = then_ends test (whole_run test text)
 
@@ -204,7 +204,7 @@ first_run test lines fault first =
     = ap (λ (k : ℕ). line_step test k f.next (read first.line)) n ∙ fault_step test (length first.before + 1) first.above f.next first.line fault f.stands first.faulty in
     ap (run test 0 empty) first.place ∙ f.same ∙ ap (λ (x : Stepped). run_on x (λ next. run test (0 + length first.before + 1) next first.after)) stepped
 
--- lines without a fault
+-- how the run over lines without a fault ends
 record Through (test : List ℕ) (lines : List (List ℕ)) (said : List GcovLine) : Type 0 where
   held : HeldData
   is : run test 0 empty lines ≡ Ok held
@@ -231,7 +231,7 @@ loses_whole test text loses =
     ap (then_ends test) t.is
     ∙ ap (λ (b : Bool). cond b (Ok (submission_held test t.held)) (Err faults.LostFunction)) (held_empty test loses.all t.held false t.stands loses.left)
 
--- an outcome is one of these three
+-- an outcome is of one of three kinds: the text is too long; the test's name isn't good; or it is what the run ends with
 data Kind (test text : List ℕ) (outcome : Result SubmissionData ReadFault) : Type 0 where
   Long : max_bytes < length text → outcome ≡ Err faults.TooLong → Kind test text outcome
   Bad : length text ≤ max_bytes → ¬ IsGoodTest test → outcome ≡ Err faults.BadTest → Kind test text outcome
@@ -258,7 +258,7 @@ same_kind test text x y (Said a b e) (Bad c d f) = absurd (d b)
 pub one_outcome : (test text : List ℕ) (x y : Result SubmissionData ReadFault) → IsOutcome test text x → IsOutcome test text y → x ≡ y
 one_outcome test text x y h k = same_kind test text x y (kind_of test text x h) (kind_of test text y k)
 
--- an answer is every outcome, unless memory ran out
+-- if a text has an outcome, a right answer is this outcome, unless memory ran out
 pub answer_is : (test text : List ℕ) (answer outcome : Result SubmissionData ReadFault) → Answers test text answer → IsOutcome test text outcome → IsOrMemory answer outcome
 answer_is test text answer outcome (inl none) k = inl none.2
 answer_is test text answer outcome (inr h) k = inr (one_outcome test text outcome answer k h)

@@ -35,7 +35,7 @@ module _ {A : Type 0} (inside : List LineData) (held : HeldData) where
   lawful_between None e is = is
   lawful_between (Some s) e is = absurd cc
 
-  -- a skipped line
+  -- a skipped line changes nothing
   pub skipped : (section : Option (OpenSection A)) → step_at (option_map (section_data inside) section) held Skip ≡ Ok held
   skipped None = refl
   skipped (Some s) = refl

@@ -1,4 +1,4 @@
--- How many different members a list has.
+-- How many different elements a list has.
 use Rattle.std.proofs.Common.{◌≡◌, ℕ, ◌+◌, Bool, true, false, cond, ◌||◌, List, [], ◌∷◌, ◌++◌, length, map, refl, sym, ap, ◌∙◌, arith}
 use Rattle.std.specs.Cmp.{IsEquivalence}
 use Rattle.std.specs.List.{list_any, AllByRecursion, IsDistinct}
@@ -16,7 +16,7 @@ or_false false = refl
 pub list_any_push : {K : Type 0} (test : K → Bool) (xs : List K) (y : K) → list_any test (xs ++ y ∷ []) ≡ (list_any test xs || test y)
 list_any_push test xs y = list_any-append test xs (y ∷ []) ∙ ap (λ (b : Bool). list_any test xs || b) (or_false (test y))
 
--- ---- one more member
+-- ---- one more element
 
 abbrev pub none_if : Bool → ℕ
 none_if b = cond b 0 1
@@ -39,13 +39,13 @@ distinct_push {K} {E} laws (x ∷ xs) y =
     ∙ distinct_step (distinct E xs) (list_any (E x) xs) (list_any (E y) xs) (E x y) (list_any_congr laws x y xs)
     ∙ ap (λ (b : Bool). cond (list_any (E x) xs) (distinct E xs) (distinct E xs + 1) + cond (b || list_any (E y) xs) 0 1) (laws.symm x y)
 
--- ---- the same in other words
+-- ---- the same number by another definition, and of a mapped list
 
 counted : {K : Type 0} (b : Bool) (x : K) (n : ℕ) (ys : List K) → n ≡ length ys → cond b n (n + 1) ≡ length (cond b ys (x ∷ ys))
 counted true x n ys h = h
 counted false x n ys h = omega (arith, h)
 
--- std counts equal members once, too
+-- std's `distinct_count` is the same number
 pub distinct_is_count : {K : Type 0} (E : K → K → Bool) (xs : List K) → distinct E xs ≡ distinct_count E xs
 distinct_is_count E [] = refl
 distinct_is_count E (x ∷ xs) = counted (list_any (E x) xs) x (distinct E xs) (unique_keys E xs) (distinct_is_count E xs)
@@ -54,14 +54,14 @@ pub list_any_on : {J K : Type 0} (f : J → K) (p : K → Bool) (q : J → Bool)
 list_any_on f p q h [] = refl
 list_any_on f p q h (x ∷ xs) = ap (λ (b : Bool). b || list_any p (map f xs)) (h x) ∙ ap (λ (b : Bool). q x || b) (list_any_on f p q h xs)
 
--- there are as many different members if f keeps apart what differs
+-- a list has as many different elements after `f` was applied to each, if `f` gives equal results exactly for equal elements
 pub distinct_on : {J K : Type 0} (f : J → K) (E : K → K → Bool) (F : J → J → Bool) → ((x y : J) → E (f x) (f y) ≡ F x y) → (xs : List J) → distinct E (map f xs) ≡ distinct F xs
 distinct_on f E F h [] = refl
 distinct_on f E F h (x ∷ xs) =
     ap (λ (b : Bool). cond b (distinct E (map f xs)) (distinct E (map f xs) + 1)) (list_any_on f (E (f x)) (F x) (h x) xs)
     ∙ ap (λ (n : ℕ). cond (list_any (F x) xs) n (n + 1)) (distinct_on f E F h xs)
 
--- ---- the same members
+-- ---- lists with the same elements
 
 kept_any : {K : Type 0} {E : K → K → Bool} (laws : IsEquivalence E) (q : K) (xs : List K) → list_any (E q) (unique_keys E xs) ≡ list_any (E q) xs
 kept_any laws q [] = refl
@@ -92,7 +92,7 @@ unique_apart {K} {E} laws (x ∷ xs) = by (list_any (E x) xs) refl (unique_apart
     by true h rest = rest
     by false h rest = IsDistinct-cons E x (unique_keys E xs) (apart_all E x (unique_keys E xs) (kept_any laws x xs ∙ h)) rest
 
--- there are as many different members if the members are the same
+-- two lists have equally many different elements if each has all elements of the other
 pub distinct_members : {K : Type 0} {E : K → K → Bool} (laws : IsEquivalence E) (xs ys : List K) → ((q : K) → list_any (E q) xs ≡ list_any (E q) ys) → distinct E xs ≡ distinct E ys
 distinct_members {K} {E} laws xs ys same =
     distinct_is_count E xs ∙ length-from_keys laws (unique_keys E xs) ys (unique_apart laws xs) (λ q. kept_any laws q xs ∙ same q) ∙ sym (distinct_is_count E ys)

@@ -6,7 +6,7 @@ use Rattle.covline.specs.Spells.{End}
 use Rattle.covread.specs.Reads.{items_of, is_odd}
 use Rattle.covread.specs.TraceSteps.{SectionData, HeldData, closed, step_at, step}
 
--- what is held is the same if its fields are
+-- two values of `HeldData` are equal if their fields are
 pub same_held : (test test2 : List ℕ) (section section2 : Option SectionData) (sects sects2 : List SectData) (odd odd2 : ℕ)
     → test ≡ test2 → section ≡ section2 → sects ≡ sects2 → odd ≡ odd2
     → let x : HeldData = record { test = test; section = section; sects = sects; odd = odd } in
@@ -19,7 +19,7 @@ same_held test test2 section section2 sects sects2 odd odd2 a b c d =
     let e4 = ap (λ (v : ℕ). let h : HeldData = record { test = test2; section = section2; sects = sects2; odd = v } in h) d in
     e1 ∙ e2 ∙ e3 ∙ e4
 
--- the step of an end, by what the code makes of the open section
+-- at `end_of_record`, the step on plain data gives what the code holds, if the code settled the open section right
 pub step_end : (before : HeldData) (s : SectionData) (section : Option SectionData) (test : List ℕ) (items : List ItemData) (sects : List SectData) (odd : ℕ)
     → before.section ≡ Some s → section ≡ None → test ≡ before.test → items ≡ items_of s.lines → odd ≡ count_by (is_odd s.lines) s.lines
     → sects ≡ before.sects ++ record { test = test; file = s.file; items = items } ∷ []

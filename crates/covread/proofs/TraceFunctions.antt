@@ -29,7 +29,7 @@ use Rattle.covread.proofs.TraceDistinct.{distinct_is_count, distinct_on, list_an
 
 -- ---- one more start line
 
--- the least of a start line and those before it
+-- a start line, or the least one so far, if that is less
 abbrev pub sooner : ℕ → Option ℕ → ℕ
 sooner line None = line
 sooner line (Some other) = min other line
@@ -41,7 +41,7 @@ least_push (x ∷ xs) y = ap Some (fold-append min x xs (y ∷ []))
 start_push : (name : List ℕ) (records : List LineData) (r : LineData) → start_in name (records ++ r ∷ []) ≡ least (flat_map (start_said name) records ++ start_said name r)
 start_push name records r = ap least (flat_map-append (start_said name) records (r ∷ []) ∙ ap (λ xs. flat_map (start_said name) records ++ xs) (append-nil (start_said name r)))
 
--- a record that gives no start line to a function
+-- a record that gives a function no start line doesn't change the function's least one
 pub start_same : (name : List ℕ) (records : List LineData) (r : LineData) → start_said name r ≡ [] → start_in name (records ++ r ∷ []) ≡ start_in name records
 start_same name records r none = start_push name records r ∙ ap (λ xs. least (flat_map (start_said name) records ++ xs)) none ∙ ap least (append-nil (flat_map (start_said name) records))
 
@@ -59,11 +59,11 @@ start_of : (names : List (List ℕ)) (name : List ℕ) (o : Option ℕ) → opti
 start_of names name None = refl
 start_of names name (Some line) = refl
 
--- the map has this at one name, and what it had at the others
+-- the new map has this function at the name, and what the old map had at all other names
 abbrev pub Puts : BTreeMap (Bor (List ℕ)) Function → BTreeMap (Bor (List ℕ)) Function → List ℕ → Function → Type 0
 Puts old new name f = (q : List ℕ) → function_at new q ≡ cond (bytes_eq name q) (Some f) (function_at old q)
 
--- the map with one more start line
+-- the map is right after one more start line, if it has the least one for this function
 pub start_taken : (old new : BTreeMap (Bor (List ℕ)) Function) (records : List LineData) (line : ℕ) (name : List ℕ) (f : Function) → f.start ≡ sooner line (option_map (λ (g : Function). g.start) (function_at old name)) → f.is_hit ≡ false
     → Puts old new name f → AreFunctions old (λ other. start_in other records) [] → AreFunctions new (λ other. start_in other (records ++ FuncStart line name ∷ [])) []
 start_taken old new records line name f start unhit puts h = record { at = λ q. by q (bytes_eq name q) refl }
@@ -81,21 +81,21 @@ start_taken old new records line name f start unhit puts h = record { at = λ q.
         puts q ∙ ap (λ (b : Bool). cond b (Some f) (function_at old q)) e ∙ h.at q
         ∙ sym (ap (option_map (known [] q)) (start_same q records (FuncStart line name) (ap (λ (b : Bool). cond b (line ∷ []) []) e)))
 
--- the function as its first start line makes it
+-- a function with this start line and without a count
 abbrev first_at : ℕ → Function
 first_at line = record { start = line; is_hit = false }
 
--- the map has this at one name
+-- the new map is the old one after this function was inserted under the name
 abbrev Inserts : BTreeMap (Bor (List ℕ)) Function → BTreeMap (Bor (List ℕ)) Function → List ℕ → Function → Type 0
 Inserts old new name f = UpdatesBy (λ x y. slice_cmp nat_cmp x.now y.now) (λ k. slice_cmp nat_cmp name k.now) old new (Some f)
 
--- the function had no start line
+-- a start line is taken right if the function had none
 pub start_alone : (old new : BTreeMap (Bor (List ℕ)) Function) (records : List LineData) (line : ℕ) (name : List ℕ) → None ≡ function_at old name → Inserts old new name (first_at line)
     → AreFunctions old (λ other. start_in other records) [] → AreFunctions new (λ other. start_in other (records ++ FuncStart line name ∷ [])) []
 start_alone old new records line name none inserts h =
     start_taken old new records line name (first_at line) (ap (λ (o : Option Function). sooner line (option_map (λ (g : Function). g.start) o)) none) refl (λ q. btree_map_updates_str name old new (Some (first_at line)) inserts q) h
 
--- the function had no start line before this one
+-- likewise, if the least start line so far isn't less than this one, which replaces it
 pub start_first : (old new : BTreeMap (Bor (List ℕ)) Function) (records : List LineData) (line : ℕ) (name : List ℕ) (g : Function) → Some g ≡ function_at old name → nat_lt g.start line ≡ false → Inserts old new name (first_at line)
     → AreFunctions old (λ other. start_in other records) [] → AreFunctions new (λ other. start_in other (records ++ FuncStart line name ∷ [])) []
 start_first old new records line name g was late inserts h =
@@ -103,7 +103,7 @@ start_first old new records line name g was late inserts h =
     start_taken old new records line name (first_at line) (least ∙ ap (λ (o : Option Function). sooner line (option_map (λ (f : Function). f.start) o)) was) refl
     (λ q. btree_map_updates_str name old new (Some (first_at line)) inserts q) h
 
--- the function had one, and gets it back
+-- likewise, if the least start line so far is less than this one, and is put back in its place
 pub start_again : (old mid new : BTreeMap (Bor (List ℕ)) Function) (records : List LineData) (line : ℕ) (name : List ℕ) (g : Function) → Some g ≡ function_at old name → nat_lt g.start line ≡ true → Inserts old mid name (first_at line)
     → Inserts mid new name g → AreFunctions old (λ other. start_in other records) [] → AreFunctions new (λ other. start_in other (records ++ FuncStart line name ∷ [])) []
 start_again old mid new records line name g was early first back h =
@@ -121,7 +121,7 @@ start_again old mid new records line name g was early first back h =
     twice true o = refl
     twice false o = refl
 
--- the functions, if a record gives no start line
+-- the functions stay right if a record gives no start line
 pub starts_same : (functions : BTreeMap (Bor (List ℕ)) Function) (records : List LineData) (r : LineData) → ((name : List ℕ) → start_said name r ≡ []) → AreFunctions functions (λ name. start_in name records) []
     → AreFunctions functions (λ name. start_in name (records ++ r ∷ [])) []
 starts_same functions records r none h = record { at = λ q. h.at q ∙ sym (ap (option_map (known [] q)) (start_same q records r (none q))) }
@@ -145,7 +145,8 @@ hit_elsewhere names name q true (Some line) e =
 hit_elsewhere names name q true None e = ap (list_any (bytes_eq q)) (append-nil names)
 hit_elsewhere names name q false start e = ap (list_any (bytes_eq q)) (append-nil names)
 
--- the map with one more count
+-- the map is right after one more count, if the function keeps its start line, and is hit exactly if it was hit before or this
+-- count is above 0
 pub count_taken : (old new : BTreeMap (Bor (List ℕ)) Function) (starts : List ℕ → Option ℕ) (names : List (List ℕ)) (name : List ℕ) (b : Bool) (was now : Function) → function_at old name ≡ Some was → now.start ≡ was.start → now.is_hit ≡ (was.is_hit || b)
     → Puts old new name now → AreFunctions old starts names → AreFunctions new starts (names ++ named name b (starts name))
 count_taken old new starts names name b was now there start hit puts h = record { at = λ q. by q (bytes_eq name q) refl }
@@ -171,7 +172,7 @@ count_taken old new starts names name b was now there start hit puts h = record 
         others None = refl
         others (Some line) = ap (λ (c : Bool). let g : Option Function = Some (record { start = line; is_hit = c }) in g) (sym (hit_elsewhere names name q b (starts name) e))
 
--- a count of a function without a start line
+-- the functions stay right after a count of a function without a start line
 pub count_alone : (functions : BTreeMap (Bor (List ℕ)) Function) (starts : List ℕ → Option ℕ) (names : List (List ℕ)) (name : List ℕ) (b : Bool) → starts name ≡ None → AreFunctions functions starts names → AreFunctions functions starts (names ++ named name b (starts name))
 count_alone functions starts names name b none h = record { at = λ q. h.at q ∙ ap (λ (ns : List (List ℕ)). option_map (known ns q) (starts q)) (sym (ap (λ (o : Option ℕ). names ++ named name b o) none ∙ nothing b)) }
   where
@@ -216,7 +217,7 @@ some_start name (Path path ∷ rs) = some_start name rs
 some_start name (End ∷ rs) = some_start name rs
 some_start name (Skip ∷ rs) = some_start name rs
 
--- an item of the record counts the function
+-- one of the record's items is of this function
 abbrev speaks : List LineData → List ℕ → LineData → Bool
 speaks inside name r = list_any (bytes_eq name) (func_points (items_said inside r))
 
@@ -227,7 +228,7 @@ any_speaks : (inside : List LineData) (name : List ℕ) (rs : List LineData) →
 any_speaks inside name [] = refl
 any_speaks inside name (r ∷ rs) = speaks_cons inside name r rs ∙ ap (λ b. speaks inside name r || b) (any_speaks inside name rs)
 
--- some item counts a function exactly if the function has a start line in the section
+-- a record that gives a function a start line has an item of this function
 gives_speaks : (inside : List LineData) (name : List ℕ) (r : LineData) → gives name r ≡ true → speaks inside name r ≡ true
 gives_speaks inside name (FuncStart line other) h = or_false (bytes_eq name other) ∙ bytes_eq_flips name other ∙ h
 gives_speaks inside name (FuncCount count other) h = absurd (cc)
@@ -287,6 +288,7 @@ eq_from_both true b f g = sym (f refl)
 eq_from_both false true f g = g refl
 eq_from_both false false f g = refl
 
+-- a function has a start line in the section exactly if some item of the section is of this function
 pub named_is : (inside : List LineData) (name : List ℕ) → is_some (start_in name inside) ≡ list_any (bytes_eq name) (func_points (items_of inside))
 named_is inside name =
     let given = list_any (gives name) inside in

@@ -22,12 +22,12 @@ pub record TextLaw : Type 0 where
   pub good_lines : GoodLines
   pub good_rest : GoodRest
 
--- where a reader is: between sections, or in one that began with this path
+-- where a reader is: between sections, or in one that began with this path and has these records so far
 pub data Place : Type 0 where
   Between : Place
   Within : (path : List ℕ) (inside : List LineData) → Place
 
--- records that make the rest of a lawful text
+-- for a reader at this place, these records make the rest of a lawful text
 abbrev pub Accepts : Place → List LineData → Type 0
 Accepts Between [] = Unit {0}
 Accepts Between (Test name ∷ more) = Accepts Between more
@@ -40,7 +40,7 @@ Accepts (Within path inside) (Path other ∷ more) = ⊥
 Accepts (Within path inside) (End ∷ more) = Accepts Between more
 Accepts (Within path inside) (says ∷ more) = Accepts (Within path (inside ++ says ∷ [])) more
 
--- the parts that records are, from a place
+-- the parts that these records make, for a reader at this place
 abbrev pub parts_from : Place → List LineData → List Part
 parts_from Between [] = []
 parts_from Between (Test name ∷ more) = Outside (Test name) ∷ parts_from Between more
@@ -53,7 +53,7 @@ parts_from (Within path inside) (Path other ∷ more) = []
 parts_from (Within path inside) (End ∷ more) = Section path inside ∷ parts_from Between more
 parts_from (Within path inside) (says ∷ more) = parts_from (Within path (inside ++ says ∷ [])) more
 
--- inner records lead on in their section
+-- inner records of the open section are added to those that it has
 pub within : (path : List ℕ) (front inside : List LineData) (more : List LineData) → AllByRecursion IsInside inside
     → parts_from (Within path front) (inside ++ more) ≡ parts_from (Within path (front ++ inside)) more
 within path front [] more h = ap (λ (x : List LineData). parts_from (Within path x) more) (sym (append-nil front))
@@ -62,7 +62,7 @@ within path front (Path other ∷ inside) more h = absurd h.0
 within path front (End ∷ inside) more h = absurd h.0
 within path front (says ∷ inside) more h = within path (front ++ says ∷ []) inside more h.1 ∙ ap (λ (x : List LineData). parts_from (Within path x) more) (append_assoc front (says ∷ []) inside)
 
--- the parts of a lawful part's records, and of what follows
+-- the records of a lawful part make this part, followed by the parts that further records make
 pub parts_from-part : (part : Part) (more : List LineData) → IsLawfulPart part → parts_from Between (records_of part ++ more) ≡ part ∷ parts_from Between more
 parts_from-part (Outside (Test name)) more h = refl
 parts_from-part (Outside Skip) more h = refl
@@ -73,7 +73,7 @@ pub parts_from-parts : (parts : List Part) → AllByRecursion IsLawfulPart parts
 parts_from-parts [] h = refl
 parts_from-parts (part ∷ parts) h = parts_from-part part (flat_map records_of parts) h.0 ∙ ap (λ (x : List Part). part ∷ x) (parts_from-parts parts h.1)
 
--- equal records are of equal parts
+-- lawful parts with equal records are equal
 pub one_parts : (a b : List Part) → AllByRecursion IsLawfulPart a → AllByRecursion IsLawfulPart b → flat_map records_of a ≡ flat_map records_of b → a ≡ b
 one_parts a b la lb e = sym (parts_from-parts a la) ∙ ap (parts_from Between) e ∙ parts_from-parts b lb
 
@@ -85,7 +85,7 @@ accepts_open (Path path ∷ more) p q a b h = h
 accepts_open (End ∷ more) p q a b h = h
 accepts_open (says ∷ more) p q a b h = accepts_open more p q (a ++ says ∷ []) (b ++ says ∷ []) h
 
--- inner records are passed over in both directions
+-- in a section, if the rest of a text is accepted, it is accepted after inner records too
 pub accepts_inside : (path : List ℕ) (front inside more : List LineData) → AllByRecursion IsInside inside → Accepts (Within path front) more → Accepts (Within path front) (inside ++ more)
 accepts_inside path front [] more h a = a
 accepts_inside path front (Test name ∷ inside) more h a = absurd h.0
@@ -93,6 +93,7 @@ accepts_inside path front (Path other ∷ inside) more h a = absurd h.0
 accepts_inside path front (End ∷ inside) more h a = absurd h.0
 accepts_inside path front (says ∷ inside) more h a = accepts_open (inside ++ more) path path front (front ++ says ∷ []) (accepts_inside path front inside more h.1 a)
 
+-- conversely, what is accepted after inner records is accepted without them
 pub accepts_after_inside : (path : List ℕ) (front inside more : List LineData) → AllByRecursion IsInside inside → Accepts (Within path front) (inside ++ more) → Accepts (Within path front) more
 accepts_after_inside path front [] more h a = a
 accepts_after_inside path front (Test name ∷ inside) more h a = absurd h.0
@@ -100,7 +101,7 @@ accepts_after_inside path front (Path other ∷ inside) more h a = absurd h.0
 accepts_after_inside path front (End ∷ inside) more h a = absurd h.0
 accepts_after_inside path front (says ∷ inside) more h a = accepts_after_inside path front inside more h.1 (accepts_open (inside ++ more) path path (front ++ says ∷ []) front a)
 
--- so are lawful parts
+-- between sections, if the rest of a text is accepted, it is accepted after a lawful part too
 pub accepts_part : (part : Part) (more : List LineData) → IsLawfulPart part → Accepts Between more → Accepts Between (records_of part ++ more)
 accepts_part (Outside (Test name)) more h a = a
 accepts_part (Outside Skip) more h a = a

@@ -24,7 +24,7 @@ without_skips-length [] = omega arith
 without_skips-length (Skip ∷ xs) = omega (arith, without_skips-length xs)
 without_skips-length (says ∷ xs) = omega (arith, without_skips-length xs)
 
--- what gives nothing at skipped lines gives the same without them
+-- a list that `g` makes of records is the same without the skipped ones, if `g` gives nothing for these
 flat_map_kept : {X : Type 0} (f g : LineData → List X) → ((says : LineData) → f says ≡ g says) → g Skip ≡ [] → (xs : List LineData) → flat_map f (without_skips xs) ≡ flat_map g xs
 flat_map_kept f g same none [] = refl
 flat_map_kept f g same none (Skip ∷ xs) = rw none (flat_map_kept f g same none xs)
@@ -54,7 +54,7 @@ items_said_kept : (inside : List LineData) (says : LineData) → items_said (wit
 items_said_kept inside (FuncCount count name) = ap (counted name count) (start_kept name inside)
 items_said_kept inside says = refl
 
--- the items of a section
+-- a section has the same items without its skipped lines
 pub items_kept : (inside : List LineData) → items_of (without_skips inside) ≡ items_of inside
 items_kept inside = flat_map_kept (items_said (without_skips inside)) (items_said inside) (items_said_kept inside) refl inside
 
@@ -63,6 +63,6 @@ is_odd_kept inside (FuncCount count name) = ap (λ (start : Option ℕ). is_none
 is_odd_kept inside (Total kind value) = ap (λ (items : List ItemData). not (value == own_total kind items)) (items_kept inside)
 is_odd_kept inside says = refl
 
--- how many of its lines are odd
+-- a section has as many odd lines without its skipped lines
 pub odd_kept : (inside : List LineData) → count_by (is_odd (without_skips inside)) (without_skips inside) ≡ count_by (is_odd inside) inside
 odd_kept inside = count_kept (is_odd (without_skips inside)) (is_odd inside) (is_odd_kept inside) refl inside

@@ -20,7 +20,7 @@ data Verdict (lines all : List (List ℕ)) : Type 0 where
   On : (parts : List Part) (place : Place) → Stands lines parts place → Verdict lines all
   Off : (fault : ReadFault) → IsFirstFault all fault → Verdict lines all
 
--- what lines are read as
+-- how reading all lines ends: they are a lawful text, or they have this first fault
 data Ends (all : List (List ℕ)) : Type 0 where
   Lawful : (parts : List Part) → Stands all parts Between → Ends all
   Faulty : (fault : ReadFault) → IsFirstFault all fault → Ends all
@@ -72,7 +72,7 @@ module _ (line_law : LineLaw) where
   pub no_other_outcome : (text : List ℕ) (r s : Result SubmissionData ReadFault) → IsOutcome text r → IsOutcome text s → r ≡ s
   no_other_outcome text r s h k = one_outcome line_law text r s h k
 
-  -- an answer is every outcome, unless memory ran out
+  -- if a text has an outcome, a right answer is this outcome, unless memory ran out
   pub answer_is : (text : List ℕ) (answer outcome : Result SubmissionData ReadFault) → Answers text answer → IsOutcome text outcome → IsOrMemory answer outcome
   answer_is text answer outcome (inl none) k = inl none.1
   answer_is text answer outcome (inr h) k = inr (no_other_outcome text outcome answer k h)

@@ -1,4 +1,4 @@
--- What was read makes a submission, and its numbers fit.
+-- What a tracefile is read as is lawful: its names and checksums fit into lines, its numbers fit, and its items aren't too many.
 use Rattle.std.proofs.Common.{◌≡◌, ◌≢◌, ℕ, ◌+◌, ◌<◌, ◌≤◌, ◌^◌, Bool, true, false, List, [], ◌∷◌, ◌++◌, length, Option, Some, None, Ok, sym, subst, arith}
 use Rattle.std.specs.Prelude.{codes, All, IfSome, fold, min, if◌then◌else◌}
 use Rattle.std.specs.List.{flat_map, sum_by, AllByRecursion}
@@ -24,7 +24,7 @@ use Rattle.covread.proofs.TraceRun.{Holds, section_of}
 
 -- ---- what a line of a text says
 
--- its texts fit into a line
+-- the names and checksums in what a line says fit into a line
 abbrev HasGoodTexts : LineData → Type 0
 HasGoodTexts (Test name) = IsGoodTest name
 HasGoodTexts (Path path) = IsGoodName path
@@ -37,7 +37,7 @@ record IsGood (says : LineData) : Type 0 where
   small : HasSmallNumbers says
   texts : HasGoodTexts says
 
--- a text after a key, a number and a comma
+-- if a line fits, so does what follows a key, a number and a comma in it
 good_after : GoodRest → (key number rest line : List ℕ) → line ≡ key ++ number ++ comma ∷ rest → IsGoodTest line → IsGoodTest rest
 good_after good_rest key number rest line e good =
     good_rest (comma ∷ []) rest (good_rest (key ++ number) (comma ∷ rest) (subst (λ (x : List ℕ). IsGoodTest x) e good))
@@ -181,7 +181,7 @@ room : (lines : List (List ℕ)) (parts : List Part) (place : Place) → Stands 
 room lines parts place s =
     omega (arith, few_odd parts, few_kept place, AllSpell-length lines (records parts ++ begun place) s.spelled, length-append (records parts) (begun place))
 
--- what is odd, and may become so at the end of the section, is at most as much as there are lines
+-- the odd lines so far, and the records of the open section, each of which may turn out odd, are together no more than the lines
 pub held_room : (lines : List (List ℕ)) (held : HeldData) → Holds lines held → held.odd + length (kept_in held.section) ≤ length lines
 held_room lines held h =
     subst (λ (x : HeldData). x.odd + length (kept_in x.section) ≤ length lines) (sym h.is) (room lines h.parts h.place h.stands)

@@ -19,7 +19,7 @@ use Rattle.covread.proofs.TraceStands.{Stands, stands_path, stands_goes_on, path
 use Rattle.covread.proofs.TraceRun.{Holds, held_of, section_of, holds_at_first, holds_more, holds_outside, holds_inside}
 use Rattle.covread.proofs.TraceLawful.{held_room, lawful_parts}
 
--- the lines of the text are those that were taken, and those that are left
+-- the reader took `at` lines of the text, holds this, and the rest is left
 pub record Reading (text rest : List ℕ) (held : HeldData) (at : ℕ) : Type 0 where
   pub before : List (List ℕ)
   pub whole : lines_of text ≡ before ++ lines_of rest
@@ -29,7 +29,7 @@ pub record Reading (text rest : List ℕ) (held : HeldData) (at : ℕ) : Type 0 
 pub reading_at_first : (text : List ℕ) → Reading text text empty 0
 reading_at_first text = record { before = []; whole = refl; holds = holds_at_first; number = refl }
 
--- a record whose line follows
+-- the rest of the text begins with this line, and `left` follows the line
 abbrev Follows : List ℕ → List ℕ → List ℕ → Type 0
 Follows rest line left = lines_of rest ≡ line ∷ lines_of left
 
@@ -45,15 +45,16 @@ reading_more text rest line left before after at r f says spells e = record {
   number = omega (arith, r.number, length-append r.before (line ∷ []));
 }
 
--- the number of a line fits 64 bits, and so does what may become odd
+-- the number of the next line fits into 64 bits
 pub reading_number : TextLaw → (text rest line left : List ℕ) (held : HeldData) (at : ℕ) → length text ≤ max_bytes → Reading text rest held at → lines_of rest ≡ line ∷ lines_of left → at + 1 < 2 ^ 64
 reading_number law text rest line left held at short r f =
     omega (arith, short, law.few_lines text, r.number, ap length (place_is text rest line left held at r f), length-append r.before (line ∷ lines_of left))
 
--- so does the number of the next one
+-- likewise, whether or not a line is left
 pub reading_next : TextLaw → (text rest : List ℕ) (held : HeldData) (at : ℕ) → length text ≤ max_bytes → Reading text rest held at → at + 1 < 2 ^ 64
 reading_next law text rest held at short r = omega (arith, short, law.few_lines text, r.number, ap length r.whole, length-append r.before (lines_of rest))
 
+-- the number of odd lines fits into 64 bits, even if all records of the open section and one more turn out odd
 pub reading_room : TextLaw → (text rest : List ℕ) (held : HeldData) (at : ℕ) → length text ≤ max_bytes → Reading text rest held at → held.odd + length (kept_in held.section) + 1 < 2 ^ 64
 reading_room law text rest held at short r =
     omega (arith, short, law.few_lines text, held_room r.before held r.holds, ap length r.whole, length-append r.before (lines_of rest))
@@ -61,7 +62,7 @@ reading_room law text rest held at short r =
 number_is : (n at : ℕ) (lines : List (List ℕ)) → n ≡ at + 1 → at ≡ length lines → length lines + 1 ≡ n
 number_is n at lines e f = omega (arith, e, f)
 
--- a fault of the next line is the first fault of the text
+-- why the reader stops at the next line is a right answer: this line has the text's first fault, or memory ran out
 pub reading_stop : TextLaw → (text rest line left : List ℕ) (before : HeldData) (at : ℕ) (fault : ReadFault) → length text ≤ max_bytes → Reading text rest before at
     → lines_of rest ≡ line ∷ lines_of left → StopsAt fault before line (at + 1) → Answers text (Err fault)
 reading_stop law text rest line left before at (faults.Line n f) short r e takes = inr (inr (
@@ -94,7 +95,7 @@ begun_at all lines parts (Within path inside) line after says s e spells grows =
     let whole : all ≡ k.0 ++ k.1 ∷ (k.2 ++ line ∷ after) = e ∙ ap (λ (x : List (List ℕ)). x ++ line ∷ after) k.3 ∙ append_assoc k.0 (k.1 ∷ k.2) (line ∷ after) in
     (k.0, k.1, k.2 ++ line ∷ after, path, whole, k.5, stands_goes_on (k.0 ++ k.1 ∷ []) parts (Within path []) (stands_path k.0 parts k.1 path k.4 k.5))
 
--- memory ran out after a path
+-- if the reader stops at the next line because memory ran out, this line is a path or is below one
 pub reading_grows : (text rest line left : List ℕ) (before : HeldData) (at : ℕ) (fault : ReadFault) → Reading text rest before at → lines_of rest ≡ line ∷ lines_of left
     → StopsAt fault before line (at + 1) → GrowsLate text (Err fault)
 reading_grows text rest line left before at faults.Memory r e takes = λ same.
@@ -127,7 +128,7 @@ reading_end law text rest held at short r none =
     let s : Stands (lines_of text) r.holds.parts r.holds.place = subst (λ (x : List (List ℕ)). Stands x r.holds.parts r.holds.place) all r.holds.stands in
     subst (λ (x : HeldData). Ended text x) (sym r.holds.is) (ended law text r.holds.parts r.holds.place short s)
 
--- nothing is left of the text
+-- if the rest of the text is empty, no lines are left
 pub no_lines : (rest : List ℕ) (b : Bool) → b ≡ eqb (length rest) 0 → b ≡ true → lines_of rest ≡ []
 no_lines [] b is e = refl
 no_lines (x ∷ xs) b is e = let none : length (x ∷ xs) ≡ 0 = eqb-true (length (x ∷ xs)) 0 (sym is ∙ e) in absurd (omega arith)
@@ -136,7 +137,7 @@ pub reading_begins : (text rest : List ℕ) (held : HeldData) → held ≡ empty
 reading_begins text rest held e f =
     subst (λ (h : HeldData). Reading text rest h 0) (sym e) (subst (λ (x : List ℕ). Reading text x empty 0) (sym f) (reading_at_first text))
 
--- what is held at the end doesn't depend on the records of an open section
+-- the outcome of what is held after the last line, if the open section has these records. It doesn't depend on them
 abbrev EndsAt : {A : Type 0} → List ℕ → List ℕ → List SectData → ℕ → Option (OpenSection A) → List LineData → Type 0
 EndsAt text test sects odd section inside = Ended text (record { test = test; section = option_map (section_data inside) section; sects = sects; odd = odd })
 
@@ -144,16 +145,16 @@ pub ends_without : {A : Type 0} (text test : List ℕ) (sects : List SectData) (
 ends_without text test sects odd None inside h = h
 ends_without text test sects odd (Some s) inside h = h
 
--- the records so far are those that are kept
+-- there are as many records so far as are kept
 pub open_length : {A : Type 0} (section : Option (OpenSection A)) (inside : List LineData) → IsOpen section inside → length inside ≡ length (kept_in (option_map (section_data inside) section))
 open_length None inside h = ap length h
 open_length (Some s) inside h = refl
 
--- with no open section what is held makes a submission
+-- if no section is open, what is held makes a lawful submission
 pub closed_lawful : {X : Type 0} (view : X → SectionData) (section : Option X) (held : HeldData) → is_some section ≡ false → IsLawfulAt (option_map view section) held → IsLawful (submission_held held)
 closed_lawful view None held e h = h
 closed_lawful view (Some s) held e h = absurd cc
 
--- a line that isn't taken stops the reading
+-- if the result for a line is a fault, this fault is why the reader stops at the line
 pub stopped : {A T : Type 0} (r : Result T ReadFault) (fault : ReadFault) (before : HeldData) (after : Reader A) (line : List ℕ) (at : ℕ) → r ≡ Err fault → TakesLine r before after line at → StopsAt fault before line at
 stopped {A} {T} r fault before after line at is took = subst (λ (x : Result T ReadFault). TakesLine x before after line at) is took

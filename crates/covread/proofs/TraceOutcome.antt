@@ -123,7 +123,7 @@ lawful_no_fault lines (faults.Inside at) text a = not_faulty lines at a.0 a.2 (m
 lawful_no_fault lines faults.OpenEnd text a = a.1 text
 lawful_no_fault lines other text a = a
 
--- the outcome of a text by its length, apart from which fault it is
+-- an outcome is of one of three kinds: the text is too long; it is lawful and says this; or it has this first fault
 data Told (text : List ℕ) : Result SubmissionData ReadFault → Type 0 where
   Long : max_bytes < length text → Told text (Err faults.TooLong)
   Lawful : (s : SubmissionData) → length text ≤ max_bytes → Reads (lines_of text) s → Told text (Ok s)

@@ -1,4 +1,4 @@
--- The points of items, one item after another, counted while they ascend or when they are sorted.
+-- How the code counts the points of items: one after another while they ascend, or after sorting them.
 use Rattle.std.proofs.Common.{◌≡◌, ℕ, ◌+◌, ◌<◌, Bool, true, false, cond, ◌||◌, ◌&&◌, List, [], ◌∷◌, ◌++◌, length, get_or, map, Option, None, Some, refl, sym, ap, subst, ◌∙◌, arith}
 use Rattle.std.specs.Prelude.{filter, option_map}
 use Rattle.std.specs.Cmp.{IsTotalOrder}
@@ -51,7 +51,7 @@ module _ {P : Type 0} {R : P → P → Ordering} (o : IsTotalOrder R) where
   below_differs : (p q : P) → R p q ≡ Less → eq_by_cmp R q p ≡ false
   below_differs p q less = ap is_eq (o.antisymm q p ∙ ap ordering_reverse less)
 
-  -- whether a point is among those of which some may be hit
+  -- a point is among those that are hit exactly if it was so before, or if it is the next point and that is hit
   any_hit : (q : P) (seen : List (Hit P)) (next : Hit P) → list_any (eq_by_cmp R q) (hits_in (seen ++ next ∷ [])) ≡ (list_any (eq_by_cmp R q) (hits_in seen) || cond next.is_hit (eq_by_cmp R q next.point) false)
   any_hit q seen next = ap (list_any (eq_by_cmp R q)) (hits_push seen next) ∙ by next.is_hit
     where
@@ -87,7 +87,7 @@ module _ {P : Type 0} {R : P → P → Ordering} (o : IsTotalOrder R) where
   same_point : (p : P) → eq_by_cmp R p p ≡ true
   same_point p = ap is_eq (tied_itself o p)
 
-  -- the first point
+  -- the totals are right after the first point
   pub first_point : (below : Tally) (next : Hit P) (seen : List (Hit P)) → IsNone R below seen → Reaches R below next (seen ++ next ∷ [])
   first_point below next seen h = subst (λ (xs : List (Hit P)). Reaches R below next (xs ++ next ∷ [])) (sym h.none) (record {
     few = omega (arith, h.found);
@@ -99,7 +99,7 @@ module _ {P : Type 0} {R : P → P → Ordering} (o : IsTotalOrder R) where
     is_hit = any_hit next.point [] next ∙ ap (λ (b : Bool). cond next.is_hit b false) (same_point next.point) ∙ if_is next.is_hit;
   })
 
-  -- a point above the last one
+  -- the totals are right after a point above the last one
   pub next_point : (below more : Tally) (last next : Hit P) (seen : List (Hit P)) → R last.point next.point ≡ Less → more.found ≡ below.found + 1 → more.hit ≡ below.hit + cond last.is_hit 1 0
       → Reaches R below last seen → Reaches R more next (seen ++ next ∷ [])
   next_point below more last next seen up f g h =
@@ -128,7 +128,7 @@ module _ {P : Type 0} {R : P → P → Ordering} (o : IsTotalOrder R) where
   either_counts false true = refl
   either_counts false false = refl
 
-  -- the last point again
+  -- the totals are right after the last point came again
   pub same_again : (below : Tally) (last next : Hit P) (both : Bool) (seen : List (Hit P)) → R last.point next.point ≡ Equal → both ≡ (last.is_hit || next.is_hit)
       → Reaches R below last seen → Reaches R below (record { point = next.point; is_hit = both }) (seen ++ next ∷ [])
   same_again below last next both seen tie e h =
@@ -155,7 +155,7 @@ module _ {P : Type 0} {R : P → P → Ordering} (o : IsTotalOrder R) where
             ∙ ap (λ (b : Bool). last.is_hit || cond next.is_hit b false) (same_point next.point) ∙ ap (λ (b : Bool). last.is_hit || b) (if_is next.is_hit) ∙ sym e;
       }
 
-  -- a point that goes on and isn't above is the same
+  -- a point that is neither below nor above the last one equals it
   pub tied_from : (p q : P) → is_le (R p q) ≡ true → is_lt (R p q) ≡ false → R p q ≡ Equal
   tied_from p q le lt = by (R p q) le lt
     where
@@ -226,7 +226,7 @@ module _ {P : Type 0} (points : ItemData → List P) where
 
 -- ---- a sorted list of points
 
--- the last of the first k points
+-- this is the last of the first k points; `None` if k is 0
 abbrev pub LastAt : {P : Type 0} → Option P → List (Hit P) → ℕ → Type 0
 LastAt None hits k = k ≡ 0
 LastAt {P} (Some last) hits k = (j : ℕ) × (k ≡ j + 1) × ((d : Hit P) → last ≡ (get_or hits j d).point)
@@ -242,7 +242,7 @@ module _ {P : Type 0} {R : P → P → Ordering} (o : IsTotalOrder R) where
   upward Equal h = refl
   upward Greater h = refl
 
-  -- the next point isn't below the last one
+  -- in a sorted list, the next point isn't below the last one
   pub goes_on_sorted : (cmp : Hit P → Hit P → Ordering) (rest : Hit P → Hit P → Ordering) → ((a b : Hit P) → cmp a b ≡ ordering_then (R a.point b.point) (rest a b)) → (hits : List (Hit P)) → IsSorted cmp hits
       → (last : Option (Hit P)) (k : ℕ) (next : Hit P) → k < length hits → next ≡ get_or hits k next → LastAt (option_map point_of last) hits k → goes_on R last next.point ≡ true
   goes_on_sorted cmp rest is hits up None k next low e h = refl
@@ -280,6 +280,6 @@ module _ {P : Type 0} {R : P → P → Ordering} (o : IsTotalOrder R) where
   moved_hits xs ys moved = distinct_members (eq_by_cmp_equiv o) (hits_in ys) (hits_in xs)
       (λ q. hit_member_of q ys ∙ sym (list_any-IsPermutation (λ (h : Hit P). h.is_hit && eq_by_cmp R q h.point) xs ys moved) ∙ sym (hit_member_of q xs))
 
-  -- the totals are those of the points in any order
+  -- the totals don't depend on the order of the points
   pub tally_moved : (own : Tally) (xs ys : List (Hit P)) → IsPermutation xs ys → IsTally R own ys → IsTally R own xs
   tally_moved own xs ys moved h = record { found = h.found ∙ moved_points xs ys moved; hit = h.hit ∙ moved_hits xs ys moved }

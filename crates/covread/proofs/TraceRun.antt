@@ -17,7 +17,7 @@ use Rattle.covread.proofs.TraceGrammar.{LineLaw, Place, Between, Within}
 use Rattle.covread.proofs.TraceStands.{Stands, stands_at_first, stands_outside, stands_path, stands_inside, stands_end, stop_outside, stop_inside}
 use Rattle.covread.proofs.TraceKept.{without_skips, without_skips-append, items_kept, odd_kept}
 
--- the name in the last test line of the parts, at first the one given
+-- the name in the last test line of the parts, or the given name if they have no test line
 abbrev pub test_follows : List ℕ → List Part → List ℕ
 test_follows test [] = test
 test_follows test (Outside says ∷ parts) = test_follows (test_after test says) parts
@@ -27,11 +27,11 @@ abbrev pub section_of : Place → Option SectionData
 section_of Between = None
 section_of (Within path inside) = Some (record { file = path; lines = without_skips inside })
 
--- what a reader holds at a place
+-- what a reader holds after these parts, at this place
 abbrev pub held_of : List Part → Place → HeldData
 held_of parts place = record { test = test_follows [] parts; section = section_of place; sects = sects_from [] parts; odd = sum_by odd_in parts }
 
--- the lines so far lead to what the reader holds
+-- what the reader holds is what follows from the lines so far
 pub record Holds (lines : List (List ℕ)) (held : HeldData) : Type 0 where
   pub parts : List Part
   pub place : Place

@@ -46,7 +46,7 @@ marks_push at (says ∷ inside) r =
     (marks_at ((at + length (item_said says)) + length (stored inside)) (at + length (item_said says ++ stored inside)) (r ∷ [])
     (let k = length-append (item_said says) (stored inside) in omega (arith, k)))
 
--- the counts with those of one more record
+-- the marks are right after one more record, if those of the record were appended
 pub marks_more : (inside : List LineData) (r : LineData) (n : ℕ) (all new : List Mark) → n ≡ length (stored inside) → all ≡ marks_from 0 inside → new ≡ all ++ marks_from n (r ∷ []) → new ≡ marks_from 0 (inside ++ r ∷ [])
 marks_more inside r n all new e f g =
     g ∙ ap (λ (x : List Mark). x ++ marks_from n (r ∷ [])) f ∙ ap (λ (x : List Mark). marks_from 0 inside ++ x) (marks_at n (0 + length (stored inside)) (r ∷ []) (omega (arith, e))) ∙ sym (marks_push 0 inside r)
@@ -60,14 +60,14 @@ totals_push inside r = filter-append is_total inside (r ∷ [])
 pub totals_same : (inside totals : List LineData) (r : LineData) → is_total r ≡ false → totals ≡ filter is_total inside → totals ≡ filter is_total (inside ++ r ∷ [])
 totals_same inside totals r isnt e = e ∙ sym (totals_push inside r ∙ ap (λ (b : Bool). filter is_total inside ++ cond b (r ∷ []) []) isnt ∙ append-nil (filter is_total inside))
 
--- the items with those of one more record
+-- the items are right after a record that gives one item
 pub items_more : (inside : List LineData) (r : LineData) (old new : List ItemData) (item : ItemData) → item_said r ≡ item ∷ [] → old ≡ stored inside → new ≡ old ++ item ∷ [] → new ≡ stored (inside ++ r ∷ [])
 items_more inside r old new item e f g = g ∙ ap (λ (x : List ItemData). x ++ item ∷ []) f ∙ ap (λ (x : List ItemData). stored inside ++ x) (sym e) ∙ sym (stored_push inside r)
 
 pub items_same : (inside : List LineData) (r : LineData) (items : List ItemData) → item_said r ≡ [] → items ≡ stored inside → items ≡ stored (inside ++ r ∷ [])
 items_same inside r items none e = e ∙ sym (stored_push inside r ∙ ap (λ (x : List ItemData). stored inside ++ x) none ∙ append-nil (stored inside))
 
--- the points of a record that counts none
+-- the points stay the same after a record that counts none
 pub hits_same : {P : Type 0} (points : ItemData → List P) (inside : List LineData) (r : LineData) → hits_said points (item_said r) ≡ [] → hits_said points (stored inside) ≡ hits_said points (stored (inside ++ r ∷ []))
 hits_same points inside r none =
     sym (ap (hits_said points) (stored_push inside r) ∙ flat_map-append (hits_of_item points) (stored inside) (item_said r) ∙ ap (λ xs. hits_said points (stored inside) ++ xs) none ∙ append-nil (hits_said points (stored inside)))
@@ -81,7 +81,7 @@ few_stored (Branch line block branch taken ∷ inside) = let k = few_stored insi
 few_stored (Line line count checksum ∷ inside) = let k = few_stored inside in omega (arith, k)
 few_stored (says ∷ inside) = let k = few_stored inside in omega (arith, k)
 
--- an item counts at most one line, and at most one branch
+-- an item counts at most one of these points
 abbrev pub SpeaksOnce : {P : Type 0} → (ItemData → List P) → Type 0
 SpeaksOnce points = (item : ItemData) → length (points item) ≤ 1
 
@@ -108,7 +108,7 @@ branch_once (BranchItem line block branch taken) = omega arith
 
 -- ---- the section's end
 
--- what an item's record gives if its function has this start line
+-- the items that a record gives in the end, if functions have these start lines
 abbrev finished : (List ℕ → Option ℕ) → LineData → List ItemData
 finished starts (FuncCount count name) = counted name count (starts name)
 finished starts says = item_said says
@@ -117,7 +117,7 @@ abbrev half : List ℕ → ℕ → Option ℕ → ItemData
 half name count None = FuncItem name 0 count
 half name count (Some line) = FuncItem name line count
 
--- the same with the counts that have no start line
+-- the same before counts of functions without a start line are removed
 abbrev filled_said : (List ℕ → Option ℕ) → LineData → List ItemData
 filled_said starts (FuncCount count name) = half name count (starts name) ∷ []
 filled_said starts says = item_said says
@@ -149,7 +149,7 @@ filled_from starts front (says ∷ inside) =
     ∙ filled_at starts (length front + length (item_said says)) (length (front ++ item_said says)) inside ((front ++ item_said says) ++ stored inside) (sym (length-append front (item_said says)))
     ∙ filled_from starts (front ++ item_said says) inside ∙ append_assoc front (item_said says) (flat_map (filled_said starts) inside)
 
--- each of the places is at least this one
+-- the first of the places, if there is one, is at least this one
 abbrev AtOrAfter : ℕ → List ℕ → Type 0
 AtOrAfter at [] = Unit {0}
 AtOrAfter at (place ∷ places) = at ≤ place
@@ -214,7 +214,7 @@ flat_same : {X Y : Type 0} (f g : X → List Y) → ((x : X) → f x ≡ g x) �
 flat_same f g same [] = refl
 flat_same f g same (x ∷ xs) = ap (λ ys. ys ++ flat_map f xs) (same x) ∙ ap (λ ys. g x ++ ys) (flat_same f g same xs)
 
--- the items of the section
+-- the filled items, without those of counts without a start line, are the section's items
 pub items_are : (inside : List LineData) (items : List ItemData) (places : List ℕ) → places ≡ unstarted_in (λ name. start_in name inside) (marks_from 0 inside)
     → items ≡ filled (λ name. start_in name inside) (marks_from 0 inside) (stored inside) → left 0 places items ≡ items_of inside
 items_are inside items places e f =
@@ -222,7 +222,7 @@ items_are inside items places e f =
     ap (λ (x : List ℕ). left 0 x items) e ∙ ap (left 0 (unstarted_in starts (marks_from 0 inside))) (f ∙ filled_from starts [] inside) ∙ left_from starts 0 inside
     ∙ flat_same (finished starts) (items_said inside) (finished_is inside) inside
 
--- if each count has a start line
+-- no item is removed if each count has a start line
 pub items_stay : (items : List ItemData) (places : List ℕ) → length places ≡ 0 → left 0 places items ≡ items
 items_stay items [] e = left_nil 0 items
 items_stay items (p ∷ ps) e = absurd (omega (arith, e))
@@ -244,7 +244,7 @@ unstarted_count inside at (says ∷ rest) =
     let b = sum_by-cons (λ (x : LineData). cond (is_unstarted inside x) 1 0) says rest in
     omega (arith, b, unstarted_count inside (at + length (item_said says)) rest)
 
--- the number of counts without a start line
+-- there are as many such places as counts of functions without a start line
 pub odd_counts : (inside : List LineData) (places : List ℕ) → places ≡ unstarted_in (λ name. start_in name inside) (marks_from 0 inside) → length places ≡ count_by (is_unstarted inside) inside
 odd_counts inside places e = ap length e ∙ unstarted_count inside 0 inside
 
@@ -286,7 +286,7 @@ names_from inside at (Line line count checksum ∷ rest) = names_from inside (at
     by false = refl
 names_from inside at (says ∷ rest) = names_from inside (at + 0) rest
 
--- the number of functions that are hit
+-- the number of different functions that the counts hit is the number of those that items of the section hit
 pub hit_names : (inside : List LineData) (n : ℕ) → n ≡ distinct bytes_eq (names_in (λ name. start_in name inside) (marks_from 0 inside)) → n ≡ distinct bytes_eq (func_points (filter is_hit (items_of inside)))
 hit_names inside n e = e ∙ ap (distinct bytes_eq) (names_from inside 0 inside)
 
@@ -294,7 +294,7 @@ hits_none : {P : Type 0} (points : ItemData → List P) → ((name : List ℕ) (
     → hits_said points (FuncItem name line count ∷ items) ≡ hits_said points items
 hits_none {P} points none name line count items = ap (λ (ps : List P). map (λ p. record { point = p; is_hit = is_hit (FuncItem name line count) }) ps ++ hits_said points items) (none name line count)
 
--- the items have the same points before and after the section's end
+-- the items count the same points before and after the section's end, if items of functions count none
 same_hits : {P : Type 0} (points : ItemData → List P) → ((name : List ℕ) (line count : ℕ) → points (FuncItem name line count) ≡ []) → (inside rest : List LineData) → hits_said points (stored rest) ≡ hits_said points (flat_map (items_said inside) rest)
 same_hits points none inside [] = refl
 same_hits {P} points none inside (FuncCount count name ∷ rest) =
@@ -347,7 +347,7 @@ first_counts n names name true line e = let k = distinct_push nat_list_eq_equiv 
     flip false = refl
 first_counts n names name false line e = let k = ap (distinct bytes_eq) (append-nil names) in omega (arith, e, k)
 
--- a count whose function has a start line
+-- what is settled stays right after a count whose function has a start line
 pub settled_some : (starts : List ℕ → Option ℕ) (ms : List Mark) (m : Mark) (n more : ℕ) (places : List ℕ) (before after new : List ItemData) (f : Found)
     → Some f ≡ option_map (found_by (names_in starts ms) m.name m.is_hit) (starts m.name) → more ≡ cond f.is_first_hit 1 0 → new ≡ start_set m.at f.start after
     → IsSettled starts ms n places before after → IsSettled starts (ms ++ m ∷ []) (n + more) places before new
@@ -367,7 +367,7 @@ settled_some starts ms m n more places before after new f found byte set h = by 
               set ∙ ap (λ (x : Found). start_set m.at x.start after) is ∙ ap (start_set m.at line) h.items ∙ ap (λ (o : Option ℕ). start_put m.at o (filled starts ms before)) (sym e) ∙ sym (filled_push starts ms m before);
         }
 
--- a count whose function has none
+-- likewise, after a count whose function has none
 pub settled_none : (starts : List ℕ → Option ℕ) (ms : List Mark) (m : Mark) (n : ℕ) (places new : List ℕ) (before after : List ItemData)
     → starts m.name ≡ None → new ≡ places ++ m.at ∷ [] → IsSettled starts ms n places before after → IsSettled starts (ms ++ m ∷ []) n new before after
 settled_none starts ms m n places new before after e pushed h = record {
@@ -388,7 +388,7 @@ cut_at (x ∷ xs) (suc at) low =
     let here : suc at ≡ length (x ∷ k.0) = omega (arith, k.4) in
     (x ∷ k.0, k.1, k.2, ap (λ (ys : List ItemData). x ∷ ys) k.3, here)
 
--- the items after a start line was set
+-- if lists of items differ only in that the item at this place got this start line, the new list is that of `start_set`
 pub set_is : (old new : List ItemData) (at line : ℕ) → at < length old → ((before after : List ItemData) (item : ItemData) → old ≡ before ++ item ∷ after → at ≡ length before → new ≡ before ++ with_start line item ∷ after)
     → new ≡ start_set at line old
 set_is old new at line low h =
@@ -437,7 +437,7 @@ pub empty_stays : (items : List ItemData) (places : List ℕ) (b : Bool) → b �
 empty_stays items [] b e f = left_nil 0 items
 empty_stays items (p ∷ ps) b e f = absurd (let k : length (p ∷ ps) ≡ 0 = grind (arith, nat_tests, e, f) in omega (arith, k))
 
--- what the section has, and states
+-- at the section's end, the builder has the section's points and the totals that it states
 pub has_totals : (inside : List LineData) (stated : List StatedTotal) (has : SectionPoints) (all : List ItemData) → map stated_record stated ≡ filter is_total inside
     → has.functions.found ≡ distinct bytes_eq (func_points (items_of inside)) → has.functions.hit ≡ distinct bytes_eq (func_points (filter is_hit (items_of inside)))
     → Counts branch_cmp has.branches (hits_said branch_key (stored inside)) → Counts nat_cmp has.lines (hits_said line_point (stored inside)) → all ≡ items_of inside → HasTotals stated has all inside
@@ -449,7 +449,7 @@ has_totals inside stated has all totals found hit branches lines e = record {
   items = e;
 }
 
--- few points
+-- a section's points are few enough to be counted
 pub are_few : (inside : List LineData) (all : List ItemData) → length inside + 1 < 2 ^ 64 → all ≡ items_of inside → AreFew all
 are_few inside all few e = record {
   branches =

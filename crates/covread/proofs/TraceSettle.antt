@@ -7,7 +7,7 @@ use Rattle.covread.specs.Reads.{is_odd}
 use Rattle.covread.specs.TraceSettle.{is_unstarted}
 use Rattle.covread.specs.TraceTally.{is_other}
 
--- a record is odd in one of the two ways
+-- an odd record either counts a function without a start line or states a total other than the section's own
 odd_one : (inside : List LineData) (r : LineData) → cond (is_unstarted inside r) 1 0 + cond (is_other inside r) 1 0 ≡ cond (is_odd inside r) 1 0
 odd_one inside (FuncCount count name) = omega arith
 odd_one inside (Total kind value) = omega arith

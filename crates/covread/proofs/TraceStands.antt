@@ -49,7 +49,7 @@ AllSpell-length (l ∷ ls) (s ∷ a) h = let k = AllSpell-length ls a h.1 in cc
 
 -- ---- where a reader is
 
--- the records of the open section so far
+-- the records of the open section so far, the first of which is its path
 abbrev pub begun : Place → List LineData
 begun Between = []
 begun (Within path inside) = Path path ∷ inside
@@ -67,7 +67,7 @@ pub record Stands (lines : List (List ℕ)) (parts : List Part) (place : Place) 
 pub stands_at_first : Stands [] [] Between
 stands_at_first = record { lawful = tt; inside = tt; spelled = tt }
 
--- one more part
+-- the records of the parts, with one more part
 flat_push : (parts : List Part) (part : Part) → flat_map records_of (parts ++ part ∷ []) ≡ flat_map records_of parts ++ records_of part
 flat_push parts part = flat_map-append records_of parts (part ∷ []) ∙ ap (λ (x : List LineData). flat_map records_of parts ++ x) (append-nil (records_of part))
 
@@ -114,7 +114,7 @@ stands_end lines parts line path inside s spells = record {
       subst (λ (x : List LineData). AllSpell (lines ++ line ∷ []) x) (sym e) (AllSpell-append lines (line ∷ []) (flat_map records_of parts ++ Path path ∷ inside) (End ∷ []) s.spelled (spells, tt));
 }
 
--- the line that says a record
+-- if the lines say these records, one of the lines says this record, and those above it say the records before it
 by_record : (lines : List (List ℕ)) (a : List LineData) (b : LineData) (c : List LineData) → AllSpell lines (a ++ b ∷ c)
     → (ls : List (List ℕ)) × (l : List ℕ) × (ms : List (List ℕ)) × (lines ≡ ls ++ l ∷ ms) × AllSpell ls a × Spells l b
 by_record [] [] b c h = absurd h
@@ -141,9 +141,9 @@ path_line lines parts path inside s =
       k.5,
     )
 
--- ---- what that says of the text
+-- ---- what follows from where the reader is
 
--- with no open section the lines are a lawful text
+-- if no section is open, the lines are a lawful text
 pub stands_reads : (lines : List (List ℕ)) (parts : List Part) → Stands lines parts Between → Reads lines (record { sects = sects_from [] parts; odd = sum_by odd_in parts })
 stands_reads lines parts s = record {
   parts = parts;
@@ -204,7 +204,7 @@ first_faulty law lines parts place line after all s stop e = record {
   ends_here = stands_stops law lines parts place line s stop;
 }
 
--- a line's own fault
+-- a line's own fault is the first fault
 pub stop_by_fault : LineLaw → (place : Place) (line : List ℕ) (lines : List (List ℕ)) (parts : List Part) (after all : List (List ℕ))
     → Stands lines parts place → all ≡ lines ++ line ∷ after → (f : LineFault) → HasFault line f → IsFirstFault all (faults.Line (length lines + 1) f)
 stop_by_fault law place line lines parts after all s e f has =
@@ -221,7 +221,7 @@ in_section (Test name) path inside more n a = a
 in_section (Path other) path inside more n a = a
 in_section says path inside more n a = n
 
--- a line that needs a section, if none is open
+-- the first fault is `Outside`, if no section is open and the line has to be in one
 pub stop_outside : LineLaw → (lines : List (List ℕ)) (parts : List Part) (line : List ℕ) (after all : List (List ℕ)) (says : LineData)
     → Stands lines parts Between → all ≡ lines ++ line ∷ after → Spells line says → NeedsSection says → IsFirstFault all (faults.Outside (length lines + 1))
 stop_outside law lines parts line after all says s e spells needs = (
@@ -233,7 +233,7 @@ stop_outside law lines parts line after all says s e spells needs = (
   needs,
 )
 
--- a line that belongs outside of sections, in an open one
+-- the first fault is `Inside`, if a section is open and the line can't be in one
 pub stop_inside : LineLaw → (lines : List (List ℕ)) (parts : List Part) (path : List ℕ) (inside : List LineData) (line : List ℕ) (after all : List (List ℕ)) (says : LineData)
     → Stands lines parts (Within path inside) → all ≡ lines ++ line ∷ after → Spells line says → NeedsOutside says → IsFirstFault all (faults.Inside (length lines + 1))
 stop_inside law lines parts path inside line after all says s e spells needs = (
@@ -249,7 +249,7 @@ nothing_left : (rest : List LineData) (path : List ℕ) (inside : List LineData)
 nothing_left [] path inside h a = a
 nothing_left (says ∷ rest) path inside h a = h
 
--- a section that is open at the end
+-- the first fault is `OpenEnd`, if a section is open after the last line
 pub stop_open : LineLaw → (lines : List (List ℕ)) (parts : List Part) (path : List ℕ) (inside : List LineData)
     → Stands lines parts (Within path inside) → IsFirstFault lines faults.OpenEnd
 stop_open law lines parts path inside s = (

@@ -1,4 +1,4 @@
--- The own totals by the keys that the code counts, and the stated ones that differ.
+-- The own totals that the code counts are those of the definitions, and so is the number of stated totals that differ.
 use Rattle.std.proofs.Common.{◌≡◌, ℕ, Bool, true, false, cond, ◌&&◌, ◌||◌, not, List, [], ◌∷◌, ◌++◌, ◌+◌, map, refl, sym, ap, ◌∙◌, arith}
 use Rattle.std.specs.Prelude.{count_by, nat_eq, filter}
 use Rattle.std.specs.List.{flat_map, list_any}
@@ -67,7 +67,7 @@ branches_differ items = sym (distinct_on point_at branch_eq (eq_by_cmp branch_cm
 
 -- ---- what the section states
 
--- an own total of a sort that the section states
+-- the code's own total of this kind is that of the definition, if the section states a total of its sort
 own_is : (own : OwnTotals) (inside : List LineData) → AreOwn own inside → (kind : TotalKind) → ((sort : PointKind) → has sort kind ≡ true → list_any (states sort) inside ≡ true) → own_value own kind ≡ own_total kind (items_of inside)
 own_is own inside h FuncFound stated = h.functions.found
 own_is own inside h FuncHit stated = h.functions.hit
@@ -97,7 +97,7 @@ all_differ own inside h (r ∷ rs) stated =
 odd_is : (own : OwnTotals) (inside : List LineData) → AreOwn own inside → count_by (differs own) inside ≡ count_by (is_other inside) inside
 odd_is own inside h = all_differ own inside h inside (λ sort e. e)
 
--- ---- the totals alone
+-- ---- of the records, only those that state totals matter
 
 any_first : (p : LineData → Bool) (r : LineData) (rs : List LineData) → (is_total r ≡ false → p r ≡ false) → list_any p (cond (is_total r) (r ∷ filter is_total rs) (filter is_total rs)) ≡ (p r || list_any p (filter is_total rs))
 any_first p r rs h = by (is_total r) h
@@ -135,10 +135,10 @@ states_total : (sort : PointKind) (r : LineData) → is_total r ≡ false → st
 states_total sort (Total kind value) e = absurd cc
 states_total sort says e = refl
 
--- whether the section states a total of the sort
+-- the section states a total of this sort exactly if one of its stated totals is of this sort
 pub stated_is : (sort : PointKind) (totals inside : List LineData) → totals ≡ filter is_total inside → list_any (states sort) totals ≡ list_any (states sort) inside
 stated_is sort totals inside e = ap (list_any (states sort)) e ∙ any_total (states sort) (states_total sort) inside
 
--- how many of the totals are odd
+-- the number of stated totals that differ from the code's own is the number of odd ones
 pub odd_totals_are : (own : OwnTotals) (totals inside : List LineData) (odd : ℕ) → totals ≡ filter is_total inside → AreOwn own inside → odd ≡ count_by (differs own) totals → odd ≡ count_by (is_other inside) inside
 odd_totals_are own totals inside odd e h o = o ∙ ap (count_by (differs own)) e ∙ count_total (differs own) (differs_total own) inside ∙ odd_is own inside h

@@ -1,4 +1,4 @@
--- The numbers of a reader's faults, which stay the same in all versions, and which of the faults isn't the text's.
+-- The number of each fault of a reader, and the one fault that isn't the text's. The numbers stay the same in all versions.
 use Rattle.std.specs.Prelude.{ℕ, Bool, true, false}
 use Rattle.covread.specs.declared.fault.ReadFault.{ReadFault}
 use Rattle.covread.specs.declared.fault.ReadFault.TheVariants.{TooLong, Line, Outside, Inside, OpenEnd, BadMark, NoSource, Percent, Instances, Misplaced, LostFunction, BadTest, Memory}

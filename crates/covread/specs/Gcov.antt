@@ -12,7 +12,7 @@ use Rattle.covread.specs.declared.gcov.line.OwnFault.TheVariants as own
 
 -- ---- the seven shapes
 
--- the shapes in their order, each with the texts of its parts
+-- the shapes in their order, each with the bytes of its parts
 pub data Shape : Type 0 where
   Instances : Shape
   Function : (name count : List ℕ) → Shape
@@ -47,20 +47,21 @@ is_mark_byte b = not (b == space) && not (b == colon)
 abbrev pub is_word_byte : ℕ → Bool
 is_word_byte b = not (b == space)
 
--- no byte, or more, all of this kind; and at least one
+-- all bytes are of this kind; there may be none
 abbrev pub AreAll : (ℕ → Bool) → List ℕ → Type 0
 AreAll kind bytes = AllByRecursion (λ b. kind b ≡ true) bytes
 
+-- the same, and there is at least one byte
 pub record AreSome (kind : ℕ → Bool) (bytes : List ℕ) : Type 0 where
   pub some : 0 < length bytes
   pub each : AreAll kind bytes
 
--- the text ends here, or a space comes
+-- what follows a word: it is empty, or begins with a space
 abbrev pub EndsWord : List ℕ → Type 0
 EndsWord [] = Unit {0}
 EndsWord (b ∷ bs) = b ≡ space
 
--- the text doesn't begin with a digit
+-- what follows a number: it doesn't begin with a digit
 abbrev pub EndsDigits : List ℕ → Type 0
 EndsDigits [] = Unit {0}
 EndsDigits (b ∷ bs) = is_digit b ≡ false
@@ -70,11 +71,11 @@ pub record IsName (name : List ℕ) : Type 0 where
   pub some : 0 < length name
   pub no_return : (front : List ℕ) → name ≢ front ++ carriage_return ∷ []
 
--- the text doesn't contain the words
+-- the second list of bytes doesn't contain the first
 abbrev pub Lacks : List ℕ → List ℕ → Type 0
 Lacks words text = (before after : List ℕ) → text ≢ before ++ (words ++ after)
 
--- the form of each shape, whatever its digits say
+-- the line has the form of this shape. The values of its numbers don't matter here
 abbrev pub HasShape : List ℕ → Shape → Type 0
 HasShape line Instances = Begins line (codes "-----")
 -- the ` called ` is the one that begins last
@@ -103,8 +104,8 @@ pub record IsShapeOf (line : List ℕ) (shape : Shape) : Type 0 where
 
 -- ---- what a shape says
 
--- what a line says: the path of a source file, the count of a source line (none if it has no code), of a function, or
--- of a branch (none if it was never executed), or the number of a block
+-- what a line says: the path of a source file; the count of a source line (`None` if it has no code), of a function, or
+-- of a branch (`None` if it was never executed); the number of a block; or nothing that is read
 pub data GcovLine : Type 0 where
   Path : (path : List ℕ) → GcovLine
   SourceLine : (line : ℕ) (count : Option ℕ) → GcovLine
@@ -130,7 +131,7 @@ with_number digits says = if_ok (fit digits) says
 abbrev pub are_digits : List ℕ → Bool
 are_digits text = nat_lt 0 (length text) && list_all is_digit text
 
--- the text without this byte at its end, if it ends in it
+-- the bytes without the last one, if that is this byte; otherwise all bytes
 abbrev pub without_last : ℕ → List ℕ → List ℕ
 without_last c [] = []
 without_last c (b ∷ []) = if b == c then [] else b ∷ []
@@ -139,7 +140,8 @@ without_last c (b ∷ d ∷ ds) = b ∷ without_last c (d ∷ ds)
 abbrev pub percent : ℕ
 percent = 37
 
--- how often a branch was taken: a number alone; percentages and other words are refused before large numbers are
+-- what a line says of how often a branch was taken. Only a number is accepted. If the word is a percentage or of another form,
+-- this is the fault, even if the branch's number is too large
 abbrev pub branch_says : List ℕ → List ℕ → Says
 branch_says branch word =
     if are_digits word then with_number branch (λ b. with_number word (λ n. Ok (BranchCount b (Some n))))
@@ -148,12 +150,12 @@ branch_says branch word =
 abbrev pub star : ℕ
 star = 42
 
--- a source line without code
+-- what the line of a source line without code says
 abbrev pub bare_says : List ℕ → Says
 bare_says line = with_number line (λ l. Ok (SourceLine l None))
 
--- the mark of a source line: `-` without code; `#####` and `=====` not executed; a count, with a `*` if the line has a
--- block that wasn't executed
+-- what the line of a source line says, by its mark. `-`: it has no code. `#####` or `=====`: it wasn't executed. Otherwise the
+-- mark is a count, with a `*` at its end if the line has a block that wasn't executed
 abbrev pub source_says : List ℕ → List ℕ → Says
 source_says mark line =
     if bytes_eq mark (codes "-") then bare_says line

@@ -1,4 +1,4 @@
--- What the lines of gcov's annotated source give, each at its place; `above` are the lines above it.
+-- What each line of gcov's annotated source gives. This depends on what the lines above it say, which is `above`.
 use Rattle.std.specs.Prelude.{ℕ, Bool, true, false, ◌||◌, ◌&&◌, is_some, List, [], ◌∷◌, ◌++◌, Option, Some, None, map, if◌then◌else◌}
 use Rattle.std.specs.Option.{option_or}
 use Rattle.std.specs.List.{flat_map, list_any}
@@ -29,12 +29,12 @@ abbrev pub func_said : GcovLine → List (List ℕ × ℕ)
 func_said (FuncCount name count) = (name, count) ∷ []
 func_said says = []
 
--- the lines after the last one of which this holds; all of them if it holds of none
+-- the lines after the last one of which this holds; all lines if it holds of none
 abbrev pub after_last : (GcovLine → Bool) → List GcovLine → List GcovLine
 after_last so [] = []
 after_last so (says ∷ more) = if list_any so more then after_last so more else (if so says then more else says ∷ more)
 
--- the number of the last line that gives one
+-- the last one of the numbers that the lines give; `None` if no line gives one
 abbrev pub last_given : (GcovLine → Option ℕ) → List GcovLine → Option ℕ
 last_given gives [] = None
 last_given gives (says ∷ more) = option_or (last_given gives more) (gives says)
@@ -51,18 +51,20 @@ abbrev pub or_zero : Option ℕ → ℕ
 or_zero None = 0
 or_zero (Some n) = n
 
--- the number of the nearest block line between that source line and here, 0 if there is none
+-- the number in the last block line after that source line, 0 if there is no such block line
 abbrev pub block_above : List GcovLine → ℕ
 block_above above = or_zero (last_given block_number (after_last is_source above))
 
--- the functions that begin at a source line, and the line's own count
+-- the item of a function that begins at this source line
 abbrev pub func_item : ℕ → List ℕ × ℕ → ItemData
 func_item line func = FuncItem func.0 line func.1
 
+-- the item of a source line; no item if the line has no code
 abbrev pub line_item : ℕ → Option ℕ → List ItemData
 line_item line None = []
 line_item line (Some count) = LineItem line count None ∷ []
 
+-- the item of a branch of this source line; no item without a source line
 abbrev pub branch_item : Option ℕ → ℕ → ℕ → Option ℕ → List ItemData
 branch_item None block branch taken = []
 branch_item (Some line) block branch taken = BranchItem line block branch taken ∷ []
@@ -78,7 +80,7 @@ abbrev pub items_until : List GcovLine → List GcovLine → List ItemData
 items_until above [] = []
 items_until above (says ∷ more) = if is_path says then [] else items_given above says ++ items_until (above ++ says ∷ []) more
 
--- the section that begins at a line, with this test's name: each path begins one
+-- the section of this test, with these items, that begins at a line: each path begins one, and other lines begin none
 abbrev pub section_at : List ℕ → List ItemData → GcovLine → List SectData
 section_at test items (Path path) = record { test = test; file = path; items = items } ∷ []
 section_at test items says = []
@@ -95,7 +97,7 @@ sects_from test above (says ∷ more) =
 abbrev pub has_path : List GcovLine → Bool
 has_path above = list_any is_path above
 
--- there is a path above, and a source line between the last path and here
+-- there is a path above, and a source line after the last path
 abbrev pub has_line : List GcovLine → Bool
 has_line above = has_path above && list_any is_source (after_last is_path above)
 
@@ -103,7 +105,8 @@ abbrev pub is_empty : {X : Type 0} → List X → Bool
 is_empty [] = true
 is_empty (x ∷ xs) = false
 
--- the fault of the line's place, with the line's number; functions that wait are lost at a path
+-- the fault of a line that says this, below lines that say `above`; `None` if it may be there. `at` is the line's number. At a
+-- path, functions that wait are lost
 abbrev pub place_fault : ℕ → List GcovLine → GcovLine → Option ReadFault
 place_fault at above (Path []) = Some (faults.NoSource at)
 place_fault at above (Path (b ∷ bs)) = if is_empty (waiting above) then None else Some faults.LostFunction
@@ -111,8 +114,8 @@ place_fault at above (SourceLine line count) = if has_path above then None else 
 place_fault at above (BranchCount branch taken) = if has_line above then None else Some (faults.Misplaced at)
 place_fault at above says = None
 
--- the lines with which keeping begins: a path begins a section, and a function waits. Nothing is kept before the first
--- of them
+-- a reader begins to keep something at this line: a path begins a section, and a function waits. Nothing is kept before the
+-- first such line
 abbrev pub begins_keeping : GcovLine → Bool
 begins_keeping (Path path) = true
 begins_keeping (FuncCount name count) = true

@@ -1,4 +1,4 @@
--- What a text of gcov's is read as: one section for each line with a path, or its first fault.
+-- What gcov's output is read as: a submission with one section for each path, or the first fault.
 use Rattle.std.specs.Prelude.{◌⊎◌, ◌≡◌, ℕ, ◌+◌, ◌<◌, ◌≤◌, true, false, List, [], ◌∷◌, ◌++◌, length, Some, None, Result, Ok, Err}
 use Rattle.std.specs.List.{list_any}
 use Rattle.covline.specs.Row.{SubmissionData}
@@ -13,7 +13,8 @@ use Rattle.covread.specs.Gcov.{GcovLine, LineSays}
 use Rattle.covread.specs.Outcome.{max_bytes}
 use Rattle.covread.specs.GcovItems.{begins_keeping, place_fault, waiting, sects_from, is_empty}
 
--- these lines, below the ones above, say this one by one, and none of them is misplaced
+-- each of these lines says what the last list has at its place, and none has a fault of its place. The first list, `above`, is
+-- what the lines above them say
 abbrev pub AllSay : List GcovLine → List (List ℕ) → List GcovLine → Type 0
 AllSay above [] [] = Unit {0}
 AllSay above [] (says ∷ more) = ⊥
@@ -44,7 +45,7 @@ pub record IsFirstFault (lines : List (List ℕ)) (fault : ReadFault) : Type 0 w
   pub said : AllSay [] before above
   pub faulty : IsFaultAt (length before + 1) above line fault
 
--- the first fault comes before anything was kept
+-- this is the first fault, and nothing is kept before the faulty line
 pub record FaultsEarly (lines : List (List ℕ)) (fault : ReadFault) : Type 0 where
   pub first : IsFirstFault lines fault
   pub none_kept : list_any begins_keeping first.above ≡ false
@@ -55,7 +56,7 @@ pub record LosesFunction (lines : List (List ℕ)) : Type 0 where
   pub said : AllSay [] lines all
   pub left : is_empty (waiting all) ≡ false
 
--- no line is faulty, no function waits at the end, and this is what the lines say of the test
+-- no line is faulty, no function waits at the end, and the submission has the sections of the lines, with this test's name
 pub record Reads (test : List ℕ) (lines : List (List ℕ)) (submission : SubmissionData) : Type 0 where
   pub all : List GcovLine
   pub said : AllSay [] lines all
@@ -71,8 +72,8 @@ IsOutcome test text (Err fault) =
     ⊎ (((length text ≤ max_bytes) × IsGoodTest test × IsFirstFault (lines_of text) fault)
     ⊎ ((length text ≤ max_bytes) × IsGoodTest test × LosesFunction (lines_of text) × (fault ≡ faults.LostFunction))))
 
--- the answer of a reader is what the text is read as, or memory ran out, which comes only after the tests of length
--- and name
+-- the answer of a reader is what the text is read as, or memory ran out. Memory can run out only after length and name were
+-- tested
 abbrev pub Answers : List ℕ → List ℕ → Result SubmissionData ReadFault → Type 0
 Answers test text answer = ((length text ≤ max_bytes) × IsGoodTest test × (answer ≡ Err faults.Memory)) ⊎ IsOutcome test text answer
 

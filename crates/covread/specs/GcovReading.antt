@@ -1,4 +1,5 @@
--- How the shape of a line is found: from the line's front on. The laws say that this is the first shape that fits.
+-- How the code finds the shape of a line: it looks at the line from its front on. Proofs show that this is the first shape that
+-- fits.
 use Rattle.std.specs.Prelude.{ℕ, ◌+◌, ◌-◌, ◌^◌, Bool, true, false, not, ◌&&◌, ◌==◌, nat_lt, if◌then◌else◌, List, [], ◌∷◌, length, take, Option, Some, None, codes, option_map}
 use Rattle.std.specs.Option.{option_or}
 use Rattle.covline.specs.Spells.{digits_value}
@@ -14,16 +15,17 @@ in_class classes.Space b = is_space b
 in_class classes.Mark b = is_mark_byte b
 in_class classes.Word b = is_word_byte b
 
--- the bytes of a kind at the front, and what follows them
+-- the bytes of a kind at the front
 abbrev pub front_of : (ℕ → Bool) → List ℕ → List ℕ
 front_of kind [] = []
 front_of kind (b ∷ bs) = if kind b then b ∷ front_of kind bs else []
 
+-- what follows these bytes
 abbrev pub rest_of : (ℕ → Bool) → List ℕ → List ℕ
 rest_of kind [] = []
 rest_of kind (b ∷ bs) = if kind b then rest_of kind bs else b ∷ bs
 
--- the same if there is at least one such byte
+-- the bytes of a kind at the front, with what follows them; `None` if there is no such byte
 abbrev pub some_front : (ℕ → Bool) → List ℕ → Option (List ℕ × List ℕ)
 some_front kind [] = None
 some_front kind (b ∷ bs) = if kind b then Some (front_of kind (b ∷ bs), rest_of kind (b ∷ bs)) else None
@@ -32,7 +34,7 @@ abbrev pub if_some : {A B : Type 0} → Option A → (A → Option B) → Option
 if_some None next = None
 if_some (Some a) next = next a
 
--- what follows spaces
+-- what follows the spaces at the front; `None` if there is no space
 abbrev pub after_spaces : List ℕ → Option (List ℕ)
 after_spaces text = option_map (λ parts. parts.1) (some_front is_space text)
 
@@ -43,7 +45,7 @@ fitting n = if nat_lt n (2 ^ 64) then Some n else None
 abbrev pub number_of : List ℕ → Option ℕ
 number_of digits = fitting (digits_value digits)
 
--- nothing follows, or a space
+-- what follows a word: it is empty, or begins with a space
 abbrev pub ends_word : List ℕ → Bool
 ends_word [] = true
 ends_word (b ∷ bs) = b == 32
@@ -92,15 +94,17 @@ branch_rest branch text =
 abbrev pub branch_shape : List ℕ → Option Shape
 branch_shape text = if_some (branch_front text) (λ front. branch_rest front.0 front.1)
 
--- a mark, a colon and a number, and what follows
+-- the shape of a block line, from the source line's number and what follows `-block`
 abbrev pub block_of : List ℕ → List ℕ → Option Shape
 block_of line text = if_some (after_spaces text) (λ a. if_some (some_front is_digit a) (λ block. Some (Block line block.0)))
 
+-- the shape of a line with a mark, a colon and a number, from what follows the number
 abbrev pub numbered_rest : List ℕ → List ℕ → List ℕ → Option Shape
 numbered_rest mark line text =
     if_key (after_key (codes "-block") text) (block_of line)
     (if_key (after_key (codes ":") text) (λ rest. Some (Numbered mark line rest)) None)
 
+-- the same, from what follows the mark
 abbrev pub after_mark : List ℕ → List ℕ → Option Shape
 after_mark mark text =
     if_some (after_key (codes ":") text) (λ a. if_some (some_front is_digit (rest_of is_space a)) (λ line. numbered_rest mark line.0 line.1))
@@ -112,11 +116,12 @@ abbrev pub or_other : Option Shape → Shape
 or_other None = Other
 or_other (Some shape) = shape
 
--- a mark may begin as the lines of branches do
+-- the shape of a line that doesn't begin with `-----` or `function `. If it begins with `branch` and isn't a branch line, it may
+-- still be a numbered line: a mark may begin with `branch` too
 abbrev pub other_shape : List ℕ → Option Shape
 other_shape line = option_or (if_key (after_key (codes "branch") line) branch_shape None) (numbered_shape line)
 
--- the shape of the line by what it begins with
+-- the shape of the line; `None` if it has none of the first six
 abbrev pub any_shape : List ℕ → Option Shape
 any_shape line =
     if_key (after_key (codes "-----") line) (λ rest. Some Instances)

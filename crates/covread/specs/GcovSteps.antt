@@ -43,7 +43,7 @@ abbrev pub closed : List ℕ → Option SectionData → List SectData
 closed test None = []
 closed test (Some s) = record { test = test; file = s.file; items = s.items } ∷ []
 
--- with more items in the open section, and another place
+-- what is held after the open section got more items and another place; these functions wait
 abbrev pub section_with : SectionData → List ItemData → Option BranchAnchor → HeldData → List (List ℕ × ℕ) → HeldData
 section_with s more place held waiting = record { waiting = waiting; section = Some (record { file = s.file; items = s.items ++ more; place = place }); sects = held.sects }
 
@@ -103,16 +103,18 @@ abbrev pub line_grows : HeldData → Says → Bool
 line_grows held (Err why) = false
 line_grows held (Ok says) = grows held says
 
--- the code's step returns this, unless memory ran out, which happens only if the step goes on and lists grow
+-- the code's step gives what the step on plain data gives, unless memory ran out. This happens only if that step has no fault,
+-- and lists grow
 abbrev pub StepsTo : {T : Type 0} → Result T ReadFault → HeldData → Bool → Stepped → Type 0
 StepsTo (Ok done) after growing stepped = stepped ≡ Ok after
 StepsTo (Err fault) after growing stepped = ((fault ≡ faults.Memory) × (is_ok stepped ≡ true) × (growing ≡ true)) ⊎ (stepped ≡ Err fault)
 
--- all lines, one after the other; they are counted from 1
+-- the next step, if there was no fault so far
 abbrev pub run_on : Stepped → (HeldData → Stepped) → Stepped
 run_on (Err fault) next = Err fault
 run_on (Ok held) next = next held
 
+-- the steps of all these lines, one after another. `at` lines are above them
 abbrev pub run : List ℕ → ℕ → HeldData → List (List ℕ) → Stepped
 run test at held [] = Ok held
 run test at held (line ∷ lines) = run_on (line_step test (at + 1) held (says_of (shape_of line))) (λ next. run test (at + 1) next lines)
@@ -121,13 +123,13 @@ abbrev pub ReadsTo : {A : Type 0} → List ℕ → List ℕ → Result (Reader A
 ReadsTo test text (Ok reader) = (run test 0 empty (lines_of text) ≡ Ok (held_data reader)) × (reader.test.now ≡ test)
 ReadsTo test text (Err fault) = ((fault ≡ faults.Memory) × HasBegun (lines_of text)) ⊎ (run test 0 empty (lines_of text) ≡ Err fault)
 
--- after the last line
+-- the submission of what is held after the last line: the open section ends
 abbrev pub submission_held : List ℕ → HeldData → SubmissionData
 submission_held test held = record { sects = held.sects ++ closed test held.section; odd = 0 }
 
 abbrev pub ends : List ℕ → HeldData → Result SubmissionData ReadFault
 ends test held = if is_empty held.waiting then Ok (submission_held test held) else Err faults.LostFunction
 
--- the end returns this, unless memory ran out, which happens only if a section is open
+-- the answer after the last line is the one of plain data, unless memory ran out. This happens only if a section is open
 abbrev pub EndsTo : Result SubmissionData ReadFault → Bool → Result SubmissionData ReadFault → Type 0
 EndsTo answer is_open ended = ((answer ≡ Err faults.Memory) × (is_open ≡ true)) ⊎ (answer ≡ ended)

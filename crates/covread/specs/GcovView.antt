@@ -1,4 +1,4 @@
--- What the code has for shapes and lines, seen as plain data.
+-- The code's `Shape` and `GcovLine`, seen as plain data.
 use Rattle.std.specs.Prelude.{◌≡◌, Result, Ok, Err}
 use Rattle.covread.specs.Gcov.{Says, GcovLine, Path, SourceLine, FuncCount, BranchCount, BlockNumber, Nothing}
 use Rattle.covread.specs.Gcov as spec
@@ -25,7 +25,7 @@ line_data (lines.Branch branch taken) = BranchCount branch taken
 line_data (lines.Block block) = BlockNumber block
 line_data lines.Skip = Nothing
 
--- what a function returned is what reading gives
+-- what a function of the code returned is this, seen as plain data
 abbrev pub Gives : Result code.GcovLine OwnFault → Says → Type 0
 Gives (Ok line) says = says ≡ Ok (line_data line)
 Gives (Err fault) says = says ≡ Err fault

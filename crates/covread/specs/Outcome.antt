@@ -18,7 +18,7 @@ IsLawfulText lines = (submission : SubmissionData) × Reads lines submission
 abbrev pub MayGoOn : List (List ℕ) → Type 0
 MayGoOn lines = (more : List (List ℕ)) × IsLawfulText (lines ++ more)
 
--- the line with this number, counted from 1, is the first that no lawful text has at its place
+-- the lines before this one begin some lawful text; with this line, they begin none. `at` is the line's number, counted from 1
 pub record IsFirstFaulty (lines : List (List ℕ)) (at : ℕ) (line : List ℕ) : Type 0 where
   pub before : List (List ℕ)
   pub after : List (List ℕ)
@@ -27,19 +27,20 @@ pub record IsFirstFaulty (lines : List (List ℕ)) (at : ℕ) (line : List ℕ) 
   pub goes_on : MayGoOn before
   pub ends_here : ¬ MayGoOn (before ++ line ∷ [])
 
--- start lines, counts, totals and ends occur in sections alone; test names and paths occur outside of them alone
+-- the record may only be in a section: start lines, counts, totals and ends
 abbrev pub NeedsSection : LineData → Type 0
 NeedsSection (Test name) = ⊥
 NeedsSection (Path path) = ⊥
 NeedsSection Skip = ⊥
 NeedsSection says = Unit {0}
 
+-- the record may only be outside of sections: test names and paths
 abbrev pub NeedsOutside : LineData → Type 0
 NeedsOutside (Test name) = Unit {0}
 NeedsOutside (Path path) = Unit {0}
 NeedsOutside says = ⊥
 
--- the first fault of lines. A line's own fault comes before a fault of its place
+-- the lines have this first fault. If a line is faulty by itself, its place doesn't matter
 abbrev pub IsFirstFault : List (List ℕ) → ReadFault → Type 0
 IsFirstFault lines (faults.Line at fault) = (line : List ℕ) × IsFirstFaulty lines at line × HasFault line fault
 IsFirstFault lines (faults.Outside at) = (line : List ℕ) × (says : LineData) × IsFirstFaulty lines at line × Spells line says × NeedsSection says
@@ -53,7 +54,7 @@ IsOutcome text (Ok submission) = (length text ≤ max_bytes) × Reads (lines_of 
 IsOutcome text (Err fault) =
     ((max_bytes < length text) × (fault ≡ faults.TooLong)) ⊎ ((length text ≤ max_bytes) × IsFirstFault (lines_of text) fault)
 
--- the answer of a reader is what the text is read as, or memory ran out, which comes only after the test of length
+-- the answer of a reader is what the text is read as, or memory ran out. Memory can run out only after the length was tested
 abbrev pub Answers : List ℕ → Result SubmissionData ReadFault → Type 0
 Answers text answer = ((length text ≤ max_bytes) × (answer ≡ Err faults.Memory)) ⊎ IsOutcome text answer
 

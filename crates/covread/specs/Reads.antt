@@ -9,7 +9,7 @@ use Rattle.covline.specs.Row.{ItemData, LineItem, FuncItem, BranchItem, SectData
 use Rattle.covline.specs.Points.{BranchPoint, line_points, func_points, branch_points, is_hit, least}
 use Rattle.covline.specs.Spells.{LineData, Test, Path, FuncStart, FuncCount, Branch, Line, Total, End, Skip, Spells}
 
--- each line says the record at its place; a blank line is a skipped one
+-- each line says the record that the second list has at its place; a blank line says `Skip`
 abbrev pub AllSpell : List (List ℕ) → List LineData → Type 0
 AllSpell [] [] = Unit {0}
 AllSpell [] (says ∷ more) = ⊥
@@ -48,7 +48,7 @@ abbrev pub start_said : List ℕ → LineData → List ℕ
 start_said name (FuncStart line other) = if bytes_eq other name then line ∷ [] else []
 start_said name says = []
 
--- the least start line of a function in a section, above or below its count; none if no record gives one
+-- the least start line that the records of a section give a function, above or below its counts; `None` if no record gives one
 abbrev pub start_in : List ℕ → List LineData → Option ℕ
 start_in name inside = least (flat_map (start_said name) inside)
 
@@ -69,7 +69,7 @@ items_said inside says = []
 abbrev pub items_of : List LineData → List ItemData
 items_of inside = flat_map (items_said inside) inside
 
--- how many different members a list has
+-- how many different elements a list has
 abbrev pub distinct : {X : Type 0} → (X → X → Bool) → List X → ℕ
 distinct same [] = 0
 distinct same (x ∷ xs) = if list_any (same x) xs then distinct same xs else distinct same xs + 1
@@ -77,8 +77,8 @@ distinct same (x ∷ xs) = if list_any (same x) xs then distinct same xs else di
 abbrev pub branch_eq : BranchPoint → BranchPoint → Bool
 branch_eq a b = a.line == b.line && a.block == b.block && a.branch == b.branch
 
--- a section's own totals: its different functions with a start line, branches and lines, and those of them that some
--- item counts above 0
+-- a section's own total of this kind: how many different functions, branches or lines its items count, or how many of these
+-- some item counts above 0. Functions without a start line have no items
 abbrev pub own_total : TotalKind → List ItemData → ℕ
 own_total FuncFound items = distinct bytes_eq (func_points items)
 own_total FuncHit items = distinct bytes_eq (func_points (filter is_hit items))
@@ -87,7 +87,8 @@ own_total BranchHit items = distinct branch_eq (branch_points (filter is_hit ite
 own_total LineFound items = distinct nat_eq (line_points items)
 own_total LineHit items = distinct nat_eq (line_points (filter is_hit items))
 
--- odd is a count of a function without a start line in its section, and a total that differs from the section's own
+-- the record is odd in its section: it counts a function without a start line there, or states a total other than the
+-- section's own
 abbrev pub is_odd : List LineData → LineData → Bool
 is_odd inside (FuncCount count name) = is_none (start_in name inside)
 is_odd inside (Total kind value) = not (value == own_total kind (items_of inside))
@@ -102,7 +103,7 @@ abbrev pub test_after : List ℕ → LineData → List ℕ
 test_after test (Test name) = name
 test_after test says = test
 
--- the sections of the parts. A section's test is the name in the last test line before it, at first the one given
+-- the sections of the parts. A section's test is the name in the last test line before it, or `test` if there is no such line
 abbrev pub sects_from : List ℕ → List Part → List SectData
 sects_from test [] = []
 sects_from test (Outside says ∷ parts) = sects_from (test_after test says) parts

@@ -13,7 +13,7 @@ use Rattle.covread.specs.declared.trace.functions.Function.{Function}
 use Rattle.covread.specs.declared.trace.tally.FunctionTotals.{FunctionTotals}
 use Rattle.covread.specs.Reads.{own_total, items_of}
 
--- what the map has for a function
+-- what the map has for the function of this name
 abbrev pub function_at : BTreeMap (Bor (List ℕ)) Function → List ℕ → Option Function
 function_at functions name = get_by (λ k. slice_cmp nat_cmp name k.now) functions
 
@@ -21,7 +21,8 @@ function_at functions name = get_by (λ k. slice_cmp nat_cmp name k.now) functio
 abbrev pub known : List (List ℕ) → List ℕ → ℕ → Function
 known names name line = record { start = line; is_hit = list_any (bytes_eq name) names }
 
--- the map has the functions with these start lines, of which those of these names are hit
+-- the map has exactly the functions to which `starts` gives a start line, each with this line. Those whose
+-- name is among `names` are hit
 pub record AreFunctions (functions : BTreeMap (Bor (List ℕ)) Function) (starts : List ℕ → Option ℕ) (names : List (List ℕ)) : Type 0 where
   pub at : (name : List ℕ) → function_at functions name ≡ option_map (known names name) (starts name)
 
@@ -29,7 +30,7 @@ pub record AreFunctions (functions : BTreeMap (Bor (List ℕ)) Function) (starts
 abbrev pub found_by : List (List ℕ) → List ℕ → Bool → ℕ → Found
 found_by names name is_hit line = record { start = line; is_first_hit = is_hit && not (list_any (bytes_eq name) names) }
 
--- the function that a count hits: it has a start line, and the count is above 0
+-- the name of the function, if this count hits it: the count is above 0, and the function has a start line
 abbrev pub named : List ℕ → Bool → Option ℕ → List (List ℕ)
 named name true (Some line) = name ∷ []
 named name true None = []

@@ -1,4 +1,4 @@
--- How many different lines and branches items count, as the code finds it.
+-- How the code counts the different lines and branches of which there are items.
 use Rattle.std.specs.Prelude.{◌≡◌, ◌+◌, ◌<◌, Bool, true, false, cond, List, [], ◌∷◌, length, map, Option, None, Some, filter}
 use Rattle.std.specs.Ordering.{eq_by_cmp, is_le}
 use Rattle.std.specs.declared.cmp.Ordering.{Ordering}
@@ -24,17 +24,19 @@ branch_key (FuncItem name line count) = []
 abbrev pub hit_points : {P : Type 0} → (ItemData → List P) → List ItemData → List P
 hit_points points items = flat_map points (filter is_hit items)
 
--- the points that items count, each with whether its item is hit
+-- the points that an item counts, each with whether the item is hit
 abbrev pub hits_of_item : {P : Type 0} → (ItemData → List P) → ItemData → List (Hit P)
 hits_of_item points item = map (λ p. record { point = p; is_hit = is_hit item }) (points item)
 
+-- the same for each of these items, in their order
 abbrev pub hits_said : {P : Type 0} → (ItemData → List P) → List ItemData → List (Hit P)
 hits_said points items = flat_map (hits_of_item points) items
 
--- the points, and those that are hit
+-- all points
 abbrev pub points_in : {P : Type 0} → List (Hit P) → List P
 points_in hits = map (λ h. h.point) hits
 
+-- the points that are hit
 abbrev pub hits_in : {P : Type 0} → List (Hit P) → List P
 hits_in hits = points_in (filter (λ h. h.is_hit) hits)
 
@@ -44,12 +46,12 @@ goes_on R None p = true
 goes_on R (Some last) p = is_le (R last.point p)
 
 module _ {P : Type 0} (R : P → P → Ordering) where
-  -- the tally has the numbers of different points that were seen and that were hit
+  -- the tally has how many different points were seen, and how many different ones were hit
   pub record IsTally (own : Tally) (seen : List (Hit P)) : Type 0 where
     pub found : own.found ≡ distinct (eq_by_cmp R) (points_in seen)
     pub hit : own.hit ≡ distinct (eq_by_cmp R) (hits_in seen)
 
-  -- the last point is the greatest one that was seen, and these are the totals of those below it
+  -- the last point is the greatest one that was seen, and `below` has the totals of all other points that were seen
   pub record Reaches (below : Tally) (last : Hit P) (seen : List (Hit P)) : Type 0 where
     pub few : below.found < length seen
     pub found : below.found + 1 ≡ distinct (eq_by_cmp R) (points_in seen)

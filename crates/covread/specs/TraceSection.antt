@@ -12,7 +12,7 @@ use Rattle.covread.specs.TraceFunctions.{AreFunctions}
 use Rattle.covread.specs.TracePoints.{Counts, branch_key, hits_said}
 use Rattle.covread.specs.TraceTally.{branch_cmp, is_total, stated_record}
 
--- an open section keeps what this says
+-- an open section keeps this record
 abbrev pub IsKept : LineData → Type 0
 IsKept (FuncStart line name) = Unit {0}
 IsKept (FuncCount count name) = Unit {0}
@@ -44,13 +44,13 @@ pub record Mark : Type 0 where
 abbrev pub mark : PendingCount → Mark
 mark w = record { at = w.at; name = w.name.now; is_hit = w.is_hit }
 
--- the counts of functions, if the first item has this place
+-- the marks of the records that count functions. `at` is the place of the first item of these records
 abbrev pub marks_from : ℕ → List LineData → List Mark
 marks_from at [] = []
 marks_from at (FuncCount count name ∷ rest) = record { at = at; name = name; is_hit = nat_lt 0 count } ∷ marks_from (at + 1) rest
 marks_from at (says ∷ rest) = marks_from (at + length (item_said says)) rest
 
--- what was gathered is what these records give
+-- the builder holds what these records give
 pub record IsBuiltOf {A : Type 0} (g : SectionBuilder A) (inside : List LineData) : Type 0 where
   pub items : g.items ≡ stored inside
   pub functions : AreFunctions g.functions (λ name. start_in name inside) []

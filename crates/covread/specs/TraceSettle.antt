@@ -13,11 +13,11 @@ abbrev pub is_unstarted : List LineData → LineData → Bool
 is_unstarted inside (FuncCount count name) = is_none (start_in name inside)
 is_unstarted inside says = false
 
--- the functions that the counts hit
+-- the names of the functions that these counts hit, one for each such count
 abbrev pub names_in : (List ℕ → Option ℕ) → List Mark → List (List ℕ)
 names_in starts marks = flat_map (λ m. named m.name m.is_hit (starts m.name)) marks
 
--- the place, if the function has no start line
+-- the place of a count, if its function has no start line
 abbrev pub alone : ℕ → Option ℕ → List ℕ
 alone at None = at ∷ []
 alone at (Some line) = []
@@ -25,7 +25,7 @@ alone at (Some line) = []
 abbrev pub unstarted_in : (List ℕ → Option ℕ) → List Mark → List ℕ
 unstarted_in starts marks = flat_map (λ m. alone m.at (starts m.name)) marks
 
--- the items with this start line at that place
+-- the items after the one at this place got this start line
 abbrev pub start_set : ℕ → ℕ → List ItemData → List ItemData
 start_set at line [] = []
 start_set zero line (item ∷ items) = with_start line item ∷ items
@@ -35,7 +35,7 @@ abbrev pub start_put : ℕ → Option ℕ → List ItemData → List ItemData
 start_put at None items = items
 start_put at (Some line) items = start_set at line items
 
--- the items with the start lines that the counts get
+-- the items after each count got the start line of its function, if the function has one
 abbrev pub filled : (List ℕ → Option ℕ) → List Mark → List ItemData → List ItemData
 filled starts [] items = items
 filled starts (m ∷ ms) items = filled starts ms (start_put m.at (starts m.name) items)
@@ -44,7 +44,7 @@ filled starts (m ∷ ms) items = filled starts ms (start_put m.at (starts m.name
 abbrev pub HavePlaces : ℕ → List Mark → Type 0
 HavePlaces n marks = AllByRecursion (λ m. m.at < n) marks
 
--- what the counts say, and what becomes of the items
+-- these counts hit `n` functions, `places` are those of the counts without a start line, and the other counts got theirs
 pub record IsSettled (starts : List ℕ → Option ℕ) (marks : List Mark) (n : ℕ) (places : List ℕ) (before after : List ItemData) : Type 0 where
   pub hit : n ≡ distinct bytes_eq (names_in starts marks)
   pub unstarted : places ≡ unstarted_in starts marks
@@ -55,7 +55,7 @@ abbrev pub starts_with : ℕ → List ℕ → Bool
 starts_with at [] = false
 starts_with at (place ∷ places) = place == at
 
--- the members without those at these places, which ascend; the first member has the place `at`
+-- the elements, but for those at these places. The places ascend, and `at` is the place of the first element
 abbrev pub left : {X : Type 0} → ℕ → List ℕ → List X → List X
 left at places [] = []
 left at [] (x ∷ xs) = x ∷ xs

@@ -14,7 +14,7 @@ use Rattle.covread.specs.Outcome.{Answers, GrowsLate}
 use Rattle.covread.specs.Reads.{items_of, is_odd}
 use Rattle.covread.specs.TraceSection.{IsBuiltOf}
 
--- an open section: its path, and what its lines said so far, the skipped ones left out
+-- an open section: its path, and the records of its lines so far, without the skipped lines
 pub record SectionData : Type 0 where
   pub file : List ℕ
   pub lines : List LineData
@@ -25,13 +25,15 @@ pub record HeldData : Type 0 where
   pub sects : List SectData
   pub odd : ℕ
 
--- what a reader holds, if its open section has these records so far
+-- an open section of the code, as plain data, if it has these records so far
 abbrev pub section_data : {A : Type 0} → List LineData → OpenSection A → SectionData
 section_data inside s = record { file = s.file; lines = inside }
 
+-- what a reader holds, as plain data, if its open section has these records so far
 abbrev pub held_data : {A : Type 0} → Reader A → List LineData → HeldData
 held_data r inside = record { test = r.test.now; section = option_map (section_data inside) r.section; sects = r.sects; odd = r.odd }
 
+-- the open section has these records so far; if no section is open, there are none
 abbrev pub IsOpen : {A : Type 0} → Option (OpenSection A) → List LineData → Type 0
 IsOpen None inside = inside ≡ []
 IsOpen (Some s) inside = IsBuiltOf s.builder inside
@@ -45,11 +47,11 @@ pub record HasRoom {A : Type 0} (r : Reader A) (inside : List LineData) : Type 0
 abbrev pub empty : HeldData
 empty = record { test = []; section = None; sects = []; odd = 0 }
 
--- an open section with one more line
+-- what is held after one more record of the open section
 abbrev pub kept : SectionData → HeldData → LineData → HeldData
 kept s held says = record { test = held.test; section = Some (record { file = s.file; lines = s.lines ++ says ∷ [] }); sects = held.sects; odd = held.odd }
 
--- an open section ends
+-- what is held after the open section ended
 abbrev pub closed : SectionData → HeldData → HeldData
 closed s held = record {
   test = held.test;
@@ -58,13 +60,14 @@ closed s held = record {
   odd = held.odd + count_by (is_odd s.lines) s.lines;
 }
 
--- one line, between sections and in an open one
+-- the step of one line, if no section is open
 abbrev pub step_between : HeldData → LineData → Result HeldData Misplaced
 step_between held (Test name) = Ok (record { test = name; section = None; sects = held.sects; odd = held.odd })
 step_between held (Path path) = Ok (record { test = held.test; section = Some (record { file = path; lines = [] }); sects = held.sects; odd = held.odd })
 step_between held Skip = Ok held
 step_between held says = Err misplaced.Outside
 
+-- the step of one line in this open section
 abbrev pub step_within : SectionData → HeldData → LineData → Result HeldData Misplaced
 step_within s held (Test name) = Err misplaced.Inside
 step_within s held (Path path) = Err misplaced.Inside
@@ -79,7 +82,7 @@ step_at (Some s) held says = step_within s held says
 abbrev pub step : HeldData → LineData → Result HeldData Misplaced
 step held says = step_at held.section held says
 
--- what takes memory: a path that begins a section, and the lines of an open one
+-- the line may take memory: it is a path that begins a section, or a section is open
 abbrev pub GrowsAt : Option SectionData → LineData → Type 0
 GrowsAt None (Path path) = Unit {0}
 GrowsAt None says = ⊥
@@ -92,7 +95,7 @@ Steps (Err misplaced.Outside) before after says = step before says ≡ Err mispl
 Steps (Err misplaced.Inside) before after says = step before says ≡ Err misplaced.Inside
 Steps (Err misplaced.Memory) before after says = GrowsAt before.section says
 
--- the lines that are kept of an open section
+-- the records that are kept of the open section, if there is one
 abbrev pub kept_in : Option SectionData → List LineData
 kept_in None = []
 kept_in (Some s) = s.lines
@@ -116,10 +119,11 @@ abbrev pub TakesLine : {A T : Type 0} → Result T ReadFault → HeldData → Re
 TakesLine (Ok done) before after line at = (says : LineData) × Spells line says × (inside : List LineData) × (step before says ≡ Ok (held_data after inside)) × IsOpen after.section inside
 TakesLine (Err fault) before after line at = StopsAt fault before line at
 
--- what is held after the last line makes a submission, unless a section is open
+-- the submission of what is held after the last line
 abbrev pub submission_held : HeldData → SubmissionData
 submission_held held = record { sects = held.sects; odd = held.odd }
 
+-- the outcome after the last line: this submission, or the fault that a section is still open
 abbrev pub ends_at : Option SectionData → HeldData → Result SubmissionData ReadFault
 ends_at None held = Ok (submission_held held)
 ends_at (Some s) held = Err faults.OpenEnd
@@ -134,7 +138,8 @@ IsLawfulAt (Some s) held = Unit {0}
 abbrev pub EndsLawfully : HeldData → Type 0
 EndsLawfully held = IsLawfulAt held.section held
 
--- what all lines of a text lead to. What is held after the last line doesn't depend on the records of an open section
+-- what the code returns after all lines of the text. If a section is still open, the outcome doesn't depend on its records, so
+-- here it has none
 abbrev pub ReadsTo : {A : Type 0} → List ℕ → Result (Reader A) ReadFault → Type 0
 ReadsTo text (Ok reader) = Answers text (ends (held_data reader [])) × EndsLawfully (held_data reader [])
 ReadsTo text (Err fault) = Answers text (Err fault) × GrowsLate text (Err fault)

@@ -26,7 +26,7 @@ abbrev pub is_total : LineData → Bool
 is_total (Total kind value) = true
 is_total says = false
 
--- a total of this kind counts this
+-- a total of this kind counts points of this sort
 abbrev pub has : PointKind → TotalKind → Bool
 has Functions FuncFound = true
 has Functions FuncHit = true
@@ -66,7 +66,8 @@ is_other inside says = false
 abbrev pub branch_cmp : BranchPoint → BranchPoint → Ordering
 branch_cmp a b = ordering_then (nat_cmp a.line b.line) (ordering_then (nat_cmp a.block b.block) (nat_cmp a.branch b.branch))
 
--- the totals are the section's own, as far as it states some of their sort
+-- these are the section's own totals. Those of branches have to be right only if the section states a total of branches, and
+-- those of lines only if it states one of lines
 pub record AreOwn (own : OwnTotals) (inside : List LineData) : Type 0 where
   pub functions : AreFunctionTotals own.functions inside
   pub branches : list_any (states Branches) inside ≡ true → AreTotals branch_cmp branch_key own.branches (items_of inside)

@@ -10,7 +10,7 @@ use thiserror::Error;
 /// The most bytes that a text can have: 64 MiB.
 pub const MAX_BYTES: usize = 67_108_864;
 
-/// Why a text isn't read: its first fault, with the number of the faulty line, counted from 1.
+/// Why a text isn't read: its first fault. If a line is faulty, `at` is the line's number, counted from 1.
 #[derive(Clone, Copy, Debug, PartialEq, Eq, Error)]
 pub enum ReadFault {
     /// Fault 1: the text has more than 67,108,864 bytes. This is tested first.
@@ -49,7 +49,7 @@ pub enum ReadFault {
     /// Fault 12: a tracefile can't hold the test's name. This is tested after the text's length.
     #[error("BadTest")]
     BadTest,
-    /// Fault 13: memory was refused.
+    /// Fault 13: an allocation failed.
     #[error("out of memory")]
     Memory,
 }

@@ -4,7 +4,8 @@
 //! manual's chapter on gcov). It is read forward once. Items are copied out of it, so the text can be freed once it is
 //! read.
 //!
-//! An example, proved and run in `covuses`: a text of either format. gcov's text is read as a tracefile without items.
+//! An example, proved and run in `covuses`, reads a text of either format. It relies on this: if gcov's output is read as a
+//! tracefile, the submission has no items.
 //!
 //! ```text
 //! pub fn read_either(alloc: Global, test: &[u8], text: &[u8]) -> Result<Submission, ReadFault> {

@@ -9,8 +9,8 @@ ghost use Rattle.covread.specs.Gcov.{Says, LineSays};
 ghost use Rattle.covread.specs.Outcome.{max_bytes};
 ghost use Rattle.covread.specs.GcovOutcome.{IsOutcome, Answers, FaultsEarly, GrowsLate};
 
-/// Each line says exactly one thing, or has exactly one fault; and each text is read as exactly one thing: as a
-/// submission, or with a fault.
+/// Each line either says exactly one thing or has exactly one fault of its own. For each test, each text has exactly one outcome:
+/// a submission or a fault.
 pub fn each_gcov_text_has_one_outcome()
     ensures some_line { (line : List ℕ) → (says : Says) × LineSays line says }
     ensures one_line { (line : List ℕ) (x y : Says) → LineSays line x → LineSays line y → x ≡ y }
@@ -18,8 +18,8 @@ pub fn each_gcov_text_has_one_outcome()
     ensures one { (test text : List ℕ) (x y : Result SubmissionData Fault) → IsOutcome test text x → IsOutcome test text y → x ≡ y }
 {}
 
-/// If the first fault comes before anything was kept, it is the answer: by what `read_gcov` ensures, memory can't have
-/// run out before it.
+/// This law is about a text that isn't too long, and a test whose name a tracefile can hold. If nothing is kept before the first
+/// faulty line, its fault is the answer: by what `read_gcov` ensures, memory can't have run out before.
 pub fn an_early_fault_is_told()
     ensures { (test text : List ℕ) (answer : Result SubmissionData Fault) (fault : Fault) → Answers test text answer → GrowsLate text answer
         → length text ≤ max_bytes → IsGoodTest test → FaultsEarly (lines_of text) fault → answer ≡ Err fault }

@@ -9,7 +9,7 @@ use crate::gcov::shape::{Shape, shape_of};
 use crate::gcov::text::{are_digits, number, without_last};
 use covline::strip_key;
 
-/// What is wrong with a line by itself.
+/// A line's own fault, which doesn't depend on other lines.
 #[derive(Clone, Copy)]
 pub enum OwnFault {
     /// Counts of template instances follow.
@@ -22,7 +22,7 @@ pub enum OwnFault {
     NumberTooLarge,
 }
 
-/// What a line says; its texts are parts of it.
+/// What a line says. Its path or name is a part of the line, not a copy.
 #[derive(Clone, Copy)]
 pub enum GcovLine<'a> {
     /// The path of a source file.
@@ -70,14 +70,14 @@ fn read_shape(shape: Shape<'_>) -> Result<GcovLine<'_>, OwnFault>
     }
 }
 
-/// The number that digits say.
+/// The number that digits say, or the fault that it is 2^64 or more.
 fn fit(digits: &[u8]) -> Result<u64, OwnFault>
     ensures { result ≡ fit digits.now }
 {
     number(digits).ok_or(OwnFault::NumberTooLarge)
 }
 
-/// How often a branch was taken. A word of another form is reported before a number that is too large.
+/// Reads how often a branch was taken. If the word is no number, this is reported before a number that is too large.
 fn read_branch<'a>(branch: &[u8], word: &[u8]) -> Result<GcovLine<'a>, OwnFault>
     ensures { Gives result (branch_says branch.now word.now) }
 {
@@ -106,7 +106,7 @@ fn read_numbered<'a>(mark: &[u8], line: &[u8], text: &'a [u8]) -> Result<GcovLin
     }
 }
 
-/// A line of the source file that has no code.
+/// Reads a line of the source file that has no code.
 fn read_bare<'a>(line: &[u8]) -> Result<GcovLine<'a>, OwnFault>
     ensures { Gives result (bare_says line.now) }
 {
@@ -114,7 +114,7 @@ fn read_bare<'a>(line: &[u8]) -> Result<GcovLine<'a>, OwnFault>
     Ok(GcovLine::Source { line, count: None })
 }
 
-/// A line of the source file. A mark of no known form is reported before a number that is too large.
+/// Reads a line of the source file. A mark of no known form is reported before a number that is too large.
 fn read_source<'a>(mark: &[u8], line: &[u8]) -> Result<GcovLine<'a>, OwnFault>
     ensures { Gives result (source_says mark.now line.now) }
 {

@@ -1,4 +1,4 @@
-//! The reader: forward over the text once.
+//! Reads gcov's annotated source: one pass over its text, forward.
 
 ghost use Rattle.std.specs.Prelude.{◌≡◌, ◌≤◌, length, Result};
 ghost use Rattle.covline.specs.Row.{SubmissionData};
@@ -26,7 +26,7 @@ pub fn read_gcov<A: Allocator + Copy>(
     ensures answers { Answers test.now text.now result }
     // No other answer is possible, unless memory ran out.
     ensures only { (outcome : Result SubmissionData Fault) → IsOutcome test.now text.now outcome → IsOrMemory result outcome }
-    // Nothing is kept before the first path or function, so memory runs out only after one.
+    // Nothing is kept before the first path or function, so memory can run out only at this line or after it.
     ensures memory { GrowsLate text.now result }
 {
     if text.len() > MAX_BYTES {

@@ -23,12 +23,12 @@ pub struct Function<'a> {
     pub count: u128,
 }
 
-/// Where a branch belongs.
+/// The source line and the block that a branch belongs to.
 #[derive(Clone, Copy)]
 pub struct BranchAnchor {
     /// The last source line.
     pub line: u64,
-    /// The last block of that line, 0 if none was named.
+    /// The last block that came after that source line, 0 if none came.
     pub block: u64,
 }
 
@@ -39,7 +39,7 @@ pub struct OpenSection<A: Allocator> {
     pub file: Bytes<A>,
     /// Its items so far.
     pub items: Items<A>,
-    /// Its last source line.
+    /// Its last source line with that line's last block, if it has a source line.
     pub place: Option<BranchAnchor>,
 }
 
@@ -50,9 +50,9 @@ pub struct Reader<'a, A: Allocator> {
     pub test: &'a [u8],
     /// The functions that wait for the next source line.
     pub waiting: Vec<Function<'a>, A>,
-    /// The section that is open.
+    /// The open section, if there is one.
     pub section: Option<OpenSection<A>>,
-    /// The sections before it.
+    /// The sections that ended.
     pub sects: Sects<A>,
 }
 
@@ -174,7 +174,8 @@ impl<'a, A: Allocator + Copy> Reader<'a, A> {
         Err(ReadFault::Misplaced { at })
     }
 
-    /// Takes a block of the last source line, if there is one: the branches below belong to it.
+    /// Takes a block of the last source line: the branches below belong to it. Does nothing if the open section has no source
+    /// line yet, or no section is open.
     fn enter(&mut self, block: u64)
         ensures held { held_data self.new ≡ step_block (held_data self.old) block }
         ensures test { self.new.test.now ≡ self.old.test.now }
@@ -186,7 +187,7 @@ impl<'a, A: Allocator + Copy> Reader<'a, A> {
         }
     }
 
-    /// Returns what was read, after the last line.
+    /// Returns the submission, after the last line, or the fault that functions still wait for a source line.
     pub fn finish(mut self, alloc: A) -> Result<Submission<A>, ReadFault>
         requires { IsLawful (submission_held self.test.now (held_data self)) }
         ensures { EndsTo result (is_some (held_data self.entry).section) (ends self.entry.test.now (held_data self.entry)) }

@@ -10,7 +10,7 @@ use crate::gcov::text::{
 };
 use covline::strip_key;
 
-/// What a line looks like, with the texts of its parts.
+/// What a line looks like, with the bytes of its parts.
 #[derive(Clone, Copy)]
 pub(crate) enum Shape<'a> {
     /// `-----`: counts of template instances follow.
@@ -52,7 +52,7 @@ pub fn fits_no_shape(line: &[u8]) -> bool
     is_other(shape_of(line))
 }
 
-/// Whether this is the shape of the lines that aren't read.
+/// Whether the shape is `Other`.
 fn is_other(shape: Shape<'_>) -> bool
     ensures { IsTrue result ↔ (shape_data shape.entry ≡ Other) }
 {
@@ -69,7 +69,7 @@ pub(crate) fn shape_of(line: &[u8]) -> Shape<'_>
     }
 }
 
-/// The shape of a line that says something.
+/// The shape of the line, or `None` if it has none of the first six.
 fn any_shape(line: &[u8]) -> Option<Shape<'_>>
     ensures { option_map shape_data result ≡ any_shape line.now }
 {
@@ -82,7 +82,8 @@ fn any_shape(line: &[u8]) -> Option<Shape<'_>>
     other_shape(line)
 }
 
-/// The shape of a line that is about neither a function nor template instances. A mark may begin as the lines of branches do.
+/// The shape of a line that doesn't begin with `-----` or `function `. If it begins with `branch` and isn't a branch line, it may
+/// still be a numbered line: a mark may begin with `branch` too.
 fn other_shape(line: &[u8]) -> Option<Shape<'_>>
     ensures { option_map shape_data result ≡ other_shape line.now }
 {
@@ -94,7 +95,7 @@ fn other_shape(line: &[u8]) -> Option<Shape<'_>>
     numbered_shape(line)
 }
 
-/// The name and the count of a function, after `function `.
+/// The shape of a function line, from what follows `function `.
 fn function_shape(text: &[u8]) -> Option<Shape<'_>>
     ensures { option_map shape_data result ≡ function_shape text.now }
 {
@@ -108,7 +109,7 @@ fn function_shape(text: &[u8]) -> Option<Shape<'_>>
     }
 }
 
-/// A branch's number and what follows it, after `branch`.
+/// The shape of a branch line, from what follows `branch`.
 fn branch_shape(text: &[u8]) -> Option<Shape<'_>>
     ensures { option_map shape_data result ≡ branch_shape text.now }
 {
@@ -116,7 +117,7 @@ fn branch_shape(text: &[u8]) -> Option<Shape<'_>>
     branch_rest(branch, text)
 }
 
-/// A branch's number, and what follows the spaces after it.
+/// A branch's number, and what follows the spaces after the number; from what follows `branch`.
 fn branch_front(text: &[u8]) -> Option<(&[u8], &[u8])>
     ensures { option_map (λ parts. (parts.0.now, parts.1.now)) result ≡ branch_front text.now }
 {
@@ -126,7 +127,7 @@ fn branch_front(text: &[u8]) -> Option<(&[u8], &[u8])>
     Some((branch, rest))
 }
 
-/// What follows a branch's number.
+/// The shape of a branch line, from its number and what follows the spaces after the number.
 fn branch_rest<'a>(branch: &'a [u8], text: &'a [u8]) -> Option<Shape<'a>>
     ensures { option_map shape_data result ≡ branch_rest branch.now text.now }
 {
@@ -139,7 +140,7 @@ fn branch_rest<'a>(branch: &'a [u8], text: &'a [u8]) -> Option<Shape<'a>>
     None
 }
 
-/// The word after `taken`.
+/// The shape of a branch line, from its number and what follows `taken`.
 fn taken<'a>(branch: &'a [u8], text: &'a [u8]) -> Option<Shape<'a>>
     ensures { option_map shape_data result ≡ taken_of branch.now text.now }
 {
@@ -148,7 +149,7 @@ fn taken<'a>(branch: &'a [u8], text: &'a [u8]) -> Option<Shape<'a>>
     Some(Shape::Taken { branch, word })
 }
 
-/// A line that begins with a mark, a colon and a number.
+/// The shape of a line that begins with a mark, a colon and a number.
 fn numbered_shape(text: &[u8]) -> Option<Shape<'_>>
     ensures { option_map shape_data result ≡ numbered_shape text.now }
 {
@@ -157,7 +158,7 @@ fn numbered_shape(text: &[u8]) -> Option<Shape<'_>>
     after_mark(mark, text)
 }
 
-/// What follows a mark.
+/// The shape of such a line, from its mark and what follows the mark.
 fn after_mark<'a>(mark: &'a [u8], text: &'a [u8]) -> Option<Shape<'a>>
     ensures { option_map shape_data result ≡ after_mark mark.now text.now }
 {
@@ -167,7 +168,7 @@ fn after_mark<'a>(mark: &'a [u8], text: &'a [u8]) -> Option<Shape<'a>>
     numbered_rest(mark, line, text)
 }
 
-/// What follows a line's number.
+/// The shape of such a line, from its mark, its number and what follows the number.
 fn numbered_rest<'a>(mark: &'a [u8], line: &'a [u8], text: &'a [u8]) -> Option<Shape<'a>>
     ensures { option_map shape_data result ≡ numbered_rest mark.now line.now text.now }
 {
@@ -180,7 +181,7 @@ fn numbered_rest<'a>(mark: &'a [u8], line: &'a [u8], text: &'a [u8]) -> Option<S
     None
 }
 
-/// The number after `-block`.
+/// The shape of a block line, from the source line's number and what follows `-block`.
 fn block<'a>(line: &'a [u8], text: &'a [u8]) -> Option<Shape<'a>>
     ensures { option_map shape_data result ≡ block_of line.now text.now }
 {

@@ -1,4 +1,4 @@
-//! The parts of a line: runs of bytes of one kind, keys and numbers.
+//! The parts of a line: runs of bytes of one class, keys and numbers.
 
 ghost use Rattle.std.specs.Prelude.{◌≡◌, ◌+◌, ◌-◌, ◌*◌, option_map};
 ghost use Rattle.std.specs.List.{list_all};
@@ -8,7 +8,7 @@ ghost use Rattle.covread.specs.GcovReading.{in_class, front_of, rest_of, some_fr
 
 use covline::strip_key;
 
-/// A kind of bytes.
+/// A class of bytes.
 #[derive(Clone, Copy)]
 pub(crate) enum Class {
     /// `0` to `9`.
@@ -22,7 +22,7 @@ pub(crate) enum Class {
 }
 
 impl Class {
-    /// Whether the byte is of this kind.
+    /// Whether the byte is of this class.
     fn has(self, byte: u8) -> bool
         ensures { result ≡ in_class self byte }
     {
@@ -35,7 +35,7 @@ impl Class {
     }
 }
 
-/// What follows the bytes of this kind at the front.
+/// What follows the bytes of this class at the front. There may be no such byte.
 pub(crate) fn after_all(text: &[u8], class: Class) -> &[u8]
     ensures { result.now ≡ rest_of (in_class class) text.now }
 {
@@ -49,7 +49,7 @@ pub(crate) fn after_all(text: &[u8], class: Class) -> &[u8]
     rest
 }
 
-/// The bytes of this kind at the front, of which there is at least one, and what follows them.
+/// The bytes of this class at the front, and what follows them; `None` if there is no such byte.
 pub(crate) fn split_some(text: &[u8], class: Class) -> Option<(&[u8], &[u8])>
     ensures { option_map (λ parts. (parts.0.now, parts.1.now)) result ≡ some_front (in_class class) text.now }
 {
@@ -68,7 +68,7 @@ pub(crate) fn after_spaces(text: &[u8]) -> Option<&[u8]>
     Some(rest)
 }
 
-/// Whether the text is one or more digits.
+/// Whether these are one or more bytes, all of them digits.
 pub(crate) fn are_digits(text: &[u8]) -> bool
     ensures { result ≡ are_digits text.now }
 {
@@ -101,7 +101,7 @@ fn push_digit(number: u64, digit: u8) -> Option<u64>
     tens.and_then(|tens| tens.checked_add(u64::from(digit.saturating_sub(b'0'))))
 }
 
-/// The text without this byte at its end, if it ends in it.
+/// The bytes without the last one, if that is this byte. Otherwise all bytes.
 pub(crate) fn without_last(text: &[u8], byte: u8) -> &[u8]
     ensures { result.now ≡ without_last byte text.now }
 {
@@ -111,7 +111,7 @@ pub(crate) fn without_last(text: &[u8], byte: u8) -> &[u8]
     if *last == byte { front } else { text }
 }
 
-/// Whether a word ends before this text: it is empty, or begins with a space.
+/// Whether a word ends before these bytes: there are none, or the first is a space.
 pub(crate) fn ends_word(text: &[u8]) -> bool
     ensures { result ≡ ends_word text.now }
 {

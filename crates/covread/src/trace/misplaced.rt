@@ -1,4 +1,4 @@
-//! Why a line is misplaced.
+//! Why a line isn't taken.
 
 ghost use Rattle.std.specs.Prelude.{◌≡◌};
 ghost use Rattle.covread.specs.declared.trace.misplaced.Misplaced.TheVariants.{Memory as NoMemory};
@@ -6,14 +6,14 @@ ghost use Rattle.covread.specs.declared.trace.misplaced.Misplaced.TheVariants.{M
 use covline::Memory;
 use std::alloc::AllocFailed;
 
-/// Why a reader doesn't take a line.
+/// Why a reader doesn't take a line: it is misplaced, or an allocation failed.
 #[derive(Clone, Copy)]
 pub enum Misplaced {
-    /// No section is open.
+    /// No section is open, but the line has to be in one.
     Outside,
-    /// A section is open.
+    /// A section is open, but the line can't be in one.
     Inside,
-    /// Memory was refused.
+    /// An allocation failed.
     Memory,
 }
 

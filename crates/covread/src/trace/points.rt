@@ -1,4 +1,4 @@
-//! How many different lines and branches items count.
+//! How many different lines and branches the items of a section count.
 
 ghost use Rattle.std.specs.Prelude.{◌≡◌, ◌<◌, ◌^◌, ◌++◌, List, [], ◌∷◌, true, Some, IfOk, option_map, MatchOption, map, length};
 ghost use Rattle.covline.specs.Row.{ItemData, item_data};
@@ -41,10 +41,10 @@ pub struct Hit<P> {
     pub is_hit: bool,
 }
 
-/// Points in ascending order, which may repeat. The last one may come again, so it isn't counted yet.
+/// Points in ascending order. A point may repeat, so the last one isn't counted yet.
 #[derive(Clone, Copy, Drop)]
 pub struct Ascent<P> {
-    /// Those below the last one.
+    /// How many different points are below the last one, and how many of these are hit.
     pub below: Tally,
     pub last: Option<Hit<P>>,
 }
@@ -69,7 +69,7 @@ impl<P: Point> Ascent<P> {
         }
     }
 
-    /// Whether the point may come next.
+    /// Whether the point isn't below the last one, so that the points still ascend.
     fn goes_on_to(&self, point: P) -> bool
         ensures { result ≡ goes_on P.cmp self.now.last point }
     {
@@ -79,7 +79,8 @@ impl<P: Point> Ascent<P> {
         }
     }
 
-    /// Adds a point, in place: a copy of the whole, with its tags, would cost as much as the rest of a line.
+    /// Adds a point. This changes the `Ascent` in place: to copy it, with its tags, would take as long as the rest of the work
+    /// for a line.
     fn add(&mut self, next: Hit<P>)
         requires ascends { goes_on P.cmp self.old.last next.point ≡ true }
         requires fits { (seen : List (HitOf P)) × IsAscent P.cmp self.old seen × length seen < 2 ^ 64 }
@@ -100,7 +101,7 @@ impl<P: Point> Ascent<P> {
         self.last = Some(next);
     }
 
-    /// How many different points there were.
+    /// How many different points there were, and how many of these were hit.
     fn tally(self) -> Tally
         requires { (seen : List (HitOf P)) × IsAscent P.cmp self seen × length seen < 2 ^ 64 }
         ensures { (seen : List (HitOf P)) → IsAscent P.cmp self seen → IsTally P.cmp result seen }
@@ -113,7 +114,7 @@ impl<P: Point> Ascent<P> {
 }
 
 impl<P: Point> Points<P> {
-    /// Adds the point that the next item counts.
+    /// Takes the next item. If it counts a point of this kind, the point is added.
     pub fn take<A: Allocator>(&mut self, item: &Item<A>)
         requires { (seen : List (HitOf P)) × Counts P.cmp self.old seen × length seen < 2 ^ 64 }
         ensures { (items : List ItemData) → Counts P.cmp self.old (hits_said P.points items) → Counts P.cmp self.new (hits_said P.points (items ++ item_data item.now ∷ [])) }
@@ -132,8 +133,8 @@ impl<P: Point> Points<P> {
     }
 }
 
-/// The totals of the items that have these points. If the points ascend, nothing is allocated; else they are sorted, in
-/// time n log n.
+/// How many different points the items count, and how many of these are hit. `points` has taken these items. If their points
+/// ascend, nothing is allocated. Otherwise they are sorted, in time n log n.
 pub fn totals_of<P: Point, A: Allocator + Copy>(
     alloc: A,
     points: Points<P>,
@@ -149,7 +150,7 @@ pub fn totals_of<P: Point, A: Allocator + Copy>(
     }
 }
 
-/// The points that items count, one for each such item.
+/// The points that the items count: one for each item of this kind, in the order of the items.
 fn hits_of<P: Point, A: Allocator + Copy>(
     alloc: A,
     items: &[Item<A>],
@@ -169,7 +170,7 @@ fn hits_of<P: Point, A: Allocator + Copy>(
     Ok(hits)
 }
 
-/// How many different points there are.
+/// How many different points there are, and how many of these are hit.
 fn sorted_totals<P: Point, A: Allocator>(mut hits: Vec<Hit<P>, A>) -> Tally
     requires { length hits.items < 2 ^ 64 }
     ensures { IsTally P.cmp result hits.items }

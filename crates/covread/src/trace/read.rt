@@ -1,4 +1,4 @@
-//! The reader: forward over the text once.
+//! Reads a tracefile: one pass over its text, forward.
 
 ghost use Rattle.std.specs.Prelude.{◌≡◌, ◌≤◌, ◌<◌, ◌∷◌, ℕ, IfOk, length, List, Result, option_map};
 ghost use Rattle.covline.specs.Row.{SubmissionData};
@@ -24,7 +24,7 @@ pub fn read_trace<A: Allocator + Copy>(alloc: A, text: &[u8]) -> Result<Submissi
     ensures answers { Answers text.now result }
     // No other answer is possible, unless memory ran out.
     ensures only { (outcome : Result SubmissionData Fault) → IsOutcome text.now outcome → IsOrMemory result outcome }
-    // Nothing is kept before the first path, so memory runs out only after one.
+    // Nothing is kept before the first path, so memory can run out only at this path or after it.
     ensures memory { GrowsLate text.now result }
 {
     // The proof cites this law.
@@ -53,8 +53,8 @@ fn read_lines<'a, A: Allocator + Copy>(alloc: A, text: &'a [u8]) -> Result<Reade
     Ok(reader)
 }
 
-/// Takes the first line of the rest of a text, which has this number, and returns what follows it. Most lines count a
-/// source line or a branch, so these are read before they are cut.
+/// Takes the first line of `text`, which is the rest of a text, and returns what follows the line. `at` is the line's number.
+/// Most lines are counts of a source line or of a branch. These two are tried first, before the line is cut from the text.
 #[inline]
 fn take_first<'a, A: Allocator + Copy>(
     reader: &mut Reader<'a, A>,
@@ -80,7 +80,7 @@ fn take_first<'a, A: Allocator + Copy>(
     Ok(rest)
 }
 
-/// Takes a line with this number that counts a line of the source file.
+/// Takes the count of a source line. `at` is the number of the tracefile's line that says it.
 #[inline]
 fn take_line_count<A: Allocator + Copy>(
     reader: &mut Reader<'_, A>,
@@ -99,7 +99,7 @@ fn take_line_count<A: Allocator + Copy>(
     }
 }
 
-/// Takes a line with this number that says how often a branch was taken.
+/// Takes how often a branch was taken. `at` is the number of the tracefile's line that says it.
 #[inline]
 fn take_branch<A: Allocator + Copy>(
     reader: &mut Reader<'_, A>,
@@ -136,7 +136,7 @@ fn take_line<'a, A: Allocator + Copy>(
     }
 }
 
-/// The fault of the line with this number, which isn't taken.
+/// The text's fault if the line with this number isn't taken for this reason.
 fn fault_at(why: Misplaced, at: u64) -> ReadFault
     ensures { result ≡ misplaced_at why at }
 {

@@ -25,9 +25,9 @@ pub struct OpenSection<'a, A: Allocator> {
 /// What a reader holds between two lines.
 #[derive(Drop)]
 pub struct Reader<'a, A: Allocator> {
-    /// The name in the last test line.
+    /// The name in the last test line. It is empty if no test line came yet.
     pub test: &'a [u8],
-    /// The section that is open.
+    /// The open section, if there is one.
     pub section: Option<OpenSection<'a, A>>,
     /// The sections that ended.
     pub sects: Sects<A>,
@@ -105,7 +105,7 @@ impl<'a, A: Allocator + Copy> Reader<'a, A> {
         Err(Misplaced::Outside)
     }
 
-    /// Takes a line of the open section that counts a source line.
+    /// Takes the count of a source line, which a line of the open section says.
     #[inline]
     pub fn keep_count(
         &mut self,
@@ -126,7 +126,7 @@ impl<'a, A: Allocator + Copy> Reader<'a, A> {
         Err(Misplaced::Outside)
     }
 
-    /// Takes a line of the open section that says how often a branch was taken.
+    /// Takes how often a branch was taken, which a line of the open section says.
     #[inline]
     pub fn keep_branch(&mut self, point: BranchPoint, taken: Option<u64>) -> Result<(), Misplaced>
         requires { (inside : List LineData) × HasRoom self.old inside }
@@ -155,7 +155,8 @@ impl<'a, A: Allocator + Copy> Reader<'a, A> {
         Ok(())
     }
 
-    /// Returns what was read, after the last line. Room that the lists don't use is freed.
+    /// Returns the submission, after the last line, or the fault that a section is still open. Room that the list of sections
+    /// doesn't use is freed.
     pub fn finish(self) -> Result<Submission<A>, ReadFault>
         requires { EndsLawfully (held_data self []) }
         ensures { result ≡ ends (held_data self.entry []) }

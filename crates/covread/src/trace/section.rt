@@ -14,7 +14,7 @@ use std::collections::BTreeMap;
 /// A count of a function, which waits for the least start line of the function.
 #[derive(Clone, Copy, Drop)]
 pub struct PendingCount<'a> {
-    /// The place of its item.
+    /// The place of its item among the section's items.
     pub at: usize,
     /// The function's name.
     pub name: &'a [u8],
@@ -32,11 +32,11 @@ pub struct SectionBuilder<'a, A: Allocator> {
     pub functions: Functions<'a, A>,
     /// The counts of functions.
     pub waiting: Vec<PendingCount<'a>, A>,
-    /// The lines.
+    /// The lines that items count.
     pub lines: Points<u64>,
-    /// The branches.
+    /// The branches that items count.
     pub branches: Points<BranchPoint>,
-    /// The totals.
+    /// The totals that lines state.
     pub totals: Vec<StatedTotal, A>,
 }
 
@@ -47,7 +47,7 @@ impl<'a, A: Allocator + Copy> SectionBuilder<'a, A> {
     ghost use Rattle.covread.specs.TraceSection.{IsBuiltOf, IsKept};
     ghost use Rattle.covread.specs.TraceTally.{stated_record};
 
-    /// Nothing gathered, before the section's first line.
+    /// The builder before the section's first line.
     pub fn new(alloc: A) -> SectionBuilder<'a, A>
         ensures { IsBuiltOf result [] }
     {
@@ -61,7 +61,7 @@ impl<'a, A: Allocator + Copy> SectionBuilder<'a, A> {
         }
     }
 
-    /// Takes what a line says that an open section keeps.
+    /// Takes what one line says. It has to be a record that an open section keeps.
     pub fn take(&mut self, alloc: A, line: TraceLine<'a>) -> Result<(), Memory>
         requires room { (inside : List LineData) × IsBuiltOf self.old inside × length inside + 1 < 2 ^ 64 }
         requires kept { IsKept (line_data line) }
@@ -134,7 +134,7 @@ impl<'a, A: Allocator + Copy> SectionBuilder<'a, A> {
         Ok(())
     }
 
-    /// Takes the execution count of a line without a checksum. Only the list of items may allocate.
+    /// Takes the execution count of a line that has no checksum. Only the list of items may allocate.
     #[inline]
     fn take_plain(&mut self, line: u64, count: u128) -> Result<(), Memory>
         requires { (inside : List LineData) × IsBuiltOf self.old inside × length inside + 1 < 2 ^ 64 }
@@ -168,7 +168,7 @@ impl<'a, A: Allocator + Copy> SectionBuilder<'a, A> {
         }
     }
 
-    /// Takes the execution count of a line with a checksum.
+    /// Takes the execution count of a line that has a checksum.
     fn take_checked(&mut self, line: u64, count: u128, checksum: Bytes<A>) -> Result<(), Memory>
         requires { (inside : List LineData) × IsBuiltOf self.old inside × length inside + 1 < 2 ^ 64 }
         ensures { OnOk result ((inside : List LineData) → IsBuiltOf self.old inside → IsBuiltOf self.new (inside ++ Line line count (Some checksum) ∷ [])) }
@@ -183,7 +183,7 @@ impl<'a, A: Allocator + Copy> SectionBuilder<'a, A> {
         Ok(())
     }
 
-    /// Takes a total.
+    /// Takes a total that a line states.
     fn take_total(&mut self, stated: StatedTotal) -> Result<(), Memory>
         ensures { OnOk result ((inside : List LineData) → IsBuiltOf self.old inside → IsBuiltOf self.new (inside ++ stated_record stated ∷ [])) }
     {

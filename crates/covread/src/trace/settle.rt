@@ -1,4 +1,4 @@
-//! What a section gives when it ends: its items, and how many of its lines don't fit the others.
+//! What a section gives when it ends: its items, and how many of its lines are odd.
 
 ghost use Rattle.std.specs.Prelude.{◌≡◌, ℕ, ◌+◌, ◌<◌, ◌^◌, List, Option, [], ◌∷◌, false, IfOk, MatchOption, count_by, length, map};
 ghost use Rattle.covline.specs.Spells.{LineData};
@@ -13,27 +13,27 @@ use crate::trace::tally::{FunctionTotals, SectionPoints, odd_totals};
 use covline::{Items, Memory};
 use std::alloc::Allocator;
 
-/// What a section gives.
+/// What a section gives when it ends.
 #[derive(Drop)]
 pub struct ClosedSection<A: Allocator> {
-    /// Its items, in the order of their lines. Room that they don't use is freed.
+    /// Its items, in the order of their lines. Room that the list doesn't use is freed.
     pub items: Items<A>,
     /// How many of its lines are odd: counts of functions without a start line, and totals that differ from the
     /// section's own.
     pub odd: u64,
 }
 
-/// What the counts of functions say.
+/// What follows from the counts of functions that were taken so far.
 #[derive(Drop)]
 pub struct Counts<A: Allocator> {
-    /// How many functions have a count above 0.
+    /// How many functions have both a start line and a count above 0.
     pub hit: u64,
-    /// The places of the counts whose function has no start line. They ascend.
+    /// The places, among the section's items, of the counts whose function has no start line. They ascend.
     pub unstarted: Vec<usize, A>,
 }
 
-/// Settles a section from what was gathered of it: each function's count gets the least start line of the function, and
-/// the totals are compared. Takes time n log n for n lines.
+/// Settles a section. Each count of a function gets the least start line of the function. If the function has none, the count is
+/// removed as odd. Each stated total is compared with the section's own. Takes time n log n for n lines.
 pub fn settle<'a, A: Allocator + Copy>(
     alloc: A,
     builder: SectionBuilder<'a, A>,
@@ -69,7 +69,7 @@ pub fn settle<'a, A: Allocator + Copy>(
     Ok(ClosedSection { items, odd })
 }
 
-/// Gives each count of a function the least start line of the function.
+/// Gives each count of a function the least start line of the function, and lists the counts whose function has none.
 fn settle_counts<'a, A: Allocator + Copy>(
     alloc: A,
     waiting: &[PendingCount<'a>],
@@ -126,7 +126,7 @@ impl<A: Allocator + Copy> Counts<A> {
     }
 }
 
-/// The items without those at these places, which ascend. Allocates only if there are such places.
+/// The items, but for those at these places. The places have to ascend. Nothing is allocated if there are no places.
 fn without<A: Allocator + Copy>(
     alloc: A,
     items: Items<A>,
@@ -137,7 +137,7 @@ fn without<A: Allocator + Copy>(
     if places.is_empty() {
         return Ok(items);
     }
-    // Read for the bound that its contract gives: the places below have it too.
+    // `len` is called for its contract: it bounds the number of items, so `at` can't overflow below.
     let _count = items.len();
     let mut left = Items::new(alloc);
     let mut places = places;

@@ -35,7 +35,7 @@ pub struct FunctionTotals {
     pub hit: u64,
 }
 
-/// What a section has: its functions, and the points of its branches and lines.
+/// What a section has: the totals of its functions, and the points of its branches and lines.
 #[derive(Clone, Copy, Drop)]
 pub struct SectionPoints {
     pub functions: FunctionTotals,
@@ -52,7 +52,7 @@ struct OwnTotals {
     lines: Tally,
 }
 
-/// How many of the totals that a section states differ from its own, which follow from what it has.
+/// How many of the totals that a section states differ from its own. Its own totals follow from `has` and `items`.
 pub fn odd_totals<A: Allocator + Copy>(
     alloc: A,
     totals: &[StatedTotal],
@@ -138,7 +138,7 @@ impl OwnTotals {
     }
 }
 
-/// How many of the totals differ from these.
+/// How many of the stated totals differ from the section's own.
 fn count_odd(totals: &[StatedTotal], own: &OwnTotals) -> u64
     ensures { result ≡ count_by (differs own.now) (map stated_record totals.now) }
 {

@@ -2,7 +2,7 @@ use Rattle.std.proofs.Common.{◌≡◌, length}
 use Rattle.covline.specs.Reading.{after_key}
 use Rattle.covline.proofs.reader.strip_key.Given as goal
 
--- the rest of the text follows the rest of the key as the text follows the key
+-- what follows the rest of the key in the rest of the text is what follows the key in the text
 abbrev pub invariant-loop-left : goal.invariant-loop-left
 invariant-loop-left l = after_key l.left l.rest ≡ after_key l.key l.text
 
