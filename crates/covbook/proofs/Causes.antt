@@ -27,7 +27,7 @@ some_map : {X : Type 0} (o : Option X) (P Q : X → Type 0) → ((x : X) → P x
 some_map None P Q f h = absurd h
 some_map (Some x) P Q f h = f x h
 
--- the one before it
+-- if there is an element after the first one, there is one before it
 earlier : {X : Type 0} (xs : List X) (i : ℕ) (x : X) → slice_get xs (suc i) ≡ Some x → (b : X) × (slice_get xs i ≡ Some b)
 earlier [] i x at = absurd (no_some x at)
 earlier (y ∷ ys) zero x at = (y, refl)
@@ -122,7 +122,7 @@ is_low (suc i) log r under high =
     low_at log.receipts i r.place (slice_get log.receipts i) refl
     (subst (λ (n : ℕ). IsSomeAnd (slice_get log.receipts n) (λ (before : ReceiptData). r.place ≤ before.place)) same under.1) high
 
--- the claims on a receipt, with its index and the least place that it may have
+-- of the claims on a receipt with this index and this least place that it may have, the first that fails has this fault
 abbrev FailsAt : List EntryData → (job log index least : ℕ) → GatherFault → ReceiptData → Type 0
 FailsAt entries job log index least f r = FirstFails (claims_of entries job log index least r) f
 
@@ -275,7 +275,7 @@ HasCause entries logs (Missing place) = IsMissing entries logs place
 HasCause entries logs (BadReading log index) = IsBadReading entries logs log index
 HasCause entries logs (SameJob log) = IsSameJob logs log
 
--- a wrong receipt and its fault, if the logs before are right, and so are the receipts before it in its log
+-- a wrong receipt is the cause of its fault, if the logs before are right, and so are the receipts before it in its log
 receipt_cause : (entries : List EntryData) (logs : List LogData) (number index : ℕ) (log : LogData) → Differ (jobs_of logs) → AllByRecursion (IsRightLog entries) (take number logs)
     → slice_get logs number ≡ Some log → IsLogOf entries (first_receipts index log) → (IsWrong : LogData → ReceiptData → Type 0) (r : ReceiptData) → slice_get log.receipts index ≡ Some r
     → IsWrong log r → IsFirstWrongLog entries logs number (IsFirstWrongReceipt entries index IsWrong)

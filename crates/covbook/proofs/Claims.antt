@@ -25,12 +25,13 @@ pub first_right : (xs ys : List {1} Claim) (f : GatherFault) → AllHold xs → 
 first_right [] ys f a h = h
 first_right (c ∷ xs) ys f a h = inr (a.0, first_right xs ys f a.1 h)
 
--- claims that all hold have no fault, and others one alone
+-- claims that all hold have no first fault
 pub none_fails : (xs : List {1} Claim) (f : GatherFault) → AllHold xs → FirstFails xs f → ⊥
 none_fails [] f a h = h
 none_fails (c ∷ xs) f a (inl h) = h.0 a.0
 none_fails (c ∷ xs) f a (inr h) = none_fails xs f a.1 h.1
 
+-- claims have at most one first fault
 pub one_fails : (xs : List {1} Claim) (f g : GatherFault) → FirstFails xs f → FirstFails xs g → f ≡ g
 one_fails [] f g h k = absurd h
 one_fails (c ∷ xs) f g (inl h) (inl k) = h.1 ∙ sym k.1
@@ -43,7 +44,7 @@ pub tells_after : {T : Type 0} (r : Result T GatherFault) (xs ys : List {1} Clai
 tells_after (Ok x) xs ys a t = all_join xs ys a t
 tells_after (Err f) xs ys a t = first_right xs ys f a t
 
--- what is left of a list, with its first element
+-- what is left of a list from an index on is the element at this index, and what is left after it
 pub rest_at : {X : Type 0} (xs : List X) (i : ℕ) (d x : X) → i < length xs → x ≡ get_or xs i d → drop i xs ≡ x ∷ drop (i + 1) xs
 rest_at {X} xs i d x within is =
     drop-cons xs i d within ∙ ap (λ (y : X). y ∷ drop (suc i) xs) (sym is) ∙ ap (λ (n : ℕ). x ∷ drop n xs) (sym (add-one i))

@@ -1,4 +1,4 @@
--- What is made ready is what the second half of a step asks for.
+-- What the first half of a step makes ready is what the second half requires.
 use Rattle.std.proofs.Common.{◌≡◌, ℕ, Bool, true, List, length, sym, ap, ◌∙◌, subst}
 use Rattle.covstore.specs.declared.totals.Totals.{Totals}
 use Rattle.covstore.specs.Renamed.{renamed}
@@ -13,7 +13,7 @@ use Rattle.covbook.specs.Ready.{ReadyData, ChangeData, RenameChange, HasRoom, Is
 use Rattle.covbook.specs.Step.{answer_of, answer_to_drop, answer_to_rename, has_test, table_after, table_after_drop, table_after_rename, table_of, totals_at, ops_in, next_entry}
 use Rattle.covbook.proofs.Runs.{shown}
 
--- a step with this entry, and what it does to the store
+-- a step is ready for the book if its entry comes next and its change of the store is planned
 pub ready_for : (book : BookData) (e : EntryData) (place : ℕ) (done : ChangeData) (made : ReadyData) → HasRoom book → IsNextOf book e
     → IsPlanned book.store (table_of (ops_in book.entries)) e.op done → place ≡ length book.entries
     → made.place ≡ place → made.entry ≡ e → made.change ≡ done → made.after ≡ e.after → IsReadyFor book e.job e.op made
@@ -40,20 +40,20 @@ still_after store accepted room entries book op totals b view is still =
     is ∙ ap totals_of b.stands.content ∙ ap (λ (x : BookData). totals_at (table_of (ops_in x.entries))) view
     ∙ ap totals_at (sym still)
 
--- the same of the book as it was
+-- the totals after a step that is made ready are also those after its operation in the book as it was before
 pub told_after : (before book : BookData) (asker : ℕ) (asked : OpData) (made : ReadyData) → SameBook before book → IsReadyFor book asker asked made → IsAfter before asked made.after
 told_after before book asker asked made same r =
     r.ready.after ∙ ap (λ (es : List EntryData). totals_at (table_after (table_of (ops_in es)) made.entry.op)) same.entries
     ∙ ap (λ (op : OpData). totals_at (table_after (table_of (ops_in before.entries)) op)) r.op
 
--- an entry with the answer, and the totals after it, is the next one
+-- an entry with the right answer, and with the right totals after it, is the next one
 pub next_with : (entries : List EntryData) (job : ℕ) (op : OpData) (answer : AnswerData) (after : Totals) → answer ≡ answer_of (table_of (ops_in entries)) op
     → after ≡ totals_at (table_after (table_of (ops_in entries)) op) → record { job = job; op = op; answer = answer; after = after } ≡ next_entry entries job op
 next_with entries job op answer after said told =
     let entry : AnswerData → Totals → EntryData = λ a t. record { job = job; op = op; answer = a; after = t } in
     ap (λ (a : AnswerData). entry a after) said ∙ ap (entry (answer_of (table_of (ops_in entries)) op)) told
 
--- the entry of a drop, of a test that has a row
+-- the next entry, if a test that has a row is dropped
 pub dropped_next : (entries : List EntryData) (job : ℕ) (test : List ℕ) (answer : AnswerData) (after : Totals) → has_test (table_of (ops_in entries)) test ≡ true
     → answer ≡ DroppedAnswer (sections_of_test test (table_of (ops_in entries))) → after ≡ totals_at (without_test test (table_of (ops_in entries)))
     → record { job = job; op = DropTestOp test; answer = answer; after = after } ≡ next_entry entries job (DropTestOp test)
@@ -63,7 +63,7 @@ dropped_next entries job test answer after there said told =
     (said ∙ ap (answer_to_drop table test) (sym there))
     (told ∙ ap (λ (b : Bool). totals_at (table_after_drop table test b)) (sym there))
 
--- the entry of a rename, of a test that has a row
+-- the next entry, if a test that has a row is renamed
 pub renamed_next : (entries : List EntryData) (job : ℕ) (old new : List ℕ) (answer : AnswerData) (after : Totals) → has_test (table_of (ops_in entries)) old ≡ true
     → answer ≡ RenamedAnswer (sections_of_test old (table_of (ops_in entries))) → after ≡ totals_at (renamed old new (table_of (ops_in entries)))
     → record { job = job; op = RenameOp old new; answer = answer; after = after } ≡ next_entry entries job (RenameOp old new)
@@ -73,7 +73,7 @@ renamed_next entries job old new answer after there said told =
     (said ∙ ap (answer_to_rename table old) (sym there))
     (told ∙ ap (λ (b : Bool). totals_at (table_after_rename table old new b)) (sym there))
 
--- a renaming of the given names is planned for an operation that has them
+-- a renaming with the given names is planned for a rename with the same names
 pub renaming_planned : (store : StoreData) (table : Table) (old new own_old own_new : List ℕ) (renaming : RenamingData) → has_test table own_old ≡ true → own_old ≡ old → own_new ≡ new
     → IsRenamingOf store old new renaming → IsPlanned store table (RenameOp own_old own_new) (RenameChange renaming)
 renaming_planned store table old new own_old own_new renaming there same_old same_new is = (

@@ -83,7 +83,7 @@ readings_are entries log index (r ∷ readings) h = (h.0, readings_are entries l
 
 -- ---- the logs
 
--- the receipts of a log, as far as they are looked at
+-- if all claims on the receipts of a log hold, the log is of the history
 pub log_of_receipts : (entries : List EntryData) (number : ℕ) (log : LogData) → AllHold (receipt_claims entries log.job number 0 0 log.receipts) → IsLogOf entries log
 log_of_receipts entries number log h =
     let w = receipts_hold entries log.job number 0 0 log.receipts h in
@@ -145,7 +145,7 @@ entries_are logs start [] h = tt
 entries_are logs start (e ∷ entries) h =
     (h start (omega arith) (omega arith), entries_are logs (start + 1) entries (λ place low high. h place (omega (arith, low)) (omega (arith, high))))
 
--- the least that is in no log
+-- if this is the least place that is in no log, it is the one of the first fault
 pub entries_miss : (logs : List LogData) (start : ℕ) (entries : List EntryData) (place : ℕ) → start ≤ place → place < start + length entries → (Contains (places_in logs) place → ⊥)
     → ((p : ℕ) → start ≤ p → p < place → Contains (places_in logs) p) → FirstFails (entry_claims logs start entries) (Missing place)
 entries_miss logs start [] place low high missing told = absurd (omega (arith, low, high))

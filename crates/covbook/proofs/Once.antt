@@ -19,7 +19,7 @@ one_job : (o : Option EntryData) (job other : ℕ) → IsSomeAnd o (λ (e : Entr
 one_job None job other a b = absurd a
 one_job (Some e) job other a b = sym a ∙ b
 
--- no log of another job has it
+-- if there is an entry of a job at a place, no log of another job has this place
 not_others : (entries : List EntryData) (job place : ℕ) (logs : List LogData) → IsSomeAnd (slice_get entries place) (λ (e : EntryData). e.job ≡ job)
     → AllByRecursion (λ (other : ℕ). job ≢ other) (jobs_of logs) → AllByRecursion (IsLogOf entries) logs → In place (places_in logs) → ⊥
 not_others entries job place [] at differ of h = h

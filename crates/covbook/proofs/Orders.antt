@@ -21,13 +21,15 @@ use Rattle.covbook.specs.Order.{submission_of, submissions_in, AreTheSame, AreAg
 use Rattle.covbook.specs.Step.{answer_to_submit, answer_of, table_after_submit, table_after, answers_from, answers_to, table_from, table_of}
 use Rattle.covbook.specs.Texts.{IsText}
 
--- what covstore's laws say: if all checksums agree nothing clashes, and of tables in two orders
+-- what a law of covstore says: if the held checksums agree, nothing clashes exactly if the given ones agree with them too
 abbrev pub NoneClashes : Type 0
 NoneClashes = (held given : List Checksum) → Agree held → first_clash held given ≡ None ↔ Agree (held ++ given)
 
+-- what a law says of tables with the same members in another order, if their checksums agree: the content is the same
 abbrev pub ContentStays : Type 0
 ContentStays = (table others : Table) → IsPermutation table others → Agree (checksums_in (all_rows table)) → content_at table ≡ content_at others
 
+-- and the checksums still agree
 abbrev pub AgreementStays : Type 0
 AgreementStays = (table others : Table) → IsPermutation table others → Agree (checksums_in (all_rows table)) → Agree (checksums_in (all_rows others))
 
@@ -100,7 +102,7 @@ answer_step law done other is agree = text_step (map rows_of done) other is
 
 -- ---- a run
 
--- the submissions so far with those of an operation and of the others
+-- the submissions so far, with those of the next operation and of the operations after it
 module _ (done : List SubmissionData) (op : OpData) (ops : List OpData) (agree : AreAgreeing (done ++ submissions_in (op ∷ ops))) where
   step_joins : (done ++ submission_of op) ++ submissions_in ops ≡ done ++ submissions_in (op ∷ ops)
   step_joins = append_assoc done (submission_of op) (submissions_in ops)

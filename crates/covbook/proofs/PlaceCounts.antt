@@ -1,4 +1,4 @@
--- Membership in a list of numbers in which none comes twice, and how many of them are below one.
+-- Lists of numbers in which no number comes twice: which numbers are in a list, and how many of them are below a number.
 use Rattle.std.proofs.Common.{◌≡◌, ℕ, zero, suc, ◌+◌, ◌<◌, ◌≤◌, Bool, true, false, cond, eqb, ltb, List, [], ◌∷◌, ◌++◌, length, map, sym, refl, ap, ◌∙◌, inl, inr, subst, ⊎_elim, arith}
 use Rattle.std.specs.Prelude.{◌⊎◌, slice_index_or}
 use Rattle.std.specs.List.{AllByRecursion, AllWithin, Contains}
@@ -46,7 +46,7 @@ all_at P [] i d a within = absurd (omega (arith, within))
 all_at P (x ∷ xs) zero d a within = a.0
 all_at P (x ∷ xs) (suc i) d a within = all_at P xs i d a.1 (omega (arith, within))
 
--- ---- members
+-- ---- which numbers are in a list
 
 abbrev pub In : ℕ → List ℕ → Type 0
 In x [] = ⊥
@@ -83,12 +83,13 @@ times_other b n e = ap (λ (t : Bool). cond t 1 0 + n) e ∙ omega arith
 times_more : (a b : ℕ) → 1 ≤ b → 1 ≤ a + b
 times_more a b h = omega (arith, h)
 
--- a member comes at least once, and what comes is a member
+-- a number that is in a list comes there at least once
 pub in_times : (xs : List ℕ) (x : ℕ) → In x xs → 1 ≤ times x xs
 in_times [] x h = absurd h
 in_times (y ∷ ys) x (inl e) = let here : times x (y ∷ ys) ≡ 1 + times x ys = times_head (eqb x y) (times x ys) (eq-eqb x y (sym e)) in omega (arith, here)
 in_times (y ∷ ys) x (inr h) = times_more (cond (eqb x y) 1 0) (times x ys) (in_times ys x h)
 
+-- a number that comes at least once is in the list
 pub times_in : (xs : List ℕ) (x : ℕ) → 1 ≤ times x xs → In x xs
 times_in [] x h = absurd (omega (arith, h))
 times_in (y ∷ ys) x h = elim (cases_eq x y) [

@@ -62,12 +62,12 @@ text_lawful other text = tt
 
 -- ---- a book with the next entry
 
--- what a book shows
+-- what contracts see of a book
 abbrev pub shown : StoreData → ℕ → List EntryData → BookData
 shown store room entries = record { entries = entries; room = room; store = store }
 
--- the store stands for the table that the operation leaves, and this is the number of submissions that are then
--- accepted
+-- a history with the next entry, a store that represents the table after the operation, and the number of submissions that are
+-- accepted then, make a book
 next_book : (store : StoreData) (accepted : ℕ) (entries : List EntryData) (job : ℕ) (op : OpData) → IsLegal entries → AreLawfulOps (ops_in entries) → IsLawfulOp op → length entries < max_entries
     → StandsFor store (table_after (table_of (ops_in entries)) op) → accepted ≡ length (table_after (table_of (ops_in entries)) op) → accepted ≤ length entries + 1
     → IsBook store accepted (entries ++ next_entry entries job op ∷ [])
@@ -83,7 +83,7 @@ next_book store accepted entries job op legal all lawful room stands number fewe
       fewer = omega (arith, longer, fewer);
     }
 
--- an operation that leaves the table as it is
+-- the book after an operation that leaves the table as it is
 book_noted : (store : StoreData) (accepted : ℕ) (entries new : List EntryData) (e : EntryData) → IsBook store accepted entries → IsLawfulOp e.op → length entries < max_entries → new ≡ entries ++ e ∷ []
     → e ≡ next_entry entries e.job e.op → table_after (table_of (ops_in entries)) e.op ≡ table_of (ops_in entries) → IsBook store accepted new
 book_noted store accepted entries new e b lawful room is next still =
@@ -91,7 +91,7 @@ book_noted store accepted entries new e b lawful room is next still =
     let made = next_book store accepted entries e.job e.op b.legal b.lawful lawful room (subst (StandsFor store) (sym still) b.stands) (b.number ∙ ap length (sym still)) fewer in
     subst (IsBook store accepted) (ap (λ (x : EntryData). entries ++ x ∷ []) (sym next) ∙ sym is) made
 
--- the same, of what is known of the book that shows the entries
+-- the same, from what is known of the book as contracts see it
 pub noted_book : (store : StoreData) (accepted room : ℕ) (entries : List EntryData) (book : BookData) (new : List EntryData) (e : EntryData) → IsBook store accepted entries → IsLawfulOp e.op
     → shown store room entries ≡ book → HasRoom book → IsNextOf book e → table_after (table_of (ops_in book.entries)) e.op ≡ table_of (ops_in book.entries) → new ≡ entries ++ e ∷ [] → IsBook store accepted new
 noted_book store accepted room entries book new e b lawful view has next still is =
@@ -103,18 +103,18 @@ noted_book store accepted room entries book new e b lawful view has next still i
 
 -- ---- a submission
 
--- the table that it leaves
+-- the table after a submission that doesn't clash
 pub table_with : (store : StoreData) (table : Table) (own given : SubmissionData) → StandsFor store table → ((t : Table) → StandsFor store t → clash_at t given ≡ None) → given ≡ own → table_after table (SubmitOp own) ≡ table ++ rows_of given ∷ []
 table_with store table own given stands agrees is =
     ap (λ (x : SubmissionData). table_after table (SubmitOp x)) (sym is) ∙ ap (table_after_submit table given) (agrees table stands)
 
--- and what it is answered
+-- the answer to a submission that doesn't clash
 pub answer_with : (store : StoreData) (table : Table) (own given : SubmissionData) → StandsFor store table → ((t : Table) → StandsFor store t → clash_at t given ≡ None) → given ≡ own
     → AcceptedAnswer (length table + 1) (items_in given.sects) given.odd ≡ answer_of table (SubmitOp own)
 answer_with store table own given stands agrees is =
     ap (answer_to_submit table given) (sym (agrees table stands)) ∙ ap (λ (x : SubmissionData). answer_of table (SubmitOp x)) is
 
--- the book whose store shows the same content
+-- a book is still one if its store changes, but not the content of the store
 pub kept_book : (store kept : StoreData) (accepted : ℕ) (entries : List EntryData) → IsBook store accepted entries → SameContent store kept → IsBook kept accepted entries
 kept_book store kept accepted entries b same = record {
   legal = b.legal;
@@ -131,7 +131,7 @@ kept_book store kept accepted entries b same = record {
   fewer = b.fewer;
 }
 
--- the book that holds it too
+-- the book after a planned submission is added to the store
 pub held_book : (store committed : StoreData) (accepted room : ℕ) (entries : List EntryData) (book : BookData) (new : List EntryData) (e : EntryData) (plan : PlanData) → IsBook store accepted entries → IsLawfulOp e.op
     → shown store room entries ≡ book → HasRoom book → IsNextOf book e → IsPlanned book.store (table_of (ops_in book.entries)) e.op (HoldChange plan)
     → ((s : SubmissionData) (table : Table) → IsPlanOf store s plan → StandsFor store table → StandsFor committed (table ++ rows_of s ∷ [])) → new ≡ entries ++ e ∷ [] → IsBook committed (accepted + 1) new
@@ -151,7 +151,7 @@ held_book store committed accepted room entries book new e plan b lawful view ha
 
 -- ---- a test that is dropped
 
--- the book without the test
+-- the book after a test is dropped
 pub dropped_book : (store without : StoreData) (accepted room : ℕ) (entries : List EntryData) (book : BookData) (new : List EntryData) (e : EntryData) (test : List ℕ) → IsBook store accepted entries → IsLawfulOp e.op
     → shown store room entries ≡ book → HasRoom book → IsNextOf book e → IsPlanned book.store (table_of (ops_in book.entries)) e.op (DropChange test)
     → ((table : Table) → StandsFor store table → StandsFor without (without_test test table)) → new ≡ entries ++ e ∷ [] → IsBook without accepted new
@@ -176,7 +176,7 @@ renaming_here store room entries book op renaming view planned =
     let here = subst (λ (x : BookData). IsPlanned x.store (table_of (ops_in x.entries)) op (RenameChange renaming)) (sym view) planned in
     (here.0, here.1, here.2)
 
--- the book with the new name
+-- the book after a test is renamed
 pub renamed_book : (store committed : StoreData) (accepted room : ℕ) (entries : List EntryData) (book : BookData) (new : List EntryData) (e : EntryData) (renaming : RenamingData) → IsBook store accepted entries → IsLawfulOp e.op
     → shown store room entries ≡ book → HasRoom book → IsNextOf book e → IsPlanned book.store (table_of (ops_in book.entries)) e.op (RenameChange renaming)
     → ((from to : List ℕ) (table : Table) → IsRenamingOf store from to renaming → StandsFor store table → StandsFor committed (renamed from to table)) → new ≡ entries ++ e ∷ [] → IsBook committed accepted new

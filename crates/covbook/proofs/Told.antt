@@ -1,4 +1,4 @@
--- The texts that a book prints are those of the table that its store stands for.
+-- The texts that a book prints are those of the table that its store represents.
 use Rattle.std.proofs.Common.{◌≡◌, ℕ, List, Result, Ok, Err, IfOk, sym, ap, ◌∙◌}
 use Rattle.covstore.specs.declared.totals.Totals.{Totals}
 use Rattle.covstore.specs.Content.{SectionData, content_at}
@@ -18,7 +18,7 @@ report_is choice store table stands = ap (λ (sections : List SectionData). Text
 pub summary_is : (totals : Totals) (store : StoreData) (table : Table) → totals ≡ totals_of store.sections → StandsFor store table → TextAnswer (summary_of totals) ≡ TextAnswer (summary_of (totals_of (content_at table)))
 summary_is totals store table is stands = ap (λ (t : Totals). TextAnswer (summary_of t)) (is ∙ ap totals_of stands.content)
 
--- a text is the answer to an operation at a book, if it is that to an equal operation at the book's entries
+-- a text that is the answer to an operation after some entries is the answer to an equal operation of a book with these entries
 pub told : {E : Type 0} (result : Result (List ℕ) E) (text : List ℕ) (entries : List EntryData) (book : BookData) (own op : OpData) → entries ≡ book.entries → op ≡ own
     → TextAnswer text ≡ answer_of (table_of (ops_in entries)) own → IfOk result (λ t. t ≡ text) → IfOk result (λ t. TextAnswer t ≡ answer_of (table_of (ops_in book.entries)) op)
 told (Ok t) text entries book own op view equal is said =

@@ -12,7 +12,7 @@ pub record IsRightLog (entries : List EntryData) (log : LogData) : Type 0 where
   pub receipts : IsLogOf entries log
   pub readings : AreReadingsOf entries log
 
--- a log with its first receipts alone
+-- the log with only this number of its receipts, the first ones
 abbrev pub first_receipts : ℕ → LogData → LogData
 first_receipts count log = record log { receipts = take count log.receipts }
 

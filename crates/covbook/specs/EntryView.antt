@@ -1,4 +1,4 @@
--- Entries and receipts of the code, seen as plain data.
+-- Entries and receipts of the program, seen as plain data.
 use Rattle.covbook.specs.declared.entry.Entry.{Entry}
 use Rattle.covbook.specs.declared.entry.Receipt.{Receipt}
 use Rattle.covbook.specs.Op.{EntryData, ReceiptData}

@@ -14,21 +14,23 @@ pub record LogData : Type 0 where
   pub receipts : List ReceiptData
   pub readings : List Reading
 
--- the places of a log's receipts, and those of all logs' receipts
+-- the places of a log's receipts
 abbrev pub places_of : LogData → List ℕ
 places_of log = map (λ (r : ReceiptData). r.place) log.receipts
 
+-- the places of the receipts of all logs
 abbrev pub places_in : List LogData → List ℕ
 places_in logs = flat_map places_of logs
 
 abbrev pub jobs_of : List LogData → List ℕ
 jobs_of logs = map (λ (log : LogData). log.job) logs
 
--- each number is below all later ones; and no number comes twice
+-- each number is below all later ones
 abbrev pub Rise : List ℕ → Type 0
 Rise [] = Unit {0}
 Rise (x ∷ xs) = AllByRecursion (λ (y : ℕ). x < y) xs × Rise xs
 
+-- no number comes twice
 abbrev pub Differ : List ℕ → Type 0
 Differ [] = Unit {0}
 Differ (x ∷ xs) = AllByRecursion (λ (y : ℕ). x ≢ y) xs × Differ xs
@@ -54,7 +56,8 @@ pub record IsMerge (entries : List EntryData) (logs : List LogData) : Type 0 whe
   pub kept : AllByRecursion (IsLogOf entries) logs
   pub whole : (place : ℕ) → place < length entries → Contains (places_in logs) place
 
--- a reading is of a history: the history has its number of entries, and its totals are those after them, zeros for none
+-- a reading is of a history: the history has at least the reading's number of entries, and the reading's totals are those
+-- after this number of entries, which are zeros after no entries
 pub record IsReadingOf (entries : List EntryData) (r : Reading) : Type 0 where
   pub within : r.upto ≤ length entries
   pub totals : r.totals ≡ last_totals (take r.upto entries)
@@ -75,41 +78,43 @@ pub record Claim : Type 1 where
 abbrev pub claim : Type 0 → GatherFault → Claim
 claim holds fault = record { holds = holds; fault = fault }
 
--- all claims hold, and the fault of the first one that doesn't
+-- all claims hold
 abbrev pub AllHold : List {1} Claim → Type 0
 AllHold [] = Unit {0}
 AllHold (c ∷ claims) = c.holds × AllHold claims
 
+-- some claim doesn't hold, and the first such claim has this fault
 abbrev pub FirstFails : List {1} Claim → GatherFault → Type 0
 FirstFails [] fault = ⊥
 FirstFails (c ∷ claims) fault = ((c.holds → ⊥) × (fault ≡ c.fault)) ⊎ (c.holds × FirstFails claims fault)
 
--- each log, from this number on: its job is none of those of the logs before
+-- the claims on the jobs of logs, from this number on: each log's job differs from those of all logs before it
 abbrev pub job_claims : (number : ℕ) → List ℕ → List LogData → List {1} Claim
 job_claims number before [] = []
 job_claims number before (log ∷ logs) =
     claim (AllByRecursion (λ (job : ℕ). job ≢ log.job) before) (SameJob number) ∷ job_claims (number + 1) (before ++ log.job ∷ []) logs
 
--- a receipt of a log: an entry of the job is at its place, with its operation and answer, and the place is above that of the
--- receipt before (`least` is the least such place)
+-- the claims on a receipt of a log: an entry of the job is at the receipt's place, this entry has the receipt's operation and
+-- answer, and the place is above that of the receipt before (`least` is the least such place)
 abbrev pub claims_of : List EntryData → (job log index least : ℕ) → ReceiptData → List {1} Claim
 claims_of entries job log index least r =
     claim (IsOfJob entries job r) (Stranger log index) ∷ claim (IsReceiptOf entries r) (Differs log index) ∷ claim (least ≤ r.place) (Backwards log index) ∷ []
 
--- the receipts of a log, from this index on
+-- the claims on the receipts of a log, from this index on
 abbrev pub receipt_claims : List EntryData → (job log index least : ℕ) → List ReceiptData → List {1} Claim
 receipt_claims entries job log index least [] = []
 receipt_claims entries job log index least (r ∷ receipts) = claims_of entries job log index least r ++ receipt_claims entries job log (index + 1) (r.place + 1) receipts
 
--- the readings of a log, from this index on
+-- the claims on the readings of a log, from this index on
 abbrev pub reading_claims : List EntryData → (log index : ℕ) → List Reading → List {1} Claim
 reading_claims entries log index [] = []
 reading_claims entries log index (r ∷ readings) = claim (IsReadingOf entries r) (BadReading log index) ∷ reading_claims entries log (index + 1) readings
 
--- a log: its receipts, then its readings; and the logs, from this number on
+-- the claims on a log: first those on its receipts, then those on its readings
 abbrev pub claims_of_log : List EntryData → (number : ℕ) → LogData → List {1} Claim
 claims_of_log entries number log = receipt_claims entries log.job number 0 0 log.receipts ++ reading_claims entries number 0 log.readings
 
+-- the claims on all logs, from this number on
 abbrev pub log_claims : List EntryData → (number : ℕ) → List LogData → List {1} Claim
 log_claims entries number [] = []
 log_claims entries number (log ∷ logs) = claims_of_log entries number log ++ log_claims entries (number + 1) logs

@@ -1,4 +1,4 @@
--- The numbers of the reasons why logs don't gather, which stay the same in all versions.
+-- The numbers of the faults of `gather`, which stay the same in all versions.
 use Rattle.std.specs.Prelude.{ℕ}
 use Rattle.covbook.specs.declared.gather_fault.GatherFault.{GatherFault}
 use Rattle.covbook.specs.declared.gather_fault.GatherFault.TheVariants.{Stranger, Differs, Backwards, Missing, BadReading, SameJob}

@@ -1,4 +1,4 @@
--- What the private steps of a gathering return.
+-- What the private functions below `gather` return.
 use Rattle.std.specs.Prelude.{ℕ, ◌+◌, ◌<◌, ◌≤◌, cond, List, [], ◌∷◌, Option, Result, MatchOption, MatchResult, eqb, ltb}
 use Rattle.std.specs.List.{AllByRecursion, Contains}
 use Rattle.covbook.specs.declared.gather_fault.GatherFault.{GatherFault}
@@ -8,11 +8,12 @@ use Rattle.covbook.specs.Gather.{LogData, Rise, places_of, places_in, Claim, All
 abbrev pub Tells : {T : Type 0} → Result T GatherFault → List {1} Claim → Type 0
 Tells {T} result claims = MatchResult result (λ (x : T). AllHold claims) (λ (fault : GatherFault). FirstFails claims fault)
 
--- how many of the places are this one, and how many are below it
+-- how many of the places are this one
 abbrev pub times : ℕ → List ℕ → ℕ
 times place [] = 0
 times place (p ∷ places) = cond (eqb place p) 1 0 + times place places
 
+-- how many of the places are below this one
 abbrev pub below : ℕ → List ℕ → ℕ
 below place [] = 0
 below place (p ∷ places) = cond (ltb p place) 1 0 + below place places
@@ -22,7 +23,7 @@ pub record AreApart (logs : List LogData) : Type 0 where
   pub rise : AllByRecursion (λ (log : LogData). Rise (places_of log)) logs
   pub once : (place : ℕ) → times place (places_in logs) ≤ 1
 
--- all places below this count are there; or this is the least that isn't
+-- `None` if all places below this count are there, else the least place that isn't
 abbrev pub TellsLeast : Option ℕ → ℕ → List ℕ → Type 0
 TellsLeast result count places =
     MatchOption result ((p : ℕ) → p < count → Contains places p) (λ (place : ℕ). (place < count) × (Contains places place → ⊥) × ((p : ℕ) → p < place → Contains places p))

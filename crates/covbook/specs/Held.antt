@@ -1,4 +1,4 @@
--- What a book is to its callers, and its history with the store of what it holds.
+-- What contracts see of a history and of a book, and the invariant of a book.
 use Rattle.std.specs.Prelude.{◌≡◌, ℕ, ◌≤◌, List, length}
 use Rattle.covstore.specs.Store.{StoreData, StandsFor, SameContent}
 use Rattle.covbook.specs.Op.{EntryData, AreLawfulOps}
@@ -20,7 +20,7 @@ pub record SameBook (before after : BookData) : Type 0 where
   pub entries : after.entries ≡ before.entries
   pub content : SameContent before.store after.store
 
--- the history is legal and its operations are lawful, the store stands for the last table of its run, and this is the number
+-- the history is legal and its operations are lawful, the store represents the last table of its run, and this is the number
 -- of accepted submissions
 pub record IsBook (store : StoreData) (accepted : ℕ) (entries : List EntryData) : Type 0 where
   pub legal : IsLegal entries

@@ -1,4 +1,4 @@
--- Operations, answers, entries of a history and receipts, apart from where they lie in memory.
+-- Operations, answers, entries of a history and receipts, as plain data.
 use Rattle.std.specs.Prelude.{ℕ, List}
 use Rattle.std.specs.List.{AllByRecursion}
 use Rattle.covline.specs.Lawful.{IsGoodTest, IsLawful}
@@ -15,7 +15,7 @@ pub data OpData : Type 0 where
   RemoveOp : (patterns : List (List ℕ)) → OpData
   SummaryOp : OpData
 
--- a submission that is handed in is lawful; nothing is asked of other operations: any new name is taken
+-- if the operation adds a submission, this is lawful. Other operations always are: a rename may have any new name
 abbrev pub IsLawfulOp : OpData → Type 0
 IsLawfulOp (SubmitOp submission) = IsLawful submission
 IsLawfulOp (DropTestOp test) = Unit {0}
@@ -28,7 +28,7 @@ IsLawfulOp SummaryOp = Unit {0}
 abbrev pub AreLawfulOps : List OpData → Type 0
 AreLawfulOps ops = AllByRecursion IsLawfulOp ops
 
--- a new name is one that a tracefile can have, so what is renamed to it can be printed and read back
+-- if the operation is a rename, a tracefile can have the new name, so what is renamed can be printed and read back
 abbrev pub HasGoodName : OpData → Type 0
 HasGoodName (RenameOp old new) = IsGoodTest new
 HasGoodName (SubmitOp submission) = Unit {0}
@@ -56,7 +56,7 @@ pub record EntryData : Type 0 where
   pub answer : AnswerData
   pub after : Totals
 
--- what a job gets back for an operation: its place in the history, counted from 0, and the answer
+-- what a job gets back for an operation: the place of its entry in the history, counted from 0, the operation, and the answer
 pub record ReceiptData : Type 0 where
   pub place : ℕ
   pub op : OpData

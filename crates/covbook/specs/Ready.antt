@@ -48,7 +48,7 @@ IsPlanned store table op (RenameChange renaming) = (old new : List ℕ) × IsRen
 abbrev pub IsAfter : BookData → OpData → Totals → Type 0
 IsAfter book op totals = totals ≡ totals_at (table_after (table_of (ops_in book.entries)) op)
 
--- the book is as it was left when this step was made ready. Callers hand it from `ready` to `finish`
+-- the book is still as `ready` left it when it made this step ready. `ready` ensures this, and `finish` requires it
 pub record IsReadyOf (book : BookData) (ready : ReadyData) : Type 0 where
   pub room : HasRoom book
   pub next : IsNextOf book ready.entry
@@ -56,7 +56,7 @@ pub record IsReadyOf (book : BookData) (ready : ReadyData) : Type 0 where
   pub planned : IsPlanned book.store (table_of (ops_in book.entries)) ready.entry.op ready.change
   pub after : IsAfter book ready.entry.op ready.after
 
--- the same of the step of this job and this operation
+-- the same, and the step is of this job and this operation
 pub record IsReadyFor (book : BookData) (asker : ℕ) (asked : OpData) (made : ReadyData) : Type 0 where
   pub ready : IsReadyOf book made
   pub job : made.entry.job ≡ asker

@@ -3,7 +3,7 @@ use Rattle.std.specs.Prelude.{Option, Some, None}
 use Rattle.covstore.specs.Store.{RefuseData, ClashRefuse, MemoryRefuse}
 use Rattle.covbook.specs.Op.{AnswerData, ClashAnswer}
 
--- a clash is an answer, and out of memory is none
+-- the answer to a clash; `None` if memory was refused, since that isn't answered
 abbrev pub refusal_answer : RefuseData → Option AnswerData
 refusal_answer (ClashRefuse clash) = Some (ClashAnswer clash)
 refusal_answer MemoryRefuse = None

@@ -14,7 +14,7 @@ use Rattle.covreport.specs.Report.{report_text}
 use Rattle.covreport.specs.Summary.{summary_of}
 use Rattle.covbook.specs.Op.{OpData, SubmitOp, DropTestOp, RenameOp, ReportOp, ExtractOp, RemoveOp, SummaryOp, AnswerData, AcceptedAnswer, ClashAnswer, DroppedAnswer, RenamedAnswer, NoSuchTestAnswer, TextAnswer, EntryData, ReceiptData}
 
--- a submission that clashes is refused whole; another one is accepted with the next number
+-- nothing of a submission that clashes is accepted; any other submission is accepted and gets the next number
 abbrev pub answer_to_submit : Table → SubmissionData → Option ClashData → AnswerData
 answer_to_submit table submission (Some clash) = ClashAnswer clash
 answer_to_submit table submission None = AcceptedAnswer (length table + 1) (items_in submission.sects) submission.odd
@@ -37,8 +37,8 @@ abbrev pub table_after_drop : Table → List ℕ → Bool → Table
 table_after_drop table test true = without_test test table
 table_after_drop table test false = table
 
--- a test without a row can't be renamed: there is no such test. Else its rows get the new name, together with those that have
--- it already
+-- a test without a row can't be renamed: there is no such test. Else its rows get the new name, which other rows may have
+-- already
 abbrev pub answer_to_rename : Table → List ℕ → Bool → AnswerData
 answer_to_rename table old true = RenamedAnswer (sections_of_test old table)
 answer_to_rename table old false = NoSuchTestAnswer
@@ -57,7 +57,7 @@ answer_of table (ExtractOp patterns) = TextAnswer (report_text (Extracted patter
 answer_of table (RemoveOp patterns) = TextAnswer (report_text (Removed patterns) (content_at table))
 answer_of table SummaryOp = TextAnswer (summary_of (totals_of (content_at table)))
 
--- the table that it leaves: a text changes nothing
+-- the table after an operation. An operation that asks for a text doesn't change it
 abbrev pub table_after : Table → OpData → Table
 table_after table (SubmitOp submission) = table_after_submit table submission (clash_at table submission)
 table_after table (DropTestOp test) = table_after_drop table test (has_test table test)
@@ -71,20 +71,22 @@ table_after table SummaryOp = table
 abbrev pub totals_at : Table → Totals
 totals_at table = totals_of (content_at table)
 
--- the answers to operations one after another, the totals after each, and the table that they leave
+-- the answers to operations, one after another
 abbrev pub answers_from : Table → List OpData → List AnswerData
 answers_from table [] = []
 answers_from table (op ∷ ops) = answer_of table op ∷ answers_from (table_after table op) ops
 
+-- the totals after each of these operations
 abbrev pub totals_from : Table → List OpData → List Totals
 totals_from table [] = []
 totals_from table (op ∷ ops) = totals_at (table_after table op) ∷ totals_from (table_after table op) ops
 
+-- the table after all of these operations
 abbrev pub table_from : Table → List OpData → Table
 table_from table [] = table
 table_from table (op ∷ ops) = table_from (table_after table op) ops
 
--- a run begins with the empty table
+-- the answers, the totals and the last table of a run, which begins with the empty table
 abbrev pub answers_to : List OpData → List AnswerData
 answers_to ops = answers_from [] ops
 

@@ -1,4 +1,4 @@
--- Operations and answers of the code, seen as plain data.
+-- Operations and answers of the program, seen as plain data.
 use Rattle.covbook.specs.declared.op.Op.{Op}
 use Rattle.covbook.specs.declared.op.Op.TheVariants as ops
 use Rattle.covbook.specs.declared.op.Answer.{Answer}

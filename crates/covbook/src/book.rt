@@ -13,7 +13,7 @@ use std::alloc::{Allocator, Global};
 use std::marker::Model;
 use thiserror::Error;
 
-/// Why a book takes no step.
+/// Why a book refuses a step.
 #[derive(Clone, Copy, Debug, PartialEq, Eq, Error)]
 pub enum BookFault {
     /// The history has 1,048,576 entries. This is tested first.
@@ -48,7 +48,7 @@ impl From<Memory> for BookFault {
 }
 
 /// A table of counts with its history. Contracts see the history, which is legal at every moment; the table is the last
-/// one of its run. They also see what `finish` relies on: room, and what the store shows.
+/// one of its run. They also see what `finish` relies on: for how many entries there is room, and the model of the store.
 #[derive(Drop)]
 pub struct Book<A: Allocator = Global> {
     store: Store<A>,
@@ -91,7 +91,7 @@ impl<A: Allocator + Copy> Book<A> {
         }
     }
 
-    /// The history, in order. It is legal, each submission in it is lawful, and the store stands for the last table of its run.
+    /// The history, in order. It is legal, each submission in it is lawful, and the store represents the last table of its run.
     pub fn entries(&self) -> &[Entry<A>]
         ensures entries { map entry_data result.now ≡ self.now.entries }
         ensures legal { IsLegal self.now.entries }
@@ -125,10 +125,10 @@ impl<A: Allocator + Copy> Book<A> {
         Ok(self.finish(ready))
     }
 
-    /// Takes the first half of a step: all that can be refused. The operation is answered, and its entry made, with
-    /// room for it. A submission or a rename is planned in the store; of a test to drop, the number of its sections and
-    /// the totals without it are found. History and table stay as they are, whatever is answered. `finish` does the
-    /// rest, if the book is still as this call left it. Dropping the `Ready` cancels the step.
+    /// Takes the first half of a step: all that can be refused. It finds the answer, makes the entry, and makes room for it. For
+    /// a submission or a rename, it prepares the change of the store. For a drop, it finds the number of the test's sections,
+    /// and the totals without the test. History and table stay as they are, whatever the answer is. `finish` does the rest, if
+    /// the book is still as this call left it. Dropping the `Ready` cancels the step.
     pub fn ready(&mut self, alloc: A, job: u32, op: &Op<A>) -> Result<Ready<A>, BookFault>
         ensures same { SameBook self.old self.new }
         ensures ready { IfOk result (λ r. IsReadyFor self.new job (op_data op.now) r) }
@@ -159,7 +159,7 @@ impl<A: Allocator + Copy> Book<A> {
         receipt
     }
 
-    /// Makes a step ready in a history that isn't full: first room for its entry, then the rest.
+    /// Makes a step ready, if the history isn't full. Before anything else, makes room for the step's entry.
     fn made_ready(&mut self, alloc: A, job: u32, op: &Op<A>) -> Result<Ready<A>, Memory>
         requires { length self.old.entries < max_entries }
         ensures same { SameBook self.old self.new }
@@ -219,7 +219,7 @@ impl<A: Allocator + Copy> Book<A> {
         }
     }
 
-    /// The answer that accepts a submission with these numbers of items and odd lines, and the next number.
+    /// The answer that accepts a submission with these numbers of items and odd lines. The submission gets the next number.
     fn accepted_answer(&self, items: u64, odd: u64) -> Answer<A>
         ensures { answer_data result ≡ AcceptedAnswer (length (table_of (ops_in self.now.entries)) + 1) items odd }
     {
@@ -230,7 +230,7 @@ impl<A: Allocator + Copy> Book<A> {
         }
     }
 
-    /// Makes the drop of a test ready that has a row.
+    /// Makes the drop of a test ready. If the test has no row, the answer is `NoSuchTest`.
     fn drop_ready(&self, alloc: A, job: u32, test: &Bytes<A>) -> Result<Ready<A>, Memory>
         requires { HasRoom self.now }
         ensures { IfOk result (λ r. IsReadyFor self.now job (DropTestOp test.now) r) }
@@ -260,7 +260,7 @@ impl<A: Allocator + Copy> Book<A> {
         (Answer::Dropped { sections }, after)
     }
 
-    /// Makes the rename of a test ready that has a row. The totals stay.
+    /// Makes the rename of a test ready. If the test has no row, the answer is `NoSuchTest`. The totals stay.
     fn rename_ready(
         &mut self,
         alloc: A,
@@ -346,7 +346,7 @@ impl<A: Allocator + Copy> Book<A> {
         self.ready_to_change(alloc, entry, Change::Nothing)
     }
 
-    /// Holds what is planned, and appends its entry.
+    /// Adds the submission of this plan to the store, and appends the entry.
     fn hold(&mut self, plan: Plan, entry: Entry<A>)
         requires room { HasRoom self.old }
         requires next { IsNextOf self.old (entry_data entry) }

@@ -35,7 +35,7 @@ impl<A: Allocator + Copy> Entry<A> {
     }
 }
 
-/// What a job gets back for an operation: its place in the history, counted from 0, and the answer.
+/// What a job gets back for an operation: the place of its entry in the history, counted from 0, the operation, and the answer.
 #[derive(Drop)]
 pub struct Receipt<A: Allocator = Global> {
     pub place: u64,
@@ -43,7 +43,7 @@ pub struct Receipt<A: Allocator = Global> {
     pub answer: Answer<A>,
 }
 
-/// A list of entries. Contracts see what they say.
+/// A list of entries. Contracts see the entries as plain data.
 #[derive(Drop)]
 pub struct Entries<A: Allocator = Global> {
     entries: Vec<Entry<A>, A>,
@@ -96,7 +96,7 @@ impl<A: Allocator> Entries<A> {
     }
 }
 
-/// A list of receipts. Contracts see what they say.
+/// A list of receipts. Contracts see the receipts as plain data.
 #[derive(Drop)]
 pub struct Receipts<A: Allocator = Global> {
     receipts: Vec<Receipt<A>, A>,

@@ -1,9 +1,9 @@
-//! Why logs don't gather.
+//! The faults of `gather`.
 
 use thiserror::Error;
 
-/// Why a history isn't gathered from logs. Logs, receipts, readings and places are counted from 0. Faults are tested in this
-/// order: jobs first, then the logs in turn, in each its receipts and then its readings, and the missing entry last.
+/// Why a history isn't gathered from logs. Logs, receipts, readings and places are counted from 0. The jobs of the logs are
+/// tested first. Then each log is tested in turn, first its receipts and then its readings. A missing entry is looked for last.
 #[derive(Clone, Copy, Debug, PartialEq, Eq, Error)]
 pub enum GatherFault {
     /// Fault 1: at the receipt's place there is no entry, or one of another job.
@@ -12,7 +12,7 @@ pub enum GatherFault {
     /// Fault 2: the entry at the receipt's place has another operation or answer.
     #[error("differs")]
     Differs { log: usize, index: usize },
-    /// Fault 3: the receipt's place isn't above that of the log's receipt before.
+    /// Fault 3: the receipt's place isn't above the place of the receipt before it in the log.
     #[error("backwards")]
     Backwards { log: usize, index: usize },
     /// Fault 4: this is the least place whose entry is in no log.

@@ -1,4 +1,4 @@
-//! Gathering: the entries of a history against what each job kept of it.
+//! Gathering: checks the entries of a history against what each job kept of it.
 
 ghost use Rattle.std.specs.Prelude.{◌≡◌, ◌≢◌, ◌↔◌, ◌+◌, ◌<◌, ◌≤◌, [], Err, IfOk, IsOk, IsTrue, MatchOption, length, map, take};
 ghost use Rattle.std.specs.List.{All};
@@ -20,8 +20,8 @@ use std::alloc::Allocator;
 /// Checks that the entries are a merge of the logs and that the readings are right: the logs' jobs differ, in each log
 /// the places rise, each receipt is that of an entry of the log's job, each entry is in a log, and each reading has the
 /// totals after its number of entries. Otherwise returns the first fault (`GatherFault` has their order). Takes no
-/// memory. The time is linear in entries, receipts, readings and the bytes that are compared, but for the logs' jobs,
-/// which are compared each with each.
+/// memory. The time is linear in entries, receipts, readings and the bytes that are compared, except that the job of each log is
+/// compared with the jobs of all logs before it.
 pub fn gather<A: Allocator>(entries: &[Entry<A>], logs: &[JobLog<A>]) -> Result<(), GatherFault>
     ensures gathered { IsOk result ↔ IsGathered (map entry_data entries.now) (map log_data logs.now) }
     ensures fault { (fault : GatherFault) → (result ≡ Err fault) ↔ IsGatherFault (map entry_data entries.now) (map log_data logs.now) fault }
@@ -53,7 +53,7 @@ fn is_new_job<A: Allocator>(job: u32, logs: &[JobLog<A>]) -> bool
     logs.iter().all(|log| log.job != job)
 }
 
-/// Checks that all logs are of the history, with their readings.
+/// Checks that the receipts and the readings of all logs are of the history.
 fn check_logs<A: Allocator>(entries: &[Entry<A>], logs: &[JobLog<A>]) -> Result<(), GatherFault>
     ensures { Tells result (log_claims (map entry_data entries.now) 0 (map log_data logs.now)) }
 {
@@ -76,7 +76,7 @@ fn check_log<A: Allocator>(
     Ok(())
 }
 
-/// Checks that the receipts of the log with this number are those of its entries, and their places rise.
+/// Checks that each receipt of the log with this number is that of an entry of the log's job, and that the places rise.
 fn check_receipts<A: Allocator>(
     entries: &[Entry<A>],
     number: usize,
@@ -144,7 +144,7 @@ fn check_readings<A: Allocator>(
     Ok(())
 }
 
-/// Whether the reading's entries are there, and its totals are those after them.
+/// Whether there are at least as many entries as the reading counts, and its totals are those after this number of entries.
 fn is_reading_of<A: Allocator>(reading: &Reading, entries: &[Entry<A>]) -> bool
     ensures { IsTrue result ↔ IsReadingOf (map entry_data entries.now) reading.now }
 {

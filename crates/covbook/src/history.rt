@@ -5,7 +5,7 @@ use covline::Memory;
 use std::alloc::Allocator;
 use std::marker::Model;
 
-/// The entries of a book. Contracts see what they say, and for how many of them there is room.
+/// The entries of a book. Contracts see the entries as plain data, and for how many entries there is room.
 #[derive(Drop)]
 pub(crate) struct History<A: Allocator> {
     entries: Vec<Entry<A>, A>,

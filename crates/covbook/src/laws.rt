@@ -33,9 +33,9 @@ pub fn a_run_goes_on()
     ensures table { (ops : List OpData) (op : OpData) → table_of (ops ++ op ∷ []) ≡ table_after (table_of ops) op }
 {}
 
-/// The order in which submissions come doesn't matter, if their checksums agree: none is refused, the table has the rows of
-/// each, and with the same submissions in another order each text is the same, whatever was asked in between. In the other
-/// order they agree too, so none is refused there either.
+/// The order in which submissions come doesn't matter, if their checksums agree. None of them clashes, and the table has the
+/// rows of each. With the same submissions in another order, each text is the same, whatever texts were asked for in between.
+/// In the other order the checksums agree too, so no submission clashes there either.
 pub fn order_does_not_matter()
     ensures accepted { (ops : List OpData) → OnlySubmitsAndAsks ops → AreAgreeing (submissions_in ops) → (clash : ClashData) → ¬ Contains (answers_to ops) (ClashAnswer clash) }
     ensures table { (ops : List OpData) → OnlySubmitsAndAsks ops → AreAgreeing (submissions_in ops) → table_of ops ≡ map rows_of (submissions_in ops) }

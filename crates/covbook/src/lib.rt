@@ -5,10 +5,10 @@
 //! history is legal at every moment: its answers are those of a run over its operations from an empty table.
 //!
 //! A caller with something to do in between takes a step in two halves. `Book::ready` does all that can be refused, and
-//! returns a `Ready`, which has the totals after the step (`Ready::after`). `Book::finish` takes the step, and no memory.
+//! returns a `Ready`, which has the totals after the step (`Ready::after`). `Book::finish` does the rest. It takes no memory.
 //!
 //! Several jobs that share a book keep their receipts and the totals that they read, each in a `JobLog`. `gather` checks that
-//! the history is a merge of these logs and that each reading has its totals, and returns the first fault otherwise.
+//! the history is a merge of these logs and that each reading has the right totals. Otherwise it returns the first fault.
 //!
 //! An example, proved and run in `covuses`: what a book answers to a submission of job 1, and then to a report of job 2. The
 //! first answer is `Answer::Accepted` or `Answer::Clash`, the second `Answer::Text`.

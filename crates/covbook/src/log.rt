@@ -14,7 +14,7 @@ pub struct JobLog<A: Allocator = Global> {
     pub readings: Readings<A>,
 }
 
-/// A list of logs. Contracts see what they say.
+/// A list of logs. Contracts see the logs as plain data.
 #[derive(Drop)]
 pub struct Logs<A: Allocator = Global> {
     logs: Vec<JobLog<A>, A>,

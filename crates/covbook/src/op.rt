@@ -12,9 +12,9 @@ pub enum Op<A: Allocator = Global> {
     Submit(SubRef<A>),
     /// Remove the counts of a test, in all files.
     DropTest(Bytes<A>),
-    /// Give the counts of a test the name of another, in all files. Counts that meet at one point are added up. Any new
-    /// name is taken; a printed tracefile can be read back only if the name fits into one line of it
-    /// (`covline::good_test`).
+    /// Give the counts of a test another name, in all files. If there are counts of a test with this name already, the counts of
+    /// each point are added up. Any new name is accepted, but a printed tracefile can be read back only if the name fits into
+    /// one line of it (`covline::good_test`).
     Rename { old: Bytes<A>, new: Bytes<A> },
     /// Print the merged tracefile.
     Report,
@@ -54,7 +54,7 @@ impl<A: Allocator> Op<A> {
     ghost use Rattle.covbook.specs.Op.{SubmitOp, DropTestOp, RenameOp, ExtractOp, RemoveOp};
     ghost use Rattle.covbook.specs.View.{op_data};
 
-    /// Whether the other operation asks the same, whatever memory the two share. Takes no memory.
+    /// Whether the other operation is equal, shared memory or not. Takes no memory.
     pub fn is_same(&self, other: &Op<A>) -> bool
         ensures { IsTrue result ↔ (op_data self.now ≡ op_data other.now) }
     {
@@ -89,7 +89,7 @@ impl<A: Allocator> Op<A> {
         }
     }
 
-    /// Whether this renames the one test to the other name.
+    /// Whether this renames the test `old` to `new`.
     fn is_rename(&self, old: &Bytes<A>, new: &Bytes<A>) -> bool
         ensures { IsTrue result ↔ (RenameOp old.now new.now ≡ op_data self.now) }
     {
@@ -102,7 +102,7 @@ impl<A: Allocator> Op<A> {
         }
     }
 
-    /// Whether this prints what matches equal patterns.
+    /// Whether this is an `Extract` with equal patterns.
     fn is_extract(&self, patterns: &Patterns<A>) -> bool
         ensures { IsTrue result ↔ (ExtractOp patterns.now ≡ op_data self.now) }
     {
@@ -112,7 +112,7 @@ impl<A: Allocator> Op<A> {
         }
     }
 
-    /// Whether this prints what matches none of equal patterns.
+    /// Whether this is a `Remove` with equal patterns.
     fn is_remove(&self, patterns: &Patterns<A>) -> bool
         ensures { IsTrue result ↔ (RemoveOp patterns.now ≡ op_data self.now) }
     {
@@ -126,8 +126,8 @@ impl<A: Allocator> Op<A> {
 /// What an operation was answered.
 #[derive(Drop)]
 pub enum Answer<A: Allocator = Global> {
-    /// The submission is the book's with this number, counted from 1. It has this number of items, and its text this
-    /// number of odd lines.
+    /// The submission is accepted, as the book's submission with this number, counted from 1. It has this number of items, and
+    /// its text has this number of odd lines.
     Accepted {
         number: u64,
         items: u64,
@@ -159,7 +159,7 @@ impl<A: Allocator + Copy> Answer<A> {
     ghost use Rattle.std.specs.Prelude.{◌≡◌, IfOk};
     ghost use Rattle.covbook.specs.View.{answer_data};
 
-    /// An equal answer, which shares the text; the names of a clash are copied.
+    /// An equal answer, which shares the text; the file's name and the checksums of a clash are copied.
     pub fn copy(&self, alloc: A) -> Result<Answer<A>, Memory>
         ensures { IfOk result (λ a. answer_data a ≡ answer_data self.now) }
     {
@@ -197,7 +197,7 @@ impl<A: Allocator> Answer<A> {
     ghost use Rattle.covbook.specs.Op.{AcceptedAnswer, ClashAnswer, DroppedAnswer, RenamedAnswer, TextAnswer};
     ghost use Rattle.covbook.specs.View.{answer_data};
 
-    /// Whether the other answer says the same, whatever memory the two share. Takes no memory.
+    /// Whether the other answer is equal, shared memory or not. Takes no memory.
     pub fn is_same(&self, other: &Answer<A>) -> bool
         ensures { IsTrue result ↔ (answer_data self.now ≡ answer_data other.now) }
     {
@@ -216,7 +216,7 @@ impl<A: Allocator> Answer<A> {
         }
     }
 
-    /// Whether this accepts with these numbers.
+    /// Whether this accepts a submission, with these numbers.
     fn is_accepted(&self, number: u64, items: u64, odd: u64) -> bool
         ensures { IsTrue result ↔ (AcceptedAnswer number items odd ≡ answer_data self.now) }
     {
@@ -230,7 +230,7 @@ impl<A: Allocator> Answer<A> {
         }
     }
 
-    /// Whether this is a clash of this line, with equal texts.
+    /// Whether this is a clash at this line of this file, with these two checksums.
     fn is_clash(&self, file: &Bytes<A>, line: u64, held: &Bytes<A>, given: &Bytes<A>) -> bool
         ensures { IsTrue result ↔ (ClashAnswer (record { file = file.now; line = line; held = held.now; given = given.now }) ≡ answer_data self.now) }
     {

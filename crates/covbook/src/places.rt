@@ -8,8 +8,9 @@ ghost use Rattle.covbook.specs.LogView.{log_data};
 use crate::log::JobLog;
 use std::alloc::Allocator;
 
-/// The least place below `count` that no receipt of the logs has, if there is one. No two receipts have the same place, so
-/// all places below n are there exactly if n receipts are below n. A binary search finds the least place that is missing.
+/// The least place below `count` that no receipt of the logs has, if there is one. No two receipts have the same place. So
+/// receipts have all places below n exactly if n receipts have places below n. A binary search finds the least place that is
+/// missing.
 pub(crate) fn least_missing<A: Allocator>(count: u64, logs: &[JobLog<A>]) -> Option<u64>
     requires { AreApart (map log_data logs.now) }
     ensures { TellsLeast result count (places_in (map log_data logs.now)) }
@@ -17,7 +18,7 @@ pub(crate) fn least_missing<A: Allocator>(count: u64, logs: &[JobLog<A>]) -> Opt
     if receipts_below(logs, count) == count {
         return None;
     }
-    // no place below `told` is missing, and one below `beyond` is
+    // no place below `told` is missing, and some place below `beyond` is missing
     let mut told = 0;
     let mut beyond = count;
     while told + 1 < beyond {

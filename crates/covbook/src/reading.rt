@@ -5,7 +5,7 @@ use covstore::Totals;
 use std::alloc::{Allocator, Global};
 use std::marker::Model;
 
-/// The totals of a history after its first entries: how many entries these are, and the totals after them.
+/// A number of entries, and the totals after that many entries of a history.
 #[derive(Clone, Copy, Debug, PartialEq, Eq)]
 pub struct Reading {
     /// The number of entries. The totals after no entries are zeros.
@@ -13,7 +13,7 @@ pub struct Reading {
     pub totals: Totals,
 }
 
-/// A list of readings. Contracts see what they say.
+/// A list of readings. Contracts see the readings.
 #[derive(Drop)]
 pub struct Readings<A: Allocator = Global> {
     readings: Vec<Reading, A>,

@@ -79,7 +79,7 @@ impl<A: Allocator> SubRef<A> {
         self.shared.get()
     }
 
-    /// Whether the submissions are the same by what they say, shared or not. Takes no memory.
+    /// Whether the submissions are equal, shared or not. Takes no memory.
     pub fn is_same(&self, other: &SubRef<A>) -> bool
         ensures { IsTrue result ↔ (self.now ≡ other.now) }
     {
@@ -129,7 +129,7 @@ impl<A: Allocator> TextRef<A> {
         self.shared.get()
     }
 
-    /// Whether the texts are the same by what they say, shared or not. Takes no memory.
+    /// Whether the texts are equal, shared or not. Takes no memory.
     pub fn is_same(&self, other: &TextRef<A>) -> bool
         ensures { IsTrue result ↔ (self.now ≡ other.now) }
     {

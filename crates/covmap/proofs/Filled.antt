@@ -13,7 +13,7 @@ use Rattle.covmap.proofs.SlotSearch.{all_after}
 
 -- ---- looking up
 
--- keys greater than the queried key aren't found
+-- the queried key isn't found among keys that are all greater
 none_after : {K V : Type 0} (order : K → Ordering) (slots : List (K × Option V)) → AllByRecursion (λ slot. order slot.0 ≡ Greater) slots → lookup (λ key. is_eq (order key)) (filled slots) ≡ None
 none_after order [] a = refl
 none_after order ((key, None) ∷ slots) a = none_after order slots a.1
@@ -65,7 +65,7 @@ put_here : {K V : Type 0} (cmp : K → K → Ordering) (key : K) (value : V) (he
 put_here cmp key value here None back e same a = put_first cmp key value back a ∙ ap (λ key. (key, value) ∷ filled back) (sym same)
 put_here cmp key value here (Some old) back e same a = rw e (ap (λ key. (key, value) ∷ filled back) (sym same))
 
--- putting a value into a key's slot puts it in among the filled slots
+-- after a value is written into a key's slot, the filled slots are what `put` makes of those before
 pub filled_put : {K V : Type 0} (cmp : K → K → Ordering) (key : K) (value : V) (front : List (K × Option V)) (here : K) (old : Option V) (back : List (K × Option V))
     → AllByRecursion (λ slot. cmp slot.0 key ≡ Less) front → cmp here key ≡ Equal → here ≡ key → AllByRecursion (λ slot. cmp slot.0 key ≡ Greater) back
     → filled (front ++ (here, Some value) ∷ back) ≡ put cmp key value (filled (front ++ (here, old) ∷ back))

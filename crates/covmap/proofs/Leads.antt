@@ -28,7 +28,7 @@ all_at P (x ∷ xs) (suc i) d a l = all_at P xs i d a.1 (omega arith)
 
 -- ---- the lead
 
--- if one fails the test, so do all after it
+-- if an item fails the test, so do all items after it
 abbrev pub IsFalling : {X : Type 0} → (X → Bool) → List X → Type 0
 IsFalling test [] = Unit {0}
 IsFalling test (x ∷ xs) = (test x ≡ false → AllByRecursion (λ y. test y ≡ false) xs) × IsFalling test xs
@@ -64,7 +64,7 @@ lead_above_at : {X : Type 0} (test : X → Bool) (xs : List X) (i : ℕ) (d : X)
 lead_above_at test xs i d true f l e h = omega arith
 lead_above_at test xs i d false f l e h = absurd (let no : test (get_or xs i d) ≡ false = all_at (λ y. test y ≡ false) xs i d (f refl) l in cc)
 
--- an item that passes is in the lead, if the test falls
+-- an item that passes is in the lead, if all items after one that fails fail too
 pub lead_above_passed : {X : Type 0} (test : X → Bool) (xs : List X) (i : ℕ) (d : X) → IsFalling test xs → i < length xs → test (get_or xs i d) ≡ true → i < lead test xs
 lead_above_passed test [] i d f l e = absurd (omega arith)
 lead_above_passed test (x ∷ xs) zero d f l e = rw e (omega arith)

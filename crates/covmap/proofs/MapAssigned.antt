@@ -18,8 +18,6 @@ use Rattle.covmap.proofs.SlotPlaces.{around, before_there, column_set, page_is_t
 use Rattle.covmap.proofs.SlotSearch.{all_after, ascending_back}
 use Rattle.covmap.proofs.SlotWrites.{slots_of_set}
 
--- ---- on one page
-
 -- ---- among the filled slots
 
 -- keys greater than the removed one stay
@@ -50,7 +48,7 @@ filled_assigned cmp key (Some value) front here old back a e same b = filled_put
 
 module _ {K V : Type 0} {cmp : K → K → Ordering} (t : IsTotalOrder cmp) (exact : (x y : K) → cmp x y ≡ Equal → x ≡ y) (key : K) (pages : List (List (K × Option V))) (i j : ℕ) (slots : AreSlots cmp pages)
     (place : IsPlace (λ other. cmp other key) pages (i, j)) where
-  -- the value is written at the key's place
+  -- to write a value at the key's place is to assign it to the key in the committed entries
   pub slot_assigned : (value : Option V) → filled (slots_of (with_slot (i, j) value pages)) ≡ assigned cmp key value (filled (slots_of pages))
   slot_assigned value =
       let order = λ (other : K). cmp other key in
@@ -80,7 +78,7 @@ committed_found {K} {V} {cmp} t key pages i j slots place =
     subst (λ (after : List (List (K × Option V))). value_at after (i, j) ≡ value_of cmp key (filled (slots_of after))) (nothing_staged 0 pages)
     (staged_found (query_by_order t key) pages [] i j slots place)
 
--- and a key without a place has none
+-- a key without a slot has no committed value
 pub committed_absent : {K V : Type 0} (cmp : K → K → Ordering) (key : K) (pages : List (List (K × Option V))) (i j : ℕ) → IsGap (λ other. cmp other key) pages (i, j) → value_of cmp key (filled (slots_of pages)) ≡ None
 committed_absent {K} {V} cmp key pages i j gap =
     subst (λ (after : List (List (K × Option V))). value_of cmp key (filled (slots_of after)) ≡ None) (nothing_staged 0 pages)

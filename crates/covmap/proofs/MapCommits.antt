@@ -25,7 +25,7 @@ pub ascending_front : {V : Type 0} (front back : List (ℕ × List (Option V))) 
 ascending_front [] back a = tt
 ascending_front {V} (first ∷ front) back a = (all_front (λ (other : ℕ × List (Option V)). first.0 < other.0) front back a.0, ascending_front front back a.1)
 
--- a page on which nothing is staged is replaced
+-- if a page without a staged column is replaced, it is replaced in what is staged too, and nothing else changes there
 staged_set : {K V : Type 0} (n i k : ℕ) (pages : List (List (K × Option V))) (columns : List (ℕ × List (Option V))) (page : List (K × Option V)) → n + i ≡ k → column_at k columns ≡ None
     → staged_from n (set pages i page) columns ≡ set (staged_from n pages columns) i page
 staged_set n i k [] columns page e none = refl
@@ -62,7 +62,7 @@ columns_left pages front column a =
 
 -- ---- a page with new values
 
--- the page is as the column alone would make it
+-- if this column is the only one, what is staged are the pages with its values on its page
 page_taken : {K V : Type 0} (pages : List (List (K × Option V))) (number : ℕ) (column : List (Option V)) → staged_of pages ((number, column) ∷ []) ≡ with_page number column pages
 page_taken {K} {V} pages number column =
     let one : ℕ × List (Option V) = (number, column) in
@@ -76,7 +76,7 @@ pub none_given : {K V : Type 0} (page : List (K × Option V)) → with_column pa
 none_given [] = refl
 none_given (slot ∷ page) = refl
 
--- a page that is written back as a whole
+-- the first elements of `page ++ rest`, as many as `page` has, are `page`
 pub written_back : {X : Type 0} (page rest : List X) (n : ℕ) → n ≡ length page → take n (page ++ rest) ≡ page
 written_back [] rest zero e = refl
 written_back [] rest (suc n) e = absurd (omega arith)
@@ -89,6 +89,6 @@ map_append : {P X : Type 0} (f : P → X) (ps qs : List P) → map f (ps ++ qs) 
 map_append f [] qs = refl
 map_append f (p ∷ ps) qs = ap (λ rest. f p ∷ rest) (map_append f ps qs)
 
--- the columns that stay when the last one is removed
+-- columns still ascend after the last ones are removed
 pub seen_front : {V P : Type 0} (seen : P → ℕ × List (Option V)) (ps qs rest : List P) → ps ≡ qs ++ rest → AreAscending (map seen ps) → AreAscending (map seen qs)
 seen_front seen ps qs rest e a = ascending_front (map seen qs) (map seen rest) (subst AreAscending (ap (map seen) e ∙ map_append seen qs rest) a)

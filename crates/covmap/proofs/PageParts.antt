@@ -1,4 +1,4 @@
--- A page as contracts see it, from its keys and the values of the first of them.
+-- A page as contracts see it, made from its list of keys and its list of values, which may be shorter.
 use Rattle.std.proofs.Common.{subst, ◌≡◌, ◌++◌, ℕ, zero, suc, ◌+◌, ◌-◌, ◌<◌, ◌≤◌, true, Option, List, [], ◌∷◌, length, map, get_or, take, drop, set, refl, sym, ap, ◌∙◌, append_assoc, arith}
 use Rattle.std.specs.Prelude.{None, Some, Result, Ok, Err, OnErr, OnOk, option_map, slice_get}
 use Rattle.std.proofs.lemmas.List.{length-append}
@@ -21,7 +21,7 @@ beside_keys [] values = refl
 beside_keys (key ∷ keys) [] = ap (λ rest. key ∷ rest) (beside_keys keys [])
 beside_keys (key ∷ keys) (value ∷ values) = ap (λ rest. key ∷ rest) (beside_keys keys values)
 
--- the key in a slot; and below, the value
+-- the key in a slot is the one in the list of keys
 pub beside_key : {K V : Type 0} (keys : List K) (values : List (Option V)) (i : ℕ) → option_map (λ slot. slot.0) (slice_get (beside keys values) i) ≡ slice_get keys i
 beside_key [] values i = refl
 beside_key (key ∷ keys) [] zero = refl
@@ -29,6 +29,7 @@ beside_key (key ∷ keys) [] (suc i) = beside_key keys [] i
 beside_key (key ∷ keys) (value ∷ values) zero = refl
 beside_key (key ∷ keys) (value ∷ values) (suc i) = beside_key keys values i
 
+-- the value in a slot is the one in the list of values, if there is one
 pub beside_value : {K V : Type 0} (keys : List K) (values : List (Option V)) (i : ℕ) → length values ≤ length keys → value_in (option_map (λ slot. slot.1) (slice_get (beside keys values) i)) ≡ value_in (slice_get values i)
 beside_value [] [] i e = refl
 beside_value [] (value ∷ values) i e = absurd (omega arith)
@@ -37,7 +38,7 @@ beside_value (key ∷ keys) [] (suc i) e = beside_value keys [] i (omega arith)
 beside_value (key ∷ keys) (value ∷ values) zero e = refl
 beside_value (key ∷ keys) (value ∷ values) (suc i) e = beside_value keys values i (omega arith)
 
--- a slot with a value is one of the first
+-- the index of a slot that has a value is within the list of values
 pub value_within : {V : Type 0} (values : List (Option V)) (i : ℕ) → is_some (value_in (slice_get values i)) ≡ true → i < length values
 value_within [] i e = absurd cc
 value_within (value ∷ values) zero e = omega arith
@@ -50,11 +51,12 @@ beside_read (key ∷ keys) [] (suc i) slot l = beside_read keys [] i slot (omega
 beside_read (key ∷ keys) (value ∷ values) zero slot l = refl
 beside_read (key ∷ keys) (value ∷ values) (suc i) slot l = beside_read keys values i slot (omega arith)
 
--- the last key decides where a page ends
+-- a key that another one follows doesn't decide whether a page ends before the queried key
 ends : {K V : Type 0} (order : K → Ordering) (first next : K) (keys : List K) (value : Option V) (values : List (Option V)) → ends_before order ((first, value) ∷ beside (next ∷ keys) values) ≡ ends_before order (beside (next ∷ keys) values)
 ends order first next keys value [] = refl
 ends order first next keys value (second ∷ values) = refl
 
+-- only the last key decides that
 pub beside_last : {K V : Type 0} (order : K → Ordering) (keys : List K) (values : List (Option V)) (last : ℕ) (key : K) → last ≡ length keys - 1 → Some key ≡ slice_get keys last
     → is_lt (order key) ≡ ends_before order (beside keys values)
 beside_last order [] values last key l s = absurd cc
@@ -95,13 +97,14 @@ beside_set [] (old ∷ values) i value l e = absurd (omega arith)
 beside_set (key ∷ keys) (old ∷ values) zero value l e = ap (λ rest. (key, value) ∷ rest) (own_column (beside keys values))
 beside_set (key ∷ keys) (old ∷ values) (suc i) value l e = ap (λ rest. (key, old) ∷ rest) (beside_set keys values i value (omega arith) (omega arith))
 
--- inserting a key among those with values; and below, after them
+-- inserting a key before the end of the list of values
 pub beside_insert : {K V : Type 0} (keys : List K) (values : List (Option V)) (i : ℕ) (key : K) → i < length values → length values ≤ length keys → beside (insert keys i key) (insert values i None) ≡ insert (beside keys values) i (key, None)
 beside_insert keys [] i key l e = absurd (omega arith)
 beside_insert [] (value ∷ values) i key l e = absurd (omega arith)
 beside_insert (first ∷ keys) (value ∷ values) zero key l e = refl
 beside_insert (first ∷ keys) (value ∷ values) (suc i) key l e = ap (λ rest. (first, value) ∷ rest) (beside_insert keys values i key (omega arith) (omega arith))
 
+-- inserting a key past the end of the list of values
 pub beside_after : {K V : Type 0} (keys : List K) (values : List (Option V)) (i : ℕ) (key : K) → length values ≤ i → i ≤ length keys → beside (insert keys i key) values ≡ insert (beside keys values) i (key, None)
 beside_after [] [] zero key l e = refl
 beside_after [] [] (suc i) key l e = absurd (omega arith)
@@ -166,7 +169,7 @@ drop_length zero xs = omega arith
 drop_length (suc n) [] = omega arith
 drop_length (suc n) (x ∷ xs) = let rest = drop_length n xs in omega (arith, rest)
 
--- the page of a number, for a page that was read
+-- a page that was read at a number within the list is the page of that number
 pub page_here : {X : Type 0} (pages : List (List X)) (i : ℕ) (page : List X) → i < length pages → page ≡ get_or pages i page → get_or pages i [] ≡ page
 page_here [] i page l e = absurd (omega arith)
 page_here (first ∷ pages) zero page l e = sym e

@@ -1,4 +1,4 @@
--- The place after a slot: if the slot comes before the queried key, and the next one doesn't, it is a cut.
+-- The place right after a slot. If the slot comes before the queried key, and the next slot doesn't, this place is a cut.
 use Rattle.std.proofs.Common.{◌≡◌, ℕ, zero, suc, ◌<◌, ◌≤◌, Bool, true, false, if◌then◌else◌, Option, List, [], ◌∷◌, ◌++◌, length, get_or, take, drop, refl, sym, ap, ◌∙◌, append_assoc, subst, arith}
 use Rattle.std.specs.declared.cmp.Ordering.{Ordering}
 use Rattle.std.specs.declared.cmp.Ordering.TheVariants.{Less, Equal, Greater}
@@ -101,7 +101,7 @@ module _ {K V : Type 0} {cmp : K → K → Ordering} {order : K → Ordering} (q
     cut_after : order slot.0 ≡ Less → (order_at order (slot_at pages (following pages (i, j))) ≡ Less → ⊥) → IsCut order pages (following pages (i, j))
     cut_after less none = cut_after_at (nat_lt (suc j) (length (page_at pages i))) refl less none
 
-  -- if a slot comes before the queried key, and the next one after it, the place between is the gap
+  -- if a slot comes before the queried key, and the next slot comes after that key, the place of the next slot is the gap
   pub gap_after_slot : (pages : List (List (K × Option V))) (i j : ℕ) (at : ℕ × ℕ) → AreSlots cmp pages → order_at order (slot_at pages (i, j)) ≡ Less → at ≡ following pages (i, j)
       → order_at order (slot_at pages at) ≡ Greater → IsGap order pages at
   gap_after_slot pages i j at slots less next greater = rw next (
@@ -113,10 +113,11 @@ module _ {K V : Type 0} {cmp : K → K → Ordering} {order : K → Ordering} (q
       apart : {o : Ordering} (p : Ordering) → o ≡ Greater → o ≡ p → (Greater ≡ p → ⊥) → ⊥
       apart p e f none = none (sym e ∙ f)
 
--- the place after a slot that isn't the last of its page; and below, after one that is
+-- the place after a slot that isn't the last of its page
 pub after_within : {K V : Type 0} (pages : List (List (K × Option V))) (i j next : ℕ) → next ≡ suc j → suc j < length (page_at pages i) → (i, next) ≡ following pages (i, j)
 after_within pages i j next e l = ap (λ at. (i, at)) e ∙ sym (cond-true (nat_lt (suc j) (length (page_at pages i))) (i, suc j) (suc i, 0) (lt-ltb (suc j) (length (page_at pages i)) l))
 
+-- the place after the last slot of a page
 pub after_past : {K V : Type 0} (pages : List (List (K × Option V))) (i j next : ℕ) → next ≡ suc i → length (page_at pages i) ≤ suc j → (next, 0) ≡ following pages (i, j)
 after_past pages i j next e l = ap (λ page. (page, 0)) e ∙ sym (cond-false (nat_lt (suc j) (length (page_at pages i))) (i, suc j) (suc i, 0) (le-ltb (suc j) (length (page_at pages i)) l))
 

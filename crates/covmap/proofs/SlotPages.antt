@@ -1,4 +1,4 @@
--- The slots before a place and from it on, also after a write to a page.
+-- The slots before a place and from it on, and the filled slots of joined lists and of pages.
 use Rattle.std.proofs.Common.{◌≡◌, ℕ, zero, suc, Option, List, [], ◌∷◌, ◌++◌, length, take, drop, refl, sym, ap, ◌∙◌, append_assoc, arith}
 use Rattle.std.specs.Prelude.{flat_map, None, Some}
 use Rattle.covmap.specs.Slots.{slots_of, page_at, before, from, filled}
@@ -28,7 +28,7 @@ filled_append [] back = refl
 filled_append ((key, None) ∷ front) back = filled_append front back
 filled_append ((key, Some value) ∷ front) back = ap (λ rest. (key, value) ∷ rest) (filled_append front back)
 
--- after a page is finished, the next one begins
+-- when nothing is left of a page, the next page takes its place, and the filled slots that are left stay the same
 pub next_page : {K V P : Type 0} (items : P → List (K × Option V)) (page text : List (K × Option V)) (p : P) (ps pages : List P) → length page ≡ 0 → pages ≡ p ∷ ps → text ≡ items p
     → filled text ++ filled (flat_map items ps) ≡ filled page ++ filled (flat_map items pages)
 next_page items [] text p ps pages z e t =

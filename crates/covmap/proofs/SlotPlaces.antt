@@ -62,7 +62,7 @@ module _ {K V : Type 0} {cmp : K → K → Ordering} {order : K → Ordering} (q
       let front = before_there query (before pages (i, j)) slot back (subst (IsAscending cmp) parts ascending) (ap is_gt same) in
       ap (slot_value order) parts ∙ found_there order (before pages (i, j)) slot back front same
 
-  -- writing a value at a place writes it into the slot there
+  -- a value written at a place changes only the slot there, in the list of all slots
   pub written_there : (slot : K × Option V) (value : V) → slot_at pages (i, j) ≡ Some slot
       → slots_of (with_value_at (i, j) value pages) ≡ before pages (i, j) ++ (slot.0, Some value) ∷ (drop (suc j) (page_at pages i) ++ slots_of (drop (suc i) pages))
   written_there slot value e =

@@ -41,7 +41,7 @@ lead_below_one : (b : Bool) → b ≡ false → (if b then 1 else 0) < 1
 lead_below_one true e = absurd cc
 lead_below_one false e = omega arith
 
--- a slot on the page is the first one from it on
+-- the slot at an index of a page is the first of the slots from this index on
 pub first_there : {V : Type 0} (page : List V) (index : ℕ) (rest : List V) → index < length page → slice_get page index ≡ slice_get (drop index page ++ rest) 0
 first_there [] index rest l = absurd (omega arith)
 first_there (x ∷ xs) zero rest l = refl

@@ -59,7 +59,7 @@ pub split_whole : {K V : Type 0} (cmp : K → K → Ordering) (pages : List (Lis
     → AreSlots cmp (with_page_split i pages)
 split_whole cmp pages i l e slots = record { pages_fit = split_fit pages i e slots.pages_fit; ascending = subst (IsAscending cmp) (sym (split_slots pages i l)) slots.ascending }
 
--- the pages after the split
+-- the pages after the split, as the code writes them
 list_split : {P : Type 0} (ps : List P) (i : ℕ) (p q : P) → i < length ps → insert (set ps i p) (suc i) q ≡ take i ps ++ p ∷ q ∷ drop (suc i) ps
 list_split [] i p q l = absurd (omega arith)
 list_split (r ∷ ps) zero p q l = refl

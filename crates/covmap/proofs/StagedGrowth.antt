@@ -77,7 +77,7 @@ wider_staged : {K V : Type 0} (page : List (K × Option V)) (here : Option (List
 wider_staged page None j key f = refl
 wider_staged page (Some column) j key f = wider page column j key (f column refl)
 
--- in what is staged, the empty slot is at the same place
+-- what is staged gets the empty slot at the same place
 pub staged_widened : {K V : Type 0} (pages : List (List (K × Option V))) (old new : List (ℕ × List (Option V))) (i j : ℕ) (key : K) → i < length pages → AreColumnsOf pages old → IsWidened i j old new
     → staged_of (with_empty (i, j) key pages) new ≡ with_empty (i, j) key (staged_of pages old)
 staged_widened {K} {V} pages old new i j key there fit w =
@@ -91,7 +91,7 @@ staged_widened {K} {V} pages old new i j key there fit w =
     (ap (page_staged page) now ∙ wider_staged (page_at pages i) w.here j key (λ column e. column_fits pages i old column fit (was ∙ e))
     ∙ ap (λ page. insert page j (key, None)) (sym (page_of_staged 0 i i pages old (omega arith) there ∙ ap (page_staged (page_at pages i)) was)))
 
--- an empty slot isn't seen
+-- inserting an empty slot doesn't change the filled slots
 pub filled_empty : {K V : Type 0} (pages : List (List (K × Option V))) (i j : ℕ) (key : K) → i < length pages → filled (slots_of (with_empty (i, j) key pages)) ≡ filled (slots_of pages)
 filled_empty {K} {V} pages i j key there =
     let empty : K × Option V = (key, None) in
@@ -195,7 +195,7 @@ moved_ascending {V} page (column ∷ columns) a = (first (nat_lt page column.0) 
     first true e = let above : page < column.0 = grind (arith, nat_tests) in moved_more page column.0 columns (omega arith) a.0
     first false e = moved_after page column.0 columns a.0
 
--- then no column has the number after the page's
+-- once the columns have moved, none of them has the number right after that of the page
 moved_apart : {V : Type 0} (page : ℕ) (columns : List (ℕ × List (Option V))) → AllByRecursion (λ column. column.0 ≡ suc page → ⊥) (map (moved page) columns)
 moved_apart page [] = tt
 moved_apart {V} page (column ∷ columns) = (first (nat_lt page column.0) refl, moved_apart page columns)
@@ -214,7 +214,7 @@ equal_tests a b = at_test (eqb a b) refl
     at_test true e = let same : a ≡ b = grind (arith, nat_tests) in let addend : eqb (suc a) (suc b) ≡ true = grind (arith, nat_tests, same) in addend ∙ sym e
     at_test false e = let other : a ≡ b → ⊥ = grind (arith, nat_tests) in apart (suc a) (suc b) (λ f. other (omega (arith, f))) ∙ sym e
 
--- what is found among the moved columns
+-- up to the page that is split, the moved columns are found under their old numbers
 at_low : {V : Type 0} (page m : ℕ) (columns : List (ℕ × List (Option V))) → m ≤ page → column_at m (map (moved page) columns) ≡ column_at m columns
 at_low page m [] l = refl
 at_low {V} page m (column ∷ columns) l = first (nat_lt page column.0) refl ∙ ap (λ rest. if eqb column.0 m then Some column.1 else rest) (at_low page m columns l)
@@ -226,6 +226,7 @@ at_low {V} page m (column ∷ columns) l = first (nat_lt page column.0) refl ∙
         rw (apart (suc column.0) m (λ f. omega (arith, above, f, l)), apart column.0 m (λ f. omega (arith, above, f, l))) refl
     first false e = refl
 
+-- after that page, the moved columns are found under the next numbers
 at_high : {V : Type 0} (page m : ℕ) (columns : List (ℕ × List (Option V))) → page < m → column_at (suc m) (map (moved page) columns) ≡ column_at m columns
 at_high page m [] l = refl
 at_high {V} page m (column ∷ columns) l = first (nat_lt page column.0) refl ∙ ap (λ rest. if eqb column.0 m then Some column.1 else rest) (at_high page m columns l)
@@ -259,7 +260,7 @@ drop_staged : {K V : Type 0} (page : List (K × Option V)) (here : Option (List 
 drop_staged page None = refl
 drop_staged page (Some column) = sym (drop_given page column 128)
 
--- pages that moved by one
+-- if both the pages and their columns move by one, what is staged on these pages stays the same
 next_staged : {K V : Type 0} (n : ℕ) (pages : List (List (K × Option V))) (old new : List (ℕ × List (Option V))) → ((m : ℕ) → n ≤ m → column_at (suc m) new ≡ column_at m old)
     → staged_from (suc n) pages new ≡ staged_from n pages old
 next_staged n [] old new f = refl
@@ -322,7 +323,7 @@ all_away {V} page back a b = all_stay (λ (other : ℕ × List (Option V)). page
     away : (other : ℕ × List (Option V)) → page < other.0 → (other.0 ≡ suc page → ⊥) → suc page < other.0
     away other l f = grind (arith, f, l)
 
--- the columns after the page come after its second half
+-- the columns of later pages have greater numbers than the page's second half
 pub after_halves : {V : Type 0} (page : ℕ) (old front : List (ℕ × List (Option V))) (here : Option (List (Option V))) (back : List (ℕ × List (Option V))) → IsAmong page (map (moved page) old) front here back
     → AllByRecursion (λ other. suc page < other.0) back
 after_halves {V} page old front here back w =
@@ -356,7 +357,7 @@ page_after (page ∷ pages) zero (suc m) t l = refl
 page_after (page ∷ pages) (suc i) (suc m) t l = page_after pages i m (omega arith) (omega arith)
 
 module _ {K V : Type 0} (pages : List (List (K × Option V))) (i : ℕ) (there : i < length pages) where
-  -- a moved column belongs to its page, unless that is the one that is split
+  -- a moved column fits its page after the split. Only the column of the page that is split fits the page as it was before
   abbrev MovesTo : ℕ × List (Option V) → Type 0
   MovesTo column = ((column.0 ≡ i → ⊥) → IsColumnOf (with_page_split i pages) column) × (column.0 ≡ i → length column.1 ≡ length (page_at pages i))
 
@@ -408,7 +409,7 @@ ascending_back : {V : Type 0} (front back : List (ℕ × List (Option V))) → A
 ascending_back [] back a = a
 ascending_back (first ∷ front) back a = ascending_back front back a.1
 
--- a column is replaced by two, the second with the next number
+-- columns still ascend if one is replaced by two, the second with the next number
 pub halves_ascending : {V : Type 0} (page : ℕ) (column : List (Option V)) (front back : List (ℕ × List (Option V))) (first second : List (Option V)) → AllByRecursion (λ other. other.0 < page) front
     → AllByRecursion (λ other. suc page < other.0) back → AreAscending (front ++ (page, column) ∷ back) → AreAscending (front ++ (page, first) ∷ (suc page, second) ∷ back)
 halves_ascending {V} page column front back first second below above a =
@@ -506,7 +507,7 @@ pub moved_seen : {V P : Type 0} (seen : P → ℕ × List (Option V)) (f : P →
     → new ≡ map f ps → map seen new ≡ map (moved page) columns
 moved_seen seen f page ps new columns e view is = ap (map seen) is ∙ seen_moved seen f page e ps ∙ ap (map (moved page)) view
 
--- what is true of everything that contracts see is true of everything that is there
+-- what is true of all columns as contracts see them is true of each column as it is seen
 pub all_seen : {P X : Type 0} (Q : X → Type 0) (seen : P → X) (ps : List P) → AllByRecursion Q (map seen ps) → AllByRecursion (λ p. Q (seen p)) ps
 all_seen Q seen [] a = tt
 all_seen Q seen (p ∷ ps) a = (a.0, all_seen Q seen ps a.1)

@@ -9,7 +9,7 @@ use Rattle.covmap.specs.Staged.{column_of, with_column, column_at, page_staged, 
 
 -- ---- one page
 
--- a page's own values change nothing
+-- a page that is given its own values stays the same
 pub own_column : {K V : Type 0} (page : List (K × Option V)) → with_column page (column_of page) ≡ page
 own_column [] = refl
 own_column (slot ∷ page) = ap (λ rest. slot ∷ rest) (own_column page)
@@ -66,13 +66,13 @@ apart a b f = grind (arith, nat_tests)
 alike : (a : ℕ) → eqb a a ≡ true
 alike a = grind (arith, nat_tests)
 
--- other pages don't see it
+-- the column makes no difference when another page's column is looked up
 pub column_passed : {V : Type 0} (m : ℕ) (front : List (ℕ × List (Option V))) (column : ℕ × List (Option V)) (back : List (ℕ × List (Option V))) → (m ≡ column.0 → ⊥)
     → column_at m (front ++ column ∷ back) ≡ column_at m (front ++ back)
 column_passed m [] column back f = rw (apart column.0 m f) refl
 column_passed m (first ∷ front) column back f = ap (λ rest. if eqb first.0 m then Some first.1 else rest) (column_passed m front column back f)
 
--- it is found after smaller numbers
+-- the column is found if the columns in front of it have smaller numbers
 pub column_found : {V : Type 0} (front : List (ℕ × List (Option V))) (column : ℕ × List (Option V)) (back : List (ℕ × List (Option V))) → AllByRecursion (λ other. other.0 < column.0) front
     → column_at column.0 (front ++ column ∷ back) ≡ Some column.1
 column_found [] column back a = rw (alike column.0) refl
@@ -85,7 +85,7 @@ column_missing m [] [] a b = refl
 column_missing m [] (column ∷ back) a b = rw (apart column.0 m (λ e. omega (arith, b.0))) (column_missing m [] back tt b.1)
 column_missing m (first ∷ front) back a b = rw (apart first.0 m (λ e. omega (arith, a.0))) (column_missing m front back a.1 b)
 
--- the page's own column changes nothing
+-- a column of the page's own values changes nothing
 pub own_staged : {K V : Type 0} (pages : List (List (K × Option V))) (front back : List (ℕ × List (Option V))) (i : ℕ) → AllByRecursion (λ other. other.0 < i) front
     → AllByRecursion (λ other. i < other.0) back → i < length pages → staged_of pages (front ++ (i, column_of (page_at pages i)) ∷ back) ≡ staged_of pages (front ++ back)
 own_staged {K} {V} pages front back i a b l =

@@ -16,7 +16,7 @@ set_after : {X : Type 0} (front : List X) (x y : X) (back : List X) → set (fro
 set_after [] x y back = refl
 set_after (z ∷ front) x y back = ap (λ rest. z ∷ rest) (set_after front x y back)
 
--- a column as plain data, and the columns after a write to it
+-- the columns as contracts see them: the one at an index, and all of them after it is written
 module _ {V P : Type 0} (seen : P → ℕ × List (Option V)) (ps : List P) (columns front : List (ℕ × List (Option V))) (x : ℕ × List (Option V)) (back : List (ℕ × List (Option V))) (index : ℕ)
     (view : map seen ps ≡ columns) (is : columns ≡ front ++ x ∷ back) (at : index ≡ length front) where
   pub index_within : index < length ps
@@ -38,7 +38,7 @@ columns_written pages page front back old new e fit =
     let following = all_back (IsColumnOf pages) front ((page, old) ∷ back) fit in
     all_append (IsColumnOf pages) front ((page, new) ∷ back) (all_front (IsColumnOf pages) front ((page, old) ∷ back) fit) ((following.0.0, e ∙ following.0.1), following.1)
 
--- what is staged has the value
+-- after a value is written into the page's column, what is staged has it at its place, and is otherwise the same
 pub staged_written : {K V : Type 0} (pages : List (List (K × Option V))) (old new : List (ℕ × List (Option V))) (page index j : ℕ) (value : V) → page < length pages
     → (touched : IsTouched pages old new page index) → staged_of pages (touched.front ++ (page, set touched.column j (Some value)) ∷ touched.back) ≡ with_value_at (page, j) value (staged_of pages old)
 staged_written pages old new page index j value there touched =

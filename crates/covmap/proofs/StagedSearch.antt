@@ -52,14 +52,14 @@ module _ {V : Type 0} (page : ℕ) where
       let following : page < column.0 = grind (arith, other, above) in
       (following, all_weaker (λ other. column.0 < other.0) (λ other. page < other.0) columns (λ other l. omega (arith, following, l)) a)
 
-  -- if the page has no column, the columns after it have greater numbers
+  -- if the page has no column, the columns that aren't in front have greater numbers
   pub columns_missing : (columns : List (ℕ × List (Option V))) → AreAscending columns
       → (option_map (λ column. column.0) (slice_get columns (lead (λ column. nat_lt column.0 page) columns)) ≡ Some page → ⊥)
       → AllByRecursion (λ other. page < other.0) (drop (lead (λ column. nat_lt column.0 page) columns) columns)
   columns_missing [] a none = tt
   columns_missing (column ∷ columns) a none = missing_at column columns a.0 (nat_lt column.0 page) refl (columns_missing columns a.1) none
 
-  -- if it has one, it is there
+  -- if the page has a column at an index, the columns are those before this index, this column, and those after it
   pub columns_there : (columns : List (ℕ × List (Option V))) (i : ℕ) → option_map (λ column. column.0) (slice_get columns i) ≡ Some page
       → (column : List (Option V)) × (columns ≡ take i columns ++ (page, column) ∷ drop (suc i) columns)
   columns_there [] i e = absurd cc

@@ -1,4 +1,4 @@
--- A page gets a column: where the column is, and that nothing else is staged by this.
+-- A page gets a column: where the column is, and that what is staged stays the same.
 use Rattle.std.proofs.Common.{◌≡◌, ℕ, Bool, zero, suc, ◌<◌, true, false, Option, List, [], ◌∷◌, ◌++◌, length, take, drop, map, refl, sym, ap, ◌∙◌, subst, arith, length-take}
 use mathlib.Core.Bool.{false≢true}
 use Rattle.std.specs.Prelude.{Some, None, IsTrue, if◌then◌else◌, option_map, slice_get, nat_lt, nat_eq}

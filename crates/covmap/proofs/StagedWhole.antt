@@ -66,7 +66,7 @@ pages_fit_staged n (page ∷ pages) columns a =
     let same = length_page page (column_at n columns) in
     ((omega (arith, same, a.0.0), omega (arith, same, a.0.1)), pages_fit_staged (suc n) pages columns a.1)
 
--- what is staged are valid slots
+-- the staged pages are valid slots
 pub staged_whole : {K V : Type 0} (cmp : K → K → Ordering) (pages : List (List (K × Option V))) (columns : List (ℕ × List (Option V))) → AreSlots cmp pages → AreSlots cmp (staged_of pages columns)
 staged_whole cmp pages columns slots = record {
   pages_fit = pages_fit_staged 0 pages columns slots.pages_fit;

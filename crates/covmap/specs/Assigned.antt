@@ -6,7 +6,7 @@ use Rattle.covmap.specs.Staged.{column_of, with_page}
 use Rattle.covmap.specs.Puts.{put}
 use Rattle.covmap.specs.Slots.{At, page_at}
 
--- the pairs without that of the key
+-- the pairs without the pair of this key
 abbrev pub without : {K V : Type 0} → (K → K → Ordering) → K → List (K × V) → List (K × V)
 without cmp key [] = []
 without cmp key (pair ∷ pairs) = if is_eq (cmp pair.0 key) then without cmp key pairs else pair ∷ without cmp key pairs
@@ -16,6 +16,6 @@ abbrev pub assigned : {K V : Type 0} → (K → K → Ordering) → K → Option
 assigned cmp key None pairs = without cmp key pairs
 assigned cmp key (Some value) pairs = put cmp key value pairs
 
--- the pages after the slot at a place gets this value, or none
+-- the pages after the slot at a place gets this value, or becomes empty
 abbrev pub with_slot : {K V : Type 0} → At → Option V → List (List (K × Option V)) → List (List (K × Option V))
 with_slot at value pages = with_page at.0 (slice_set (column_of (page_at pages at.0)) at.1 value) pages

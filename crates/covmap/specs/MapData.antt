@@ -3,12 +3,12 @@ use Rattle.std.specs.Prelude.{ℕ, Option, List}
 use Rattle.covmap.specs.Staged.{staged_of}
 use Rattle.covmap.specs.Slots.{filled, slots_of}
 
--- the entries, ascending by their keys: the committed ones, and those that a commit would leave
+-- the entries, ascending by their keys: the committed ones, and the staged ones, which would be committed by a commit
 pub record MapData (K V : Type 0) : Type 0 where
   pub committed : List (K × V)
   pub staged : List (K × V)
 
--- the entries of pages of slots with their columns of staged values
+-- the entries of a map, from its pages of slots and its columns of staged values
 abbrev pub map_data : {K V : Type 0} → List (List (K × Option V)) → List (ℕ × List (Option V)) → MapData K V
 map_data pages columns = record {
   committed = filled (slots_of pages);

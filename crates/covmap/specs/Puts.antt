@@ -1,4 +1,4 @@
--- Keys with values, ascending: the value of a key, and a value put in.
+-- Pairs of a key and a value, ascending by the keys: the value of a key, and the pairs after a key gets a value.
 use Rattle.std.specs.Prelude.{◌≡◌, Option, List, [], ◌∷◌}
 use Rattle.std.specs.declared.cmp.Ordering.{Ordering}
 use Rattle.std.specs.declared.cmp.Ordering.TheVariants.{Less}

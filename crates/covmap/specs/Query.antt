@@ -13,12 +13,13 @@ pub record IsQuery {K : Type 0} (cmp : K → K → Ordering) (order : K → Orde
   pub following : (x y : K) → cmp x y ≡ Less → is_lt (order x) ≡ false → order y ≡ Greater
   pub same : (x y : K) → order x ≡ Equal → order y ≡ cmp y x
 
--- x before y, and y before or at z
+-- if x comes before y, and y doesn't come after z, then x comes before z
 before_at : {K : Type 0} {cmp : K → K → Ordering} → IsTotalOrder cmp → (x y z : K) (o : Ordering) → cmp y z ≡ o → cmp x y ≡ Less → is_gt o ≡ false → cmp x z ≡ Less
 before_at t x y z Less e l g = t.trans x y z l e
 before_at t x y z Equal e l g = sym (alike_right t y z x e) ∙ l
 before_at t x y z Greater e l g = absurd cc
 
+-- if x comes before y, and x doesn't come before z, then y comes after z
 after_at : {K : Type 0} {cmp : K → K → Ordering} → IsTotalOrder cmp → (x y z : K) (o : Ordering) → cmp x z ≡ o → cmp x y ≡ Less → is_lt o ≡ false → cmp y z ≡ Greater
 after_at t x y z Less e l g = absurd cc
 after_at t x y z Equal e l g = t.antisymm y z ∙ ap ordering_reverse (sym (t.congr x z y e) ∙ l)

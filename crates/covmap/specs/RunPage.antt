@@ -31,7 +31,7 @@ abbrev pub column_summed : {V Q M : Type 0} → (M → Option V → V) → List 
 column_summed sum [] column = column
 column_summed sum (here ∷ placed) column = column_summed sum placed (value_summed sum here.slot here.item column)
 
--- wherever a key has a slot, the addend fits the value there
+-- up to the first key without a slot, each addend fits the value in its key's slot, after the addends before it are added
 abbrev pub FitHere : {K V Q M : Type 0} → (K → K → Ordering) → (Q → K) → (M → Option V → Type 0) → (M → Option V → V) → List (K × Option V) → List (Q × M) → List (Option V) → Type 0
 FitHere cmp named fits sum page [] column = Unit {0}
 FitHere cmp named fits sum page (item ∷ run) column =
@@ -39,7 +39,7 @@ FitHere cmp named fits sum page (item ∷ run) column =
 
 -- ---- along a page
 
--- what items report, each in its slot of a column, in order
+-- what the items report, in order, when each addend is added in its item's slot of a column
 abbrev pub told_here : {V Q M N : Type 0} → (M → Option V → V) → (M → Option V → V → Option N) → List (Placed Q M) → List (Option V) → List (Q × N)
 told_here sum told [] column = []
 told_here sum told (here ∷ placed) column =

@@ -1,4 +1,4 @@
--- Slots of keys with values, ascending and split into pages, and places among them.
+-- Slots: ascending keys, each with a value or with none. How they are split into pages, and the places of slots.
 use Rattle.std.specs.Prelude.{◌≡◌, ℕ, zero, suc, ◌≤◌, ◌<◌, nat_lt, Bool, true, false, if◌then◌else◌, Option, Some, None, option_map, List, [], ◌∷◌, ◌++◌, length, take, drop, flat_map, slice_get, slice_index_or, slice_set}
 use Rattle.std.specs.declared.cmp.Ordering.{Ordering}
 use Rattle.std.specs.declared.cmp.Ordering.TheVariants.{Less, Equal, Greater}
@@ -8,7 +8,7 @@ use Rattle.std.specs.Map.{lookup}
 
 -- ---- slots in one list: each key with its value, or with none
 
--- what is in the slot of the queried key; none if it has no slot
+-- what is in the slot of the queried key; `None` if the key has no slot
 abbrev pub slot_value : {K V : Type 0} → (K → Ordering) → List (K × Option V) → Option (Option V)
 slot_value order slots = lookup (λ key. is_eq (order key)) slots
 
@@ -16,7 +16,7 @@ slot_value order slots = lookup (λ key. is_eq (order key)) slots
 abbrev pub has_slot : {K : Type 0} → (K → Ordering) → List K → Bool
 has_slot order keys = list_any (λ key. is_eq (order key)) keys
 
--- the slots of keys, with values for the first of them; the others are empty
+-- the slots of keys. The first slots get these values, one after another, and the slots that are left are empty
 abbrev pub beside : {K V : Type 0} → List K → List (Option V) → List (K × Option V)
 beside [] values = []
 beside (key ∷ keys) [] = (key, None) ∷ beside keys []
@@ -78,14 +78,15 @@ value_at pages at = value_in (option_map (λ slot. slot.1) (slot_at pages at))
 abbrev pub following : {K V : Type 0} → List (List (K × Option V)) → At → At
 following pages at = if nat_lt (suc at.1) (length (page_at pages at.0)) then (at.0, suc at.1) else (suc at.0, 0)
 
--- the slots before a place, and those from it on
+-- the slots before a place
 abbrev pub before : {K V : Type 0} → List (List (K × Option V)) → At → List (K × Option V)
 before pages at = slots_of (take at.0 pages) ++ take at.1 (page_at pages at.0)
 
+-- the slots from a place on
 abbrev pub from : {K V : Type 0} → List (List (K × Option V)) → At → List (K × Option V)
 from pages at = drop at.1 (page_at pages at.0) ++ slots_of (drop (suc at.0) pages)
 
--- the pages after the page of this number is split in two
+-- all pages, with the page of this number split in two
 abbrev pub with_page_split : {K V : Type 0} → ℕ → List (List (K × Option V)) → List (List (K × Option V))
 with_page_split page pages = take page pages ++ take 128 (page_at pages page) ∷ drop 128 (page_at pages page) ∷ drop (suc page) pages
 
@@ -98,7 +99,7 @@ abbrev pub order_at : {K V : Type 0} → (K → Ordering) → Option (K × Optio
 order_at order None = Greater
 order_at order (Some slot) = order slot.0
 
--- the place of the queried key
+-- the slot at this place has the queried key
 abbrev pub IsPlace : {K V : Type 0} → (K → Ordering) → List (List (K × Option V)) → At → Type 0
 IsPlace order pages at = order_at order (slot_at pages at) ≡ Equal
 

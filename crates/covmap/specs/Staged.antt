@@ -17,7 +17,7 @@ with_column (slot ∷ page) (value ∷ column) = (slot.0, value) ∷ with_column
 abbrev pub with_page : {K V : Type 0} → ℕ → List (Option V) → List (List (K × Option V)) → List (List (K × Option V))
 with_page number column pages = slice_set pages number (with_column (page_at pages number) column)
 
--- the staged column of this page
+-- the staged column of this page, if it has one
 abbrev pub column_at : {V : Type 0} → ℕ → List (ℕ × List (Option V)) → Option (List (Option V))
 column_at page [] = None
 column_at page (column ∷ columns) = if eqb column.0 page then Some column.1 else column_at page columns
@@ -40,18 +40,20 @@ staged_of pages columns = staged_from 0 pages columns
 abbrev pub with_value_at : {K V : Type 0} → At → V → List (List (K × Option V)) → List (List (K × Option V))
 with_value_at at value pages = slice_set pages at.0 (with_column (page_at pages at.0) (slice_set (column_of (page_at pages at.0)) at.1 (Some value)))
 
--- columns with ascending page numbers; and below, each of an existing page, with a value for each of its slots
+-- the columns are of pages after the page of this number
 abbrev pub AreAfter : {V : Type 0} → ℕ → List (ℕ × List (Option V)) → Type 0
 AreAfter number columns = AllByRecursion (λ column. number < column.0) columns
 
+-- the page numbers of the columns ascend
 abbrev pub AreAscending : {V : Type 0} → List (ℕ × List (Option V)) → Type 0
 AreAscending [] = Unit {0}
 AreAscending (column ∷ columns) = AreAfter column.0 columns × AreAscending columns
 
+-- the column is of one of these pages, and has a value for each of its slots
 abbrev pub IsColumnOf : {K V : Type 0} → List (List (K × Option V)) → ℕ × List (Option V) → Type 0
 IsColumnOf pages column = (column.0 < length pages) × (length column.1 ≡ length (page_at pages column.0))
 
--- the columns are of these pages
+-- each column is such a column of these pages
 abbrev pub AreColumnsOf : {K V : Type 0} → List (List (K × Option V)) → List (ℕ × List (Option V)) → Type 0
 AreColumnsOf pages columns = AllByRecursion (IsColumnOf pages) columns
 
@@ -74,13 +76,13 @@ abbrev pub own_of : {V : Type 0} → ℕ → Option (List (Option V)) → List (
 own_of page None = []
 own_of page (Some column) = (page, column) ∷ []
 
--- the column of a page among the others
+-- the columns are those of the pages in front, the column of this page if it has one, and those of later pages
 pub record IsAmong {V : Type 0} (page : ℕ) (columns front : List (ℕ × List (Option V))) (here : Option (List (Option V))) (back : List (ℕ × List (Option V))) : Type 0 where
   pub is : columns ≡ front ++ (own_of page here ++ back)
   pub below : AllByRecursion (λ other. other.0 < page) front
   pub above : AllByRecursion (λ other. page < other.0) back
 
--- the page's column, if any, after an empty value is inserted
+-- the columns after an empty value is inserted into the page's column, if it has one
 pub record IsWidened {V : Type 0} (page index : ℕ) (old new : List (ℕ × List (Option V))) : Type 0 where
   pub front : List (ℕ × List (Option V))
   pub here : Option (List (Option V))
@@ -90,10 +92,11 @@ pub record IsWidened {V : Type 0} (page index : ℕ) (old new : List (ℕ × Lis
 
 -- ---- a page split in two
 
--- the number of a page after the page of this number is split
+-- the new number of the page `number` when the page `page` is split
 abbrev pub number_after : ℕ → ℕ → ℕ
 number_after page number = if nat_lt page number then suc number else number
 
+-- the column with its page's new number
 abbrev pub moved : {V : Type 0} → ℕ → ℕ × List (Option V) → ℕ × List (Option V)
 moved page column = (number_after page column.0, column.1)
 

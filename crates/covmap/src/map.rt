@@ -12,8 +12,8 @@ use std::marker::Model;
 
 /// A finite map with committed and staged values. If nothing is staged for a key, its staged value is the committed one.
 ///
-/// Contracts see two lists of entries, ascending by their keys: the committed ones, and the staged ones, which are what a
-/// commit leaves.
+/// Contracts see two lists of entries, ascending by their keys: the committed ones, and the staged ones, which are the committed
+/// ones after a commit.
 ///
 /// A look-up costs no search for the key that was looked up last, and for the one right after it.
 #[derive(Drop)]
@@ -37,9 +37,9 @@ impl<K: Key, V, A: Allocator> Model for StagedMap<K, V, A> {
 /// What an addend did to the value of a key.
 #[derive(Drop)]
 pub struct Sum<V> {
-    /// The staged value before; none if the key had none.
+    /// The staged value before the addend was added; `None` if the key had no value.
     pub before: Option<V>,
-    /// The staged value with the addend.
+    /// The staged value after the addend was added.
     pub after: V,
     /// The place of the key.
     pub place: SlotIndex,
@@ -129,7 +129,7 @@ impl<K: Key, V: Value, A: Allocator> StagedMap<K, V, A> {
         }
     }
 
-    /// The committed value of a key, and the place to look at first for the next one.
+    /// The committed value of a key, and a place: the guess to give when the next key is looked up.
     pub fn lookup_at<Q: Query<K, A>>(&self, query: Q, guess: SlotIndex) -> (Option<V>, SlotIndex)
         ensures value { result.0 ≡ value_of K.cmp (Q.named query) self.now.committed }
         ensures whole { ArePairs K.cmp self.now.committed }

@@ -1,8 +1,8 @@
-//! Slots in the order of their keys, each with a committed value or empty.
+//! Slots in ascending order of their keys. Each slot has a committed value or is empty.
 //!
 //! The slots are split into pages of at most 256, so inserting a key moves only few others. A binary search finds a page by its
-//! last key, and then a slot on it. A walk in order costs no search, if each place is the guess for the next one. Callers know
-//! the list of all slots, and what a place is, but not how the pages are split.
+//! last key, and then a slot on it. Looking up all keys in order costs no search if each place is the guess for the next look-up.
+//! Contracts see the pages, but a caller needs only the list of all slots and the places of keys.
 
 ghost use Rattle.std.specs.Prelude.{◌≡◌, ◌+◌, ◌^◌, ◌<◌, None, [], ◌∷◌, ◌++◌, IfErr, IfNone, IfOk, IfSome, OnErr, OnOk, true, is_some, length, option_map};
 ghost use Rattle.std.specs.declared.cmp.Ordering.TheVariants.{Less};
@@ -30,7 +30,7 @@ const PAGE_SLOTS: usize = 256;
 /// How many slots a full page keeps when it is split.
 const HALF: usize = 128;
 
-/// The place of a key: the number of its page, and of its slot there.
+/// The place of a key: the number of its page, and the number of its slot on this page.
 #[derive(Clone, Copy)]
 pub struct SlotIndex {
     page: usize,
@@ -44,7 +44,7 @@ impl SlotIndex {
     }
 }
 
-/// Slots in the order of their keys, each with a committed value or empty. Contracts see the pages of slots.
+/// Slots in ascending order of their keys. Each slot has a committed value or is empty. Contracts see the pages of slots.
 #[derive(Drop)]
 pub(crate) struct Slots<K: Key, V, A: Allocator> {
     pages: Vec<Page<K, V, A>, A>,
@@ -91,7 +91,8 @@ impl<K: Key, V, A: Allocator> Slots<K, V, A> {
 }
 
 impl<K: Key, V, A: Allocator> Slots<K, V, A> {
-    /// The place where the queried key would be: the keys before the place come before it, and those from the place on don't.
+    /// The place where the queried key would be. The keys before this place come before the queried key, and those from this
+    /// place on don't.
     fn cut<Q: Query<K, A>>(&self, query: Q) -> SlotIndex
         ensures cut { IsCut (λ key. K.cmp key (Q.named query)) self.now (at result) }
         ensures whole { AreSlots K.cmp self.now }
@@ -105,7 +106,8 @@ impl<K: Key, V, A: Allocator> Slots<K, V, A> {
     }
 
     /// The place of the queried key; as an error, the place where it would be inserted. Costs no search if the key is at the
-    /// guess or right after it, or would be inserted there.
+    /// guess, or if it is right after the guess or would be inserted there. If it would be inserted right before the guess, only
+    /// a guess at the first slot of a page costs a search.
     pub(crate) fn find<Q: Query<K, A>>(
         &self,
         query: Q,
@@ -122,7 +124,8 @@ impl<K: Key, V, A: Allocator> Slots<K, V, A> {
         }
     }
 
-    /// The same as `find`. Costs no search if the key is, or would be inserted, right after the slot before the guess.
+    /// The same as `find`. Costs no search if the guess isn't the first slot of its page, and the key is, or would be inserted,
+    /// right after the slot before the guess.
     fn find_before<Q: Query<K, A>>(
         &self,
         query: Q,

@@ -21,7 +21,7 @@ closed_at (b ∷ bs) zero lt none is = rw is refl
 closed_at (b ∷ bs) (suc k) lt none is =
     rw (false_from_ne_true (eqb b 93) (none 0 (omega arith)), closed_at bs k (omega arith) (λ j l. none (suc j) (omega arith)) is) refl
 
--- no ] after the first byte
+-- if no ] follows the first byte, there is no body
 pub body_unread : (text : List ℕ) (first : ℕ) (behind : List ℕ) → text ≡ first ∷ behind → Nowhere (IsClose behind) 0 (length behind) →
     option_map (after_body text) (body_of text) ≡ None
 body_unread text first behind e none =
@@ -34,7 +34,7 @@ read_cut first behind k lt is =
     rw (is, take_rest behind (k + 1), add-one k, add-one (suc (length (take k behind))))
     (ap (λ (n : ℕ). Some (first ∷ take k behind, drop (suc n) behind)) (sym (length-take-le k behind le)))
 
--- the first ] comes after the first byte and k more
+-- if the first ] comes after the first byte and k more, the body is these bytes
 pub body_read : (text : List ℕ) (first : ℕ) (behind : List ℕ) (k : ℕ) → text ≡ first ∷ behind → NoneBefore (IsClose behind) 0 (length behind) k × IsClose behind k →
     Some (take (k + 1) text, take (length behind - (k + 1)) (drop (k + 1) behind)) ≡ option_map (after_body text) (body_of text)
 body_read text first behind k e at =

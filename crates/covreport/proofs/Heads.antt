@@ -5,7 +5,7 @@ use Rattle.covreport.specs.Pattern.{Part, head_of, parts_after, parts_of}
 use Rattle.covreport.specs.PatternParts.{part_data, head_data, after_head}
 use Rattle.covreport.specs.declared.pattern.parts.Head.{Head}
 
--- bytes that belong to the part before are left out
+-- to skip the bytes that belong to the part before is to drop them from the pattern
 pub parts_drop : (taken : ℕ) (pattern : List ℕ) → parts_after taken pattern ≡ parts_of (drop taken pattern)
 parts_drop zero [] = refl
 parts_drop zero (b ∷ rest) = refl

@@ -22,7 +22,7 @@ close_lacks [] none = refl
 close_lacks (b ∷ bs) none =
     rw (close_differs b bs none, close_lacks bs (All-tail (λ c. c ≢ 93) b bs none)) refl
 
--- a pattern means what its head means, and what follows that
+-- a pattern matches a path exactly if its head's part, followed by the parts after the head, fits the path
 by_head : (first : ℕ) (after path : List ℕ) (head : Head) → head_of first after ≡ head → matches (first ∷ after) path ≡ fits (head.part ∷ parts_of (drop head.more after)) path
 by_head first after path head e =
     rw (parts_drop (head_of first after).more after) (ap (λ (h : Head). fits (h.part ∷ parts_of (drop h.more after)) path) e)
@@ -53,7 +53,7 @@ set_takes_none first b body rest path none =
     (rw (close_found body rest none) refl)
     ∙ ap (λ (t : List ℕ). not (in_body b (first ∷ body)) && matches t path) (after_none first body rest)
 
--- if nothing is opened, the bracket is plain
+-- a [ that opens no set takes itself
 bracket_plain : (b : ℕ) (after path : List ℕ) → opened_set after ≡ None → matches (91 ∷ after) (b ∷ path) ≡ (eqb b 91 && matches after path)
 bracket_plain b after path e = by_head 91 after (b ∷ path) (plain 91) (rw e refl)
 

@@ -1,4 +1,4 @@
--- A list has one sorted order if the order distinguishes all members, and `sorted` gives it.
+-- A list can be sorted in only one way if only equal elements compare as equal. `sorted` sorts it in this way.
 use Rattle.std.proofs.Common.{◌≡◌, ℕ, zero, suc, add-one, ◌+◌, ◌<◌, Bool, false, true, cond, List, [], ◌∷◌, length, get_or, refl, sym, ap, ap₂, ◌∙◌, arith}
 use Rattle.std.specs.Cmp.{IsTotalOrder}
 use Rattle.std.specs.declared.cmp.Ordering.{Ordering}
@@ -27,7 +27,7 @@ not_below Less h = refl
 not_below Equal h = refl
 not_below Greater h = absurd (false≢true (sym h))
 
--- neither above nor below
+-- if neither of two elements is greater than the other, they compare as equal
 level : (o : Ordering) → is_gt o ≡ false → is_gt (ordering_reverse o) ≡ false → o ≡ Equal
 level Less p q = absurd (false≢true (sym q))
 level Equal p q = refl
@@ -37,7 +37,7 @@ module _ {X : Type 0} (cmp : X → X → Ordering) (total : IsTotalOrder cmp) wh
   abbrev AtMost : X → X → Type 0
   AtMost a b = is_gt (cmp a b) ≡ false
 
-  -- each member is at most each one after it
+  -- each element is at most each element after it
   abbrev pub Rises : List X → Type 0
   Rises [] = Unit {0}
   Rises (x ∷ xs) = AllByRecursion (AtMost x) xs × Rises xs
@@ -107,7 +107,7 @@ module _ {X : Type 0} (cmp : X → X → Ordering) (total : IsTotalOrder cmp) wh
 
   -- ---- there is one sorted order
 
-  -- how many members are below x
+  -- 1 if z is less than x, else 0. Summed over a list, this counts the elements that are less than x
   abbrev below : X → X → ℕ
   below x z = cond (is_gt (cmp x z)) 1 0
 

@@ -4,7 +4,7 @@ use Rattle.std.proofs.lemmas.Bool.{or_cases, or_left, or_right, and_parts}
 use Rattle.covreport.specs.Pattern.{Part, AnyRun, OneByte, ByteSet, takes, fits}
 use Rattle.covreport.specs.PatternSteps.{fits_later}
 
--- a star takes the empty run, or a later one
+-- a star takes the empty run or a longer one
 pub fits_run : (parts : List Part) (path : List ℕ) → (fits parts path || fits_later parts path) ≡ fits (AnyRun ∷ parts) path
 fits_run parts [] = refl
 fits_run parts (b ∷ path) = refl
@@ -18,7 +18,7 @@ fits_after parts path e = sym (fits_run parts path) ∙ or_right (fits parts pat
 run_cases : (parts : List Part) (path : List ℕ) → fits (AnyRun ∷ parts) path ≡ true → (fits parts path ≡ true) ⊎ (fits_later parts path ≡ true)
 run_cases parts path e = or_cases (fits parts path) (fits_later parts path) (fits_run parts path ∙ e)
 
--- a star before a byte may take the byte too
+-- if a star, a part of one byte and other parts fit a path, the star and the other parts fit the path without its first byte
 pub star_over_byte : (set : ByteSet) (parts : List Part) (b : ℕ) (path : List ℕ) → fits (AnyRun ∷ OneByte set ∷ parts) (b ∷ path) ≡ true → fits (AnyRun ∷ parts) path ≡ true
 star_over_byte set parts b [] e =
     elim (run_cases (OneByte set ∷ parts) (b ∷ []) e) [
@@ -31,7 +31,7 @@ star_over_byte set parts b (c ∷ path) e =
       | inr later ↦ or_right (fits parts (c ∷ path)) (fits (AnyRun ∷ parts) path) (star_over_byte set parts c path later)
     ]
 
--- two stars take what one takes
+-- if two stars and other parts fit a path, one star and the other parts fit it too
 pub star_star : (parts : List Part) (path : List ℕ) → fits (AnyRun ∷ AnyRun ∷ parts) path ≡ true → fits (AnyRun ∷ parts) path ≡ true
 star_star parts [] e =
     elim (run_cases (AnyRun ∷ parts) [] e) [ inl now ↦ now | inr later ↦ absurd cc ]

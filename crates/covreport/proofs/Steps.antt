@@ -44,7 +44,7 @@ absorbs true y under = refl
 absorbs false true under = under refl
 absorbs false false under = refl
 
--- what the star before could find, this one finds
+-- if there is a match in which the star before takes more, there is a match with the new star
 covered : (old new : Position) (star : Option Position) → IsRead old.pattern.now AnyRun new.pattern.now → old.path.now ≡ new.path.now → GoesOnFrom star old →
     fits_following star ≡ true → fits (AnyRun ∷ parts_of new.pattern.now) new.path.now ≡ true
 covered old new None read path goes fit = absurd cc

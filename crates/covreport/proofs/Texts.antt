@@ -1,4 +1,4 @@
--- A text that is printed part by part, and counted; the parts of a section.
+-- A text that is printed part by part while points are counted, and the parts of a section.
 use Rattle.std.proofs.Common.{◌≡◌, ℕ, ◌+◌, ◌^◌, ◌<◌, ◌≤◌, Bool, true, false, cond, List, [], ◌∷◌, ◌++◌, length, map, filter, count_by, refl, sym, ap, ◌∙◌, append_assoc, arith, ◌≢◌}
 use Rattle.std.specs.List.{flat_map}
 use Rattle.std.proofs.lemmas.List.{append-nil}
@@ -25,7 +25,7 @@ module _ {X Y : Type 0} (part : X → List Y) (whole text : List Y) where
   pub ends : (left : List X) → left ≡ [] → text ++ flat_map part left ≡ whole → text ≡ whole
   ends left none so_far = sym (append-nil text) ∙ ap (λ (xs : List X). text ++ flat_map part xs) (sym none) ∙ so_far
 
--- what is printed and counted so far, with what is left
+-- what is printed and counted so far, together with what is left, is the whole text and the numbers of all points
 pub record IsPrinted {X : Type 0} (part : X → List ℕ) (is_hit : X → Bool) (all left : List X) (before text : List ℕ) (found hit : ℕ) : Type 0 where
   pub written : text ++ flat_map part left ≡ before ++ flat_map part all
   pub counted : found + length left ≡ length all
@@ -125,7 +125,7 @@ module _ (choice : ChoiceData) (all : List SectionData) (text : List ℕ) where
   pub report_ends : (left : List SectionData) → left ≡ [] → text ++ report_text choice left ≡ report_text choice all → text ≡ report_text choice all
   report_ends left none so_far = sym (append-nil text) ∙ ap (λ (s : List SectionData). text ++ report_text choice s) (sym none) ∙ so_far
 
-  -- if a file is chosen, the text of all sections is not empty
+  -- if the file of a section is chosen, the printed text is not empty
   pub report_there : (s : SectionData) (left more : List SectionData) → left ≡ s ∷ more → text ++ report_text choice left ≡ report_text choice all → is_chosen choice s.key.file ≡ true → report_text choice all ≢ []
   report_there s left more next so_far chosen none =
       let rest = filter (λ (s : SectionData). is_chosen choice s.key.file) more in

@@ -12,15 +12,16 @@ pub data ChoiceData : Type 0 where
 abbrev pub any_matches : List (List ℕ) → List ℕ → Bool
 any_matches patterns path = list_any (λ pattern. matches pattern path) patterns
 
--- the file is chosen: each one; those that a pattern matches; those that none does
+-- the file is chosen: any file is; or only a file that a pattern matches; or only a file that no pattern matches
 abbrev pub is_chosen : ChoiceData → List ℕ → Bool
 is_chosen AllFiles file = true
 is_chosen (Extracted patterns) file = any_matches patterns file
 is_chosen (Removed patterns) file = not (any_matches patterns file)
 
--- the most patterns in one list, and the most bytes in one pattern
+-- the most patterns in one list
 abbrev pub max_patterns : ℕ
 max_patterns = 64
 
+-- the most bytes in one pattern
 abbrev pub max_pattern_bytes : ℕ
 max_pattern_bytes = 1024

@@ -1,4 +1,4 @@
--- The choice of the code, seen as plain data.
+-- A `Choice` of the program, seen as plain data.
 use Rattle.covreport.specs.declared.choice.Choice.{Choice}
 use Rattle.covreport.specs.declared.choice.Choice.TheVariants as choices
 use Rattle.covreport.specs.Choice.{ChoiceData, AllFiles, Extracted, Removed}

@@ -24,12 +24,12 @@ abbrev pub before_close : List ℕ → Option (List ℕ)
 before_close [] = None
 before_close (b ∷ rest) = if b == 93 then Some [] else option_map (λ body. b ∷ body) (before_close rest)
 
--- the body of a set: at least one byte, whatever that is, and the bytes after it before the first ]
+-- the body of a set: its first byte, which may be any byte, and the bytes after that one and before the next ]
 abbrev pub body_of : List ℕ → Option (List ℕ)
 body_of [] = None
 body_of (first ∷ rest) = option_map (λ body. first ∷ body) (before_close rest)
 
--- the set that [ opens before these bytes, where they close it. A ! at once is the mark of a set that has none of its body
+-- the set whose [ comes right before these bytes, if a ] closes it. If they begin with !, it has the bytes that its body hasn't
 abbrev pub opened_set : List ℕ → Option Head
 opened_set [] = None
 opened_set (b ∷ rest) =
@@ -46,8 +46,8 @@ quoted (b ∷ rest) = record { part = OneByte (Exactly b); more = 1 }
 abbrev pub plain : ℕ → Head
 plain b = record { part = OneByte (Exactly b); more = 0 }
 
--- the part that begins with this byte before these: * takes any run, ? any byte, \ quotes, [ opens a set; each other byte,
--- and a [ that opens none, takes itself
+-- the part that begins with this byte, if these bytes follow it: * takes any run, ? takes any byte, \ quotes, [ opens a set.
+-- Each other byte takes itself, and so does a [ that no ] closes
 abbrev pub head_of : ℕ → List ℕ → Head
 head_of b rest =
     if b == 42 then record { part = AnyRun; more = 0 }
@@ -86,7 +86,7 @@ abbrev pub ends_of : List ℕ → List (List ℕ)
 ends_of [] = [] ∷ []
 ends_of (b ∷ path) = (b ∷ path) ∷ ends_of path
 
--- parts fit a path: a run is taken if the other parts fit what is left after some run
+-- the parts fit the whole path. A star fits if the other parts fit what is left after some run of bytes
 abbrev pub fits : List Part → List ℕ → Bool
 fits [] [] = true
 fits [] (b ∷ path) = false

@@ -1,4 +1,4 @@
--- The numbers of the reasons why a pattern isn't taken, which stay the same in all versions.
+-- The number of each reason why a pattern isn't added. These numbers stay the same in all versions.
 use Rattle.std.specs.Prelude.{ℕ}
 use Rattle.covreport.specs.declared.patterns.PatternFault.{PatternFault}
 use Rattle.covreport.specs.declared.patterns.PatternFault.TheVariants.{TooMany, TooLong, Memory}

@@ -19,7 +19,7 @@ abbrev pub part_data : Part → pattern.Part
 part_data parts.AnyRun = pattern.AnyRun
 part_data (parts.OneByte set) = pattern.OneByte (set_data set)
 
--- a set's body is a range of bytes and a rest
+-- a set's body is a range of bytes and then this rest
 pub record BeginsWithRange (body : List ℕ) (low high : ℕ) (rest : List ℕ) : Type 0 where
   pub has : (byte : ℕ) → pattern.in_body byte body ≡ ((nat_le low byte && nat_le byte high) || pattern.in_body byte rest)
   pub less : length rest < length body

@@ -8,12 +8,12 @@ use Rattle.covreport.specs.declared.pattern.steps.Matcher.{Matcher}
 abbrev pub fits_at : Position → Bool
 fits_at place = fits (parts_of place.pattern.now) place.path.now
 
--- parts fit some end of a path, but for the whole path
+-- the parts fit some end of the path that is shorter than the whole path
 abbrev pub fits_later : List Part → List ℕ → Bool
 fits_later parts [] = false
 fits_later parts (b ∷ path) = fits (AnyRun ∷ parts) path
 
--- the parts after the last star fit where its run ends later than it was last taken to
+-- the parts after the last star fit if its run ends later than where it was last taken to end
 abbrev pub fits_following : Option Position → Bool
 fits_following None = false
 fits_following (Some star) = fits_later (parts_of star.pattern.now) star.path.now

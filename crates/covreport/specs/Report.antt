@@ -12,7 +12,7 @@ use Rattle.covstore.specs.Content.{FunctionValueData, BranchValueData, LineValue
 use Rattle.covstore.specs.Value.{is_taken}
 use Rattle.covreport.specs.Choice.{ChoiceData, is_chosen}
 
--- x at its place in a sorted list
+-- the sorted list with x inserted at its place
 abbrev pub put_in : {X : Type 0} → (X → X → Ordering) → X → List X → List X
 put_in cmp x [] = x ∷ []
 put_in cmp x (y ∷ ys) = match_ordering (cmp x y) (x ∷ y ∷ ys) (x ∷ y ∷ ys) (y ∷ put_in cmp x ys)
@@ -21,7 +21,7 @@ abbrev pub sorted : {X : Type 0} → (X → X → Ordering) → List X → List 
 sorted cmp [] = []
 sorted cmp (x ∷ xs) = put_in cmp x (sorted cmp xs)
 
--- how many points there are, and how many of them are hit
+-- the two records of the totals of a kind: how many points are found, and how many are hit
 abbrev pub totals : TotalKind → TotalKind → ℕ → ℕ → List LineData
 totals found_kind hit_kind found hit = Total found_kind found ∷ Total hit_kind hit ∷ []
 
@@ -37,40 +37,47 @@ function_cmp a b = ordering_then (nat_cmp a.line b.line) (ordering_then (slice_c
 abbrev pub by_start : List FunctionValueData → List FunctionValueData
 by_start functions = sorted function_cmp functions
 
--- the start lines of functions, their counts, and how many there are and how many of them have a count above 0
+-- the record of a function's start line
 abbrev pub start_record : FunctionValueData → LineData
 start_record f = FuncStart f.line f.name
 
+-- the record of a function's count
 abbrev pub call_record : FunctionValueData → LineData
 call_record f = FuncCount f.count f.name
 
+-- how many functions have a count above 0
 abbrev pub functions_hit : List FunctionValueData → ℕ
 functions_hit functions = count_by (λ f. nat_lt 0 f.count) functions
 
+-- the functions of a section: their start lines, then their counts, then their totals if there is a function
 abbrev pub function_records : List FunctionValueData → List LineData
 function_records functions =
     map start_record (by_start functions) ++ (map call_record (by_start functions)
     ++ totals_if_any FuncFound FuncHit (length functions) (functions_hit functions))
 
--- branches, and how many there are and how many of them were taken
+-- the record of a branch
 abbrev pub branch_record : BranchValueData → LineData
 branch_record b = Branch b.point.line b.point.block b.point.branch b.taken
 
+-- how many branches were taken at least once
 abbrev pub branches_hit : List BranchValueData → ℕ
 branches_hit branches = count_by (λ b. is_taken b.taken) branches
 
+-- the branches of a section, then their totals if there is a branch
 abbrev pub branch_records : List BranchValueData → List LineData
 branch_records branches =
     map branch_record branches
     ++ totals_if_any BranchFound BranchHit (length branches) (branches_hit branches)
 
--- lines, and how many there are and how many of them have a count above 0: these two totals are always printed
+-- the record of a line
 abbrev pub line_record : LineValueData → LineData
 line_record l = Line l.line l.count l.checksum
 
+-- how many lines have a count above 0
 abbrev pub lines_hit : List LineValueData → ℕ
 lines_hit lines = count_by (λ l. nat_lt 0 l.count) lines
 
+-- the lines of a section, then their totals, even if there is no line
 abbrev pub line_records : List LineValueData → List LineData
 line_records lines = map line_record lines ++ totals LineFound LineHit (length lines) (lines_hit lines)
 

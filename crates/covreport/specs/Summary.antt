@@ -3,16 +3,19 @@ use Rattle.std.specs.Prelude.{ℕ, ◌+◌, ◌*◌, ◌/◌, ◌%◌, ◌==◌,
 use Rattle.covline.specs.Lines.{line_feed}
 use Rattle.covstore.specs.declared.totals.Totals.{Totals}
 
--- tenths of a percent, rounded to the nearest, halves up; less than all never shows as all, nor more than none as none
+-- a rate in tenths of a percent, rounded to the nearest, halves up
 abbrev pub rounded : ℕ → ℕ → ℕ
 rounded hit found = (2000 * hit + found) / (2 * found)
 
+-- at most 999 tenths if not all points are hit
 abbrev pub not_all : ℕ → ℕ → ℕ → ℕ
 not_all hit found tenths = if nat_lt hit found then min tenths 999 else tenths
 
+-- at least 1 tenth if a point is hit
 abbrev pub not_none : ℕ → ℕ → ℕ
 not_none hit tenths = if nat_lt 0 hit then max tenths 1 else tenths
 
+-- the rate that is printed
 abbrev pub tenths_of : ℕ → ℕ → ℕ
 tenths_of hit found = not_none hit (not_all hit found (rounded hit found))
 

@@ -8,7 +8,7 @@ use std::alloc::{Allocator, Global};
 pub enum Choice<A: Allocator = Global> {
     /// Every file.
     All,
-    /// The files that match at least one of the patterns; none if there are no patterns.
+    /// The files that match at least one of the patterns; no file if there are no patterns.
     Extract(Patterns<A>),
     /// The files that match none of the patterns; every file if there are no patterns.
     Remove(Patterns<A>),

@@ -7,9 +7,10 @@ ghost use Rattle.covreport.specs.Pattern.{matches, in_body};
 ghost use Rattle.covreport.specs.Report.{by_start, function_cmp};
 ghost use Rattle.covreport.specs.Summary.{tenths_of};
 
-/// A pattern means what its first part means, and then the rest. The empty pattern matches the empty path alone; `?` takes
-/// any byte, `\` the next byte as itself, and at the end itself; a byte other than `*`, `?`, `[` and `\` takes itself.
-/// Each part but a star needs a byte.
+/// A pattern matches a path if its first part takes the front of the path, and the rest of the pattern matches what follows.
+/// The empty pattern matches only the empty path. `?` takes any byte. `\` takes the byte that follows it in the pattern, and at
+/// the end of the pattern it takes itself. A byte other than `*`, `?`, `[` and `\` takes itself. Each part but a star needs a
+/// byte.
 pub fn a_pattern_begins_with_its_head()
     ensures nothing { (matches [] [] ≡ true) × ((b : ℕ) (path : List ℕ) → matches [] (b ∷ path) ≡ false) }
     ensures any { (rest path : List ℕ) (b : ℕ) → matches (63 ∷ rest) (b ∷ path) ≡ matches rest path }
@@ -20,13 +21,14 @@ pub fn a_pattern_begins_with_its_head()
     ensures needs_a_byte { (rest : List ℕ) (first : ℕ) → first ≢ 42 → matches (first ∷ rest) [] ≡ false }
 {}
 
-/// A star takes any run of bytes: a path matches if the rest of the pattern matches what follows some run at its front.
+/// A star takes any run of bytes. A pattern that begins with a star matches a path exactly if the rest of the pattern matches
+/// what follows some run of bytes at the front of the path.
 pub fn a_star_takes_any_run()
     ensures { (rest path : List ℕ) → (matches (42 ∷ rest) path ≡ true) ↔ ((run end : List ℕ) × (path ≡ run ++ end) × (matches rest end ≡ true)) }
 {}
 
-/// A set is closed by the first `]` after its body's first byte. It takes a byte that is in the body; with `!`, one that
-/// isn't.
+/// A set is closed by the first `]` after its body's first byte. It takes a byte that is in the body. With a `!` in front of the
+/// body, it takes a byte that isn't.
 pub fn a_set_takes_its_bytes()
     ensures set { (first b : ℕ) (body rest path : List ℕ) → first ≢ 33 → All (λ c. c ≢ 93) body → matches (91 ∷ first ∷ (body ++ 93 ∷ rest)) (b ∷ path) ≡ (in_body b (first ∷ body) && matches rest path) }
     ensures none { (first b : ℕ) (body rest path : List ℕ) → All (λ c. c ≢ 93) body → matches (91 ∷ 33 ∷ first ∷ (body ++ 93 ∷ rest)) (b ∷ path) ≡ (not (in_body b (first ∷ body)) && matches rest path) }
@@ -40,14 +42,14 @@ pub fn an_unclosed_set_is_plain()
     ensures none { (first b : ℕ) (body path : List ℕ) → All (λ c. c ≢ 93) body → matches (91 ∷ 33 ∷ first ∷ body) (b ∷ path) ≡ (b == 91 && matches (33 ∷ first ∷ body) path) }
 {}
 
-/// Functions are printed in the order of their start lines, those with the same one by their names: each of them, as often
-/// as it is there, and no other.
+/// Functions are printed in the order of their start lines, and those with the same start line in the order of their names.
+/// Each function is printed as often as it is there, and no other is printed.
 pub fn functions_are_printed_by_start()
     ensures { (functions : List FunctionValueData) → IsSorted function_cmp (by_start functions) × IsPermutation functions (by_start functions) }
 {}
 
-/// A printed rate is less than one tenth of a percent off. It is 100.0 percent exactly if every point is hit, and 0.0
-/// percent exactly if none is.
+/// A printed rate differs from the true one by less than one tenth of a percent. It is 100.0 percent exactly if every point is
+/// hit, and 0.0 percent exactly if no point is.
 pub fn rates_are_told_truly()
     ensures near { (hit found : ℕ) → 0 < found → hit ≤ found → (found * tenths_of hit found < 1000 * hit + found) × (1000 * hit < found * tenths_of hit found + found) }
     ensures all { (hit found : ℕ) → 0 < found → hit ≤ found → (tenths_of hit found ≡ 1000) ↔ (hit ≡ found) }

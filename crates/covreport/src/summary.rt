@@ -25,7 +25,7 @@ pub fn tenths(hit: u64, found: u64) -> u32
     if hit > 0 { not_all.max(1) } else { not_all }
 }
 
-/// Tenths of a percent, rounded to the nearest.
+/// The rate of points hit, in tenths of a percent, rounded to the nearest, halves up.
 fn rounded(hit: u64, found: u64) -> u32
     requires some { 0 < found }
     requires fewer { hit ≤ found }
@@ -89,7 +89,7 @@ fn put_summary<A: Allocator>(
     text.append(b"\n")
 }
 
-/// Appends the rate of points hit, if there are any points.
+/// Appends the rate of points hit, with the numbers of points hit and found; `no data found` if there are no points.
 fn put_value<A: Allocator>(
     words: &Words<'_>,
     hit: u64,

@@ -1,4 +1,4 @@
-//! The merged tracefile as text (geninfo(1), section FILES): a section for each file and test with a row.
+//! The merged tracefile as text (geninfo(1), section FILES). It has a section for each pair of a file and a test that have a row.
 
 ghost use Rattle.std.specs.Prelude.{◌≡◌, ◌≢◌, ◌++◌, true, [], ◌∷◌, IfOk, OnOk, OnErr};
 ghost use Rattle.covreport.specs.Choice.{is_chosen};
@@ -18,8 +18,8 @@ use covline::{Bytes, Memory, TraceLine, put_line};
 use covstore::{Section, Store};
 use std::alloc::Allocator;
 
-/// The text of the sections of all chosen files, in order. It allocates the text, and the list of one section's
-/// functions at a time; nothing if no section is chosen.
+/// The text of the sections of all chosen files, in order. It allocates this text and, while it prints a section, a list of the
+/// section's functions. If no section is chosen, it allocates nothing.
 pub fn trace_text<A: Allocator + Copy>(
     alloc: A,
     store: &Store<A>,

@@ -9,11 +9,12 @@ use crate::slots::run::make_slots;
 use std::alloc::{AllocError, Allocator};
 
 impl<K: Key + Drop, V: Value, A: Allocator + Copy> StagedMap<K, V, A> {
-    /// Stages, item by item, the sum of the key's staged value and its addend. Appends what the addends report to `told`. Keys
-    /// may come in any order, and more than once.
+    /// Stages, for each item in turn, the sum of its key's staged value and its addend. Appends what the addends report to the
+    /// list `told`. Keys may come in any order, and more than once.
     ///
-    /// Ascending keys are looked up once for each page that they are on. New keys that are greater than all others get pages of
-    /// their own at once; a new key between others is inserted by itself.
+    /// Ascending keys that have slots are looked up once for each page that they are on. New keys that are greater than all
+    /// others get a page at once, unless fewer than 32 items are left and the last page has room. Any other new key is inserted
+    /// by itself.
     ///
     /// # Errors
     ///

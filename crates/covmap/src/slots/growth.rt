@@ -1,4 +1,4 @@
-//! Inserts a slot, even while values are staged: their columns follow the pages.
+//! Inserts a slot, even while values are staged. The columns of staged values are then changed in the same way as the pages.
 //!
 //! If memory is refused after the slots have changed, what is staged is forgotten.
 
@@ -88,7 +88,7 @@ fn put_within<K: Key + Drop, V: Value, A: Allocator + Copy>(
     put_at(slots, staged, place, key)
 }
 
-/// Appends an empty slot.
+/// Appends an empty slot for a key that is greater than all others.
 fn put_after<K: Key + Drop, V: Value, A: Allocator + Copy>(
     slots: &mut Slots<K, V, A>,
     staged: &mut StagedColumns<V, A>,

@@ -1,7 +1,7 @@
-//! A page of slots: ascending keys, and values for the first of them.
+//! A page of slots: a list of ascending keys, and a list of their values, which may be shorter.
 //!
-//! Keys and values are separate lists: a search reads only keys, and all values of a page are exchanged at once. Slots after the
-//! last value are empty, so a page without committed values takes memory only for its keys.
+//! The lists are separate, so that a search reads only keys, and a commit replaces all values of a page at once. The slots past
+//! the end of the list of values are empty, so a page without committed values takes memory only for its keys.
 
 ghost use Rattle.std.specs.Prelude.{◌≡◌, ◌<◌, ◌≤◌, ◌-◌, ◌++◌, None, [], ◌∷◌, IfNone, IfOk, IfSome, OnErr, OnOk, true, is_some, length, map, drop, option_map, slice_get, slice_set, take};
 ghost use Rattle.std.specs.List.{insert};
@@ -33,7 +33,7 @@ impl<K, V, A: Allocator> Model for Page<K, V, A> {
     ghost invariant = { λ page. length page.values.items ≤ length page.keys.items };
 }
 
-/// The slots of a page from one on. Contracts see each key with its value, or with none.
+/// The slots of a page, from some slot on. Contracts see each key with its value, or with none.
 #[derive(Drop)]
 pub(crate) struct Rest<'a, K, V> {
     keys: &'a [K],
@@ -219,7 +219,7 @@ impl<K: Drop, V: Value, A: Allocator + Copy> Page<K, V, A> {
 }
 
 impl<K, V: Value, A: Allocator> Page<K, V, A> {
-    /// A copy of the values from a slot on. The slots after the last of them are empty.
+    /// A copy of the values from a slot on. If there are fewer values than slots, the slots without one are empty.
     fn values_from(&self, alloc: A, start: usize) -> Result<Vec<Option<V>, A>, AllocError>
         ensures values { IfOk result (λ values. beside (drop start (map (λ slot. slot.0) self.now)) values.items ≡ drop start self.now) }
         ensures fits { IfOk result (λ values. length values.items ≤ length self.now - start) }

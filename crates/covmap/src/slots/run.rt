@@ -12,11 +12,12 @@ use crate::slots::staged::StagedColumns;
 use crate::slots::{PAGE_SLOTS, SlotIndex, Slots, push};
 use std::alloc::{AllocError, Allocator};
 
-/// A run of fewer keys than this goes to the last page if that has room. A longer one gets pages of its own.
+/// If a new key is greater than all others and fewer items than this are left of its run, it goes to the last page if that has
+/// room. Otherwise it begins a page of its own.
 const SHORT_RUN: usize = 32;
 
 impl SlotIndex {
-    /// Another slot of the same page.
+    /// The place of another slot of the same page.
     pub(crate) fn at(self, index: usize) -> SlotIndex {
         SlotIndex {
             page: self.page,
@@ -73,8 +74,8 @@ impl<K: Key + Drop, V: Value, A: Allocator + Copy> Slots<K, V, A> {
     }
 }
 
-/// Returns the place of the first key of a run, and inserts an empty slot if it has none. If that slot is the last of all, the
-/// next keys get theirs at once.
+/// Returns the place of the first key of a run. If this key has no slot, it gets an empty one, and so do the keys that follow it
+/// in the run, as long as they ascend and belong to the same page.
 pub(crate) fn make_slots<
     K: Key + Drop,
     V: Value,
@@ -109,9 +110,9 @@ pub(crate) fn make_slots<
     }
 }
 
-/// Inserts empty slots for the keys at the front of a run. Stops at the first key that doesn't ascend or belongs to another page,
-/// or when the page is full. A page without staged values gets all slots before it gets a column: after that, each slot would
-/// have to be inserted into the column too.
+/// Inserts empty slots for the keys at the front of a run. The last one is for the first key that isn't greater than the key
+/// before it or belongs to another page, or it fills the page. So a page without staged values gets all these slots before it
+/// gets a column. After that, each slot would have to be inserted into the column too.
 fn make_ahead<K: Key + Drop, V: Value, A: Allocator + Copy, Q: Query<K, A>, M: Addend<V>>(
     slots: &mut Slots<K, V, A>,
     staged: &mut StagedColumns<V, A>,

@@ -34,7 +34,7 @@ impl<V, A: Allocator> Model for StagedColumns<V, A> {
 }
 
 impl<V, A: Allocator> StagedColumns<V, A> {
-    /// Nothing is staged. Takes no memory.
+    /// No columns, so nothing is staged. Takes no memory.
     pub(crate) fn new(alloc: A) -> StagedColumns<V, A>
         ensures { result ≡ [] }
     {
@@ -53,7 +53,7 @@ impl<V, A: Allocator> StagedColumns<V, A> {
         pop_last(&mut self.columns)
     }
 
-    /// How many columns have a smaller number. Costs no search if the last column has this number.
+    /// How many columns have a smaller number than this page. Costs no search if the last column is that of this page.
     fn index_of(&self, page: usize) -> usize
         ensures { result ≡ lead (λ column. nat_lt column.0 page) self.now }
     {
@@ -192,7 +192,7 @@ impl<V: Value, A: Allocator> StagedColumns<V, A> {
         slots.value_at(place)
     }
 
-    /// A value of a column.
+    /// The value `at` this index of the column at `index`.
     fn value_of(&self, index: usize, at: usize) -> Option<V>
         ensures { (column : _) → slice_get self.now index ≡ Some column → result ≡ value_in (slice_get column.1 at) }
     {
@@ -207,7 +207,7 @@ impl<V: Value, A: Allocator> StagedColumns<V, A> {
 }
 
 impl<V: Value, A: Allocator + Copy> StagedColumns<V, A> {
-    /// Makes room for a slot that is inserted at a place. Nothing is staged in it.
+    /// Follows the insertion of an empty slot at a place: if its page has a column, inserts an empty value there.
     pub(crate) fn insert_empty(&mut self, place: SlotIndex) -> Result<(), AllocError>
         requires { AllByRecursion (λ column. column.0 ≡ place.page → place.index ≤ length column.1) self.old }
         ensures ok { OnOk result (IsWidened place.page place.index self.old self.new) }
@@ -220,7 +220,8 @@ impl<V: Value, A: Allocator + Copy> StagedColumns<V, A> {
         Ok(())
     }
 
-    /// Follows the split of a page in two: the later pages get the next number.
+    /// Follows the split of a page in two. The columns of later pages get the next number, and the page's own column, if it has
+    /// one, is split in two.
     pub(crate) fn split(&mut self, page: usize) -> Result<(), AllocError>
         requires numbers { AllByRecursion (λ column. column.0 + 1 < 2 ^ 64) self.old }
         requires full { AllByRecursion (λ column. column.0 ≡ page → length column.1 ≡ 256) self.old }
@@ -238,7 +239,7 @@ impl<V: Value, A: Allocator + Copy> StagedColumns<V, A> {
         Ok(())
     }
 
-    /// Gives the columns of the later pages the next number.
+    /// Adds 1 to the numbers of the columns of later pages.
     fn renumber(&mut self, page: usize)
         requires { AllByRecursion (λ column. column.0 + 1 < 2 ^ 64) self.old }
         ensures { self.new ≡ map (moved page) self.old }
@@ -294,7 +295,7 @@ fn insert_empty<V: Drop, A: Allocator>(
     Ok(())
 }
 
-/// Gives the columns of the later pages the next number.
+/// Adds 1 to the numbers of the columns of later pages.
 fn renumber<V, A: Allocator>(columns: &mut [(usize, Vec<Option<V>, A>)], page: usize)
     requires { AllByRecursion (λ column. column.0 + 1 < 2 ^ 64) columns.old }
     ensures { columns.new ≡ map (λ column. (number_after page column.0, column.1)) columns.old }
@@ -304,7 +305,7 @@ fn renumber<V, A: Allocator>(columns: &mut [(usize, Vec<Option<V>, A>)], page: u
     }
 }
 
-/// The number of a page after another page is split in two.
+/// The new number of the page `number` when `page` is split in two.
 fn number_after(page: usize, number: usize) -> usize
     requires { number + 1 < 2 ^ 64 }
     ensures { result ≡ number_after page number }

@@ -6,7 +6,7 @@ ghost use Rattle.covreport.specs.PatternParts.{set_data, BeginsWithRange, head_d
 
 use memchr::memchr;
 
-/// The bytes of which a part takes one. A set keeps its body.
+/// The bytes of which a part takes one. Of a `[...]`, its body is kept.
 #[derive(Clone, Copy)]
 pub(crate) enum ByteSet<'a> {
     /// Each byte.
@@ -56,7 +56,8 @@ fn body_takes(body: &[u8], byte: u8) -> bool
     false
 }
 
-/// The range at the front of a set's body, which may be of one byte, and what follows it.
+/// The range at the front of a set's body, and what follows this range; `None` if the body is empty. A byte without a
+/// `-` and another byte after it is a range of one byte.
 fn read_range(body: &[u8]) -> Option<(u8, u8, &[u8])>
     ensures { MatchOption result (body.now ≡ []) (λ range. BeginsWithRange body.now range.0 range.1 range.2.now) }
 {
@@ -74,7 +75,7 @@ pub(crate) struct Head<'a> {
     pub(crate) rest: &'a [u8],
 }
 
-/// A part of one byte, which these bytes follow.
+/// The part that takes one byte of this set, if these bytes follow it in the pattern.
 fn one_byte<'a>(set: ByteSet<'a>, rest: &'a [u8]) -> Head<'a>
     ensures { head_data result ≡ (OneByte (set_data set.entry), rest.now) }
 {
@@ -84,7 +85,7 @@ fn one_byte<'a>(set: ByteSet<'a>, rest: &'a [u8]) -> Head<'a>
     }
 }
 
-/// The body of the set whose `[` comes right before these bytes, if they close it, and what follows the set.
+/// The body of the set whose `[` or `[!` comes right before these bytes, and what follows the set; `None` if no `]` closes it.
 fn read_body(text: &[u8]) -> Option<(&[u8], &[u8])>
     ensures { option_map (λ read. (read.0.now, read.1.now)) result ≡ option_map (after_body text.now) (body_of text.now) }
 {
@@ -93,7 +94,7 @@ fn read_body(text: &[u8]) -> Option<(&[u8], &[u8])>
     Some((&text[..close + 1], &behind[close + 1..]))
 }
 
-/// The set whose `[` comes right before these bytes, if they close it.
+/// The part of a `[` right before these bytes, if it opens a set; `None` if no `]` closes it.
 fn read_set(rest: &[u8]) -> Option<Head<'_>>
     ensures { option_map head_data result ≡ option_map (after_head rest.now) (opened_set rest.now) }
 {
@@ -115,7 +116,7 @@ fn read_quoted(rest: &[u8]) -> Head<'_>
     }
 }
 
-/// The part that begins with this byte, which these bytes follow.
+/// The part that begins with the byte `first`, if the bytes `rest` follow it in the pattern.
 pub(crate) fn read_head(first: u8, rest: &[u8]) -> Head<'_>
     ensures { head_data result ≡ after_head rest.now (head_of first rest.now) }
 {

@@ -14,8 +14,8 @@ struct Position<'a> {
     path: &'a [u8],
 }
 
-/// How far a match has come. It goes back to the last star only: the parts before it fit as early in the path as they
-/// can, and fitting them later would leave that star no more to take.
+/// How far a match has come. It goes back to the last star only. The parts before this star fit as early in the path as they
+/// can. If they fit later, there would be less of the path left for the star and the parts after it.
 #[derive(Drop)]
 pub(crate) struct Matcher<'a> {
     here: Position<'a>,
@@ -24,7 +24,7 @@ pub(crate) struct Matcher<'a> {
 }
 
 impl<'a> Matcher<'a> {
-    /// A match of the whole path.
+    /// A match of the pattern with the whole path, before its first step.
     pub(crate) fn new(pattern: &'a [u8], path: &'a [u8]) -> Matcher<'a>
         ensures answer { answer_of result ≡ pattern_matches pattern.now path.now }
         ensures goes_on { GoesOn result }
@@ -56,7 +56,7 @@ impl<'a> Matcher<'a> {
         }
     }
 
-    /// The end of the pattern: it has to be the end of the path.
+    /// Takes a step at the end of the pattern. There is a match if this is also the end of the path. Otherwise goes back.
     fn end(&mut self) -> Option<bool>
         requires goes_on { GoesOn self.old }
         requires at_end { length self.old.here.pattern.now ≡ 0 }
@@ -68,7 +68,8 @@ impl<'a> Matcher<'a> {
         self.go_back()
     }
 
-    /// Takes a byte of the set at the front of the pattern, which the rest follows.
+    /// Takes the next byte of the path if it is in the set. Otherwise goes back. What is left of the pattern is this set and then
+    /// `rest`.
     fn take_byte(&mut self, set: ByteSet<'a>, rest: &'a [u8]) -> Option<bool>
         requires goes_on { GoesOn self.old }
         requires parts { parts_of self.old.here.pattern.now ≡ OneByte (set_data set) ∷ parts_of rest.now }

@@ -82,7 +82,7 @@ fn put_starts<A: Allocator>(
     Ok(())
 }
 
-/// Appends the counts of functions, and counts the functions.
+/// Appends the counts of functions. Returns how many functions there are, and how many have a count above 0.
 fn put_counts<A: Allocator>(
     functions: &[PrintedFunction<'_>],
     text: &mut Bytes<A>,

@@ -8,7 +8,7 @@ use Rattle.covbook.specs.Step.{no_totals}
 use Rattle.covbook.proofs.Checked.{reading_on, reading_stops}
 use Rattle.covbook.proofs.gathering.check_readings.Goals as goal
 
--- a reading for places past the end
+-- the default that `reading_stops` and `reading_on` take for an index past the end of the readings
 abbrev no_reading : Reading
 no_reading = record { upto = 0; totals = no_totals }
 

@@ -4,7 +4,7 @@ use Rattle.covbook.specs.GatherSteps.{below}
 use Rattle.covbook.specs.LogView.{log_data}
 use Rattle.covbook.proofs.places.least_missing.Given as goal
 
--- no place below `told` is missing, and one below `beyond` is
+-- no place below `told` is missing, and some place below `beyond` is missing
 abbrev pub invariant-loop-told : goal.invariant-loop-told
 invariant-loop-told g l =
     (l.told < l.beyond) × (l.beyond ≤ l.count) × (below l.told (places_in (map log_data l.logs)) ≡ l.told) × (below l.beyond (places_in (map log_data l.logs)) < l.beyond)

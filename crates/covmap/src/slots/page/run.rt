@@ -25,8 +25,8 @@ pub(crate) struct Along {
 }
 
 impl<K: Key, V: Value, A: Allocator> Page<K, V, A> {
-    /// Adds the front of a run to the values of a column, from a slot on. Stops at the first key that has no slot on this page
-    /// after the slot of the key before it. Skips the slots between two keys.
+    /// Adds items at the front of a run to the values of a column. The first key is that of the slot `start`. Stops at the first
+    /// key that has no slot on this page after the slot of the key before it. Slots of keys that aren't in the run are skipped.
     pub(crate) fn add_along<Q: Query<K, A>, N: Drop, M: ReportingAddend<V, N>>(
         &self,
         column: &mut [Option<V>],
@@ -58,7 +58,7 @@ impl<K: Key, V: Value, A: Allocator> Page<K, V, A> {
         Ok(Along { count, next })
     }
 
-    /// Where to look for the slot of a key: this slot, or one of the next, or where a search leads.
+    /// Where to look for the slot of a key: at `start`, at one of the next slots, or where a search of the page leads.
     pub(crate) fn near<Q: Query<K, A>>(&self, start: usize, query: Q) -> usize
         requires { IsAscending K.cmp self.now }
         ensures { order_at (λ key. K.cmp key (Q.named query)) (slice_get self.now start) ≡ Equal → result ≡ start }
@@ -86,8 +86,8 @@ impl<K: Key, V: Value, A: Allocator> Page<K, V, A> {
 }
 
 impl<K: Drop, V: Value, A: Allocator + Copy> Page<K, V, A> {
-    /// A page of empty slots for the keys at the front of a run. Stops at the first key that doesn't ascend, or when the page is
-    /// full.
+    /// A page of empty slots for the keys at the front of a run. Stops at the first key that isn't greater than the key before
+    /// it, or when the page is full.
     pub(crate) fn of_run<Q: Query<K, A>, M: Addend<V>>(
         alloc: A,
         run: &[(Q, M)],

@@ -3,7 +3,7 @@ use Rattle.std.proofs.lemmas.Bool.{false≢true}
 use Rattle.std.proofs.lemmas.List.{get_or_default, take_more}
 use Rattle.covreport.proofs.patterns.Patterns.is_same.Goals as goal
 
--- one more pattern
+-- if the patterns so far are equal and so are the next ones, the lists are equal up to these
 same_more : (xs ys : List (List ℕ)) (i : ℕ) (x y : List ℕ) → i < length xs → x ≡ get_or xs i x → i < length ys → y ≡ get_or ys i y → take i xs ≡ take i ys → x ≡ y → take (i + 1) xs ≡ take (i + 1) ys
 same_more xs ys i x y in_xs is_x in_ys is_y so_far same =
     take_more xs i x in_xs ∙ ap (λ (z : List ℕ). take i xs ++ z ∷ []) (sym is_x ∙ same ∙ is_y)
