@@ -10,7 +10,7 @@ use Rattle.covrun.specs.Files.{HasReadBlock, IsReadFault}
 pub read_begun : (left : Option (List ℕ)) (text : List ℕ) → text ≡ [] → Consumes left left text
 read_begun left text is = subst (λ (t : List ℕ). Consumes left left t) (sym is) (Consumes-nil left)
 
--- one more block
+-- one more block is read
 pub read_on : (old now new : Option (List ℕ)) (text text_after : List ℕ) (room count : ℕ) → Consumes old now text
     → HasReadBlock now new text text_after room count → Consumes old new text_after
 read_on old now new text text_after room count before (bytes, took, is, long, few, ended) =
@@ -31,7 +31,7 @@ pub read_within : (now new : Option (List ℕ)) (text text_after : List ℕ) (ro
 read_within now new text text_after room block part count some is (bytes, took, now_is, long, few, ended) =
     (bytes, took, now_is, long, omega (arith, few, is), λ none wanted. ended none (omega (arith, some, is, wanted)))
 
--- no more blocks: a read failed, or memory ran out
+-- the next block isn't read, since a read failed or memory ran out
 pub read_failed : (old now new : Option (List ℕ)) (text : List ℕ) (failed failed_now failed_new : ℕ) (fault : SessionFault) → Consumes old now text
     → failed_now ≡ failed → IsReadFault now new failed_now failed_new fault → IsReadFault old new failed failed_new fault
 read_failed old now new text failed failed_now failed_new faults.Read before same (bytes, took, more) =

@@ -35,7 +35,7 @@ abbrev fault_of : Result SubmissionData ReadFault → ReadFault
 fault_of (Ok submission) = reads.Memory
 fault_of (Err fault) = fault
 
--- if memory ran out for the reader, the result says so
+-- if memory ran out for the reader, it ran out for the check
 memory_told : (is_skipped : List ℕ → Type 0) (text : List ℕ) (read : Result SubmissionData ReadFault) (answer : Result TextSummary ReadFault)
     → read ≡ Err reads.Memory → Tells is_skipped text read answer → answer ≡ Err reads.Memory
 memory_told is_skipped text (Ok submission) answer is tells = absurd cc
@@ -56,7 +56,7 @@ gcov_answered text answer (read, inr outcome, late, tells) = inr (read, outcome,
 
 -- ---- files and their outcomes
 
--- what is reported for each file, and for the next one
+-- what is reported for some files, followed by what is reported for the next file, is what is reported for all of them
 each_next : (told : List ℕ → OutcomeData → List ℕ) (files rest : List (List ℕ)) (outcomes : List OutcomeData) (file : List ℕ) (outcome : OutcomeData)
     → length outcomes ≡ length files
     → flat_map (λ (f : List ℕ × OutcomeData). told f.0 f.1) (zip files outcomes) ++ told file outcome
@@ -65,11 +65,11 @@ each_next told files rest outcomes file outcome same =
     flat_map_more (λ (f : List ℕ × OutcomeData). told f.0 f.1) [] (zip files outcomes) (file, outcome)
     ∙ ap (flat_map (λ (f : List ℕ × OutcomeData). told f.0 f.1)) (sym (zip_next files rest outcomes file outcome same))
 
--- the outcome is possible for the file
+-- this outcome is possible for this file
 abbrev becomes : FolderData → TextFormat → List ℕ × OutcomeData → Type 0
 becomes folder format f = IsOutcome folder format f.0 f.1
 
--- a file with this text is reported
+-- if the file may have this text, to report the file with this text is to report the file
 pub told_text : (folder : FolderData) (format : TextFormat) (file text : List ℕ) → length text ≤ suc max_bytes → IsTextOf (folder.holds file) text
     → (answer : Result Verdict SessionFault) (b d : SinksData) → TellsText format file text answer b d → TellsOne folder format file answer b d
 told_text folder format file text short fits answer b d (inl ran_out) = inl ran_out
@@ -124,7 +124,7 @@ says_next n m words more a b d (complained, grew, few) (complained', grew', few'
   omega (arith, few, few'),
 )
 
--- if the output is the same, it ends within the same line
+-- if the output is unchanged, it still ends within the same line
 within_next : (files : List (List ℕ)) (outcomes : List OutcomeData) (a b d : SinksData) → d.output ≡ b.output → EndsWithin files outcomes a b → EndsWithin files outcomes a d
 within_next files outcomes a b d same within = record {
   earlier = within.earlier;
@@ -178,7 +178,7 @@ told_without_room folder format files rest file so_far a b d (outcomes, all, (sa
       ),
     )
 
--- the next file is the last that is checked
+-- a fault came at the next file, so no later file is checked
 told_until : (folder : FolderData) (format : TextFormat) (files rest : List (List ℕ)) (file : List ℕ) (so_far : Verdict) (fault : SessionFault) (a b d : SinksData)
     → TellsEach folder format files (Ok so_far) a b → TellsOne folder format file (Err fault) b d
     → TellsEach folder format (files ++ file ∷ rest) (Err fault) a d
@@ -216,7 +216,7 @@ told_until folder format files rest file so_far faults.Read a b d before (inr (o
 told_until folder format files rest file so_far faults.Full a b d before (inl (ran_out, unchanged)) = absurd cc
 told_until folder format files rest file so_far faults.Full a b d before (inr (outcome, fits, none)) = absurd none
 
--- ---- in a slice of names
+-- ---- the files as a slice of names
 
 -- the next file is reported
 pub told_more : {X : Type 0} (folder : FolderData) (name : X → List ℕ) (format : TextFormat) (files : List X) (i : ℕ) (default : X) → i < length files
@@ -231,7 +231,7 @@ told_more folder name format files i default within file is so_far verdict after
     (subst (λ (v : Verdict). TellsEach folder format (map name (take i files) ++ file ∷ []) (Ok v) a d) (sym worse_is)
     (told_next folder format (map name (take i files)) file so_far verdict a b d before next))
 
--- the next file is reported, and no later one
+-- a fault came at the next file of the slice, so no later file is reported
 pub told_last : {X : Type 0} (folder : FolderData) (name : X → List ℕ) (format : TextFormat) (files : List X) (i : ℕ) (default : X) → i < length files
     → (file : List ℕ) → file ≡ name (get_or files i default) → (so_far : Verdict) (fault : SessionFault) (a b d : SinksData)
     → TellsEach folder format (map name (take i files)) (Ok so_far) a b → TellsOne folder format file (Err fault) b d
@@ -247,7 +247,7 @@ told_last {X} folder name format files i default within file is so_far fault a b
 
 -- ---- the end
 
--- the last words to the stream for faults
+-- the line of a fault was written to the stream for faults, in two parts
 pub says_last : (words front spoken : List ℕ) (b d : SinksData) → front ++ spoken ≡ words
     → (d.failed_faults ≡ b.failed_faults → Appends b.faults d.faults (front ++ spoken)) → b.failed_faults ≤ d.failed_faults
     → d.failed_faults ≤ suc b.failed_faults → Says 1 words b d

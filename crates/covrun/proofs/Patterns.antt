@@ -22,7 +22,7 @@ short_at name (word ∷ words) zero i default few within all = absurd (omega (ar
 short_at name (word ∷ words) (suc most) zero default few within all = all.0
 short_at name (word ∷ words) (suc most) (suc i) default few within all = short_at name words most i default (omega (arith, few)) (omega (arith, within)) all.1
 
--- the words before this one fill the list
+-- if the words before this one fill the list, the words are too many, and those that fit are short
 full_at : {X : Type 0} (name : X → List ℕ) (words : List X) (most i : ℕ) → i < length words → (held : List (List ℕ)) → held ≡ map name (take i words)
     → length held ≡ most → AllByRecursion IsShort held
     → (most < length (map name words)) × AllByRecursion IsShort (take most (map name words))
@@ -38,7 +38,7 @@ too_long long length_of most same short many = omega (arith, same, short, many)
 held_long : {X : Type 0} (name : X → List ℕ) (words : List X) (i : ℕ) → i < length words → (held : List (List ℕ)) → held ≡ map name (take i words) → length held ≡ i
 held_long name words i within held are = ap length are ∙ length-map (take i words) name ∙ length-take-le i words (omega (arith, within))
 
--- the fault of the list is that of the words
+-- if the list refuses this word, the words are refused with the same fault
 pub refused_at : {X : Type 0} (name : X → List ℕ) (words : List X) (i : ℕ) (default : X) → i < length words
     → (held : List (List ℕ)) → held ≡ map name (take i words) → ArePatterns held
     → (word : List ℕ) → word ≡ name (get_or words i default)

@@ -15,24 +15,24 @@ zip_next (j ∷ ks) rest [] k v same = absurd (omega (arith, same))
 zip_next {K} {V} (j ∷ ks) rest (w ∷ vs) k v same =
     ap (λ (ps : List (K × V)). (j, w) ∷ ps) (zip_next ks rest vs k v (omega (arith, same)))
 
--- keys without a value don't matter
+-- keys without a value make no pairs
 pub zip_front : {K V : Type 0} (ks rest : List K) (vs : List V) → length vs ≡ length ks → zip (ks ++ rest) vs ≡ zip ks vs
 zip_front [] rest [] same = zip_none rest
 zip_front [] rest (w ∷ vs) same = absurd (omega (arith, same))
 zip_front (j ∷ ks) rest [] same = refl
 zip_front {K} {V} (j ∷ ks) rest (w ∷ vs) same = ap (λ (ps : List (K × V)). (j, w) ∷ ps) (zip_front ks rest vs (omega (arith, same)))
 
--- all of them, and one more
+-- if `P` holds for all elements of a list and for one more, it holds for all elements of the longer list
 pub all_more : {X : Type 0} (P : X → Type 0) (xs : List X) (x : X) → AllByRecursion P xs → P x → AllByRecursion P (xs ++ x ∷ [])
 all_more P [] x all fits = (fits, tt)
 all_more P (y ∷ xs) x all fits = (all.0, all_more P xs x all.1 fits)
 
--- all pairs, and one more
+-- if `P` holds for all pairs and for the next pair, it holds for all pairs of the longer lists
 pub pairs_more : {K V : Type 0} (P : K × V → Type 0) (ks rest : List K) (vs : List V) (k : K) (v : V) → length vs ≡ length ks
     → AllByRecursion P (zip ks vs) → P (k, v) → AllByRecursion P (zip (ks ++ k ∷ rest) (vs ++ v ∷ []))
 pairs_more P ks rest vs k v same all fits = subst (AllByRecursion P) (sym (zip_next ks rest vs k v same)) (all_more P (zip ks vs) (k, v) all fits)
 
--- the same pairs, although more keys follow
+-- if `P` holds for all pairs, it still does if keys without a value follow
 pub pairs_front : {K V : Type 0} (P : K × V → Type 0) (ks rest : List K) (vs : List V) → length vs ≡ length ks
     → AllByRecursion P (zip ks vs) → AllByRecursion P (zip (ks ++ rest) vs)
 pairs_front P ks rest vs same all = subst (AllByRecursion P) (sym (zip_front ks rest vs same)) all

@@ -42,7 +42,7 @@ unreadable_at {X} {Y} folder name seen input files i default within inputs found
     = ap (map name) (drop_more files i default within) ∙ ap (λ (x : List ℕ). x ∷ map name (drop (i + 1) files)) (sym is) in
     (map name (take i files), map name (drop (i + 1) files), texts, cut ∙ ap (λ (xs : List (List ℕ)). map name (take i files) ++ xs) rest, are, fails)
 
--- the file's fault is that of the files
+-- if the next file has a fault, this is the fault of the files
 pub fault_at : (folder : FolderData) (files : List (List ℕ)) (name : List ℕ) (fault : FileFault) → IsUnread folder name fault
     → (folder.MayFail name → IsUnreadable folder files name) → IsFileFault folder files fault
 fault_at folder files name (Unreadable found) (is, fails) unreadable = subst (λ (n : List ℕ). IsUnreadable folder files n) (sym is) (unreadable fails)

@@ -56,7 +56,7 @@ abbrev pub ending_of : List (List ℕ) → Result CollectedData CollectFault →
 ending_of files (Ok c) = of_collected files c.entries c.refused
 ending_of files (Err fault) = of_collect fault
 
--- how a call ends that collects files: memory ran out; or a file can't be read; or all files were read, and the ending is that of
+-- how a call that collects files ends: memory ran out; or a file can't be read; or all files were read, and the ending is that of
 -- collecting their texts
 abbrev pub WorkEnds : FolderData → WorkData → EndingData → Type 0
 WorkEnds folder work ending =
@@ -111,7 +111,8 @@ IsCommandDone folder command status before after old new =
     ((after ≡ before) × (ending : EndingData) × StopsEarly command ending × IsEndingPrinted ending status old new)
     ⊎ (AreTaken command × IsTaskDone folder (task_of command) status before after old new)
 
--- the command is done. If the words form none, the fault is reported, and the input isn't read
+-- what a call does after its words are parsed. If they form a command, the command is done. If they form none, the fault is
+-- reported, and the input isn't read
 abbrev pub IsCallDone : FolderData → Result Command CommandFault → (status : ℕ) → (before after : SourceData) → SinksData → SinksData → Type 0
 IsCallDone folder (Ok command) status before after old new = IsCommandDone folder command status before after old new
 IsCallDone folder (Err fault) status before after old new = (after ≡ before) × IsEndingPrinted (of_line fault) status old new

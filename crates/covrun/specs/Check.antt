@@ -65,10 +65,11 @@ outcome_complaint file Unread = file ++ said (codes ": can't read")
 outcome_complaint file (Refused fault) = []
 outcome_complaint file (Held summary) = if has_item summary then [] else file ++ said (codes ": no items")
 
--- the lines of all files, in the files' order; and below, the complaints about them
+-- the lines that report the files, in the files' order
 abbrev pub check_lines : List (List ℕ) → List OutcomeData → List ℕ
 check_lines files outcomes = flat_map (λ (f : List ℕ × OutcomeData). outcome_line f.0 f.1) (zip files outcomes)
 
+-- the complaints about the files, in the files' order
 abbrev pub check_complaints : List (List ℕ) → List OutcomeData → List ℕ
 check_complaints files outcomes = flat_map (λ (f : List ℕ × OutcomeData). outcome_complaint f.0 f.1) (zip files outcomes)
 
@@ -103,7 +104,8 @@ pub record IsWholeCheck (files : List (List ℕ)) (outcomes : List OutcomeData) 
   pub written : new.failed_output ≡ old.failed_output
   pub complaints : Complains (check_complaints files outcomes) old new
 
--- memory ran out before all files were checked, and this is reported last
+-- memory ran out before all files were checked. The lines and complaints of the first files were written, and then the line
+-- `out of memory`
 pub record IsCheckWithoutRoom (files : List (List ℕ)) (outcomes : List OutcomeData) (status : ℕ) (old new : SinksData) : Type 0 where
   pub some : length outcomes < length files
   pub ends : status ≡ fault_status faults.Memory

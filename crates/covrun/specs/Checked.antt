@@ -103,7 +103,7 @@ TellsAll format files outcomes (Err faults.Memory) old new =
 TellsAll format files outcomes (Err faults.Read) old new = ⊥
 TellsAll format files outcomes (Err faults.Full) old new = ⊥
 
--- how files are reported, with some outcomes that are possible for them
+-- how files are reported: their outcomes are possible for them, and these outcomes are reported
 abbrev pub TellsEach : FolderData → TextFormat → (files : List (List ℕ)) → Result Verdict SessionFault → SinksData → SinksData → Type 0
 TellsEach folder format files answer old new =
     (outcomes : List OutcomeData) × AreOutcomes folder format files outcomes × TellsAll format files outcomes answer old new

@@ -13,9 +13,10 @@ use Rattle.covsession.specs.declared.session.fault.SessionFault.TheVariants as f
 use Rattle.covrun.specs.declared.words_fault.WordsFault.{WordsFault}
 use Rattle.covrun.specs.declared.words_fault.WordsFault.TheVariants as words
 
--- how a call ends. `Prints`: a text, of the last entry or of help. `BadLine`: the words don't fit the command line. `BadWords`: a
--- pattern or a test's name is refused. `Unreadable`: this file can't be read. `Stopped`: a stream failed, or there was no room.
--- `Ungathered`: the history isn't that of the jobs' logs. `Refuses`: the lines of refused texts and of clashes
+-- how a call ends. `Prints`: it prints the text of the last entry, help or the version. `BadLine`: the words don't fit the
+-- command line. `BadWords`: the patterns, the test's name or the number of jobs are refused. `Unreadable`: this file can't be
+-- read. `Stopped`: memory ran out, or the history was full. `Ungathered`: the history doesn't fit the jobs' logs, or has an entry
+-- after that of the last operation. `Refuses`: texts were refused or clashed, and these lines report them
 pub data EndingData : Type 0 where
   Prints : (text : List ℕ) → EndingData
   BadLine : (text : List ℕ) → EndingData
@@ -58,12 +59,12 @@ of_collect collects.Memory = Stopped faults.Memory
 of_collect (collects.Gather fault) = Ungathered
 of_collect collects.NotLast = Ungathered
 
--- an input was refused because memory ran out
+-- whether one of these inputs was refused because memory ran out
 abbrev pub ran_out : List RefusedInput → Bool
 ran_out [] = false
 ran_out (r ∷ refused) = if is_memory r.fault then true else ran_out refused
 
--- the name of the file with an index
+-- the name of the file at an index, or no bytes if there is no such file
 abbrev pub name_at : Option (List ℕ) → List ℕ
 name_at (Some name) = name
 name_at None = []
@@ -72,7 +73,7 @@ name_at None = []
 abbrev pub refusal_line : List (List ℕ) → RefusedInput → List ℕ
 refusal_line files r = name_at (slice_get files r.index) ++ codes ": " ++ refused_text r.fault
 
--- first the refused inputs, in the files' order; then the clashes, in the history's order
+-- the lines of the refused inputs, in the files' order, and then the lines of the clashes, in the history's order
 abbrev pub complaints : List (List ℕ) → List RefusedInput → List EntryData → List ℕ
 complaints files refused entries = flat_map (refusal_line files) refused ++ flat_map (λ (e : EntryData). clash_text e.answer) entries
 
@@ -84,15 +85,16 @@ text_in (RenamedAnswer sections) = []
 text_in NoSuchTestAnswer = []
 text_in (TextAnswer text) = text
 
--- the text that an entry answers, if it is one; and below, that of the last entry
+-- the text that is this entry's answer, or no bytes if its answer is no text
 abbrev pub text_at : Option EntryData → List ℕ
 text_at (Some e) = text_in e.answer
 text_at None = []
 
+-- the text of the last entry
 abbrev pub last_text : List EntryData → List ℕ
 last_text entries = text_at (slice_get entries (length entries - 1))
 
--- the text is printed if there are no complaints
+-- the text is printed if there are no such lines; otherwise the lines are the complaint
 abbrev pub unless_any : (lines : List ℕ) → (text : List ℕ) → EndingData
 unless_any [] text = Prints text
 unless_any (b ∷ bs) text = Refuses (b ∷ bs)

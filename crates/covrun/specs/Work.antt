@@ -11,14 +11,15 @@ use Rattle.covcommand.specs.declared.asked.TextFormat.{TextFormat}
 use Rattle.covrun.specs.declared.words_fault.WordsFault.{WordsFault}
 use Rattle.covrun.specs.declared.words_fault.WordsFault.TheVariants as words
 
--- the files to read; if they are gcov's, the test that their counts are of; the number of jobs; and what is asked after the files
+-- what a subcommand that collects files has to do. `files`: the files to read. `test`: if the files are gcov's output, the test
+-- that their counts are of. `jobs`: the number of jobs. `last`: the operation that is asked after all files are collected
 pub record WorkData : Type 0 where
   pub files : List (List ℕ)
   pub test : Option (List ℕ)
   pub jobs : ℕ
   pub last : OpData
 
--- the first name is the tracefile, the others are patterns
+-- the work that chooses files of a tracefile: the first name is the tracefile's, and the other names are patterns
 abbrev pub filtering : (List (List ℕ) → OpData) → List (List ℕ) → WorkData
 filtering op names = record { files = take 1 names; test = None; jobs = 1; last = op (drop 1 names) }
 
@@ -46,7 +47,7 @@ input_of (Some test) text = GcovInput test text
 abbrev pub IsShort : List ℕ → Type 0
 IsShort pattern = length pattern ≤ max_pattern_bytes
 
--- the patterns are accepted: neither too many, nor one of them too long
+-- the patterns are accepted: they aren't too many, and none of them is too long
 abbrev pub ArePatterns : List (List ℕ) → Type 0
 ArePatterns patterns = (length patterns ≤ max_patterns) × AllByRecursion IsShort patterns
 

@@ -124,7 +124,7 @@ fn answer(alloc: Global, format: TextFormat, text: &[u8]) -> Result<TextSummary<
     }
 }
 
-/// Reports what a file holds, and complains if it has no item.
+/// Reports what a file with this summary holds, and complains if it has no item.
 fn report_text_summary<O: Sink, E: Sink>(
     alloc: Global,
     name: &str,
@@ -145,7 +145,7 @@ fn report_text_summary<O: Sink, E: Sink>(
     Ok(verdict)
 }
 
-/// The verdict on a file that holds this. Complains if it has no item.
+/// The verdict on a file with this summary. Complains if the file has no item.
 fn judge<E: Sink>(name: &str, summary: &TextSummary<'_>, faults: &mut E) -> Verdict
     requires { E.failed_writes faults.old < 2 ^ 63 }
     ensures verdict { result ≡ verdict_of_summary summary.now }
@@ -181,7 +181,7 @@ fn print_refusal<O: Sink, E: Sink>(
     Ok(Verdict::Refused)
 }
 
-/// A line that begins with the name of its file.
+/// The line `told`, with the name of its file and a colon in front.
 fn line_of_file(alloc: Global, name: &str, told: &[u8]) -> Result<Vec<u8>, SessionFault>
     ensures line { IfOk result (λ line. line.items ≡ name.now ++ codes ": " ++ told.now) }
     ensures fault { IfErr result (λ fault. fault ≡ session_faults.Memory) }

@@ -22,15 +22,15 @@ pub(crate) enum Ending<'a> {
     Help(String),
     /// The words don't fit the command line.
     Line(String),
-    /// A pattern or the test's name is refused.
+    /// The patterns, the test's name or the number of jobs are refused.
     Words(WordsFault),
     /// This file can't be read.
     Unreadable(&'a str),
-    /// A stream failed, or there was no room.
+    /// Memory ran out, or the history was full.
     Stopped(SessionFault),
-    /// The history isn't that of the jobs' logs.
+    /// The history doesn't fit the jobs' logs, or has an entry after that of the last operation.
     Ungathered,
-    /// Texts were refused, or clashed: these lines report it.
+    /// Texts were refused or clashed. These lines report them.
     Refused(Vec<u8>),
 }
 

@@ -14,7 +14,7 @@ use std::alloc::{AllocError, Global};
 /// How many bytes one read asks for.
 const BLOCK_BYTES: usize = 65_536;
 
-/// How many bytes of a file are kept: one more than a text may have. That byte shows that the file is too long.
+/// How many bytes of a file are kept at most: one more than a text may have. This further byte shows that the file is too long.
 const MAX_KEPT: usize = MAX_BYTES + 1;
 
 /// Why a file isn't read.
@@ -26,8 +26,8 @@ pub(crate) enum FileFault<'a> {
     Memory,
 }
 
-/// The bytes that are left in the source, at most one more than a text may have. The text grows once if no more than `awaited`
-/// bytes come. Faults: `Read` if a read failed, and `Memory`.
+/// The bytes that are left in the source, at most one more than a text may have. Room for `awaited` bytes is made at once; the
+/// text grows again only if more bytes come. The fault is `Read` if a read failed, or `Memory`.
 pub(crate) fn read_text<S: Source>(
     alloc: Global,
     awaited: usize,
@@ -45,8 +45,8 @@ pub(crate) fn read_text<S: Source>(
     Ok(text)
 }
 
-/// The bytes that are left in the source, at most this number, read through the block into the empty text. The limit is a
-/// parameter, so that no proof counts up to the limit of a text.
+/// The bytes that are left in the source, at most `most`. They are read into the block, and appended from it to the empty text.
+/// `most` is a parameter, so that no proof counts up to the limit of a text.
 fn read_at_most<S: Source>(
     empty: Bytes,
     source: &mut S,
@@ -74,7 +74,7 @@ fn read_at_most<S: Source>(
     Ok(text)
 }
 
-/// Reads once through the block, at most this number of bytes.
+/// Reads once into the block, at most `room` bytes, appends the bytes to the text, and returns their number.
 fn read_some<S: Source>(
     source: &mut S,
     block: &mut [u8],

@@ -8,7 +8,7 @@ use std::fs;
 use std::fs::OpenFile;
 use std::rt::Files;
 
-/// A file that was opened.
+/// A file that was opened, with its length as the file gives it.
 #[derive(Drop)]
 pub struct Opened<S> {
     /// Gives the file's bytes.
@@ -19,9 +19,9 @@ pub struct Opened<S> {
 
 /// Opens files by their names.
 ///
-/// While a folder is borrowed, `holds` gives one answer for a file. So a folder whose files may change, between two opens or
-/// during a read, must give none for them. If a read of an open file fails, the file's source counts it, and the bytes that are
-/// left stay.
+/// While a folder is borrowed, `holds` has one value for a file. So it must be `None` for a file that may change between two
+/// opens or during a read. If a read of an open file fails, the file's source counts the failure, and the bytes that are left
+/// stay the same.
 pub trait Folder {
     // The bytes of the file with this name, if the folder knows them.
     ghost holds: { Self → List ℕ → Option (List ℕ) };
@@ -29,7 +29,7 @@ pub trait Folder {
     // Whether opening the file with this name may fail.
     ghost may_refuse: { Self → List ℕ → Type 0 };
 
-    /// The bytes of an open file.
+    /// An open file, as a source of its bytes.
     type File: Source + Drop;
 
     /// Opens the file with this name, at its first byte.
@@ -42,9 +42,9 @@ pub trait Folder {
 
 /// The files of std as a folder.
 ///
-/// std's `Files` doesn't specify what a file holds, and another program may change it at any time. So `holds` gives no bytes for
-/// any file, just as a `FromRead` gives none for a reader whose bytes std doesn't specify. That std opens the file with this
-/// name, and reads that file's bytes, is assumed.
+/// std's `Files` doesn't specify what a file holds, and another program may change a file at any time. So `holds` is `None` for
+/// every file, just as `left` of a `FromRead` is `None` for a reader whose bytes std doesn't specify. It is assumed that std
+/// opens the file with the given name and reads the bytes of that file.
 #[derive(Clone, Copy)]
 pub struct FromFiles<'a, R> {
     files: &'a R,

@@ -14,7 +14,7 @@ use covjobs::Input;
 use covline::{Bytes, Memory};
 use std::alloc::Global;
 
-/// A file's text as an input: gcov's text of the test if there is one, else a tracefile.
+/// A file's text as an input. With a test it is gcov's output for this test, and without one it is a tracefile.
 fn input_for(alloc: Global, test: &Option<Bytes>, text: Bytes) -> Result<Input, Memory>
     ensures { IfOk result (λ input. input_data input ≡ input_of test.now text) }
 {

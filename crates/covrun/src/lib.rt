@@ -1,9 +1,9 @@
 //! The program as a function: its words, files and streams in, its exit status out.
 //!
-//! `run` parses the command line (covcommand), and a command becomes a `Task`. Without a subcommand, it is a session
+//! `run` parses the command line (covcommand), and makes a `Task` of the command. Without a subcommand, the task is a session
 //! (covsession). For `check`, each file is read and reported by itself (`checked`). Any other subcommand is `Work`: its files are
-//! read (`files`) and collected by covjobs, and the result becomes an `Ending`, which `print_ending` reports by an exit status and on the
-//! two streams. Files come from a `Folder`; `FromFiles` makes one of std's.
+//! read (`files`) and collected by covjobs, and the result becomes an `Ending`. `print_ending` reports this by an exit status and
+//! on the two output streams. Files are read from a `Folder`; `FromFiles` makes one of std's files.
 //!
 //! A sketch: the program's main function.
 //!

@@ -30,10 +30,10 @@ use std::thread::Threads;
 /// complains about a file that can't be read or has no item. Its status is 1 if a file can't be read, else 4 if one is refused,
 /// else 5 if one has no item, else 0. The call ends early if a write of a line fails (1), or if memory runs out (3).
 ///
-/// If the folder knows what its files hold, the texts that are collected or checked are those of the files named in the words.
+/// If the folder knows what its files hold, the texts that are collected or checked are those of the files that the words name.
 ///
 /// Only a session reads the input. The output is flushed; `faults` isn't. Without a subcommand, the call is a session over the
-/// input and the output. Waits for the jobs.
+/// input and the output. `run` returns only after all jobs have ended.
 pub fn run<R: AllocGlobal + Threads + Wait + Sync, F: Folder, I: Source, O: Sink, E: Sink>(
     rt: &R,
     folder: &F,

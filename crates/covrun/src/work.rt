@@ -7,8 +7,8 @@ use covline::{Bytes, Memory, good_test};
 use covreport::{PatternFault, Patterns};
 use std::alloc::{AllocError, Global};
 
-/// What a subcommand has to do: the files to read; if they are gcov's, the test that their counts are of; the number of jobs; and
-/// what is asked after the files.
+/// What a subcommand that collects files has to do. `files`: the files to read. `test`: if the files are gcov's output, the test
+/// that their counts are of. `jobs`: the number of jobs. `last`: the operation that is asked after all files are collected.
 #[derive(Drop)]
 pub(crate) struct Work {
     pub(crate) files: Names,
@@ -22,7 +22,7 @@ pub(crate) struct Work {
 pub(crate) enum Task {
     /// A session over the input and the output.
     Session,
-    /// Collects files, and answers what is asked after them.
+    /// Collects files, and prints the answer to one operation that is asked after them.
     Collect(Work),
     /// Checks files one by one.
     Check {
@@ -117,7 +117,7 @@ pub(crate) fn task_for(alloc: Global, command: Command) -> Result<Task, WorkFaul
     }
 }
 
-/// The work over these files.
+/// The work that has these parts.
 fn over(files: Names, test: Option<Bytes>, jobs: u32, last: Op) -> Work
     ensures { work_data result ≡ work_data (record { files = files; test = test; jobs = jobs; last = last }) }
 {

@@ -1,4 +1,4 @@
--- How a session that stops goes on from what was taken and said before: what of it was written, and which call failed.
+-- How a fault in one step becomes a fault in several steps: what was written of all that was said, and which call failed.
 use Rattle.std.proofs.Common.{◌≡◌, ◌≢◌, ℕ, ◌+◌, List, [], ◌++◌, Option, None, Some, refl, sym, ◌∙◌, ap, subst, append_assoc, append-nil, take, drop, inl, inr, Result, Ok, Err, IfErr, OnErr, OnOk}
 use Rattle.std.specs.Io.KnownBytes.{Appends, Keeps, append_known}
 use Rattle.std.proofs.lemmas.List.{take-append-drop}
@@ -80,7 +80,7 @@ breaks_after o p q fault x y is h k =
       before = λ no. absurd (no is);
     }
 
--- more would have been said
+-- a fault that stopped an output while a text was said stopped it while a longer text was said
 pub breaks_more : (o p : OutputData) (fault : SessionFault) (x y : List ℕ) → Breaks o p fault x → Breaks o p fault (x ++ y)
 breaks_more o p fault x y h = record {
   lost = h.lost ++ y;
@@ -183,13 +183,13 @@ taking_read m n fault is h k idle =
     let P : SessionFault → Type 0 = λ f. FailsTaking (λ bytes. bytes ≡ []) m n f in
     subst P (sym is) (record { fails = read_fails m n h k idle; not_full = λ e. (let no : ⊥ = cc in no); part = λ is. refl })
 
--- by how the read ended
+-- the same from the result of the read
 pub err_read_fails : (m n : Moment) (r : Result (Unit {0}) SessionFault) → Says m.output n.output [] → IsIdle n.output → IfErr r (λ f. f ≡ Read)
     → OnErr r (Stalls m.input n.input) → IfErr r (λ f. FailsTaking (λ bytes. bytes ≡ []) m n f)
 err_read_fails m n (Ok x) k idle is h = tt
 err_read_fails m n (Err f) k idle is h = taking_read m n f is h k idle
 
--- ---- a command that isn't wholly taken
+-- ---- a fault before the whole of a command was taken
 
 -- memory ran out after some bytes of it were taken
 pub taking_taken : (Such : List ℕ → Type 0) (m n : Moment) (fault : SessionFault) (b : List ℕ) → fault ≡ Memory → Moves m n b [] → FailsTaking Such m n fault
@@ -208,7 +208,7 @@ taking_unsent Such m n fault is same h = record {
   part = λ e. absurd (let same : Write ≡ Read = sym is ∙ e in let no : ⊥ = cc in no);
 }
 
--- some bytes of it were taken before
+-- some bytes of the command were taken before the step that failed
 pub taking_after : (Such Part : List ℕ → Type 0) (m n o : Moment) (fault : SessionFault) (done : List ℕ) → Moves m n done []
     → ((bytes : List ℕ) → Such bytes → Part (done ++ bytes)) → FailsTaking Such n o fault → FailsTaking Part m o fault
 unfolding fails_after
@@ -218,21 +218,21 @@ taking_after Such Part m n o fault done h joins k = record {
   part = λ is. joins k.fails.bytes (k.part is);
 }
 
--- the rest of its line came too late
+-- a part of a line was taken, and a fault came before the next byte of the line
 pub taking_line : (m n o : Moment) (fault : SessionFault) (line : List ℕ) → IsLinePart line → Moves m n line [] → FailsTaking (λ bytes. bytes ≡ []) n o fault
     → FailsTaking IsLinePart m o fault
 taking_line m n o fault line one h k =
     taking_after (λ bytes. bytes ≡ []) IsLinePart m n o fault line h
     (λ bytes none. (let P : List ℕ → Type 0 = λ u. IsLinePart (line ++ u) in subst P (sym none) (subst IsLinePart (sym (append-nil line)) one))) k
 
--- a line came too late after such pieces
+-- pieces for which `Such` holds were taken, and a fault came before the whole of the next line was taken
 pub taking_later : (Such : List (List ℕ) → Type 0) (m n o : Moment) (fault : SessionFault) (pieces : List (List ℕ)) (done : List ℕ) → AreCut Feed done pieces
     → Such pieces → Moves m n done [] → FailsTaking IsLinePart n o fault → FailsTaking (IsPart Such) m o fault
 taking_later Such m n o fault pieces done cut such h k =
     taking_after IsLinePart (IsPart Such) m n o fault done h
     (λ bytes one. record { pieces = pieces; done = done; line = bytes; is = refl; cut = cut; one_line = one; such = such }) k
 
--- the first line came too late
+-- a fault came before the whole of the first line was taken
 pub taking_first : (Such : List (List ℕ) → Type 0) (m n : Moment) (fault : SessionFault) → Such [] → FailsTaking IsLinePart m n fault
     → FailsTaking (IsPart Such) m n fault
 taking_first Such m n fault such k = record {
@@ -280,11 +280,11 @@ fails_sent m n o fault answers text same no_write other h k =
       idle = λ is. absurd (other is);
     })
 
--- no call failed so far
+-- no call failed between two moments
 abbrev pub IsQuiet : Moment → Moment → Type 0
 IsQuiet m n = (n.input.failed_reads ≡ m.input.failed_reads) × (n.output.failed_writes ≡ m.output.failed_writes)
 
--- a write failed while it was sent on
+-- a write failed while what was said was sent on
 pub fails_write : (m n o : Moment) (fault : SessionFault) (answers text : List ℕ) → o.input ≡ n.input → fault ≢ Write → IsQuiet m n
     → Fails m n fault answers text → Breaks n.output o.output Write [] → Fails m o Write answers text
 fails_write m n o fault answers text same no_write quiet h k =
@@ -313,14 +313,14 @@ fails_write m n o fault answers text same no_write quiet h k =
 
 -- ---- bytes that were written in part
 
--- the bytes that were written before the write that failed
+-- the first `at` bytes were written, and then a call failed that wrote none
 pub begun_to : (a b c : Option (List ℕ)) (bytes : List ℕ) (at : ℕ) → Appends a b (take at bytes) → Keeps b c → HasBegun a c bytes
 begun_to None b c bytes at h k = ([], tt, (bytes, refl))
 begun_to (Some xs) None c bytes at h k = absurd h
 begun_to (Some xs) (Some ys) None bytes at h k = absurd k
 begun_to (Some xs) (Some ys) (Some zs) bytes at h k = (take at bytes, k ∙ h, (drop at bytes, sym (take-append-drop at bytes)))
 
--- all of them were written
+-- all bytes were written, and then a call failed that wrote none
 pub begun_whole : (a b c : Option (List ℕ)) (bytes : List ℕ) → Appends a b bytes → Keeps b c → HasBegun a c bytes
 begun_whole None b c bytes h k = ([], tt, (bytes, refl))
 begun_whole (Some xs) None c bytes h k = absurd h
@@ -329,7 +329,7 @@ begun_whole (Some xs) (Some ys) (Some zs) bytes h k = (bytes, k ∙ h, ([], sym 
 
 -- ---- by how a call ended
 
--- a text that is too long to wait was written, or a beginning of it, after what waited
+-- what waited was written, and then a text that can't wait was written, or a beginning of it
 module _ (o q p : OutputData) (bytes : List ℕ) (written : Option (List ℕ)) (failures : ℕ) (put : Says o q []) (none : q.waiting ≡ []) (sink : p.sink ≡ q.sink)
     (its_written : q.written ≡ written) (its_failures : q.failed_writes ≡ failures) where
   pub ok_written : (r : Result (Unit {0}) SessionFault) → p.waiting ≡ q.waiting → OnOk r (Appends written p.written bytes) → OnOk r (p.failed_writes ≡ failures)
@@ -347,7 +347,7 @@ module _ (o q p : OutputData) (bytes : List ℕ) (written : Option (List ℕ)) (
       let more = ap (λ (u : ℕ). u + 1) (sym its_failures) in
       breaks_after o q p f [] bytes is put (breaks_text q p f bytes none is (subst P (sym its_written) begun) (failed ∙ more) sink)
 
--- what was to wait was written, or a beginning of it
+-- a text was said, and a write of all that waits failed
 pub err_put : (o q p : OutputData) (bytes : List ℕ) (r : Result (Unit {0}) SessionFault) → Says o q bytes → IfErr r (λ f. f ≡ Write) → IfErr r (λ f. Breaks q p f [])
     → IfErr r (λ f. Breaks o p f bytes)
 err_put o q p bytes (Ok x) h is k = tt
@@ -365,7 +365,7 @@ pub err_after : (o q p : OutputData) (x y : List ℕ) (r : Result (Unit {0}) Ses
 err_after o q p x y (Ok u) h is k = tt
 err_after o q p x y (Err f) h is k = breaks_after o q p f x y is h k
 
--- a fault of the book: nothing was said of the answer
+-- a fault of the book stopped the output before any of the answer was said
 pub breaks_book : (o p : OutputData) (fault : BookFault) (text : List ℕ) → p ≡ o → Breaks o p (of_book fault) text
 breaks_book o p fault text same =
     let P : OutputData → Type 0 = λ q. Breaks o q (of_book fault) text in
@@ -381,7 +381,7 @@ memory_unsaid o fault is =
     let P : SessionFault → Type 0 = λ f. Breaks o o f [] × (f ≢ Full) in
     subst P (sym is) (breaks_unsaid o Memory [] refl, λ e. (let no : ⊥ = cc in no))
 
--- memory ran out, and the input stays as it was
+-- a fault came before the whole of a command was taken, and the input is unchanged since then
 pub taking_same : (Such : List ℕ → Type 0) (m n : Moment) (i : InputData) (fault : SessionFault) → i ≡ n.input → FailsTaking Such m n fault
     → FailsTaking Such m (moment i n.output) fault
 taking_same Such m n i fault same h = let P : InputData → Type 0 = λ j. FailsTaking Such m (moment j n.output) fault in subst P (sym same) h

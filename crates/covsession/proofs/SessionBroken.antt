@@ -31,7 +31,7 @@ use Rattle.covsession.proofs.SessionSteps.{IsLast, line_run, line_taken, more_te
 
 -- ---- what is said
 
--- the answer of the one command that asks the book
+-- a fault cut the answer to one command short, which asks the book
 pub asking_fails : (o p : OutputData) (before : List OpData) (op : OpData) (fault : SessionFault)
     → Breaks o p fault (answer_text (answer_of (table_of before) op)) → FailsSaying o p before (Ask op ∷ []) fault
 asking_fails o p before op fault h = record {
@@ -39,12 +39,12 @@ asking_fails o p before op fault h = record {
   full = λ is. omega arith;
 }
 
--- an answer that the book has no part in
+-- a fault other than `Full` cut the answers to any commands short
 pub saying_fails : (o p : OutputData) (before : List OpData) (commands : List Command) (fault : SessionFault)
     → fault ≢ Full → Breaks o p fault (text_after (table_of before) commands) → FailsSaying o p before commands fault
 saying_fails o p before commands fault other h = record { breaks = h; full = λ is. absurd (other is) }
 
--- the answer to a submission
+-- a fault cut the answer to a submission short
 pub submitting_fails : (o p : OutputData) (before : List OpData) (submission : SubmissionData) (fault : SessionFault)
     → Breaks o p fault (answer_text (answer_of (table_of before) (SubmitOp submission))) → FailsSaying o p before (Submit submission ∷ []) fault
 submitting_fails o p before submission fault h = record {
@@ -52,7 +52,7 @@ submitting_fails o p before submission fault h = record {
   full = λ is. omega arith;
 }
 
--- by how the call ended that says it
+-- the same from the result of the call that says the answer
 module _ (o p : OutputData) (before : List OpData) where
   pub err_asking : (op : OpData) (r : Result (Unit {0}) SessionFault) → IfErr r (λ f. Breaks o p f (answer_text (answer_of (table_of before) op)))
       → IfErr r (λ f. FailsSaying o p before (Ask op ∷ []) f)
@@ -83,7 +83,7 @@ module _ (o p : OutputData) (before : List OpData) where
       let text = text_after (table_of before) commands in
       subst P (sym same) (subst Q (sym is) (saying_fails o o before commands Memory (λ e. (let no : ⊥ = cc in no)) (breaks_memory o Memory text refl)))
 
--- what was taken of a text was answered, but for the fault in the answer
+-- if what was taken of a text is these commands, and a fault cut the answers to them short, the fault came in the text's answer
 pub err_given : {A : Type 0} (format : Format) (taken : CollectedText A) (o p : OutputData) (before : List OpData) (commands : List Command) (r : Result (Unit {0}) SessionFault)
     → IsAnsweredAs format taken commands → IfErr r (λ f. FailsSaying o p before commands f) → IfErr r (λ f. FailsGiven format taken o p before f)
 err_given format taken o p before commands (Ok x) answered h = tt
@@ -101,7 +101,7 @@ chosen_refused op (Some pattern) h = chosen_refused_at op pattern (leb (length p
 
 -- ---- one command
 
--- a command of one line
+-- a fault cut the answer to a command of one line short
 pub fails_line : (m n o : Moment) (line : List ℕ) (ending : LineEnd) (word : Word) (before : List OpData) (fault : SessionFault)
     → TakesLine m n line ending → IsWord (strip line) word → IsLast ending word → o.input ≡ n.input
     → FailsSaying n.output o.output before (asked_by word) fault → FailsAnswering m o before fault
@@ -120,15 +120,15 @@ fails_line m n o line ending word before fault h is last same says =
       run = r.run;
     }
 
--- a fault before a line was whole
+-- a fault came before the whole of a command's first line was taken
 pub fails_in_line : (m n : Moment) (fault : SessionFault) → FailsTaking IsLinePart m n fault → FailsTaking (IsPart IsOpen) m n fault
 fails_in_line m n fault h = taking_first IsOpen m n fault open_line h
 
--- what follows such a line is open with it
+-- after a line for which `Such` holds, pieces for which `Part` holds are still at most one command, together with this line
 abbrev pub Opens : (List ℕ → Type 0) → (List (List ℕ) → Type 0) → Type 0
 Opens Such Part = (first : List ℕ) (pieces : List (List ℕ)) → Such (line_of first) → Part pieces → IsOpen (first ∷ pieces)
 
--- a part of it after the line
+-- such a line, and then a part of the pieces that belong to it, are a part of one command
 part_after : (Such : List ℕ → Type 0) (Part : List (List ℕ) → Type 0) (line bytes : List ℕ) → before_feed line ≡ line → Such (strip line) → Opens Such Part
     → IsPart Part bytes → IsPart IsOpen ((line ++ line_feed ∷ []) ++ bytes)
 part_after Such Part line bytes one is opens p = record {
@@ -141,7 +141,7 @@ part_after Such Part line bytes one is opens p = record {
   such = opens (line ++ line_feed ∷ []) p.pieces (subst Such (sym (line_of_bytes Feed line one)) is) p.such;
 }
 
--- a fault while what follows a line is taken
+-- a fault came while the lines that belong to a line were taken
 pub fails_after_line : (Such : List ℕ → Type 0) (Part : List (List ℕ) → Type 0) (m n o : Moment) (line : List ℕ) (ending : LineEnd) (fault : SessionFault)
     → TakesLine m n line ending → ending ≡ Feed → Such (strip line) → Opens Such Part → FailsTaking (IsPart Part) n o fault → FailsTaking (IsPart IsOpen) m o fault
 fails_after_line Such Part m n o line ending fault h feed is opens k =
@@ -150,7 +150,7 @@ fails_after_line Such Part m n o line ending fault h feed is opens k =
     taking_after (IsPart Part) (IsPart IsOpen) m n o fault (line ++ line_feed ∷ []) taken.moves
     (λ bytes p. part_after Such Part line bytes h.one_line is opens p) k
 
--- a fault in the answer to a line and what follows it
+-- a fault cut the answer to a line and the lines that belong to it short
 pub fails_with_line : (Such : List ℕ → Type 0) (m n o : Moment) (line : List ℕ) (first : LineEnd) (before : List OpData) (fault : SessionFault)
     → TakesLine m n line first → first ≡ Feed → Such (strip line) → FailsAfter Such n o before fault → FailsAnswering m o before fault
 fails_with_line Such m n o line first before fault h feed is t =
@@ -173,7 +173,7 @@ pub either_with_line : (Such : List ℕ → Type 0) (Part : List (List ℕ) → 
 either_with_line Such Part m n o line first before fault h feed is opens (inl t) = inl (fails_after_line Such Part m n o line first fault h feed is opens t)
 either_with_line Such Part m n o line first before fault h feed is opens (inr t) = inr (fails_with_line Such m n o line first before fault h feed is t)
 
--- what was taken of a text is answered in part, or not at all
+-- a text was taken, and answered in part or not at all
 pub given_fails : {A : Type 0} (format : Format) (taken : CollectedText A) (m n o : Moment) (pieces : List (List ℕ)) (ending : LineEnd) (before : List OpData) (fault : SessionFault)
     → TakesPieces m n pieces ending [] → IsTaken pieces ending taken → o.input ≡ n.input → FailsGiven format taken n.output o.output before fault
     → FailsTaking (IsPart IsBody) m o fault ⊎ FailsAfter (λ line. Announces format line) m o before fault
@@ -232,7 +232,7 @@ unfinished_fails m n o before fault (pieces, taken, few) same other h = record {
 -- ---- the session
 
 module _ (m n o : Moment) (history : List OpData) (fault : SessionFault) (s : IsSoFar m n history) where
-  -- a fault before the next command was taken
+  -- a fault came before the whole of the next command was taken
   pub taking_breaks : FailsTaking (IsPart IsOpen) n o fault → IsBroken m o fault
   taking_breaks h =
       let P : List ℕ → Type 0 = λ u. Fails m o fault u u in
@@ -293,7 +293,7 @@ module _ (m n o : Moment) (history : List OpData) (fault : SessionFault) (s : Is
       let sum = length-append (ops_of s.commands) (ops_of a.commands) in
       omega arith
 
-  -- a fault in the answer to the next command
+  -- a fault cut the answer to the next command short
   pub answering_breaks : (fault ≡ Full → length history ≡ max_entries) → FailsAnswering n o history fault → IsBroken m o fault
   answering_breaks full a = record {
     pieces = s.pieces ++ a.pieces;
@@ -318,7 +318,7 @@ module _ (m n o : Moment) (history : List OpData) (fault : SessionFault) (s : Is
   either_breaks full (inl h) = taking_breaks h
   either_breaks full (inr a) = answering_breaks full a
 
--- a fault while the last answers were sent on
+-- a fault came while the last answers were sent on
 pub end_breaks : (m n o : Moment) (fault : SessionFault) → IsDone m n → o.input ≡ n.input → fault ≢ Full → Breaks n.output o.output fault [] → IsBroken m o fault
 end_breaks m n o fault d same other h =
     let P : InputData → Type 0 = λ i. Consumes (unread m.input) (unread i) (d.bytes ++ []) in
@@ -344,13 +344,13 @@ end_breaks m n o fault d same other h =
       stalled = λ is. absurd (no_read fault n.output.failed_writes o.output.failed_writes h.failed is);
     }
 
--- by how the last call ended
+-- the same from the result of the call that sends the last answers on
 pub err_end : (m n o : Moment) (r : Result (Unit {0}) SessionFault) → IsDone m n → o.input ≡ n.input → IfErr r (λ f. f ≡ Write) → IfErr r (λ f. Breaks n.output o.output f [])
     → IfErr r (λ f. IsBroken m o f)
 err_end m n o (Ok x) d same is h = tt
 err_end m n o (Err f) d same is h = end_breaks m n o f d same (λ full. (let e : Write ≡ Full = sym is ∙ full in let no : ⊥ = cc in no)) h
 
--- the same session, whose output goes on without saying more
+-- a session ended in a fault at `n`. At the later moment `o`, it has taken no more bytes and has said nothing more
 module _ (m n o : Moment) (fault : SessionFault) (same : o.input ≡ n.input) (b : IsBroken m n fault) where
   still_took : Consumes (unread m.input) (unread o.input) (b.whole ++ b.more)
   still_took = let P : InputData → Type 0 = λ i. Consumes (unread m.input) (unread i) (b.whole ++ b.more) in subst P (sym same) b.took
@@ -358,7 +358,7 @@ module _ (m n o : Moment) (fault : SessionFault) (same : o.input ≡ n.input) (b
   still_ended : b.ending ≡ Input → (b.more ≡ []) × IsAtEnd (unread o.input)
   still_ended e = let P : InputData → Type 0 = λ i. IsAtEnd (unread i) in ((b.ended e).0, subst P (sym same) (b.ended e).1)
 
-  -- it was sent on
+  -- what was said was sent on
   broken_sent : fault ≢ Write → fault ≢ Read → Says n.output o.output [] → IsBroken m o fault
   broken_sent no_write no_read says = record {
     pieces = b.pieces;
@@ -379,7 +379,7 @@ module _ (m n o : Moment) (fault : SessionFault) (same : o.input ≡ n.input) (b
     stalled = b.stalled;
   }
 
-  -- a write failed then
+  -- a write failed while it was sent on
   broken_write : fault ≢ Write → IsQuiet m n → Breaks n.output o.output Write [] → IsBroken m o Write
   broken_write no_write quiet breaks = record {
     pieces = b.pieces;
@@ -400,7 +400,7 @@ module _ (m n o : Moment) (fault : SessionFault) (same : o.input ≡ n.input) (b
     stalled = λ is. absurd (let no : ⊥ = cc in no);
   }
 
-  -- nothing was written
+  -- nothing was written between the two moments
   broken_same : o.output ≡ n.output → IsBroken m o fault
   broken_same out =
       let P : InputData → Type 0 = λ i. IsBroken m (moment i o.output) fault in
@@ -431,7 +431,7 @@ module _ (m n o : Moment) (ended : SessionFault) (same : o.input ≡ n.input) wh
   stopped Memory b how = either_stops Memory b (λ e. (let no : ⊥ = cc in no)) (λ e. (let no : ⊥ = cc in no)) b.fails.cause how
   stopped Full b how = either_stops Full b (λ e. (let no : ⊥ = cc in no)) (λ e. (let no : ⊥ = cc in no)) b.fails.cause how
 
--- at most one write had failed
+-- at most one write failed
 pub few_failed : (m n : Moment) (fault : SessionFault) → IsBroken m n fault → n.output.failed_writes ≤ m.output.failed_writes + 1
 few_failed m n fault b = few_caused m n fault b.fails.cause
   where

@@ -1,4 +1,4 @@
--- Bytes taken, lines found in them, and bytes written, in steps.
+-- Bytes that are taken or written in steps, and the lines that are found in them.
 use Rattle.std.proofs.Common.{◌≡◌, ℕ, zero, suc, ◌+◌, ◌-◌, ◌^◌, ◌<◌, ◌≤◌, Bool, true, false, List, [], ◌∷◌, ◌++◌, length, take, drop, min, get_or, Option, None, Some, refl, sym, ◌∙◌, ap, subst, arith, add-one, append_assoc, append-nil, length-append, eqb}
 use Rattle.std.proofs.Math.Seq.{take-add}
 use Rattle.std.proofs.lemmas.List.{take_rest, take-append-drop, take_all, length-take}
@@ -9,12 +9,12 @@ use Rattle.covsession.specs.Text.{line_after, line_with, IsCollected}
 use Rattle.covsession.specs.declared.session.text.LineSoFar.{LineSoFar}
 use Rattle.covsession.specs.declared.session.text.LineSoFar.TheVariants.{Nothing, Other}
 
--- a test that isn't true is false
+-- a Bool that isn't true is false
 pub not_true : (b : Bool) → (b ≡ true → ⊥) → b ≡ false
 not_true true h = absurd (h refl)
 not_true false h = refl
 
--- the bytes before the first line feed
+-- the first `k` bytes are those before the first line feed, if none of them is a line feed and the next byte, if there is one, is
 pub front_of : (xs : List ℕ) (k : ℕ) → k ≤ length xs → ((j : ℕ) → j < k → eqb (get_or xs j 0) 10 ≡ true → ⊥)
     → (k < length xs → eqb (get_or xs k 0) 10 ≡ true) → before_feed xs ≡ take k xs
 front_of [] zero few none here = refl
@@ -38,7 +38,7 @@ pub line_after-append : (so_far : LineSoFar) (xs ys : List ℕ) → line_after s
 line_after-append so_far [] ys = refl
 line_after-append so_far (x ∷ xs) ys = line_after-append (line_with so_far x) xs ys
 
--- one more write
+-- if the first `i` bytes were written, and then the next `n`, the first `i + n` were written
 pub Appends-step : (a b c : Option (List ℕ)) (xs : List ℕ) (i n : ℕ)
     → Appends a b (take i xs) → Appends b c (take n (take (length xs - i) (drop i xs))) → Appends a c (take (i + n) xs)
 Appends-step None b c xs i n h k = tt
@@ -98,7 +98,7 @@ collected_next limit limit' kept kept' total total' begins begins' line before n
       so_far = refl;
     }
 
--- if the front has no line feed, the first one is the first one after the front
+-- the next lemma for a list with one more byte in front
 before_feed-cons : (x : ℕ) (xs ys : List ℕ) (b : Bool) → eqb x line_feed ≡ b → (before_feed xs ≡ xs → before_feed (xs ++ ys) ≡ xs ++ before_feed ys)
     → before_feed (x ∷ xs) ≡ x ∷ xs → before_feed (x ∷ (xs ++ ys)) ≡ x ∷ (xs ++ before_feed ys)
 before_feed-cons x xs ys true e more h = let bad : [] ≡ x ∷ xs = rw e at h in absurd (let no : ⊥ = cc in no)
@@ -107,7 +107,7 @@ before_feed-cons x xs ys false e more h =
     let rest : before_feed xs ≡ xs = cc in
     rw e (ap (λ (u : List ℕ). x ∷ u) (more rest))
 
--- if the front has no line feed, the first one is the first one after the front
+-- if `xs` has no line feed, the first line feed of `xs ++ ys` is the first one of `ys`
 pub before_feed-append : (xs ys : List ℕ) → before_feed xs ≡ xs → before_feed (xs ++ ys) ≡ xs ++ before_feed ys
 before_feed-append [] ys h = refl
 before_feed-append (x ∷ xs) ys h = before_feed-cons x xs ys (eqb x line_feed) refl (λ k. before_feed-append xs ys k) h

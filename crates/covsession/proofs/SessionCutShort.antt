@@ -25,7 +25,7 @@ use Rattle.covsession.proofs.SessionSteps.{IsEnded, few_reads, ok_map, only_at, 
 beginning_trans : (xs ys zs : List ℕ) → IsBeginning xs ys → IsBeginning ys zs → IsBeginning xs zs
 beginning_trans xs ys zs (some, e) (more, f) = (some ++ more, f ∙ ap (λ (u : List ℕ). u ++ more) e ∙ append_assoc xs some more)
 
--- the text was begun, if nothing waited then
+-- if nothing waited before this text was said, what was written is a beginning of it
 pub text_begun : (old new : Option (List ℕ)) (waiting lost text : List ℕ) → waiting ≡ [] → Appends (append_known old waiting) (append_known new lost) text
     → Grows old new → HasBegun old new text
 text_begun None new waiting lost text none says grows = ([], tt, (text, refl))
@@ -36,7 +36,7 @@ text_begun (Some xs) (Some ys) waiting lost text none says (part, e) =
     ∙ ap (λ (u : List ℕ). u ++ text) (ap (λ (u : List ℕ). xs ++ u) none ∙ append-nil xs) in
     (part, e, (lost, sym (append_cancel_left xs (part ++ lost) text whole)))
 
--- the text was said and nothing else, and all of it was written
+-- if nothing waited before this text was said, and nothing waits after it, the whole text was written
 pub said_written : (old new : Option (List ℕ)) (before after text : List ℕ) → before ≡ [] → after ≡ []
     → Appends (append_known old before) (append_known new after) text → Appends old new text
 said_written None new before after text e f h = tt
@@ -44,7 +44,8 @@ said_written (Some xs) None before after text e f h = absurd h
 said_written (Some xs) (Some ys) before after text e f h =
     sym (append-nil ys) ∙ ap (λ (u : List ℕ). ys ++ u) (sym f) ∙ h ∙ ap (λ (u : List ℕ). u ++ text) (ap (λ (u : List ℕ). xs ++ u) e ∙ append-nil xs)
 
--- what a session leaves: it was cut short, after whole answers if nothing waits
+-- what holds after a session that ended in a fault: it was cut short. If no write failed and nothing waits, whole answers were
+-- written
 abbrev Leaves : (fault : SessionFault) → (left left_after written written_after : Option (List ℕ)) → (waiting : List ℕ) → Type 0
 Leaves fault left left_after written written_after waiting =
     IsCutShort fault left left_after written written_after
@@ -52,9 +53,9 @@ Leaves fault left left_after written written_after waiting =
 
 -- ---- what was read
 
--- the commands that were taken are the first ones, whatever follows
+-- the commands that were taken are the first commands of the input, whatever pieces follow them
 module _ (pieces : List (List ℕ)) (commands : List Command) (rest : List (List ℕ)) where
-  -- further commands, and those that were taken before them
+  -- `others` are the commands that were taken, and then perhaps more
   pub record HasMore (others : List Command) : Type 0 where
     pub more : List Command
     pub is : others ≡ commands ++ more
@@ -98,7 +99,7 @@ module _ (ending : LineEnd) (whole behind : List ℕ) (pieces : List (List ℕ))
       let sum = length-append (ops_of commands) (ops_of m.more) in
       omega arith
 
--- if a read failed, the last command was being read
+-- if a read failed, at most one command of what was read is still without an answer
 pub all_but_one : (whole more : List ℕ) (pieces : List (List ℕ)) (commands answered last : List Command) (ending : LineEnd) → ending ≡ Feed
     → AreCut ending whole pieces → IsRun ending pieces commands → commands ≡ answered ++ last → last ≡ [] → IsPart IsOpen more
     → (others : List Command) → AreCommands (pieces_of (whole ++ more)) others → length others ≤ length answered + 1
@@ -127,7 +128,7 @@ all_but_one whole more pieces commands answered last ending feed cut run are non
 
 -- ---- the source
 
--- the bytes that were read of a source: those that were taken, and those that are still to be
+-- the bytes that were read of a source: those that were taken, and those that are still to be taken
 read_all : (first : Option (List ℕ)) (fresh pending bytes : List ℕ) (left : Option (List ℕ)) → fresh ≡ []
     → Consumes (prepend_known fresh first) (prepend_known pending left) bytes → Consumes first left (bytes ++ pending)
 read_all None fresh pending bytes left none h = tt
@@ -147,12 +148,13 @@ nothing_follows : (ys more : List ℕ) → ys ≡ [] → MayFollow (Some ys) mor
 nothing_follows ys more none (inl e) = e
 nothing_follows ys more none (inr e) = some_same ys more e ∙ none
 
--- the record of what was read: the pending bytes too, unless the source's bytes aren't known
+-- what a session that ended in a fault has read and written. Pending bytes were read too. If the source's bytes aren't known,
+-- they aren't counted
 module _ (fault : SessionFault) (m n : Moment) (b : IsBroken m n fault) (fresh : m.input.pending ≡ []) (empty : m.output.waiting ≡ []) where
   written : HasBegun m.output.written n.output.written (text_after [] b.commands)
   written = text_begun m.output.written n.output.written m.output.waiting b.fails.lost (text_after [] b.commands) empty b.fails.says b.fails.grows
 
-  -- these bytes come after the commands that were taken
+  -- after the bytes that were taken, these bytes are pending, and this is left in the source
   module _ (pending : List ℕ) (left : Option (List ℕ)) (took : Consumes m.input.left left ((b.whole ++ b.more) ++ pending))
       (drained : fault ≡ Read → pending ≡ [])
       (ends : (more : List ℕ) → MayFollow left more → b.ending ≡ Input → b.more ++ (pending ++ more) ≡ []) where
@@ -264,7 +266,7 @@ module _ {E : Type 0} (m n : Moment) (left written written_after : Option (List 
   pub only_sent : OnOk r (IsSentOn m n) → OnOk r (IfSome left (λ input. (output : List ℕ) → IsSession input output → Appends written written_after output))
   only_sent h = ok_map r (λ e. only_at m e.done_at n.output left written written_after (ended_of e) l w wa) h
 
--- however it ended, it made no more reads than it had left
+-- however a session ended, it made no more reads than it had left at its start
 pub few_at : (m n : Moment) (most : ℕ) (r : Result (Unit {0}) SessionFault) → m.input.reads_left ≡ most
     → OnOk r (IsSentOn m n) → IfErr r (λ f. IsBroken m n f) → n.input.reads ≤ m.input.reads + most
 few_at m n most (Ok x) fresh e b =
@@ -273,7 +275,7 @@ few_at m n most (Ok x) fresh e b =
     omega arith
 few_at m n most (Err f) fresh e b = let counted = b.fails.counted in omega arith
 
--- the same of a session that was cut short, for a source and a sink that are at these moments
+-- a session that ended in a fault was cut short. The values of its source and sink are those of the two moments
 pub short_at : (m n : Moment) (left left_after written written_after : Option (List ℕ)) (r : Result (Unit {0}) SessionFault)
     → m.input.pending ≡ [] → m.output.waiting ≡ []
     → m.input.left ≡ left → left_after ≡ n.input.left → m.output.written ≡ written → written_after ≡ n.output.written
@@ -286,7 +288,7 @@ short_at m n left left_after written written_after (Err f) fresh empty l la w wa
     let S : Option (List ℕ) → Type 0 = λ u. IsCutShort f m.input.left n.input.left m.output.written u in
     subst P l (subst Q (sym la) (subst R w (subst S (sym wa) (cut_short f m n h fresh empty))))
 
--- nothing was read or written
+-- a session was cut short by `Memory` before it read or wrote anything
 pub short_none : (fault : SessionFault) (left written : Option (List ℕ)) → fault ≡ Memory → IsCutShort fault left left written written
 short_none fault left written is = record {
   read = [];
@@ -297,7 +299,7 @@ short_none fault left written is = record {
   full = λ full. absurd (let e : Memory ≡ Full = sym is ∙ full in let no : ⊥ = cc in no);
 }
 
--- the same of the answers that were written whole
+-- a session that ended in a fault has written whole answers, unless a write failed. The values are those of the two moments
 pub answered_at : (m n : Moment) (left left_after written written_after : Option (List ℕ)) (r : Result (Unit {0}) SessionFault)
     → m.input.pending ≡ [] → m.output.waiting ≡ []
     → m.input.left ≡ left → left_after ≡ n.input.left → m.output.written ≡ written → written_after ≡ n.output.written
@@ -310,7 +312,7 @@ answered_at m n left left_after written written_after (Err f) fresh empty l la w
     let S : Option (List ℕ) → Type 0 = λ u. HasAnswered f m.input.left n.input.left m.output.written u in
     subst P l (subst Q (sym la) (subst R w (subst S (sym wa) (has_answered f m n h fresh empty no (k no).0))))
 
--- no command was answered
+-- a session that ended in `Memory` before it read or wrote anything has answered no command
 pub answered_none : (fault : SessionFault) (left written : Option (List ℕ)) → fault ≡ Memory → HasAnswered fault left left written written
 answered_none fault left written is = record {
   read = [];
@@ -322,7 +324,7 @@ answered_none fault left written is = record {
   all = λ read. absurd (let e : Memory ≡ Read = sym is ∙ read in let no : ⊥ = cc in no);
 }
 
--- the sink holds back nothing
+-- after a fault, unless a write failed, the sink holds back no more than before the session
 pub held_at : (p : OutputData) (old new : ℕ) (r : Result (Unit {0}) SessionFault) → new ≡ p.held → IfErr r (λ f. f ≢ Write → IsIdle p)
     → IfErr r (λ f. f ≢ Write → new ≤ old)
 held_at p old new (Ok x) same h = tt

@@ -15,7 +15,7 @@ use Rattle.covsession.specs.declared.session.text.LineEnd.TheVariants.{Feed, Inp
 use Rattle.covsession.proofs.SessionRun.{run_none, run_one_input, run_more, IsWhole, open_determined}
 use Rattle.covsession.proofs.SessionSteps.{whole_run, blank_run, ask_run, rename_run, open_rename_run, long_run, unknown_run}
 
--- ---- a line is one of the commands, or a text follows it
+-- ---- a line is a command of its own, or further lines belong to it
 
 same_head : (x y : ℕ) (xs ys : List ℕ) → x ∷ xs ≡ y ∷ ys → x ≡ y
 same_head x y xs ys e = cc
@@ -65,7 +65,7 @@ fit_kind : (piece pattern : List ℕ) (op : OpData) (fits : Bool) → leb (lengt
 fit_kind piece pattern op true e asks long = inl (Ask op ∷ [], ask_run Feed piece op (asks (leb-true (length pattern) max_pattern_bytes e)))
 fit_kind piece pattern op false e asks long = inl (RefusePattern ∷ [], long_run Feed piece (long (leb-false (length pattern) max_pattern_bytes e)))
 
--- the line isn't one of the words alone
+-- the line isn't blank, and isn't the word of a command alone
 pub record IsNoWord (line : List ℕ) : Type 0 where
   pub some : line ≢ []
   pub trace : line ≢ codes "trace"
@@ -101,7 +101,7 @@ no_text line n g Tracefile h = n.trace h
 no_text line n g (Annotated test) (inl h) = n.gcov h.0
 no_text line n g (Annotated test) (inr h) = g (test, h)
 
--- the word comes before a space, or doesn't
+-- the line is this word, a space and an argument, or it isn't
 abbrev May : List ℕ → List ℕ → Type 0
 May word line = Following word line ⊎ (Following word line → ⊥)
 
@@ -127,7 +127,7 @@ choice_kind piece n (inr e) (inr r) (inr g) (inr d) = inl (
 abbrev Same : List ℕ → List ℕ → Type 0
 Same line word = (line ≡ word) ⊎ (line ≢ word)
 
--- the words alone that further lines follow
+-- the lines `trace`, `gcov` and `rename`, to which further lines belong
 text_kind : (piece : List ℕ) → Same (line_of piece) (codes "trace") → Same (line_of piece) (codes "gcov") → Same (line_of piece) (codes "rename")
     → (line_of piece ≢ codes "trace" → line_of piece ≢ codes "gcov" → line_of piece ≢ codes "rename" → Kind piece) → Kind piece
 text_kind piece (inl h) g a more = inr (inl (Tracefile, h))
@@ -249,7 +249,7 @@ module _ (read : (format : Format) (text : List ℕ) → (outcome : Result Submi
       let all = of_input input in
       one_text input x all.0 all.1 h ∙ sym (one_text input y all.0 all.1 k)
 
--- a text of either format is read as one thing
+-- if each tracefile and each text of gcov has an outcome, a text of any format has one
 pub read_some : ((text : List ℕ) → (outcome : Result SubmissionData ReadFault) × IsReadAs Tracefile text outcome)
     → ((test text : List ℕ) → (outcome : Result SubmissionData ReadFault) × IsReadAs (Annotated test) text outcome)
     → (format : Format) (text : List ℕ) → (outcome : Result SubmissionData ReadFault) × IsReadAs format text outcome

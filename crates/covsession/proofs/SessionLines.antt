@@ -37,7 +37,7 @@ line_byte line b one e =
     let alone : before_feed (b ∷ []) ≡ b ∷ [] = rw e refl in
     before_feed-append line (b ∷ []) one ∙ ap (λ (u : List ℕ). line ++ u) alone
 
--- a line that can't be the last one can't be it with one more byte
+-- a line that isn't `Dot` is `Other` after one more byte, unless this is a dot and the line's first byte
 still_other : (so_far : LineSoFar) (b : ℕ) → (so_far ≡ Dot → ⊥) → (so_far ≡ Nothing → eqb b 46 ≡ false) → line_with so_far b ≡ Other
 still_other Nothing b dot first = rw (first refl) refl
 still_other Dot b dot first = absurd (dot refl)
@@ -52,7 +52,8 @@ not_nothing e = cc
 none_dot : Nothing ≡ Dot → ⊥
 none_dot e = cc
 
--- the line that was begun, and lines after it: the last byte is a line feed, and no dot comes right after a line feed
+-- the line that was begun and the bytes after it are whole lines, none of which ends a text: the last byte is a line feed, and
+-- no further line begins with a dot
 pub lines_in : (line xs : List ℕ) (m : ℕ) (so_far : LineSoFar) → before_feed line ≡ line → line_after Nothing line ≡ so_far → (so_far ≡ Dot → ⊥)
     → (so_far ≡ Nothing → eqb (get_or xs 0 0) 46 ≡ false) → m < length xs → eqb (get_or xs m 0) line_feed ≡ true
     → ((j : ℕ) → j < m → eqb (get_or xs j 0) line_feed ≡ true → eqb (get_or xs (suc j) 0) 46 ≡ false)
@@ -99,7 +100,7 @@ first_byte : (bytes : List ℕ) → starts_with_dot bytes ≡ false → eqb (get
 first_byte [] e = refl
 first_byte (b ∷ bs) e = e
 
--- up to the first line that begins with a dot
+-- the bytes before the first line that begins with a dot are such lines
 pub lines_to_dot : (bytes : List ℕ) (feed : ℕ) (b : Bool) → b ≡ starts_with_dot bytes → b ≡ false → FindsNeedle bytes (line_feed ∷ 46 ∷ []) 0 (Some feed) → AreLines (take (feed + 1) bytes)
 lines_to_dot bytes feed b is e found =
     let low : feed + 2 ≤ length bytes = found.1.fits in
@@ -111,7 +112,7 @@ lines_to_dot bytes feed b is e found =
     (lines_in [] bytes feed Nothing refl refl none_dot (λ n. first_byte bytes (sym is ∙ e)) (omega (arith, low)) is_feed
     (λ j l f. no_dot_after bytes j feed (omega (arith, low, l)) l found.0.before f))
 
--- if none does, up to the last line feed
+-- if no line begins with a dot, the bytes up to the last line feed are such lines
 pub lines_to_last : (bytes : List ℕ) (last : ℕ) (b : Bool) → b ≡ starts_with_dot bytes → b ≡ false → FindsNeedle bytes (line_feed ∷ 46 ∷ []) 0 None
     → IsLastByte (is_byte line_feed) bytes (Some last) → AreLines (take (last + 1) bytes)
 lines_to_last bytes last b is e none at =
@@ -151,7 +152,7 @@ body_both : (xs ys : List (List ℕ)) → IsBody xs → IsBody ys → IsBody (xs
 body_both [] ys h k = k
 body_both (x ∷ xs) ys h k = (h.0, body_both xs ys h.1 k)
 
--- the text that was begun, between two of its lines
+-- between two moments, whole lines of a text were taken and collected in `text`, and no further line was begun
 abbrev pub IsBegun : {A : Type 0} → Moment → Moment → Text A → Type 0
 IsBegun m n text =
     (body : List (List ℕ)) × IsBody body × AreCut Feed (concat body) body × Moves m n (concat body) []

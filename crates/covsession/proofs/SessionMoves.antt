@@ -128,7 +128,7 @@ Moves-part m j part e same = record { takes = Takes-part m.input j part e same; 
 one_line : (line part : List ℕ) → before_feed line ≡ line → before_feed part ≡ part → before_feed (line ++ part) ≡ line ++ part
 one_line line part h k = before_feed-append line part h ∙ ap (λ (u : List ℕ). line ++ u) k
 
--- the part of a line up to its line feed
+-- the rest of a line was taken, with its line feed
 pub line_end : (m n o : Moment) (j : InputData) (line part : List ℕ) → before_feed line ≡ line → before_feed part ≡ part
     → Moves m n line [] → Moves n o [] [] → o.input.pending ≡ part ++ line_feed ∷ j.pending → j ≡ record o.input { pending = j.pending }
     → turns n.input ≤ turns m.input → turns o.input ≤ turns n.input → TakesLine m (record o { input = j }) (line ++ part) Feed
@@ -145,7 +145,7 @@ line_end m n o j line part hl hp h k e same t1 t2 =
       ended = omega arith;
     }
 
--- a part of a line that goes on
+-- all pending bytes were taken, as a part of a line that goes on
 pub line_on : (m n o : Moment) (j : InputData) (line part : List ℕ)
     → Moves m n line [] → Moves n o [] [] → o.input.pending ≡ part → j.pending ≡ [] → j ≡ record o.input { pending = j.pending }
     → Moves m (record o { input = j }) (line ++ part) []
@@ -175,7 +175,7 @@ pub taken_all : (b : Bool) (old part new : List ℕ) → b ≡ false → TakesPa
 taken_all false old part new e h = h
 taken_all true old part new e h = absurd (let no : ⊥ = cc in no)
 
--- a line that the end of the input ends
+-- the input ended, and so did the line
 pub line_last : (m n o : Moment) (line : List ℕ) → before_feed line ≡ line → Moves m n line [] → Moves n o [] [] → IsAtEnd (unread o.input) → TakesLine m o line Input
 line_last m n o line one h k ended =
     let P : List ℕ → Type 0 = λ u. Moves m o u [] in
@@ -185,7 +185,7 @@ line_last m n o line one h k ended =
       ended = ended;
     }
 
--- nothing is pending if the pending bytes are seen to be none
+-- if the slice of the pending bytes is empty, no byte is pending
 pub nothing_at : (pending bytes : List ℕ) (b : Bool) → bytes ≡ pending → b ≡ (length bytes == 0) → b ≡ true → pending ≡ []
 nothing_at pending [] b same is empty = sym same
 nothing_at pending (x ∷ xs) b same is empty = let none : length (x ∷ xs) ≡ 0 = eqb-true (length (x ∷ xs)) 0 (sym is ∙ empty) in absurd (omega (arith, none))

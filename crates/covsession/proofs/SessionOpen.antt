@@ -1,4 +1,4 @@
--- Pieces that are at most one command, whatever piece follows: what is taken while a command isn't whole yet.
+-- Pieces that are at most one command, even with one more piece: such are the pieces of a command that isn't wholly taken.
 use Rattle.std.proofs.Common.{◌≡◌, ℕ, ◌<◌, ◌≤◌, List, [], ◌∷◌, ◌++◌, length, refl, ◌∙◌, ap, subst, arith, append_assoc, length-append, codes}
 use Rattle.covline.specs.Lines.{line_of}
 use Rattle.covsession.specs.Broken.{IsOpen}
@@ -21,7 +21,7 @@ few_commands pieces (c ∷ cs) (these, rest, is, command, ends, more) =
     let sum = length-append these rest in
     omega arith
 
--- the first command takes all pieces
+-- if the first command takes all pieces, whichever command it is, there is at most one command
 one_at_most : (pieces : List (List ℕ)) (commands : List Command)
     → ((these further : List (List ℕ)) (d : Command) → pieces ≡ these ++ further → Shape these d → EndsInput d further → further ≡ [])
     → AreCommands pieces commands → length commands ≤ 1
@@ -42,7 +42,7 @@ open_line = λ tail few commands are. let less = few_commands tail commands are 
 
 -- ---- a text
 
--- nothing comes after a line `.` that isn't in the body
+-- if at most one piece follows the body, which has no line `.`, nothing comes after a line `.`
 nothing_after : (body tail before after : List (List ℕ)) (last : List ℕ) → IsBody body → line_of last ≡ codes "."
     → body ++ tail ≡ before ++ last ∷ after → length tail < 2 → after ≡ []
 nothing_after [] tail before after last no_last dot e few =

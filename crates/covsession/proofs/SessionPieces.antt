@@ -56,12 +56,12 @@ cut_append Feed xs ys ps qs h k = λ more.
     ap pieces_of (append_assoc xs ys more) ∙ h (ys ++ more) ∙ ap (λ (u : List (List ℕ)). ps ++ u) (k more) ∙ sym (append_assoc ps qs (pieces_of more))
 cut_append Input xs ys ps qs h k = h ys ∙ ap (λ (u : List (List ℕ)). ps ++ u) k
 
--- the line that it is
+-- a line with its ending, cut off again by `line_of`, is the line without the carriage returns at its end
 pub line_of_bytes : (ending : LineEnd) (line : List ℕ) → before_feed line ≡ line → line_of (line_bytes ending line) ≡ strip line
 line_of_bytes Feed line h = ap strip (before_feed-append line (line_feed ∷ []) h ∙ append-nil line)
 line_of_bytes Input line h = ap strip h
 
--- a line that is a dot and carriage returns, and no other, is the one that ends a text
+-- a line is one that ends a text exactly if it is a dot, with any number of carriage returns after it
 not_dot : Other ≢ Dot
 not_dot e = cc
 
@@ -121,7 +121,7 @@ dot_pieces Feed line h = refl
 dot_pieces Input [] h = absurd (no_byte h)
 dot_pieces Input (b ∷ bs) h = refl
 
--- one more line
+-- pieces were taken, and then one more line
 ends_more : (m n o : InputData) (ending : LineEnd) → turns n ≤ turns m → EndsAs ending n o → EndsAs ending m o
 ends_more m n o Feed le h = omega arith
 ends_more m n o Input le h = h
@@ -161,7 +161,7 @@ is_taken Unfinished body line ending h one dot t = absurd t
 pub not_last : (ending : LineEnd) (line : List ℕ) → before_feed line ≡ line → (line_after Nothing line ≡ Dot → ⊥) → line_of (line_bytes ending line) ≢ codes "."
 not_last ending line one other e = other (is_dot_line line (sym (line_of_bytes ending line one) ∙ e))
 
--- the input ended in a text
+-- the input ended in a text: no line up to the end is the one that ends the text
 pub text_rest : (body : List (List ℕ)) (line : List ℕ) → IsBody body → before_feed line ≡ line → (line_after Nothing line ≡ Dot → ⊥)
     → IsBody (body ++ line_pieces Input line)
 text_rest body [] h one other = let P : List (List ℕ) → Type 0 = IsBody in subst P (sym (append-nil body)) h

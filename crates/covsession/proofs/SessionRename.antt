@@ -15,7 +15,7 @@ use Rattle.covsession.specs.declared.session.text.LineEnd.TheVariants.{Feed, Inp
 use Rattle.covsession.proofs.SessionPieces.{line_of_bytes}
 use Rattle.covsession.proofs.SessionSteps.{line_taken, pieces_trans, says_on, says_nil, rename_run, open_rename_run}
 
--- a line `rename` that no names follow is the last one
+-- if the names don't come next after a line `rename`, the line ended with the input
 names_at : (b : Bool) (word : Word) (ending : LineEnd) → ((b ≡ true) ↔ ((word ≡ words.Rename) × (ending ≡ Feed))) → b ≡ false → word ≡ words.Rename → ending ≡ Input
 names_at b word Input behind none is = refl
 names_at true word Feed behind none is = absurd (let no : ⊥ = cc in no)
@@ -61,7 +61,7 @@ names_short m n o name ending h e k =
     let P : LineEnd → Type 0 = λ u. TakesPieces m n (h.0 ∷ []) u [] in
     (h.0 ∷ [], pieces_trans m n o (h.0 ∷ []) [] Input [] [] (subst P e h.1) k, omega arith)
 
--- both are there
+-- both names were taken
 pub names_both : (m n o : Moment) (old new : List ℕ) (first ending : LineEnd) → (piece : List ℕ) × TakesPieces m n (piece ∷ []) first [] × (line_of piece ≡ old)
     → first ≡ Feed → (piece : List ℕ) × TakesPieces n o (piece ∷ []) ending [] × (line_of piece ≡ new)
     → (second : List ℕ) × (third : List ℕ) × TakesPieces m o (second ∷ third ∷ []) ending [] × (line_of second ≡ old) × (line_of third ≡ new)
@@ -91,7 +91,7 @@ renamed_after m n p old new ending before after (second, third, taken, one, two)
       run = subst R (ap₂ (λ (x y : List ℕ). Ask (RenameOp x y) ∷ []) one two) (λ first word. rename_run ending first second third word);
     }
 
--- the input ended before both were there
+-- the input ended before both names were there, and the rename was answered as unfinished
 pub unfinished_after : (m n : Moment) (p : OutputData) (before after : List OpData)
     → (pieces : List (List ℕ)) × TakesPieces m n pieces Input [] × (length pieces < 2)
     → after ≡ before → Says n.output p (said (codes "unfinished"))

@@ -135,7 +135,7 @@ rename_begins those d s = (s.first, s.second ∷ s.third ∷ [], s.is, s.word)
 pub open_begins : (those : List (List ℕ)) (d : Command) → OpenRename those d → BeginsRename those
 open_begins those d s = (s.first, s.behind, s.is, s.word)
 
--- it is no command of its own, and no text follows it
+-- a piece that is a command of its own isn't a line `rename`
 single_no_rename : (piece : List ℕ) (rest those further : List (List ℕ)) (c : Command) → IsSingle (line_of piece) c → piece ∷ rest ≡ those ++ further
     → BeginsRename those → ⊥
 single_no_rename piece rest those further c h e (first, behind, is, word) =
@@ -143,6 +143,7 @@ single_no_rename piece rest those further c h e (first, behind, is, word) =
     let same : piece ≡ first = cc in
     not_rename (line_of piece) c h (ap line_of same ∙ word)
 
+-- a line that announces a text isn't a line `rename`
 pub format_no_rename : (format : Format) (piece : List ℕ) (rest those further : List (List ℕ)) → Announces format (line_of piece) → piece ∷ rest ≡ those ++ further
     → BeginsRename those → ⊥
 format_no_rename format piece rest those further h e (first, behind, is, word) =
@@ -150,13 +151,14 @@ format_no_rename format piece rest those further h e (first, behind, is, word) =
     let same : piece ≡ first = cc in
     text_no_rename format (line_of piece) h (ap line_of same ∙ word)
 
--- the first line `.` after a line that a text follows has one place
+-- the lines of a text have no line `.`
 pub no_dot : (body before after : List (List ℕ)) (last : List ℕ) → IsBody body → line_of last ≡ codes "." → body ≡ before ++ last ∷ after → ⊥
 no_dot [] [] after last h dot e = cc
 no_dot [] (b ∷ before) after last h dot e = cc
 no_dot (x ∷ body) [] after last h dot e = let same : x ≡ last = cc in h.0 (ap line_of same ∙ dot)
 no_dot (x ∷ body) (b ∷ before) after last h dot e = let rest : body ≡ before ++ last ∷ after = cc in no_dot body before after last h.1 dot rest
 
+-- pieces can be cut at their first line `.` in only one way
 pub dot_place : (body body2 rest rest2 : List (List ℕ)) (last last2 : List ℕ) → IsBody body → IsBody body2
     → line_of last ≡ codes "." → line_of last2 ≡ codes "." → body ++ last ∷ rest ≡ body2 ++ last2 ∷ rest2 → (body ≡ body2) × (rest ≡ rest2)
 dot_place [] [] rest rest2 last last2 h k d d2 e = (refl, cc)
@@ -168,7 +170,7 @@ dot_place (x ∷ body) (y ∷ body2) rest rest2 last last2 h k d d2 e =
     let both = dot_place body body2 rest rest2 last last2 h.1 k.1 d d2 further in
     (let bodies : body ≡ body2 = both.0 in cc, both.1)
 
--- what a command of given pieces is determined by: the same pieces in front are that command, and the rest is the same
+-- the pieces `these`, followed by `rest`, can only be cut so that their first command is `c` and what follows it is `rest`
 abbrev pub Determined : List (List ℕ) → List (List ℕ) → Command → Type 0
 Determined these rest c =
     (those : List (List ℕ)) (further : List (List ℕ)) (d : Command) → these ++ rest ≡ those ++ further
@@ -209,7 +211,8 @@ open_ends Unknown further e h = absurd (let nothing : ⊥ = cc in nothing)
 open_ends (Submit submission) further e h = absurd (let nothing : ⊥ = cc in nothing)
 open_ends (Refuse fault) further e h = absurd (let nothing : ⊥ = cc in nothing)
 
--- a whole text: its format and first line, its body, its last line, what it is read as and the command that it is
+-- a whole text: its first line announces the format, its last line is the first line `.` after that, and the bytes between them
+-- can't be read as anything but this outcome
 pub record IsWhole (format : Format) (first : List ℕ) (body : List (List ℕ)) (last : List ℕ) (outcome : Result SubmissionData ReadFault) : Type 0 where
   pub announces : Announces format (line_of first)
   pub no_last : IsBody body
@@ -273,7 +276,7 @@ pub open_determined : (format : Format) (first : List ℕ) (body : List (List �
 open_determined format first body announces no_last = λ those further d e is ends.
     open_by format first body those further d announces no_last (sym (append-nil (first ∷ body)) ∙ e) ends (shape those d is)
 
--- pieces that begin with a line `rename` are no command of one line, and no text
+-- pieces that begin with a line `rename` are no command of one line. In the next two lemmas, they are no text
 pub rename_no_single : (first : List ℕ) (rest those further : List (List ℕ)) (d : Command) → line_of first ≡ codes "rename" → first ∷ rest ≡ those ++ further → Single those d → ⊥
 rename_no_single first rest those further d word e s =
     let all : first ∷ rest ≡ s.piece ∷ further = e ∙ ap (λ (u : List (List ℕ)). u ++ further) s.is in
@@ -334,7 +337,7 @@ pub open_rename_determined : (first : List ℕ) (behind : List (List ℕ)) → l
 open_rename_determined first behind word few = λ those further d e is ends.
     open_rename_by first behind those further d word few (sym (append-nil (first ∷ behind)) ∙ e) ends (shape those d is)
 
--- a command has a piece
+-- a command has at least one piece
 pub not_none : (those : List (List ℕ)) (d : Command) → Shape those d → those ≢ []
 not_none those d (ASingle s) e = let bad : s.piece ∷ [] ≡ [] = sym s.is ∙ e in cc
 not_none those d (AWhole s) e = let bad : s.first ∷ (s.body ++ s.last ∷ []) ≡ [] = sym s.is ∙ e in cc
@@ -355,7 +358,7 @@ pub run_none : (ending : LineEnd) → IsRun ending [] []
 run_none Feed = record { are = λ rest more h. h; only = λ rest others h. (others, refl, h) }
 run_none Input = record { are = refl; only = λ others h. none_only [] others refl h }
 
--- runs join
+-- pieces that are exactly some commands, and then pieces that are exactly other commands, are exactly all these commands
 run_more_feed : (ps qs : List (List ℕ)) (cs ds : List Command) → IsRun Feed ps cs → IsRun Feed qs ds → IsRun Feed (ps ++ qs) (cs ++ ds)
 run_more_feed ps qs cs ds h k = record {
   are = λ rest more r.
@@ -381,7 +384,7 @@ pub run_more : (ending : LineEnd) (ps qs : List (List ℕ)) (cs ds : List Comman
 run_more Feed ps qs cs ds h k = run_more_feed ps qs cs ds h k
 run_more Input ps qs cs ds h k = run_more_input ps qs cs ds h k
 
--- one command
+-- pieces that determine one command are exactly this command
 rest_of : (rest further : List (List ℕ)) (c d : Command) (ds : List Command) → d ≡ c → further ≡ rest → AreCommands further ds
     → (more : List Command) × (d ∷ ds ≡ (c ∷ []) ++ more) × AreCommands rest more
 rest_of rest further c d ds e e2 h = let P : List (List ℕ) → Type 0 = λ u. AreCommands u ds in (ds, ap (λ (u : Command). u ∷ ds) e, subst P e2 h)
@@ -417,7 +420,7 @@ pub run_one : (ending : LineEnd) (these : List (List ℕ)) (c : Command) → IsC
 run_one Feed these c is goes det = run_one_feed these c is goes det
 run_one Input these c is goes det = run_one_input these c is (goes []) (det [])
 
--- the answer of a reader that refuses a text
+-- the result of a reader that refuses a text
 abbrev told_as : ReadFault → Result SubmissionData ReadFault
 told_as fault = Err fault
 
@@ -430,7 +433,7 @@ not_memory fault told e = false≢true (sym told ∙ ap is_memory e)
 not_told : (fault : ReadFault) → IsNotMemory fault → told_as fault ≡ told_as faults.Memory → ⊥
 not_told fault told e = not_memory fault told (same_fault fault faults.Memory e)
 
--- a fault that is passed on is what the text is read as
+-- if a reader's fault isn't that memory ran out, it is what the text is read as
 told_outcome : (format : Format) (text : List ℕ) (fault : ReadFault) → IsNotMemory fault → AnswersAs format text (Err fault) → IsReadAs format text (Err fault)
 told_outcome format text fault told (inl none) = absurd (not_told fault told none)
 told_outcome format text fault told (inr h) = h
@@ -439,7 +442,7 @@ told_only : (fault : ReadFault) (outcome : Result SubmissionData ReadFault) → 
 told_only fault outcome told (inl none) = absurd (not_told fault told none)
 told_only fault outcome told (inr h) = h
 
--- a submission that is answered is what the text is read as
+-- the result of a reader that accepts a text
 abbrev answered : SubmissionData → Result SubmissionData ReadFault
 answered submission = Ok submission
 
@@ -454,11 +457,12 @@ ok_only : (submission : SubmissionData) (outcome : Result SubmissionData ReadFau
 ok_only submission outcome (inl none) = absurd (ok_no_fault submission none)
 ok_only submission outcome (inr h) = h
 
--- an answer that is passed on is what the text is read as, and the only one
+-- if a reader's result isn't that memory ran out, it is what the text is read as
 pub answer_outcome : (format : Format) (text : List ℕ) (answer : Result SubmissionData ReadFault) → IsReported answer → AnswersAs format text answer → IsReadAs format text answer
 answer_outcome format text (Ok submission) told h = ok_outcome format text submission h
 answer_outcome format text (Err fault) told h = told_outcome format text fault told h
 
+-- such a result is the only one that the text can be read as
 pub answer_only : (answer outcome : Result SubmissionData ReadFault) → IsReported answer → IsOrMemory answer outcome → outcome ≡ answer
 answer_only (Ok submission) outcome told h = ok_only submission outcome h
 answer_only (Err fault) outcome told h = told_only fault outcome told h

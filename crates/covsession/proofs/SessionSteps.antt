@@ -43,7 +43,7 @@ says_on m n p pieces ending text h says = record {
   ended = h.ended;
 }
 
--- pieces and then further pieces
+-- pieces were taken, and then further pieces
 ends_trans : (m n o : InputData) (ending : LineEnd) → EndsAs Feed m n → EndsAs ending n o → EndsAs ending m o
 ends_trans m n o Feed h k = omega arith
 ends_trans m n o Input h k = k
@@ -65,7 +65,7 @@ line_taken m n line ending h = record {
   ended = h.ended;
 }
 
--- a text after a line
+-- the pieces of a whole text are exactly one command: a submission, or a refusal
 pub whole_run : (ending : LineEnd) (format : Format) (first : List ℕ) (body : List (List ℕ)) (last : List ℕ) (outcome : Result SubmissionData ReadFault)
     → IsWhole format first body last outcome → IsReadAs format (concat body) outcome
     → IsRun ending (first ∷ (body ++ last ∷ [])) (asked_for outcome)
@@ -143,7 +143,7 @@ pub unknown_run : (ending : LineEnd) (piece : List ℕ) → IsUnknown (line_of p
 unknown_run ending piece h =
     run_one ending (piece ∷ []) Unknown (line_of piece, (piece, refl, refl), h) (λ rest. tt) (λ rest. single_determined piece rest Unknown h)
 
--- a rename with both of its names, and one without
+-- the pieces of a rename are exactly one command. If one of its names isn't there, it is `Unfinished`
 pub rename_run : (ending : LineEnd) (first second third : List ℕ) → line_of first ≡ codes "rename"
     → IsRun ending (first ∷ second ∷ third ∷ []) (Ask (RenameOp (line_of second) (line_of third)) ∷ [])
 rename_run ending first second third word =
@@ -155,7 +155,7 @@ pub open_rename_run : (first : List ℕ) (behind : List (List ℕ)) → line_of 
 open_rename_run first behind word few =
     run_one_input (first ∷ behind) Unfinished (inr (first, behind, refl, word, few)) refl (open_rename_determined first behind word few)
 
--- a pattern that fits is asked with, and another one is refused
+-- a choice of files by a pattern asks the book if the pattern fits, and is refused if the pattern is too long
 fit_run : (ending : LineEnd) (piece pattern : List ℕ) (op : OpData) (fits : Bool) → leb (length pattern) max_pattern_bytes ≡ fits
     → (length pattern ≤ max_pattern_bytes → AsksFor op (line_of piece)) → (max_pattern_bytes < length pattern → IsTooLong (line_of piece))
     → IsRun ending (piece ∷ []) (cond fits (Ask op ∷ []) (RefusePattern ∷ []))
@@ -172,7 +172,7 @@ choose_run ending piece picks.Remove None h = ask_run ending piece (RemoveOp [])
 choose_run ending piece picks.Remove (Some pattern) h =
     fit_run ending piece pattern (RemoveOp (pattern ∷ [])) (leb (length pattern) max_pattern_bytes) refl (λ fits. (h, fits)) (λ long. (pattern, long, inr h))
 
--- a word that a text or names follow is at the end of the input
+-- if a text or two names should follow this word, its line ended with the input
 pub record IsLast (ending : LineEnd) (word : Word) : Type 0 where
   pub text : (format : TextFormat) → word ≡ words.Text format → ending ≡ Input
   pub names : word ≡ words.Rename → ending ≡ Input
@@ -192,7 +192,8 @@ word_run ending piece (words.Text format) h last =
     let Q : LineEnd → Type 0 = λ u. IsRun u (piece ∷ []) (Unfinished ∷ []) in
     subst Q (sym (last.text format refl)) (run_one_input (piece ∷ []) Unfinished (inl (format_of format, piece, [], refl, h, tt)) refl (open_determined (format_of format) piece [] h tt))
 
--- the commands of a line, which ask and answer as its word does; none after the last line
+-- the commands that a line is: the one of its word, or none if the input ended before the line's first byte. They have the same
+-- answers and operations as the word's command
 pub record LineRun (ending : LineEnd) (pieces : List (List ℕ)) (word : Word) : Type 0 where
   pub commands : List Command
   pub run : IsRun ending pieces commands
@@ -245,7 +246,7 @@ line_run Input (b ∷ bs) word one h last =
     let P : List ℕ → Type 0 = λ u. IsWord u word in
     piece_line Input (b ∷ bs) word (subst P (sym (line_of_bytes Input (b ∷ bs) one)) h) last
 
--- a line and its answer are a command
+-- if a line was taken and its word answered, the next command was taken and answered
 pub line_command : (m n : Moment) (p : OutputData) (line : List ℕ) (ending : LineEnd) (word : Word) (before after : List OpData)
     → TakesLine m n line ending → IsWord (strip line) word → IsLast ending word
     → Asks (asked_by word) before after → Says n.output p (text_after (table_of before) (asked_by word))
@@ -262,7 +263,7 @@ line_command m n p line ending word before after h is last asks says =
       run = r.run;
     }
 
--- such a line with what follows it and the answer are a command
+-- if a line and then the lines that belong to it were taken and answered, the next command was taken and answered
 pub after_command : (Such : List ℕ → Type 0) (m n o : Moment) (line : List ℕ) (ending first : LineEnd) (before after : List OpData)
     → TakesLine m n line first → first ≡ Feed → Such (strip line) → TakesAfter Such n o before after ending → TakesCommand m o before after ending
 after_command Such m n o line ending first before after h feed is t =
@@ -276,7 +277,7 @@ after_command Such m n o line ending first before after h feed is t =
       run = t.run (line ++ line_feed ∷ []) (subst Such (sym (line_of_bytes Feed line h.one_line)) is);
     }
 
--- the whole session
+-- before the first command, no commands were taken and answered
 pub so_far_none : (m : Moment) (history : List OpData) → history ≡ [] → IsSoFar m m history
 so_far_none m history e = record {
   bytes = [];
@@ -331,7 +332,7 @@ so_far_done m n o before after s t =
       ended = t.taken.ended;
     }
 
--- the last writes
+-- at a session's start nothing is pending, so the bytes are taken from what the source has
 pub start_took : (left other : Option (List ℕ)) (bytes : List ℕ) → Consumes (prepend_known [] left) other bytes → Consumes left other bytes
 start_took None other bytes h = tt
 start_took (Some xs) other bytes h = h
@@ -408,7 +409,7 @@ only_whole m n p e =
     only_session m.input.left n.input.left m.output.written p.written e.done.bytes e.done.commands
     (ended_took m n p e) (end_left n.input.pending n.input.left e.done.ended) e.done.run (ended_says m n p e)
 
--- the same for a source and a sink that are at these moments
+-- such a session is a whole session. The values of its source and sink are those of the moments
 pub whole_at : (m n : Moment) (p : OutputData) (left left_after written written_after : Option (List ℕ)) → IsEnded m n p
     → m.input.left ≡ left → left_after ≡ n.input.left → m.output.written ≡ written → written_after ≡ p.written
     → IsWholeSession left left_after written written_after
@@ -428,7 +429,7 @@ only_at m n p left written written_after e l w wa =
     let S : Option (List ℕ) → Type 0 = λ u. IfSome m.input.left (λ input. (output : List ℕ) → IsSession input output → Appends m.output.written u output) in
     subst P l (subst R w (subst S (sym wa) (only_whole m n p e)))
 
--- no more reads than may follow
+-- no more reads were made than were left before them
 pub few_reads : (i j : InputData) (most : ℕ) (bytes : List ℕ) → i.reads_left ≡ most → Takes i j bytes → j.reads ≤ i.reads + most
 few_reads i j most bytes e h = let counted = h.counted in omega arith
 
@@ -438,17 +439,17 @@ answered {A} format taken other commands e h = let P : CollectedText A → Type 
 pub says_nil : (o p : OutputData) (text : List ℕ) → Says o p text → Says o p (text ++ [])
 says_nil o p text h = let P : List ℕ → Type 0 = λ u. Says o p u in subst P (sym (append-nil text)) h
 
--- what holds if a call ended well, and what follows from it
+-- if `Q` follows from `P`, and `P` holds if a call ended well, `Q` holds if it ended well
 pub ok_map : {X E P Q : Type 0} (r : Result X E) → (P → Q) → OnOk r P → OnOk r Q
 ok_map (Ok x) f h = f h
 ok_map (Err e) f h = h
 
--- the one answer of a command
+-- a command's answer, as a text with nothing after it
 pub ok_says : {E : Type 0} (r : Result (Unit {0}) E) (o p : OutputData) (text : List ℕ) → OnOk r (Says o p text) → OnOk r (Says o p (text ++ []))
 ok_says (Ok x) o p text h = says_nil o p text h
 ok_says (Err e) o p text h = h
 
--- what is asked with the list of a pattern, or of none
+-- if the list of a choice of files isn't refused, the command asks for the operation with this list
 pub chosen_asks : (op : List (List ℕ) → OpData) (pattern : Option (List ℕ)) (patterns : List (List ℕ)) → IsListOf pattern (Some patterns)
     → chosen_by op pattern ≡ Ask (op patterns) ∷ []
 chosen_asks op None patterns h = ap (λ (u : List (List ℕ)). Ask (op u) ∷ []) (sym h)

@@ -1,5 +1,5 @@
--- What a line of its own asks for: it is read as one command, by its first, third and sixth byte and what comes after
--- the word.
+-- A line that is a command of its own is exactly one command. Its first, third and sixth bytes and what comes after its word show
+-- which one.
 use Rattle.std.proofs.Common.{◌≡◌, ◌⊎◌, ℕ, zero, suc, ◌<◌, ◌≤◌, Bool, true, false, cond, eqb, leb, length, codes, get_or, take, drop, List, [], ◌∷◌, Option, None, Some, refl, sym, ◌∙◌, ap, subst, arith, inl, inr}
 use Rattle.std.proofs.lemmas.Bool.{le-leb, lt-leb, false≢true}
 use Rattle.std.proofs.lemmas.List.{take_all}
@@ -30,17 +30,17 @@ front_none xs h =
 
 -- ---- a line is at most one command
 
--- a pattern comes after a space
+-- the pattern: what comes after the first of these bytes, a space; `None` if there are no bytes
 abbrev after_space : List ℕ → Option (List ℕ)
 after_space [] = None
 after_space (b ∷ pattern) = Some pattern
 
--- a choice of files, unless its pattern is too long
+-- the command of a choice of files: it asks the book, unless its pattern is too long
 abbrev choice_read : (List (List ℕ) → OpData) → Option (List ℕ) → Command
 choice_read op None = Ask (op [])
 choice_read op (Some pattern) = cond (leb (length pattern) max_pattern_bytes) (Ask (op (pattern ∷ []))) RefusePattern
 
--- the command of the word that the line begins with
+-- the command that a line is read as, by which word it begins with
 abbrev read_by : (is_report is_summary is_extract is_remove : Bool) → List ℕ → Command
 read_by true s e r line = Ask ReportOp
 read_by false true e r line = Ask SummaryOp
@@ -48,12 +48,12 @@ read_by false false true r line = choice_read ExtractOp (after_space (drop 7 lin
 read_by false false false true line = choice_read RemoveOp (after_space (drop 6 line))
 read_by false false false false line = Unfinished
 
--- the sixth bytes of the words without a test differ: t, r, c, e, and none in `trace`
+-- the same by the line's sixth byte, which is t in `report`, r in `summary`, c in `extract` and e in `remove`. `trace` has none
 abbrev read_at : ℕ → List ℕ → Command
 read_at sixth line = read_by (eqb sixth 116) (eqb sixth 114) (eqb sixth 99) (eqb sixth 101) line
 
--- what a line is read as, whatever else it may be: one that is no command is read as some command too. The third byte of
--- `rename` is in no other word
+-- the command that a line is read as, by a few of its bytes. So a line that is no command is read as some command too. No other
+-- word has the third byte of `rename`
 abbrev read_line : List ℕ → Command
 read_line [] = Blank
 read_line (b ∷ bs) = cond (eqb b 103) Unfinished (cond (eqb b 100) (Ask (DropTestOp (drop 4 bs)))
@@ -86,7 +86,7 @@ too_long_read : (line : List ℕ) → IsTooLong line → read_line line ≡ Refu
 too_long_read line (pattern, long, inl is) = ap read_line is ∙ long_read ExtractOp pattern long
 too_long_read line (pattern, long, inr is) = ap read_line is ∙ long_read RemoveOp pattern long
 
--- a command of one line
+-- the line alone is this command
 abbrev pub IsSingle : List ℕ → Command → Type 0
 IsSingle line Blank = line ≡ []
 IsSingle line (Ask op) = AsksFor op line
@@ -96,7 +96,7 @@ IsSingle line (Submit submission) = ⊥
 IsSingle line (Refuse fault) = ⊥
 IsSingle line Unfinished = ⊥
 
--- it is unknown, or what the line is read as
+-- the line is unknown, and so is the command; or the line isn't unknown, and it is read as this command
 abbrev IsRead : List ℕ → Command → Type 0
 IsRead line c = ((c ≡ Unknown) × IsUnknown line) ⊎ ((IsUnknown line → ⊥) × (read_line line ≡ c))
 
@@ -118,7 +118,7 @@ both_read line c d (inr h) (inr k) = sym k.1 ∙ h.1
 pub single_unique : (line : List ℕ) (c d : Command) → IsSingle line c → IsSingle line d → d ≡ c
 single_unique line c d h k = both_read line c d (single_read line c h) (single_read line d k)
 
--- a text follows no such line: it is read as a text that doesn't end
+-- a line that announces a text is read as `Unfinished`, so it isn't a command alone
 text_read : (format : Format) (line : List ℕ) → Announces format line → read_line line ≡ Unfinished
 text_read Tracefile line h = ap read_line h
 text_read (Annotated test) line (inl h) = ap read_line h.0
@@ -133,11 +133,11 @@ no_single line d k (inr h) known is =
 pub not_text : (line : List ℕ) (d : Command) (format : Format) → IsSingle line d → Announces format line → ⊥
 not_text line d format k a = no_single line d k (single_read line d k) (λ u. u.no_text format a) (text_read format line a)
 
--- nor is a line that two names follow such a line
+-- a line `rename` isn't a command alone either
 pub not_rename : (line : List ℕ) (d : Command) → IsSingle line d → line ≡ codes "rename" → ⊥
 not_rename line d k is = no_single line d k (single_read line d k) (λ u. u.no_rename is) (ap read_line is)
 
--- no text follows it: by its third byte
+-- whether the third byte of a line is that of `rename`. Such a line announces no text
 abbrev third_read : List ℕ → Bool
 third_read line = eqb (get_or line 2 0) 110
 
@@ -149,7 +149,7 @@ text_third (Annotated test) line (inr h) = ap third_read h
 pub text_no_rename : (format : Format) (line : List ℕ) → Announces format line → line ≡ codes "rename" → ⊥
 text_no_rename format line a is = false≢true (sym (text_third format line a) ∙ ap third_read is)
 
--- a line announces one format: by its first byte and what comes after the fifth
+-- the only format that a line can announce, by its first byte and what comes after the fifth
 abbrev format_read : List ℕ → Format
 format_read line = cond (eqb (get_or line 0 0) 103) (Annotated (drop 5 line)) Tracefile
 

@@ -16,7 +16,8 @@ use Rattle.covsession.specs.declared.session.text.LineEnd.{LineEnd}
 use Rattle.covsession.specs.declared.session.text.LineEnd.TheVariants.{Feed, Input}
 use Rattle.covsession.specs.declared.session.text.CollectedText.{CollectedText}
 
--- the number of failed writes after an output stopped with this fault
+-- how many writes failed before and after an output stopped with this fault: one more after `Write`, and as many after `Memory`
+-- and `Full`. An output never stops with `Read`
 abbrev pub CountsWrites : SessionFault → (before after : ℕ) → Type 0
 CountsWrites Read before after = ⊥
 CountsWrites Write before after = after ≡ before + 1
@@ -27,8 +28,8 @@ CountsWrites Full before after = after ≡ before
 abbrev pub IsIdle : OutputData → Type 0
 IsIdle o = (o.waiting ≡ []) × (o.held ≡ 0)
 
--- an output stopped while this was said: a beginning of all that was said is written, and the rest is lost. Unless a write
--- failed it stopped before this
+-- an output stopped with this fault while this text was said. Of what was said before and this text together, a beginning is
+-- written, and the rest is lost. Unless a write failed, the output stopped before any byte of this text was said
 pub record Breaks (o p : OutputData) (fault : SessionFault) (text : List ℕ) : Type 0 where
   pub lost : List ℕ
   pub says : Appends (said_so_far o) (append_known p.written lost) text
@@ -37,8 +38,9 @@ pub record Breaks (o p : OutputData) (fault : SessionFault) (text : List ℕ) : 
   pub same_sink : p.sink ≡ o.sink
   pub before : fault ≢ Write → Appends (said_so_far o) (said_so_far p) []
 
--- what was said before a fault was sent on, and the session ends with that fault, or with a write that failed then. After a
--- read or a write that failed nothing is written
+-- how an output stops after a fault, and with which fault the session ends. After `Memory` or `Full`, what was said is sent on,
+-- and the session ends with the same fault; or a write fails then, and the session ends with `Write`. After `Read` or `Write`
+-- nothing more is written
 abbrev pub StopsAs : (o p : OutputData) → (fault ended : SessionFault) → Type 0
 StopsAs o p Read ended = (p ≡ o) × (ended ≡ Read)
 StopsAs o p Write ended = (p ≡ o) × (ended ≡ Write)
@@ -53,7 +55,8 @@ pub record Stalls (i j : InputData) : Type 0 where
   pub same_source : j.source ≡ i.source
   pub drained : j.pending ≡ []
 
--- which call failed between two moments
+-- which call failed between two moments, if a fault came between them. At `Read`, a read failed, or none failed and no read is
+-- left. At `Write`, a write failed. At `Memory` and `Full`, no call failed
 abbrev pub IsCausedBy : SessionFault → Moment → Moment → Type 0
 IsCausedBy Read m n =
     (n.output.failed_writes ≡ m.output.failed_writes)
@@ -62,8 +65,8 @@ IsCausedBy Write m n = (n.input.failed_reads ≡ m.input.failed_reads) × (n.out
 IsCausedBy Memory m n = (n.input.failed_reads ≡ m.input.failed_reads) × (n.output.failed_writes ≡ m.output.failed_writes)
 IsCausedBy Full m n = (n.input.failed_reads ≡ m.input.failed_reads) × (n.output.failed_writes ≡ m.output.failed_writes)
 
--- a fault came between two moments, while some bytes were taken and this text was said: these answers, and then those that the
--- fault came in. Unless a write failed, the former are said and nothing of the latter
+-- a fault came between two moments. Some bytes were taken between them, and this text was to be said: these answers, and then
+-- what the fault cut short (`cut`). Unless a write failed, all of these answers were said, and nothing of what was cut short
 pub record Fails (m n : Moment) (fault : SessionFault) (answers text : List ℕ) : Type 0 where
   pub bytes : List ℕ
   pub took : Consumes (unread m.input) (unread n.input) bytes
@@ -79,11 +82,11 @@ pub record Fails (m n : Moment) (fault : SessionFault) (answers text : List ℕ)
   pub before : fault ≢ Write → Appends (said_so_far m.output) (said_so_far n.output) answers
   pub idle : fault ≡ Read → IsIdle n.output × (n.input.pending ≡ [])
 
--- a line was begun, and its line feed isn't among the bytes
+-- the bytes are a part of one line, before its line feed
 abbrev pub IsLinePart : List ℕ → Type 0
 IsLinePart bytes = before_feed bytes ≡ bytes
 
--- the bytes are such pieces, and then a part of a line or nothing
+-- the bytes are whole lines, for whose pieces `Such` holds, and then a part of one more line, or nothing
 pub record IsPart (Such : List (List ℕ) → Type 0) (bytes : List ℕ) : Type 0 where
   pub pieces : List (List ℕ)
   pub done : List ℕ
@@ -93,19 +96,19 @@ pub record IsPart (Such : List (List ℕ) → Type 0) (bytes : List ℕ) : Type 
   pub one_line : IsLinePart line
   pub such : Such pieces
 
--- with one more piece, or none, they are at most one command
+-- these pieces, followed by at most one more piece, are at most one command
 abbrev pub IsOpen : List (List ℕ) → Type 0
 IsOpen pieces =
     (tail : List (List ℕ)) → length tail < 2 → (commands : List Command) → AreCommands (pieces ++ tail) commands → length commands ≤ 1
 
--- a fault came before a command was wholly taken, or before it was known what it asks. If a read failed, these are the bytes
--- that were taken of it
+-- a fault came before the whole of a command was taken, or before it was known what the command asks for. If a read failed,
+-- `Such` holds of the bytes of the command that were taken
 pub record FailsTaking (Such : List ℕ → Type 0) (m n : Moment) (fault : SessionFault) : Type 0 where
   pub fails : Fails m n fault [] []
   pub not_full : fault ≢ Full
   pub part : fault ≡ Read → Such fails.bytes
 
--- the answer to these commands was cut short; the history is full only if they ask the book something
+-- a fault cut the answer to these commands short. It is `Full` only if they ask the book for an operation
 pub record FailsSaying (o p : OutputData) (before : List OpData) (commands : List Command) (fault : SessionFault) : Type 0 where
   pub breaks : Breaks o p fault (text_after (table_of before) commands)
   pub full : fault ≡ Full → 0 < length (ops_of commands)
@@ -116,7 +119,7 @@ FailsGiven format taken o p before fault =
     (Breaks o p fault [] × (fault ≢ Full))
     ⊎ ((commands : List Command) × IsAnsweredAs format taken commands × FailsSaying o p before commands fault)
 
--- what follows a line of this kind was taken, and the answer was cut short
+-- the lines that belong to a line of this kind were taken, and the answer to the command was cut short
 pub record FailsAfter (IsSuch : List ℕ → Type 0) (m n : Moment) (before : List OpData) (fault : SessionFault) : Type 0 where
   pub pieces : List (List ℕ)
   pub commands : List Command
@@ -127,7 +130,7 @@ pub record FailsAfter (IsSuch : List ℕ → Type 0) (m n : Moment) (before : Li
   pub says : FailsSaying taken_at.output n.output before commands fault
   pub run : (first : List ℕ) → IsSuch (line_of first) → IsRun ending (first ∷ pieces) commands
 
--- a command was taken, and the answer was cut short
+-- a whole command was taken, and the answer to it was cut short
 pub record FailsAnswering (m n : Moment) (before : List OpData) (fault : SessionFault) : Type 0 where
   pub pieces : List (List ℕ)
   pub commands : List Command
@@ -138,8 +141,9 @@ pub record FailsAnswering (m n : Moment) (before : List OpData) (fault : Session
   pub says : FailsSaying taken_at.output n.output before commands fault
   pub run : IsRun ending pieces commands
 
--- all that was taken are these commands, and perhaps a part of a further one. The answers to all of them but the one that the
--- fault came in were said, or were written in part if a write failed
+-- a session ended in this fault between two moments. The bytes that were taken are these commands, and perhaps a part of one
+-- more. Unless a write failed, the answers to `answered` were said, and nothing of an answer to `last`. If a write failed, a
+-- beginning of the answers to all commands was written
 pub record IsBroken (m n : Moment) (fault : SessionFault) : Type 0 where
   pub pieces : List (List ℕ)
   pub commands : List Command

@@ -1,4 +1,4 @@
--- What a command line asks for, what the text after a line is, and what the book is asked.
+-- What the lines of an input ask for: the commands that they are, the texts in them, and what the book is asked for.
 use Rattle.std.specs.List.{concat, flat_map, AllByRecursion}
 use Rattle.std.specs.Prelude.{◌≡◌, ◌≢◌, ◌⊎◌, ◌<◌, ◌≤◌, ℕ, length, List, [], ◌∷◌, ◌++◌, codes, Ok, Err, ◌==◌, if◌then◌else◌, Result, Option, Some, None, option_map, nat_le}
 use Rattle.covbook.specs.Op.{OpData, SubmitOp, DropTestOp, RenameOp, ReportOp, ExtractOp, RemoveOp, SummaryOp}
@@ -15,11 +15,12 @@ use Rattle.covsession.specs.declared.session.command.word.Pick.TheVariants as pi
 use Rattle.covsession.specs.declared.session.command.word.Word.{Word}
 use Rattle.covsession.specs.declared.session.command.word.Word.TheVariants as words
 
--- the byte between a command's word and what belongs to it
+-- the byte between a command's word and its argument
 abbrev pub space : ℕ
 space = 32
 
--- what an input asks for, one command after another
+-- a command of an input. `Ask`: the book is asked for an operation that isn't a submission. `RefusePattern`: the pattern is too
+-- long. `Submit` and `Refuse`: a text that is read, and one that is refused. `Unfinished`: the input ends within the command
 pub data Command : Type 0 where
   Blank : Command
   Ask : (op : OpData) → Command
@@ -29,21 +30,22 @@ pub data Command : Type 0 where
   Unknown : Command
   Unfinished : Command
 
--- the command is one line
+-- the pieces are one piece, and it is this line
 abbrev pub IsLine : List (List ℕ) → List ℕ → Type 0
 IsLine pieces line = (piece : List ℕ) × (pieces ≡ piece ∷ []) × (line_of piece ≡ line)
 
--- a word, and after a space one pattern, which may be empty; or the word alone and no pattern
+-- the line is this word alone, and there are no patterns; or it is this word, a space and one pattern. The pattern may be empty,
+-- and isn't too long
 abbrev pub IsChoice : List ℕ → List (List ℕ) → List ℕ → Type 0
 IsChoice word [] line = line ≡ word
 IsChoice word (pattern ∷ []) line = (line ≡ word ++ space ∷ pattern) × (length pattern ≤ max_pattern_bytes)
 IsChoice word (pattern ∷ other ∷ more) line = ⊥
 
--- a word, and after a space the name of a test, which may be empty; or the word alone and the empty name
+-- the line is this word, a space and the name of this test, which may be empty; or it is the word alone, and the name is empty
 abbrev pub IsNaming : List ℕ → List ℕ → List ℕ → Type 0
 IsNaming word test line = ((line ≡ word) × (test ≡ [])) ⊎ (line ≡ word ++ space ∷ test)
 
--- the line alone asks the book for a text, or to drop a test
+-- the line asks the book for this operation, and no further lines belong to it: a text is asked for, or a test is dropped
 abbrev pub AsksFor : OpData → List ℕ → Type 0
 AsksFor (SubmitOp submission) line = ⊥
 AsksFor (DropTestOp test) line = IsNaming (codes "drop") test line
@@ -53,13 +55,13 @@ AsksFor SummaryOp line = line ≡ codes "summary"
 AsksFor (ExtractOp patterns) line = IsChoice (codes "extract") patterns line
 AsksFor (RemoveOp patterns) line = IsChoice (codes "remove") patterns line
 
--- the line has a pattern that no list takes
+-- the line is a choice of files whose pattern is too long
 abbrev pub IsTooLong : List ℕ → Type 0
 IsTooLong line =
     (pattern : List ℕ) × (max_pattern_bytes < length pattern)
     × ((line ≡ codes "extract" ++ space ∷ pattern) ⊎ (line ≡ codes "remove" ++ space ∷ pattern))
 
--- a line `rename`, and two lines after it: whatever they hold, they are the old name and the new one
+-- the pieces are a line `rename` and two lines after it. Whatever these two lines are, they are the old name and the new one
 abbrev pub IsRename : List (List ℕ) → List ℕ → List ℕ → Type 0
 IsRename pieces old new =
     (first : List ℕ) × (second : List ℕ) × (third : List ℕ) × (pieces ≡ first ∷ second ∷ third ∷ [])
@@ -84,7 +86,7 @@ pub data Format : Type 0 where
   Tracefile : Format
   Annotated : (test : List ℕ) → Format
 
--- a text of this format follows the line
+-- the line announces a text of this format
 abbrev pub Announces : Format → List ℕ → Type 0
 Announces Tracefile line = line ≡ codes "trace"
 Announces (Annotated test) line = IsNaming (codes "gcov") test line
@@ -94,7 +96,7 @@ abbrev pub IsReadAs : Format → List ℕ → Result SubmissionData ReadFault �
 IsReadAs Tracefile text outcome = IsOutcome text outcome
 IsReadAs (Annotated test) text outcome = gcov.IsOutcome test text outcome
 
--- the line is none of the commands
+-- the line isn't blank, is no command of its own, and announces no text and no rename
 pub record IsUnknown (line : List ℕ) : Type 0 where
   pub some : line ≢ []
   pub no_text : (format : Format) → Announces format line → ⊥
@@ -106,24 +108,25 @@ pub record IsUnknown (line : List ℕ) : Type 0 where
 abbrev pub IsBody : List (List ℕ) → Type 0
 IsBody body = AllByRecursion (λ piece. line_of piece ≢ codes ".") body
 
--- a line that a text follows, the text, and a line `.`; the text's bytes are all between the two lines, line ends included
+-- the pieces are a line that announces a text, the text's lines, and a line `.`. The text is all bytes between the first line and
+-- the last, with the line feeds
 abbrev pub IsText : List (List ℕ) → Format → List ℕ → Type 0
 IsText pieces format text =
     (first : List ℕ) × (body : List (List ℕ)) × (last : List ℕ) × (pieces ≡ first ∷ (body ++ last ∷ []))
     × Announces format (line_of first) × IsBody body × (line_of last ≡ codes ".") × (text ≡ concat body)
 
--- a line that a text follows, and no line `.` after it
+-- the pieces are a line that announces a text, and lines after it, none of which is `.`
 abbrev pub IsOpenText : List (List ℕ) → Type 0
 IsOpenText pieces =
     (format : Format) × (first : List ℕ) × (body : List (List ℕ)) × (pieces ≡ first ∷ body)
     × Announces format (line_of first) × IsBody body
 
--- a line `rename`, and fewer than two lines after it
+-- the pieces are a line `rename`, and fewer than two lines after it
 abbrev pub IsOpenRename : List (List ℕ) → Type 0
 IsOpenRename pieces =
     (first : List ℕ) × (rest : List (List ℕ)) × (pieces ≡ first ∷ rest) × (line_of first ≡ codes "rename") × (length rest < 2)
 
--- a text without its end, or a rename without its names
+-- the pieces are a text without its last line, or a rename without both of its names
 abbrev pub IsUnfinished : List (List ℕ) → Type 0
 IsUnfinished pieces = IsOpenText pieces ⊎ IsOpenRename pieces
 
@@ -139,7 +142,7 @@ IsCommand pieces (Refuse fault) =
 IsCommand pieces Unknown = (line : List ℕ) × IsLine pieces line × IsUnknown line
 IsCommand pieces Unfinished = IsUnfinished pieces
 
--- what is unfinished goes to the end of the input
+-- if this command is unfinished, it is the last of the input: no pieces follow it
 abbrev pub EndsInput : Command → List (List ℕ) → Type 0
 EndsInput Unfinished rest = rest ≡ []
 EndsInput Blank rest = Unit {0}
@@ -156,7 +159,7 @@ AreCommands pieces (command ∷ commands) =
     (these : List (List ℕ)) × (rest : List (List ℕ)) × (pieces ≡ these ++ rest)
     × IsCommand these command × EndsInput command rest × AreCommands rest commands
 
--- what the book is asked
+-- the operation that a command asks the book for, if it asks for one
 abbrev pub ops_asked : Command → List OpData
 ops_asked (Submit submission) = SubmitOp submission ∷ []
 ops_asked (Ask op) = op ∷ []
@@ -169,11 +172,12 @@ ops_asked Unfinished = []
 abbrev pub ops_of : List Command → List OpData
 ops_of commands = flat_map ops_asked commands
 
--- a choice of files: its word, and what it asks the book
+-- the word of a choice of files
 abbrev pub pick_name : Pick → List ℕ
 pick_name picks.Extract = codes "extract"
 pick_name picks.Remove = codes "remove"
 
+-- the operation of a choice of files by these patterns
 abbrev pub pick_op : Pick → List (List ℕ) → OpData
 pick_op picks.Extract patterns = ExtractOp patterns
 pick_op picks.Remove patterns = RemoveOp patterns
@@ -183,17 +187,17 @@ abbrev pub before_space : List ℕ → List ℕ
 before_space [] = []
 before_space (b ∷ bs) = if b == space then [] else b ∷ before_space bs
 
--- a command's word, and its pattern if there is one
+-- the line is this word alone; or, with an argument, it is this word, a space and the argument
 abbrev pub IsWordWith : List ℕ → List ℕ → Option (List ℕ) → Type 0
 IsWordWith line word None = line ≡ word
 IsWordWith line word (Some pattern) = line ≡ word ++ space ∷ pattern
 
--- the format of the text that a line announces
+-- a format of the code, as plain data
 abbrev pub format_of : TextFormat → Format
 format_of formats.Tracefile = Tracefile
 format_of (formats.Annotated test) = Annotated test.now
 
--- what a line without the carriage returns at its end asks for
+-- the line asks for this. The carriage returns at the line's end are already removed
 abbrev pub IsWord : List ℕ → Word → Type 0
 IsWord line words.Blank = line ≡ []
 IsWord line words.Report = line ≡ codes "report"
@@ -204,19 +208,19 @@ IsWord line words.Rename = line ≡ codes "rename"
 IsWord line (words.Text format) = Announces (format_of format) line
 IsWord line words.Other = IsUnknown line
 
--- the command that chooses files by a pattern, or by none
+-- the command that chooses files by a pattern, or without one. A pattern that is too long is refused
 abbrev pub chosen_by : (List (List ℕ) → OpData) → Option (List ℕ) → List Command
 chosen_by op None = Ask (op []) ∷ []
 chosen_by op (Some pattern) = if nat_le (length pattern) max_pattern_bytes then Ask (op (pattern ∷ [])) ∷ [] else RefusePattern ∷ []
 
--- the list of a pattern, or of none; there is no list if the pattern is too long
+-- the list holds only the pattern, or nothing if there is no pattern. If the pattern is too long, the list is `None`
 abbrev pub IsListOf : Option (List ℕ) → Option (List (List ℕ)) → Type 0
 IsListOf None (Some patterns) = patterns ≡ []
 IsListOf None None = ⊥
 IsListOf (Some pattern) (Some patterns) = (patterns ≡ pattern ∷ []) × (length pattern ≤ max_pattern_bytes)
 IsListOf (Some pattern) None = max_pattern_bytes < length pattern
 
--- the command of a line by itself; a line that a text or names follow is one if the input ends after it
+-- the command that a line is if no further lines belong to it. A line that announces a text or a rename is then unfinished
 abbrev pub asked_by : Word → List Command
 asked_by words.Blank = Blank ∷ []
 asked_by words.Report = Ask ReportOp ∷ []

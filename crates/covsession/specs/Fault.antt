@@ -1,4 +1,5 @@
--- What a session leaves that ends in a fault: that a beginning of its session text was written, and which call failed.
+-- What holds after a session that ended in a fault: it has written a beginning of its session text, and the counts of calls show
+-- which call failed.
 use Rattle.std.specs.Io.KnownBytes.{Consumes, Appends}
 use Rattle.std.specs.Prelude.{◌≡◌, ◌⊎◌, ◌<◌, ◌≤◌, ℕ, ◌+◌, ◌^◌, List, [], ◌++◌, length, Option, Some}
 use Rattle.covbook.specs.Step.{max_entries}
@@ -58,8 +59,8 @@ pub record CallsData : Type 0 where
 abbrev pub calls : (reads failed_reads failed_writes : ℕ) → CallsData
 calls reads failed_reads failed_writes = record { reads = reads; failed_reads = failed_reads; failed_writes = failed_writes }
 
--- which call failed. `Read`: one read, or none and 4,294,967,296 were made. `Write`: one write or flush. `Memory` and `Full`:
--- none
+-- which call failed. At `Read`, one read failed, or none failed and 4,294,967,296 reads were made. At `Write`, one write or flush
+-- failed. At `Memory` and `Full`, no call failed
 abbrev pub HasCause : SessionFault → CallsData → CallsData → Type 0
 HasCause Read old new =
     (new.failed_writes ≡ old.failed_writes)

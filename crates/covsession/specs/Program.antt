@@ -6,7 +6,7 @@ use Rattle.covsession.specs.Session.{said, IsWholeSession}
 use Rattle.covsession.specs.declared.session.fault.SessionFault.{SessionFault}
 use Rattle.covsession.specs.declared.session.fault.SessionFault.TheVariants.{Read, Write, Memory, Full}
 
--- the exit status of a fault: 1 if a stream failed, 3 if there was no room
+-- the exit status of a fault: 1 if a stream failed, 3 if memory ran out or the history was full
 abbrev pub fault_status : SessionFault → ℕ
 fault_status Read = 1
 fault_status Write = 1
@@ -24,7 +24,7 @@ abbrev pub end_status : Result (Unit {0}) SessionFault → ℕ
 end_status (Ok done) = 0
 end_status (Err fault) = fault_status fault
 
--- what is said of it: nothing if it ended well, and a line on its fault
+-- the line that reports how a session ended: the line of its fault, or nothing if it ended well
 abbrev pub end_words : Result (Unit {0}) SessionFault → List ℕ
 end_words (Ok done) = []
 end_words (Err fault) = said (words_of_fault fault)
@@ -34,9 +34,9 @@ abbrev pub HasNoFault : CallsData → CallsData → Type 0
 HasNoFault old new =
     (new.failed_reads ≡ old.failed_reads) × (new.failed_writes ≡ old.failed_writes) × (new.reads ≤ old.reads + 2 ^ 32)
 
--- a status of 0 means that a session ran over an input and an output and ended well. Another one means a fault: the session was
--- cut short for its cause, after whole answers unless that is a write; its words are on the stream for faults, unless a write
--- there failed
+-- a session ran over an input and an output, and this is the exit status. If it is 0, the session ended well. Any other status is
+-- that of a fault: the session was cut short, the counts of calls show the cause, and only whole answers were written, unless the
+-- fault is `Write`. The fault's line was written to the stream for faults, unless a write to that stream failed
 abbrev pub TellsSession : (status : ℕ) → (left left_after written written_after told told_after : Option (List ℕ))
     → (before after : CallsData) → (failures failures_after : ℕ) → Type 0
 TellsSession status left left_after written written_after told told_after before after failures failures_after =

@@ -10,22 +10,25 @@ use Rattle.covsession.specs.Streams.{Moment, unread, turns, Says, Moves, AreCut,
 use Rattle.covsession.specs.declared.session.text.LineEnd.{LineEnd}
 use Rattle.covsession.specs.declared.session.text.LineEnd.TheVariants.{Feed, Input}
 
--- the pieces are these commands and no others, whatever follows after a line feed, and nothing after the end
+-- the pieces are these commands. If the last line ended with a line feed, this holds whatever commands follow; if it ended with
+-- the input, nothing follows
 abbrev pub GoOn : LineEnd → List (List ℕ) → List Command → Type 0
 GoOn Feed pieces commands = (rest : List (List ℕ)) (more : List Command) → AreCommands rest more → AreCommands (pieces ++ rest) (commands ++ more)
 GoOn Input pieces commands = AreCommands pieces commands
 
+-- the pieces are no other commands than these, under the same condition
 abbrev pub GoOnOnly : LineEnd → List (List ℕ) → List Command → Type 0
 GoOnOnly Feed pieces commands =
     (rest : List (List ℕ)) (others : List Command) → AreCommands (pieces ++ rest) others
     → (more : List Command) × (others ≡ commands ++ more) × AreCommands rest more
 GoOnOnly Input pieces commands = (others : List Command) → AreCommands pieces others → others ≡ commands
 
+-- the pieces are exactly these commands, under the same condition
 pub record IsRun (ending : LineEnd) (pieces : List (List ℕ)) (commands : List Command) : Type 0 where
   pub are : GoOn ending pieces commands
   pub only : GoOnOnly ending pieces commands
 
--- what follows a line of this kind was taken and answered
+-- the lines that belong to a line of this kind were taken, and the command was answered
 pub record TakesAfter (IsSuch : List ℕ → Type 0) (m n : Moment) (before after : List OpData) (ending : LineEnd) : Type 0 where
   pub pieces : List (List ℕ)
   pub commands : List Command
@@ -33,7 +36,7 @@ pub record TakesAfter (IsSuch : List ℕ → Type 0) (m n : Moment) (before afte
   pub asks : Asks commands before after
   pub run : (first : List ℕ) → IsSuch (line_of first) → IsRun ending (first ∷ pieces) commands
 
--- a command was taken and answered; none after the last line
+-- the next command was taken and answered, or there was none since the input had ended
 pub record TakesCommand (m n : Moment) (before after : List OpData) (ending : LineEnd) : Type 0 where
   pub pieces : List (List ℕ)
   pub commands : List Command
@@ -41,7 +44,7 @@ pub record TakesCommand (m n : Moment) (before after : List OpData) (ending : Li
   pub asks : Asks commands before after
   pub run : IsRun ending pieces commands
 
--- so far these commands were taken and answered
+-- between two moments some whole commands were taken and answered, and this history is what they asked the book for
 pub record IsSoFar (m n : Moment) (history : List OpData) : Type 0 where
   pub bytes : List ℕ
   pub pieces : List (List ℕ)

@@ -1,4 +1,4 @@
--- What a session reads and writes: commands, a line each, and the answers to them.
+-- What a session reads and writes: commands, and the answers to them.
 use Rattle.std.specs.Io.KnownBytes.{Consumes, Appends, IsAtEnd}
 use Rattle.std.specs.Prelude.{◌≡◌, ℕ, List, [], ◌∷◌, ◌++◌, codes, decimal, Option}
 use Rattle.covbook.specs.Op.{OpData, AnswerData, AcceptedAnswer, ClashAnswer, DroppedAnswer, RenamedAnswer, NoSuchTestAnswer, TextAnswer}
@@ -11,7 +11,7 @@ use Rattle.covread.specs.declared.fault.ReadFault.TheVariants as faults
 use Rattle.covstore.specs.Table.{Table}
 use Rattle.covsession.specs.Command.{Command, AreCommands, ops_of, Blank, Ask, RefusePattern, Submit, Refuse, Unknown, Unfinished}
 
--- a line of output
+-- this line with its line feed
 abbrev pub said : List ℕ → List ℕ
 said line = line ++ line_feed ∷ []
 
@@ -25,7 +25,7 @@ answer_text (RenamedAnswer sections) = said (codes "renamed " ++ decimal section
 answer_text NoSuchTestAnswer = said (codes "no such test")
 answer_text (TextAnswer text) = text ++ said (codes ".")
 
--- the line of an answer if it is a clash
+-- the line that reports a clash; nothing for any other answer
 abbrev pub clash_text : AnswerData → List ℕ
 clash_text (AcceptedAnswer number items odd) = []
 clash_text (ClashAnswer clash) = answer_text (ClashAnswer clash)
@@ -61,7 +61,8 @@ refused_pattern_text = said (codes "refused TooLong")
 abbrev pub refused_text : ReadFault → List ℕ
 refused_text fault = said (codes "refused " ++ fault_text fault)
 
--- the answers of the book in their places among the other answers; a blank line has none
+-- what is written for these commands, one after another. Each command that asks the book has the next of these answers of the
+-- book, and any other command has its own line. A blank line has no answer
 abbrev pub output_of : List Command → List AnswerData → List ℕ
 output_of [] answers = []
 output_of (Blank ∷ commands) answers = output_of commands answers
@@ -74,7 +75,7 @@ output_of (RefusePattern ∷ commands) answers = refused_pattern_text ++ output_
 output_of (Ask op ∷ commands) [] = []
 output_of (Ask op ∷ commands) (answer ∷ answers) = answer_text answer ++ output_of commands answers
 
--- what a session of these commands writes: the book's answers are those of the run over what it is asked
+-- what a session of these commands writes. The book's answers are those of a run of the operations that the commands ask for
 abbrev pub session_text : List Command → List ℕ
 session_text commands = output_of commands (answers_to (ops_of commands))
 
@@ -82,13 +83,13 @@ session_text commands = output_of commands (answers_to (ops_of commands))
 abbrev pub IsSession : List ℕ → List ℕ → Type 0
 IsSession input output = (commands : List Command) × AreCommands (pieces_of input) commands × (output ≡ session_text commands)
 
--- a whole input was read, and its session text written and nothing else
+-- a whole input was read. Its session text was written, and nothing else
 abbrev pub IsWholeSession : Option (List ℕ) → Option (List ℕ) → Option (List ℕ) → Option (List ℕ) → Type 0
 IsWholeSession left left_after written written_after =
     (input : List ℕ) × (output : List ℕ) × Consumes left left_after input × IsAtEnd left_after
     × IsSession input output × Appends written written_after output
 
--- the answers to commands at a table
+-- what is written for these commands if the book's table is this one before the first of them
 abbrev pub text_after : Table → List Command → List ℕ
 text_after table commands = output_of commands (answers_from table (ops_of commands))
 

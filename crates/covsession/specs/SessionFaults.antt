@@ -1,4 +1,4 @@
--- A session's faults: their numbers, which stay the same in all versions, and what a fault of the book is among them.
+-- A session's faults: their numbers, which stay the same in all versions, and the session's fault for each fault of the book.
 use Rattle.std.specs.Prelude.{ℕ}
 use Rattle.covbook.specs.declared.book.BookFault.{BookFault}
 use Rattle.covbook.specs.declared.book.BookFault.TheVariants as book_faults
@@ -11,7 +11,7 @@ fault_number Write = 2
 fault_number Memory = 3
 fault_number Full = 4
 
--- a full book is reported as such
+-- the session's fault for this fault of the book
 abbrev pub of_book : BookFault → SessionFault
 of_book book_faults.Full = Full
 of_book book_faults.Memory = Memory

@@ -1,4 +1,4 @@
--- What a session has taken of its input and said to its output at a moment between two reads.
+-- What a session has taken from its input and said to its output at a moment, and what happens between two moments.
 use Rattle.std.specs.Borrow.{GName}
 use Rattle.std.specs.Io.KnownBytes.{Consumes, Appends, IsAtEnd, prepend_known, append_known}
 use Rattle.std.specs.Prelude.{◌≡◌, ◌<◌, ℕ, length, List, [], ◌∷◌, ◌++◌, ◌+◌, ◌*◌, ◌^◌, Bool, true, false, Option}
@@ -37,7 +37,7 @@ moment input output = record { input = input; output = output }
 abbrev pub unread : InputData → Option (List ℕ)
 unread input = prepend_known input.pending input.left
 
--- a bound for the bytes and reads that are left; a read counts more than all bytes of a block
+-- a number that gets smaller with each byte that is taken and with each read. A read counts for more than all bytes of a block
 abbrev pub turns : InputData → ℕ
 turns input = 65537 * input.reads_left + length input.pending
 
@@ -45,7 +45,7 @@ turns input = 65537 * input.reads_left + length input.pending
 abbrev pub said_so_far : OutputData → Option (List ℕ)
 said_so_far output = append_known output.written output.waiting
 
--- the count of the source's calls can't overflow
+-- the source's counts of its calls can't overflow
 pub record CanRead (i : InputData) : Type 0 where
   pub few_reads : i.reads + i.reads_left < 2 ^ 63
   pub few_failed_reads : i.failed_reads < 2 ^ 63
@@ -78,28 +78,29 @@ pub record Moves (m n : Moment) (bytes text : List ℕ) : Type 0 where
   pub takes : Takes m.input n.input bytes
   pub says : Says m.output n.output text
 
--- a part of a line was taken from the pending bytes: the rest of the line with its line feed, or all
+-- a part of a line was taken from the pending bytes. `true`: the rest of the line, and its line feed too. `false`: all of them
 abbrev pub TakesPart : Bool → List ℕ → List ℕ → List ℕ → Type 0
 TakesPart true old part new = old ≡ part ++ line_feed ∷ new
 TakesPart false old part new = (old ≡ part) × (new ≡ [])
 
--- the bytes of a line with its end
+-- the bytes of a line and of its ending
 abbrev pub line_bytes : LineEnd → List ℕ → List ℕ
 line_bytes Feed line = line ++ line_feed ∷ []
 line_bytes Input line = line
 
--- the pieces that a line with its end is: none after the last line feed, if nothing follows
+-- the pieces that a line with this ending is: one, or none if the input ended before the line's first byte
 abbrev pub line_pieces : LineEnd → List ℕ → List (List ℕ)
 line_pieces Feed line = (line ++ line_feed ∷ []) ∷ []
 line_pieces Input [] = []
 line_pieces Input (b ∷ bs) = (b ∷ bs) ∷ []
 
--- after a line feed fewer turns are left; after the end of the input nothing is left
+-- if a line ended with a line feed, `turns` got smaller; if it ended with the input, nothing is left to be taken
 abbrev pub EndsAs : LineEnd → InputData → InputData → Type 0
 EndsAs Feed i j = turns j < turns i
 EndsAs Input i j = IsAtEnd (unread j)
 
--- these bytes are cut into these pieces: whatever follows after a line feed, and nothing after the end
+-- these bytes are cut into these pieces. If the last line ended with a line feed, this holds whatever bytes follow; if it ended
+-- with the input, nothing follows
 abbrev pub AreCut : LineEnd → List ℕ → List (List ℕ) → Type 0
 AreCut Feed bytes pieces = (more : List ℕ) → pieces_of (bytes ++ more) ≡ pieces ++ pieces_of more
 AreCut Input bytes pieces = pieces_of bytes ≡ pieces

@@ -18,7 +18,7 @@ use Rattle.covsession.specs.declared.session.text.CollectedText.TheVariants as t
 use Rattle.covsession.specs.declared.session.text.CollectedText.TheVariants.{Whole, TooLong}
 use Rattle.covsession.specs.declared.session.text.Text.{Text}
 
--- a line that was begun, after one more byte: it may still be the line that ends a text
+-- what a line that was begun is after one more byte: this decides whether it can be the line that ends a text
 abbrev pub line_with : LineSoFar → ℕ → LineSoFar
 line_with Nothing b = if b == 46 then Dot else Other
 line_with Dot b = if b == carriage_return then Dot else Other
@@ -29,14 +29,15 @@ abbrev pub line_after : LineSoFar → List ℕ → LineSoFar
 line_after so_far [] = so_far
 line_after so_far (b ∷ bs) = line_after (line_with so_far b) bs
 
--- what was collected of a text, whose whole lines come before the line that was begun: at most the limit is kept
+-- these values hold a text that is being collected: its whole lines are `before`, and the line that was begun is `now`. At most
+-- `limit` bytes are kept, and no count goes above 2^64 - 1
 pub record IsCollected (limit : ℕ) (kept : List ℕ) (total begins : ℕ) (line : LineSoFar) (before now : List ℕ) : Type 0 where
   pub keeps : kept ≡ take limit (before ++ now)
   pub all : total ≡ min (length (before ++ now)) (2 ^ 64 - 1)
   pub start : begins ≡ min (length before) (2 ^ 64 - 1)
   pub so_far : line ≡ line_after Nothing now
 
--- this is collected of it
+-- this `Text` has collected the whole lines `before`, and `now` of the line that was begun
 abbrev pub HasCollected : {A : Type 0} → Text A → List ℕ → List ℕ → Type 0
 HasCollected text before now = IsCollected text.limit text.kept.items text.total text.begins text.line before now
 
@@ -52,19 +53,20 @@ pub record AreLines (bytes : List ℕ) : Type 0 where
   pub none_last : IsBody body
   pub cut : AreCut Feed bytes body
 
--- what was taken is this text, which is kept unless it is too long
+-- what was taken is this whole text. It is kept unless it is too long
 abbrev pub IsTextOf : {A : Type 0} → List ℕ → CollectedText A → Type 0
 IsTextOf text (Whole kept) = (kept.items ≡ text) × (length text ≤ max_bytes)
 IsTextOf text TooLong = max_bytes < length text
 IsTextOf text taken.Unfinished = ⊥
 
--- the pieces after a line: a text and its last line
+-- the pieces are the lines of the text that was taken, and the line `.` that ends it
 abbrev pub IsTextTaken : {A : Type 0} → List (List ℕ) → CollectedText A → Type 0
 IsTextTaken pieces taken =
     (body : List (List ℕ)) × (last : List ℕ) × (pieces ≡ body ++ last ∷ []) × IsBody body × (line_of last ≡ codes ".")
     × IsTextOf (concat body) taken
 
--- they are a text that was taken so, or all the rest of the input
+-- the pieces are the lines of the text that was taken, and the line `.` that ends it. If the text is unfinished, they are all the
+-- rest of the input, and none of them is a line `.`
 abbrev pub IsTaken : {A : Type 0} → List (List ℕ) → LineEnd → CollectedText A → Type 0
 IsTaken pieces ending (Whole kept) = IsTextTaken pieces (Whole kept)
 IsTaken pieces ending TooLong = (body : List (List ℕ)) × (last : List ℕ) × (pieces ≡ body ++ last ∷ []) × IsBody body × (line_of last ≡ codes ".")
@@ -76,15 +78,15 @@ abbrev pub asked_for : Result SubmissionData ReadFault → List Command
 asked_for (Ok submission) = Submit submission ∷ []
 asked_for (Err fault) = Refuse fault ∷ []
 
--- a fault that is answered for a text: memory that ran out isn't one
+-- the fault isn't that memory ran out, so it is answered
 abbrev pub IsNotMemory : ReadFault → Type 0
 IsNotMemory fault = is_memory fault ≡ false
 
--- the answer of a reader is what the text is read as, or memory ran out
+-- a reader's result is what the text is read as, or that memory ran out
 abbrev pub AnswersAs : Format → List ℕ → Result SubmissionData ReadFault → Type 0
 AnswersAs format text answer = (answer ≡ Err faults.Memory) ⊎ IsReadAs format text answer
 
--- a reader's answer that is passed on: not that memory ran out
+-- a reader's result isn't that memory ran out, so it is answered
 abbrev pub IsReported : Result SubmissionData ReadFault → Type 0
 IsReported (Ok submission) = Unit {0}
 IsReported (Err fault) = IsNotMemory fault

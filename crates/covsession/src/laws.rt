@@ -1,4 +1,4 @@
-//! Laws of what a session is asked and writes, as functions that do nothing: their contracts are the laws.
+//! Laws of what a session is asked and what it writes. Each law is the contract of a function that does nothing.
 
 ghost use Rattle.std.specs.Prelude.{◌≡◌, ◌≢◌, ℕ, List};
 ghost use Rattle.std.specs.List.{AllByRecursion};
@@ -28,8 +28,8 @@ pub fn each_input_has_one_session_text()
     each_gcov_text_has_one_outcome();
 }
 
-/// No text is refused for the name of its test, which comes from one line and so is always good, and none because
-/// memory ran out, which ends a session instead.
+/// No text is refused for the name of its test: the name is a part of one line, and so it is always good. No text is refused
+/// because memory ran out: this ends the session instead.
 pub fn no_session_refuses_a_test()
     ensures { (input : List ℕ) (commands : List Command) → AreCommands (pieces_of input) commands
         → AllByRecursion (λ command. (command ≢ Refuse read_faults.BadTest) × (command ≢ Refuse read_faults.Memory)) commands }

@@ -1,11 +1,12 @@
-//! A session of the coverage collector: commands come in, a line each, and the answers of one book go out.
+//! A session of the coverage collector: it reads commands and writes the answers of one book.
 //!
-//! `stream` is where bytes come from and go to, `session` answers the commands of a source to a sink, `program` is a session
-//! with its exit status and the words of its fault, and `laws` says what holds of every session. Other programs take from
-//! here what they say as a session does: the lines of a refused text and of a clash, and a fault's line and exit status.
+//! `stream` has the traits of a session's source and sink. `session` reads commands from a source, and writes the answers to a
+//! sink. `program` runs a session as a program does, with an exit status and a line for a fault. `laws` has theorems about all
+//! sessions. Callers that aren't sessions write some of the same lines. So this crate also exports the lines of a refused text
+//! and of a clash, and a fault's line and exit status.
 //!
-//! An example, proved and run in `covuses`: what a session answers to commands. `Kept` is the caller's [`Sink`], which keeps
-//! what it takes.
+//! An example, proved and run in `covuses`: a function that returns what a session answers to these commands. `Kept` is the
+//! caller's [`Sink`], which keeps all bytes that it takes.
 //!
 //! ```text
 //! pub fn answers_to(alloc: Global, commands: &[u8]) -> Result<Vec<u8>, SessionFault> {

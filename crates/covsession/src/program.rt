@@ -10,7 +10,7 @@ use crate::session::{SessionFault, session};
 use crate::stream::{Sink, Source};
 use std::alloc::Allocator;
 
-/// The exit status of a program that ended in this fault: 1 if a stream failed, 3 if there was no room.
+/// The exit status of a program that ended in this fault: 1 if a stream failed, 3 if memory ran out or the history was full.
 pub fn status_of(fault: SessionFault) -> u8
     ensures { result ≡ fault_status fault }
 {
@@ -20,7 +20,7 @@ pub fn status_of(fault: SessionFault) -> u8
     }
 }
 
-/// The line that is said of a fault.
+/// The line that reports this fault.
 pub fn line_of(fault: SessionFault) -> &'static [u8]
     ensures { result.now ≡ said (words_of_fault fault) }
 {
@@ -32,9 +32,9 @@ pub fn line_of(fault: SessionFault) -> &'static [u8]
     }
 }
 
-/// Runs a session from a source to a sink, and returns the exit status: 0 if it ended well, 1 if a stream failed, 3 if
-/// there was no room. The line of its fault goes to the sink of faults; if that write fails too, only the status
-/// reports the fault.
+/// Runs a session from a source to a sink, and returns the exit status: 0 if the session ended well, 1 if a stream failed, 3 if
+/// memory ran out or the history was full. The line that reports a fault is written to `faults`. If that write fails, only the
+/// status reports the fault.
 pub fn run_session<I: Source, O: Sink, E: Sink, A: Allocator + Copy>(
     alloc: A,
     source: &mut I,

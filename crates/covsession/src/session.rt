@@ -1,4 +1,4 @@
-//! One session: commands in, answers out.
+//! One session: it reads commands and writes the answers to them.
 
 ghost use Rattle.std.specs.Prelude.{◌≡◌, ◌≢◌, ◌↔◌, ◌⊎◌, ℕ, ◌+◌, ◌^◌, ◌<◌, ◌≤◌, length, List, Err, IsTrue, IfOk, IfErr, OnOk, IfSome, IfNone};
 ghost use Rattle.std.specs.Io.KnownBytes.{Appends};
@@ -35,7 +35,7 @@ pub use output::put_bytes;
 use std::alloc::Allocator;
 use std::mem;
 
-// The format of the text that follows a line, if one does.
+// The format of the text that follows a line with this word and this ending, or `None` if no text follows it.
 fn text_following(word: Word<'_>, ending: LineEnd) -> Option<Format<'_>>
     ensures text { IfSome result (λ format. (word.entry ≡ Word.Text format) × (ending ≡ LineEnd.Feed)) }
     ensures no_text { IfNone result ((format : TextFormat) → word.entry ≡ Word.Text format → ending ≡ LineEnd.Input) }
@@ -55,7 +55,7 @@ fn text_following(word: Word<'_>, ending: LineEnd) -> Option<Format<'_>>
     }
 }
 
-// Whether two names follow a line.
+// Whether the word is `rename`, and its line ends with a line feed, so that the names come next.
 fn names_after(word: Word<'_>, ending: LineEnd) -> bool
     ensures { IsTrue result ↔ ((word.entry ≡ Word.Rename) × (ending ≡ LineEnd.Feed)) }
 {
@@ -74,7 +74,8 @@ fn names_after(word: Word<'_>, ending: LineEnd) -> bool
     }
 }
 
-// Answers the next command. A text is collected in this room, if it has any.
+// Takes the next command, if there is one, and answers it. Returns how its last line ended. A text that belongs to the command
+// is collected in `room`.
 fn answer_command<I: Source, O: Sink, A: Allocator + Copy>(
     alloc: A,
     book: &mut Book<A>,
@@ -106,7 +107,7 @@ fn answer_command<I: Source, O: Sink, A: Allocator + Copy>(
     Ok(ending)
 }
 
-// Answers all commands.
+// Answers the commands of the input, up to its end, with a new book.
 fn answer_all<I: Source, O: Sink, A: Allocator + Copy>(
     alloc: A,
     input: &mut SessionInput<'_, I, A>,
@@ -126,7 +127,8 @@ fn answer_all<I: Source, O: Sink, A: Allocator + Copy>(
     }
 }
 
-// Answers all commands, and has the answers sent on, also those that were given before a fault.
+// Answers all commands, and makes the sink send on the answers. Answers that were given before a fault are sent on too, unless a
+// write failed.
 fn answer_to_the_end<I: Source, O: Sink, A: Allocator + Copy>(
     alloc: A,
     input: &mut SessionInput<'_, I, A>,
@@ -144,17 +146,18 @@ fn answer_to_the_end<I: Source, O: Sink, A: Allocator + Copy>(
     }
 }
 
-/// Runs one book, with job 0, on the commands of the source, and writes the answers to the sink. A text of more than
-/// 67,108,864 bytes isn't kept. At most 65,536 bytes of output wait: more is written at once. Before each read and at the
-/// end all of it is written, and the sink is flushed if it took a byte since the last flush.
+/// Answers the commands of the source with a new book, as job 0, and writes the answers to the sink. A text of more than
+/// 67,108,864 bytes is refused, and its further bytes aren't kept. At most 65,536 bytes of output wait: more is written at once.
+/// Before each read and at the end, all that waits is written. Then the sink is flushed, unless it has taken no byte since the
+/// session last flushed it.
 ///
 /// # Errors
 ///
-/// `Read` if a read failed, or 4,294,967,296 reads were made. `Write` if a write or flush failed. `Memory` if a growth was
-/// refused. `Full` if the commands ask the book more than its history has room for. What the sink took until then is a
-/// beginning of the session text of the bytes that were read, and of the whole input. Unless the fault is `Write` it is all the
-/// answers to the commands before the fault, and they were sent on. If a write fails after another fault, `Write` is returned
-/// in its place.
+/// `Read` if a read failed, or if more than 4,294,967,296 reads were needed. `Write` if a write or flush failed. `Memory` if
+/// memory was refused. `Full` if the commands ask for more operations than the book's history has room for. What the sink has
+/// taken is a beginning of two session texts: that of the bytes that were read, and that of the whole input. Unless the fault is
+/// `Write`, it is the whole answers to the commands before the fault, and they were sent on. If a write fails after another
+/// fault, `Write` is returned instead of that fault.
 pub fn session<I: Source, O: Sink, A: Allocator + Copy>(
     alloc: A,
     source: &mut I,
@@ -163,19 +166,19 @@ pub fn session<I: Source, O: Sink, A: Allocator + Copy>(
     requires reads { I.reads source.old < 2 ^ 62 }
     requires failed_reads { I.failed_reads source.old < 2 ^ 62 }
     requires failed_writes { O.failed_writes sink.old < 2 ^ 62 }
-    // The whole input was read, and its session text written and nothing else.
+    // The whole input was read. Its session text was written, and nothing else.
     ensures whole { OnOk result (IsWholeSession (I.left source.old) (I.left source.new) (O.written sink.old) (O.written sink.new)) }
-    // No other output was possible.
+    // Any session text of the input is the one that was written.
     ensures only { OnOk result (IfSome (I.left source.old) (λ input. (output : List ℕ) → IsSession input output
         → Appends (O.written sink.old) (O.written sink.new) output)) }
-    // None of its calls failed.
+    // No read, write or flush failed.
     ensures no_failed_read { OnOk result (I.failed_reads source.new ≡ I.failed_reads source.old) }
     ensures no_failed_write { OnOk result (O.failed_writes sink.new ≡ O.failed_writes sink.old) }
     // The sink holds back nothing.
     ensures sent { OnOk result (O.held sink.new ≡ 0) }
     // However it ended, it made at most 4,294,967,296 reads.
     ensures few_reads { I.reads source.new ≤ I.reads source.old + 2 ^ 32 }
-    // After a fault a beginning of the session text was written, and the counts show the fault's cause.
+    // After a fault, a beginning of the session text was written, and the counts of calls show the fault's cause.
     ensures short { IfErr result (λ f. IsCutShort f (I.left source.old) (I.left source.new) (O.written sink.old) (O.written sink.new)) }
     ensures cause { IfErr result (λ f. HasCause f (calls (I.reads source.old) (I.failed_reads source.old) (O.failed_writes sink.old))
         (calls (I.reads source.new) (I.failed_reads source.new) (O.failed_writes sink.new))) }

@@ -1,4 +1,4 @@
-//! Where a session's bytes come from, and where they go to.
+//! The source that a session reads its commands from, and the sink that it writes its answers to.
 
 ghost use Rattle.std.specs.Prelude.{◌≡◌, ◌≢◌, ℕ, ◌+◌, ◌^◌, ◌<◌, ◌≤◌, List, [], Option, None, length, take, MatchResult, IfOk, OnOk, OnErr};
 ghost use Rattle.std.specs.Io.KnownBytes.{Consumes, Appends, Keeps, IsAtEnd, ReadConsumes, WriteAppends};
@@ -14,9 +14,10 @@ pub trait Source {
     // The bytes that it still has, if they are known.
     ghost left: { Self → Option (List ℕ) };
 
-    // How many calls were made, and how many of them failed.
+    // How many reads were made.
     ghost reads: { Self → ℕ };
 
+    // How many of them failed.
     ghost failed_reads: { Self → ℕ };
 
     /// Reads bytes into the front of the buffer, and returns how many. 0 bytes are read only at the end or into an
@@ -42,8 +43,8 @@ pub trait Sink {
     // How many calls failed.
     ghost failed_writes: { Self → ℕ };
 
-    /// Takes bytes from the front of these, and returns how many. To take none of some bytes is a failure, and a write
-    /// that fails has taken none.
+    /// Takes some of these bytes, from the front, and returns how many. A write that is given bytes and takes none of them fails.
+    /// A write that fails has taken no bytes.
     fn write(&mut self, bytes: &[u8]) -> Result<usize, Failed>
         requires { failed_writes self.old < 2 ^ 63 }
         ensures bound { IfOk result (λ n. n ≤ length bytes.now) }
@@ -52,7 +53,7 @@ pub trait Sink {
         ensures good { OnOk result (failed_writes self.new ≡ failed_writes self.old) }
         ensures failed { OnErr result (failed_writes self.new ≡ failed_writes self.old + 1) };
 
-    /// Sends on what it holds back. It takes no further bytes.
+    /// Sends on what the sink holds back. The bytes that it has taken stay the same.
     fn flush(&mut self) -> Result<(), Failed>
         requires { failed_writes self.old < 2 ^ 63 }
         ensures bytes { Keeps (written self.old) (written self.new) }

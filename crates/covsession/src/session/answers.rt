@@ -17,7 +17,7 @@ use covread::ReadFault;
 use itoa::Buffer;
 use std::alloc::Allocator;
 
-// Appends words and a number after them.
+// Appends these words, and the number after them.
 fn add_number<A: Allocator>(
     line: &mut Vec<u8, A>,
     words: &[u8],
@@ -59,7 +59,7 @@ fn accepted_line<A: Allocator>(
     Ok(line)
 }
 
-/// The line that says that a submission clashes; empty for any other answer.
+/// The line that reports a clash. For any other answer, no bytes.
 pub fn clash_line<A: Allocator>(alloc: A, answer: &Answer<A>) -> Result<Vec<u8, A>, SessionFault>
     ensures line { IfOk result (λ text. text.items ≡ clash_text (answer_data answer.now)) }
     ensures fault { IfErr result (λ f. f ≡ session_faults.Memory) }

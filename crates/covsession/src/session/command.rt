@@ -26,7 +26,7 @@ pub use word::{Format, Pick, Word, word_of};
 /// The job that a session's entries have.
 const SESSION_JOB: u32 = 0;
 
-/// One step of the book, with job 0, and its answer.
+/// Performs one step of the book, as job 0, and says the answer.
 pub fn step<O: Sink, A: Allocator + Copy>(
     alloc: A,
     book: &mut Book<A>,
@@ -44,14 +44,14 @@ pub fn step<O: Sink, A: Allocator + Copy>(
     say_answer(alloc, &receipt.answer, output)
 }
 
-// The list of a command's pattern, or the empty list without one; `None` if the pattern is too long.
+// The list that holds only this pattern, or the empty list if there is no pattern; `None` if the pattern is too long.
 fn patterns_of<A: Allocator + Copy>(
     alloc: A,
     pattern: Option<&[u8]>,
 ) -> Result<Option<Patterns<A>>, SessionFault>
     ensures list { IfOk result (λ r. IsListOf (option_map (λ p. p.now) pattern.entry) r) }
     ensures fault { IfErr result (λ f. f ≡ session_faults.Memory) }
-    // Memory runs out only while a pattern is copied, and so after the test of its length.
+    // Memory runs out only while a pattern is copied, and so after its length was checked.
     ensures short { OnErr result (IfSome pattern.entry (λ p. length p.now ≤ max_pattern_bytes)) }
 {
     let mut patterns = Patterns::new(alloc);
@@ -83,7 +83,7 @@ fn drop_op<A: Allocator>(alloc: A, test: &[u8]) -> Result<Op<A>, SessionFault>
     Ok(Op::DropTest(Bytes::of(alloc, test)?))
 }
 
-/// Answers a line that is a command of its own.
+/// Answers a command that is one line. A line that a text or two names should follow is answered as unfinished.
 pub fn answer_word<O: Sink, A: Allocator + Copy>(
     alloc: A,
     book: &mut Book<A>,

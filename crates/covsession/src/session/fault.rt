@@ -1,15 +1,15 @@
-//! Why a session ends early.
+//! The faults that end a session.
 
 use covbook::BookFault;
 use covline::Memory;
 use std::alloc::AllocError;
 
-/// Why a session ended before its input.
+/// The fault that ended a session.
 #[derive(Clone, Copy, Debug, PartialEq, Eq)]
 pub enum SessionFault {
     /// A read failed, or more than 2^32 reads were needed.
     Read = 1,
-    /// A write or a flush failed, or a write took none of some bytes.
+    /// A write or a flush failed, or a write took no byte although it was given some.
     Write = 2,
     /// Memory was refused.
     Memory = 3,

@@ -1,4 +1,4 @@
-//! The input of a session: a block of bytes that was read, and the source of further ones.
+//! The input of a session: a block of bytes that were read, and the source of further bytes.
 
 ghost use Rattle.std.specs.Prelude.{◌≡◌, ◌≢◌, ℕ, ◌-◌, ◌+◌, ◌^◌, ◌<◌, ◌≤◌, List, [], ◌∷◌, ◌++◌, length, take, drop, IfOk, IfErr, OnOk, OnErr};
 ghost use Rattle.std.specs.Io.KnownBytes.{IsAtEnd};
@@ -31,8 +31,8 @@ pub fn block<A: Allocator>(alloc: A) -> Result<Vec<u8, A>, SessionFault>
     Ok(vec![in alloc; 0; BLOCK_BYTES]?)
 }
 
-/// Bytes that were read and are still to be taken, and the source that is read when there are none. Contracts see
-/// both, and how many reads were made and may follow.
+/// Bytes that were read and are still to be taken, and the source that is read when there are none. Contracts see both, how many
+/// reads were made, how many of them failed, and how many may follow.
 #[derive(Drop)]
 pub struct SessionInput<'s, I: Source, A: Allocator> {
     bytes: Vec<u8, A>,
@@ -61,7 +61,7 @@ impl<'s, I: Source, A: Allocator> Model for SessionInput<'s, I, A> {
 }
 
 impl<'s, I: Source, A: Allocator> SessionInput<'s, I, A> {
-    /// The input from this source, before the first read. Reads go into this block.
+    /// The input from this source, before the first read. Reads put their bytes into this block.
     pub fn new(block: Vec<u8, A>, source: &'s mut I) -> SessionInput<'s, I, A>
         requires { length block.items ≡ 65536 }
         ensures empty { result.pending ≡ [] }
@@ -99,7 +99,7 @@ impl<'s, I: Source, A: Allocator> SessionInput<'s, I, A> {
         &self.bytes[self.from..self.to]
     }
 
-    // How many bytes come before the first line feed; all, if there is none.
+    // How many of the pending bytes come before the first line feed: all of them, if there is no line feed.
     fn feed_at(&self) -> usize
         ensures front { before_feed self.now.pending ≡ take result self.now.pending }
         ensures bound { result ≤ length self.now.pending }
@@ -120,8 +120,8 @@ impl<'s, I: Source, A: Allocator> SessionInput<'s, I, A> {
         self.from += count;
     }
 
-    // Reads the next block, once the last one is taken and all that was said is written and sent on: the source may give
-    // nothing before it sees the answers.
+    // Reads the next block. Before this, all bytes of the last block have to be taken, and all that was said has to be written
+    // and sent on: who writes the commands may wait for the answers.
     fn read<O: Sink>(&mut self, output: &Output<'_, O, A>) -> Result<(), SessionFault>
         requires taken { self.old.pending ≡ [] }
         requires answered { output.now.waiting ≡ [] }
@@ -131,7 +131,7 @@ impl<'s, I: Source, A: Allocator> SessionInput<'s, I, A> {
         ensures ended { OnOk result (self.new.pending ≡ [] → IsAtEnd self.new.left) }
         ensures fewer { OnOk result (turns self.new < turns self.old) }
         ensures fault { IfErr result (λ f. f ≡ session_faults.Read) }
-        // It fails only if no read is left, or one failed, and takes nothing then.
+        // It fails only if no read is left, or if the read failed. Then it takes no bytes.
         ensures stalls { OnErr result (Stalls self.old self.new) }
     {
         if self.reads_left == 0 {
@@ -147,8 +147,8 @@ impl<'s, I: Source, A: Allocator> SessionInput<'s, I, A> {
         Ok(())
     }
 
-    // Makes a byte available to be taken, unless the source is at its end. What waits is written and sent on before a
-    // read.
+    // Makes sure that a byte is pending, unless the source is at its end. If none is pending, what waits is written and sent on,
+    // and then the source is read.
     fn fill<O: Sink>(&mut self, output: &mut Output<'_, O, A>) -> Result<(), SessionFault>
         requires { CanCall (moment self.old output.old) }
         ensures moves { OnOk result (Moves (moment self.old output.old) (moment self.new output.new) [] []) }
@@ -187,7 +187,8 @@ impl<'s, I: Source, A: Allocator> SessionInput<'s, I, A> {
         Ok(false)
     }
 
-    /// Takes the pending whole lines of a text, up to one that begins with a dot. No line was begun.
+    /// Takes the whole lines of a text that are pending, up to the first line that begins with a dot. The line of the text that
+    /// was begun must still be empty.
     pub fn take_lines(&mut self, text: &mut Text<A>) -> Result<(), SessionFault>
         ensures taken { OnOk result ((lines : List ℕ) × AreLines lines × (self.old.pending ≡ lines ++ self.new.pending)
             × ((before : List ℕ) → HasCollected text.old before [] → HasCollected text.new (before ++ lines) [])) }

@@ -1,4 +1,4 @@
-//! The lines of a text that are taken at once.
+//! How many whole lines of a text can be taken at once.
 
 ghost use Rattle.std.specs.Prelude.{◌≡◌, ◌≤◌, length, take};
 ghost use Rattle.covsession.specs.Text.{AreLines, starts_with_dot};
@@ -12,8 +12,8 @@ fn begins_with_dot(bytes: &[u8]) -> bool
     matches!(bytes, [b'.', ..])
 }
 
-/// How many bytes at the front are whole lines, before the first line that begins with a dot: none of these lines ends
-/// a text.
+/// How many bytes the whole lines at the front have, up to the first line that begins with a dot. So none of these lines ends a
+/// text.
 pub fn whole_lines(bytes: &[u8]) -> usize
     ensures bound { result ≤ length bytes.now }
     ensures lines { AreLines (take result bytes.now) }

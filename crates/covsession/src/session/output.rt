@@ -1,4 +1,4 @@
-//! The output of a session: what it says is collected, and written in large pieces.
+//! The output of a session. What the session says waits, so that many answers are written at once.
 
 ghost use Rattle.std.specs.Prelude.{◌≡◌, ◌≢◌, ◌^◌, ◌+◌, ◌<◌, ◌≤◌, [], length, IfErr, OnOk, OnErr};
 ghost use Rattle.std.specs.Io.KnownBytes.{Appends};
@@ -43,7 +43,7 @@ impl<'s, O: Sink, A: Allocator> Model for Output<'s, O, A> {
 }
 
 impl<'s, O: Sink, A: Allocator> Output<'s, O, A> {
-    /// The output to this sink; nothing waits.
+    /// The output to this sink. No bytes wait yet.
     pub fn new(alloc: A, sink: &'s mut O) -> Output<'s, O, A>
         ensures empty { result.waiting ≡ [] }
         ensures written { result.written ≡ O.written sink.old }
@@ -99,8 +99,9 @@ impl<'s, O: Sink, A: Allocator> Output<'s, O, A> {
         put_bytes(bytes, self.sink)
     }
 
-    /// Says the bytes: they wait, or are written with all that waits. At most 65,536 bytes wait then. Without memory
-    /// for them to wait in they are written at once, so no answer is lost in the middle.
+    /// Says these bytes: they wait, or they are written after all bytes that wait. At most 65,536 bytes wait after the call. If
+    /// memory for them to wait in is refused, they are written at once. So an answer that was begun is never cut short for
+    /// lack of memory.
     pub fn say(&mut self, bytes: &[u8]) -> Result<(), SessionFault>
         requires { self.old.failed_writes < 2 ^ 63 }
         ensures says { OnOk result (Says self.old self.new bytes.now) }
@@ -121,7 +122,7 @@ impl<'s, O: Sink, A: Allocator> Output<'s, O, A> {
         Ok(())
     }
 
-    /// Writes the bytes that wait, and has the sink send on all that it holds back.
+    /// Writes the bytes that wait, and makes the sink send on all that it holds back.
     pub fn send_on(&mut self) -> Result<(), SessionFault>
         requires { self.old.failed_writes < 2 ^ 63 }
         ensures says { OnOk result (Says self.old self.new []) }
@@ -142,9 +143,9 @@ impl<'s, O: Sink, A: Allocator> Output<'s, O, A> {
         }
     }
 
-    /// Sends on what was said before this fault, and returns the fault that the session ends with: `Write`, if a write
-    /// fails now. After `Read` nothing is left to be sent, since all was sent on before the read; after `Write` no
-    /// write is tried again.
+    /// Sends on what was said before this fault, and returns the fault that the session ends with: `Write` if a write or flush
+    /// fails now, else this fault. After `Read` nothing is left to be sent, since all was sent on before the read. After `Write`
+    /// no further write is tried.
     pub fn stop(&mut self, fault: SessionFault) -> SessionFault
         requires { self.old.failed_writes < 2 ^ 63 }
         ensures { StopsAs self.old self.new fault result }
@@ -159,7 +160,7 @@ impl<'s, O: Sink, A: Allocator> Output<'s, O, A> {
     }
 }
 
-/// Writes the bytes, by as many calls as it takes. After a failed write the sink has a beginning of them.
+/// Writes all these bytes, in as many calls as are needed. If a write fails, the sink has taken a beginning of them.
 pub fn put_bytes<O: Sink>(bytes: &[u8], sink: &mut O) -> Result<(), SessionFault>
     requires { O.failed_writes sink.old < 2 ^ 63 }
     ensures written { OnOk result (Appends (O.written sink.old) (O.written sink.new) bytes.now) }

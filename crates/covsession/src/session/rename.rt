@@ -1,4 +1,4 @@
-//! A rename: the two lines after a line `rename` are taken as the old and the new name, and answered.
+//! A rename: the two lines after a line `rename` are taken as the old and the new name, and the rename is answered.
 
 ghost use Rattle.std.specs.Prelude.{◌≡◌, ◌≢◌, ◌⊎◌, [], codes, length, Err, IfOk, IfErr};
 ghost use Rattle.covbook.specs.Op.{RenameOp};
@@ -31,7 +31,7 @@ pub struct Names<A: Allocator> {
     pub ending: LineEnd,
 }
 
-// Whether there is a line with this ending: there is none if the input ends before its first byte.
+// Whether these bytes with this ending are a line. They are none if the input ended before the line's first byte.
 fn is_there(line: &[u8], ending: LineEnd) -> bool
     ensures { IsThere result ending line.now }
 {
@@ -41,8 +41,8 @@ fn is_there(line: &[u8], ending: LineEnd) -> bool
     }
 }
 
-// Takes the next line as a name, whatever it holds, and returns it with how it ended; `None` if the input ends before
-// it.
+// Takes the next line as a name, whatever its bytes are. Returns the name and how the line ended, or `None` if the input ends
+// before the line.
 fn take_name<I: Source, O: Sink, A: Allocator + Copy>(
     alloc: A,
     input: &mut SessionInput<'_, I, A>,
@@ -62,7 +62,7 @@ fn take_name<I: Source, O: Sink, A: Allocator + Copy>(
     Ok(Some((name, ending)))
 }
 
-// Takes two lines as the old and the new name; `None` if the input ends before both are there.
+// Takes two lines as the old and the new name. Returns `None` if the input ends before both lines are there.
 fn take_names<I: Source, O: Sink, A: Allocator + Copy>(
     alloc: A,
     input: &mut SessionInput<'_, I, A>,

@@ -25,10 +25,11 @@ use covline::Submission;
 use covread::{MAX_BYTES, ReadFault, read_gcov, read_trace};
 use std::alloc::Allocator;
 
-/// The longest text whose room is kept for the next one.
+/// The length of the longest text whose room is kept for the next text.
 const MAX_KEPT_BYTES: usize = 8_388_608;
 
-/// Takes the lines of a text, up to a line `.`, into this room. Returns what they are and how the last line ended.
+/// Takes the lines of a text up to a line `.`, and collects them in this room. Returns what was taken, and how the last line
+/// ended.
 pub fn take_text<I: Source, O: Sink, A: Allocator>(
     room: Vec<u8, A>,
     input: &mut SessionInput<'_, I, A>,
@@ -55,7 +56,7 @@ pub fn take_text<I: Source, O: Sink, A: Allocator>(
     }
 }
 
-// Out of memory ends the session; other faults of a text are answered.
+// Decides whether a text's fault is answered: returns `Memory`, which ends the session, if memory ran out, and else `Ok`.
 fn told(fault: ReadFault) -> Result<(), SessionFault>
     ensures told { OnOk result (IsNotMemory fault) }
     ensures fault { IfErr result (λ f. (fault ≡ read_faults.Memory) × (f ≡ session_faults.Memory)) }
@@ -96,7 +97,7 @@ fn read_as<A: Allocator + Copy>(
     }
 }
 
-// Submits what a text says, or says why it is refused.
+// Submits the submission that was read, or answers why the text is refused.
 fn submit<O: Sink, A: Allocator + Copy>(
     alloc: A,
     book: &mut Book<A>,
@@ -123,7 +124,7 @@ fn submit<O: Sink, A: Allocator + Copy>(
     }
 }
 
-/// What was taken after a line that a text of this format follows.
+/// What was taken of a text, with the text's format.
 #[derive(Drop)]
 pub struct Given<'a, A: Allocator> {
     /// The text's format.
@@ -132,15 +133,15 @@ pub struct Given<'a, A: Allocator> {
     pub taken: CollectedText<A>,
 }
 
-/// Keeps the room of a text that was read, unless it is large: to touch a page for the first time costs more than to
-/// read what is on it.
+/// Keeps the room of a text that was read, unless the text is large. The next text uses this room. New room would cost more: the
+/// first write to a page of memory takes longer than to read a text that fills the page.
 fn keep_room<A: Allocator>(room: &mut Vec<u8, A>, text: Vec<u8, A>) {
     if text.len() <= MAX_KEPT_BYTES {
         *room = text;
     }
 }
 
-/// Answers what was taken of a text. As soon as a whole one is read, its room is kept for the next one, or freed.
+/// Answers what was taken of a text. As soon as a whole text is read, its room is kept for the next text, or freed.
 pub fn answer_given<O: Sink, A: Allocator + Copy>(
     alloc: A,
     book: &mut Book<A>,

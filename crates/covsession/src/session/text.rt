@@ -18,14 +18,14 @@ pub enum LineEnd {
     Input,
 }
 
-/// What a line is so far: whether it may be the one that ends a text.
+/// What the bytes of a line so far are. This decides whether the line can be the one that ends a text.
 #[derive(Clone, Copy)]
 pub enum LineSoFar {
-    /// It has no byte yet.
+    /// The line has no byte yet.
     Nothing,
-    /// A dot, and perhaps carriage returns.
+    /// A dot, with any number of carriage returns after it. If the line ends here, it ends the text.
     Dot,
-    /// Something else.
+    /// Anything else: this line doesn't end the text.
     Other,
 }
 
@@ -69,20 +69,20 @@ pub fn with_bytes(so_far: LineSoFar, bytes: &[u8]) -> LineSoFar
 /// What was taken of a text.
 #[derive(Drop)]
 pub enum CollectedText<A: Allocator> {
-    /// The whole text, up to its last line.
+    /// The whole text: all bytes before the line `.` that ends it.
     Whole(Vec<u8, A>),
-    /// It has more bytes than a text may have, and isn't kept.
+    /// The text has more bytes than a text may have, and isn't kept.
     TooLong,
-    /// The input ended before it.
+    /// The input ended before a line `.`.
     Unfinished,
 }
 
-/// Bytes that are collected, and kept up to a limit.
+/// The bytes of a text or a command line that were collected so far. Only the first ones are kept, up to a limit.
 #[derive(Drop)]
 pub struct Text<A: Allocator> {
     /// The first bytes, up to the limit.
     pub kept: Vec<u8, A>,
-    /// The most bytes that are kept.
+    /// How many bytes are kept at most.
     pub limit: usize,
     /// How many bytes there were, kept or not.
     pub total: u64,
@@ -101,7 +101,7 @@ impl<A: Allocator> Text<A> {
         Text::in_room(Vec::new(alloc), limit)
     }
 
-    /// A text without bytes yet, and this room for those to come. What the room holds is dropped.
+    /// A text without bytes yet. Its bytes will be collected in this room, whose present bytes are dropped.
     pub fn in_room(room: Vec<u8, A>, limit: usize) -> Text<A>
         ensures empty { HasCollected result [] [] }
         ensures limit { result.limit ≡ limit }
@@ -117,7 +117,7 @@ impl<A: Allocator> Text<A> {
         }
     }
 
-    // Keeps what the limit allows.
+    // Appends the part to the kept bytes, as far as the limit allows.
     fn keep(&mut self, part: &[u8]) -> Result<(), SessionFault>
         ensures kept { OnOk result ((all : List ℕ) → self.old.kept.items ≡ take self.old.limit all
             → self.new.kept.items ≡ take self.old.limit (all ++ part.now)) }
@@ -133,7 +133,7 @@ impl<A: Allocator> Text<A> {
         Ok(())
     }
 
-    /// Takes a part of the line that was begun.
+    /// Adds these bytes to the line that was begun.
     pub fn add(&mut self, part: &[u8]) -> Result<(), SessionFault>
         ensures collected { OnOk result ((before : List ℕ) → (now : List ℕ)
             → HasCollected self.old before now
@@ -147,7 +147,7 @@ impl<A: Allocator> Text<A> {
         Ok(())
     }
 
-    /// Ends the line that was begun by a line feed, and begins the next.
+    /// Adds a line feed, which ends the line that was begun, and begins the next line.
     pub fn next_line(&mut self) -> Result<(), SessionFault>
         ensures collected { OnOk result ((before : List ℕ) → (now : List ℕ)
             → HasCollected self.old before now
@@ -162,7 +162,7 @@ impl<A: Allocator> Text<A> {
         Ok(())
     }
 
-    /// Takes whole lines, before a line was begun.
+    /// Adds whole lines. The line that was begun must still be empty.
     pub fn add_lines(&mut self, lines: &[u8]) -> Result<(), SessionFault>
         ensures collected { OnOk result ((before : List ℕ) → HasCollected self.old before [] → HasCollected self.new (before ++ lines.now) []) }
         ensures limit { OnOk result (self.new.limit ≡ self.old.limit) }
@@ -174,7 +174,7 @@ impl<A: Allocator> Text<A> {
         Ok(())
     }
 
-    /// All bytes, if no limit cuts them off.
+    /// All bytes that were collected, if the limit is `usize::MAX`.
     pub fn whole(&self) -> &[u8]
         ensures { (before : List ℕ) → (now : List ℕ) → self.now.limit ≡ usize.MAX → HasCollected self.now before now
             → result.now ≡ before ++ now }
@@ -182,7 +182,7 @@ impl<A: Allocator> Text<A> {
         self.kept.as_slice()
     }
 
-    /// Whether the line that was begun is the one that ends a text, if it ends here.
+    /// Whether the line that was begun ends the text, provided that no further byte belongs to the line.
     pub fn is_last(&self) -> bool
         ensures { IsTrue result ↔ self.now.line ≡ LineSoFar.Dot }
     {
@@ -192,7 +192,7 @@ impl<A: Allocator> Text<A> {
         }
     }
 
-    /// The text: all that comes before the line that was begun.
+    /// The text, which is all bytes before the line that was begun; `TooLong` if they are more than a text may have.
     pub fn body(self) -> CollectedText<A>
         requires { self.limit ≡ max_bytes }
         ensures { (before : List ℕ) → (now : List ℕ) → HasCollected self before now → IsTextOf before result }

@@ -5,7 +5,7 @@ use Rattle.covrun.specs.Folder.{folder_data}
 use Rattle.covrun.specs.Streams.{sinks}
 use Rattle.covrun.proofs.checked.check_each.Given as goal
 
--- the files so far are reported
+-- the files so far are reported, and `worst` is the worst of their verdicts
 abbrev pub invariant-loop-name : goal.invariant-loop-name
 invariant-loop-name g l =
     TellsEach (folder_data (g.F.Folder.holds l.folder) (g.F.Folder.may_refuse l.folder) g.F.File.Source.left g.F.File.Source.failed_reads)

@@ -10,9 +10,9 @@ use memchr::memchr;
 /// Which files a pattern chooses.
 #[derive(Clone, Copy)]
 pub enum Pick {
-    /// `extract`, those that match; none without a pattern.
+    /// `extract`: the files that match the pattern. Without a pattern, no file.
     Extract,
-    /// `remove`, those that don't match; all without a pattern.
+    /// `remove`: the files that don't match the pattern. Without a pattern, all files.
     Remove,
 }
 
@@ -30,17 +30,17 @@ pub enum Format<'a> {
 pub enum Word<'a> {
     /// Nothing: the line is blank.
     Blank,
-    /// `report`, the merged tracefile.
+    /// `report`: the merged tracefile.
     Report,
-    /// `summary`, how much is hit.
+    /// `summary`: how much is hit.
     Summary,
-    /// A choice of files, by the pattern after the first space if there is one.
+    /// `extract` or `remove`: a choice of files. If the line has a space, the pattern is what follows the first one.
     Choose(Pick, Option<&'a [u8]>),
-    /// `drop`, the test with this name is dropped.
+    /// `drop`: the test with this name is dropped.
     Drop(&'a [u8]),
-    /// `rename`, two lines follow: a test's name, and the name that it is to have.
+    /// `rename`: two lines follow, a test's name and the name that it is to have.
     Rename,
-    /// `trace` or `gcov`, a text of this format follows.
+    /// `trace` or `gcov`: a text of this format follows.
     Text(Format<'a>),
     /// Something unknown.
     Other,
@@ -66,7 +66,7 @@ pub fn word_of(line: &[u8]) -> Word<'_>
     }
 }
 
-/// What a line asks for that isn't one of the words without an argument.
+/// What a line asks for if it isn't one of the words without an argument.
 fn word_with_argument(words: &[u8]) -> Word<'_>
     requires some { words.now ≢ [] }
     requires no_report { words.now ≢ codes "report" }
@@ -89,7 +89,7 @@ fn word_with_argument(words: &[u8]) -> Word<'_>
     }
 }
 
-/// The test that is named after a word and a space; without a space, the one with the empty name.
+/// The test's name: the argument, or the empty name if the line has no argument.
 fn test_named(argument: Option<&[u8]>) -> &[u8]
     ensures { (line word : List ℕ) → IsWordWith line word (option_map (λ p. p.now) argument.entry) → IsNaming word result.now line }
 {
@@ -99,7 +99,7 @@ fn test_named(argument: Option<&[u8]>) -> &[u8]
     }
 }
 
-/// What comes before the first space, and what comes after it, if there is one.
+/// What comes before the first space, and what comes after it. Without a space, the whole line and `None`.
 fn split_at_space(words: &[u8]) -> (&[u8], Option<&[u8]>)
     ensures name { result.0.now ≡ before_space words.now }
     ensures whole { IsWordWith words.now result.0.now (option_map (λ p. p.now) result.1) }
