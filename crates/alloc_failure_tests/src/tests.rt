@@ -15,7 +15,7 @@ mod sessions;
 mod shared;
 mod steps;
 mod stores;
-mod texts;
+mod held_checksums;
 mod values;
 mod wrappers;
 

@@ -15,7 +15,7 @@ use Rattle.covbook.specs.declared.reading.Reading.{Reading}
 use Rattle.covbook.specs.Op.{EntryData, ReceiptData}
 use Rattle.covbook.specs.EntryView.{receipt_data}
 use Rattle.covbook.specs.Gather.{LogData, AllHold, IsReadingOf, FirstFails, claim, claims_of, claims_of_log, job_claims, reading_claims, receipt_claims, log_claims}
-use Rattle.covbook.specs.GatherSteps.{Tells}
+use Rattle.covbook.specs.GatherSteps.{Returns}
 use Rattle.covbook.specs.LogView.{log_data}
 use Rattle.covbook.specs.Step.{last_totals, receipt_of}
 use Rattle.covbook.proofs.Claims.{first_left, rest_at, rest_is, tells_after}
@@ -48,15 +48,15 @@ jobs_more {A} logs i log within is =
     ∙ ap (λ (l : JobLog A). jobs (take i logs) ++ l.job ∷ []) (sym is)
 
 pub job_on : {A : Type 0} (logs : List (JobLog A)) (i : ℕ) (log : JobLog A) → i < length logs → log ≡ get_or logs i log → All (λ (l : JobLog A). l.job ≢ log.job) (take i logs)
-    → (r : Result (Unit {0}) GatherFault) → Tells r (job_claims (i + 1) (map (λ (l : JobLog A). l.job) (take (i + 1) logs)) (map log_data (drop (i + 1) logs)))
-    → Tells r (job_claims i (map (λ (l : JobLog A). l.job) (take i logs)) (map log_data (drop i logs)))
+    → (r : Result (Unit {0}) GatherFault) → Returns r (job_claims (i + 1) (map (λ (l : JobLog A). l.job) (take (i + 1) logs)) (map log_data (drop (i + 1) logs)))
+    → Returns r (job_claims i (map (λ (l : JobLog A). l.job) (take i logs)) (map log_data (drop i logs)))
 job_on {A} logs i log within is news r told =
     let before = jobs (take i logs) in
     let rest : List LogData = map log_data (drop (i + 1) logs) in
-    let later : Tells r (job_claims (i + 1) (before ++ log.job ∷ []) rest) = subst (λ (js : List ℕ). Tells r (job_claims (i + 1) js rest)) (jobs_more logs i log within is) told in
+    let later : Returns r (job_claims (i + 1) (before ++ log.job ∷ []) rest) = subst (λ (js : List ℕ). Returns r (job_claims (i + 1) js rest)) (jobs_more logs i log within is) told in
     let other : ℕ → Type 0 = λ job. job ≢ log.job in
     let all : AllByRecursion other before = all_mapped other (λ (l : JobLog A). l.job) (take i logs) (recursion_from_All (λ (l : JobLog A). l.job ≢ log.job) (take i logs) news) in
-    subst (λ (ls : List (JobLog A)). Tells r (job_claims i before (map log_data ls))) (sym (rest_is logs i log within is))
+    subst (λ (ls : List (JobLog A)). Returns r (job_claims i before (map log_data ls))) (sym (rest_is logs i log within is))
     (tells_after r (claim (AllByRecursion other before) (SameJob i) ∷ []) (job_claims (i + 1) (before ++ log.job ∷ []) rest) (all, tt) later)
 
 pub job_stops : {A : Type 0} (logs : List (JobLog A)) (i : ℕ) (log : JobLog A) → i < length logs → log ≡ get_or logs i log → (All (λ (l : JobLog A). l.job ≢ log.job) (take i logs) → ⊥)
@@ -70,9 +70,9 @@ job_stops {A} logs i log within is seen =
 
 pub log_on : {A : Type 0} (entries : List EntryData) (logs : List (JobLog A)) (i : ℕ) (log : JobLog A) → i < length logs → log ≡ get_or logs i log
     → AllHold (claims_of_log entries i (log_data log)) → (r : Result (Unit {0}) GatherFault)
-    → Tells r (log_claims entries (i + 1) (map log_data (drop (i + 1) logs))) → Tells r (log_claims entries i (map log_data (drop i logs)))
+    → Returns r (log_claims entries (i + 1) (map log_data (drop (i + 1) logs))) → Returns r (log_claims entries i (map log_data (drop i logs)))
 log_on {A} entries logs i log within is all r told =
-    subst (λ (ls : List (JobLog A)). Tells r (log_claims entries i (map log_data ls))) (sym (rest_is logs i log within is))
+    subst (λ (ls : List (JobLog A)). Returns r (log_claims entries i (map log_data ls))) (sym (rest_is logs i log within is))
     (tells_after r (claims_of_log entries i (log_data log)) (log_claims entries (i + 1) (map log_data (drop (i + 1) logs))) all told)
 
 pub log_stops : {A : Type 0} (entries : List EntryData) (logs : List (JobLog A)) (i : ℕ) (log : JobLog A) (f : GatherFault) → i < length logs → log ≡ get_or logs i log
@@ -122,12 +122,12 @@ place_before {X} f entries entry job log index least receipt at own same low =
 
 pub receipt_on : {A : Type 0} (entries : List EntryData) (job log least next : ℕ) (receipts : List (Receipt A)) (i : ℕ) (receipt : Receipt A) → i < length receipts → receipt ≡ get_or receipts i receipt
     → AllHold (claims_of entries job log i least (receipt_data receipt)) → next ≡ receipt.place + 1 → (r : Result (Unit {0}) GatherFault)
-    → Tells r (receipt_claims entries job log (i + 1) next (map receipt_data (drop (i + 1) receipts))) → Tells r (receipt_claims entries job log i least (map receipt_data (drop i receipts)))
+    → Returns r (receipt_claims entries job log (i + 1) next (map receipt_data (drop (i + 1) receipts))) → Returns r (receipt_claims entries job log i least (map receipt_data (drop i receipts)))
 receipt_on {A} entries job log least next receipts i receipt within is all above r told =
     let rest : List ReceiptData = map receipt_data (drop (i + 1) receipts) in
-    subst (λ (rs : List (Receipt A)). Tells r (receipt_claims entries job log i least (map receipt_data rs))) (sym (rest_is receipts i receipt within is))
+    subst (λ (rs : List (Receipt A)). Returns r (receipt_claims entries job log i least (map receipt_data rs))) (sym (rest_is receipts i receipt within is))
     (tells_after r (claims_of entries job log i least (receipt_data receipt)) (receipt_claims entries job log (i + 1) (receipt.place + 1) rest) all
-    (subst (λ (n : ℕ). Tells r (receipt_claims entries job log (i + 1) n rest)) above told))
+    (subst (λ (n : ℕ). Returns r (receipt_claims entries job log (i + 1) n rest)) above told))
 
 pub receipt_stops : {A : Type 0} (entries : List EntryData) (job log least : ℕ) (receipts : List (Receipt A)) (i : ℕ) (receipt : Receipt A) (f : GatherFault) → i < length receipts → receipt ≡ get_or receipts i receipt
     → FirstFails (claims_of entries job log i least (receipt_data receipt)) f → FirstFails (receipt_claims entries job log i least (map receipt_data (drop i receipts))) f
@@ -138,10 +138,10 @@ receipt_stops {A} entries job log least receipts i receipt f within is fails =
 -- ---- readings
 
 pub reading_on : (entries : List EntryData) (log : ℕ) (readings : List Reading) (i : ℕ) (d : Reading) → i < length readings → IsReadingOf entries (get_or readings i d)
-    → (r : Result (Unit {0}) GatherFault) → Tells r (reading_claims entries log (i + 1) (drop (i + 1) readings)) → Tells r (reading_claims entries log i (drop i readings))
+    → (r : Result (Unit {0}) GatherFault) → Returns r (reading_claims entries log (i + 1) (drop (i + 1) readings)) → Returns r (reading_claims entries log i (drop i readings))
 reading_on entries log readings i d within right r told =
     let reading = get_or readings i d in
-    subst (λ (rs : List Reading). Tells r (reading_claims entries log i rs)) (sym (rest_at readings i d reading within refl))
+    subst (λ (rs : List Reading). Returns r (reading_claims entries log i rs)) (sym (rest_at readings i d reading within refl))
     (tells_after r (claim (IsReadingOf entries reading) (BadReading log i) ∷ []) (reading_claims entries log (i + 1) (drop (i + 1) readings)) (right, tt) told)
 
 pub reading_stops : (entries : List EntryData) (log : ℕ) (readings : List Reading) (i : ℕ) (d : Reading) → i < length readings → (IsReadingOf entries (get_or readings i d) → ⊥)

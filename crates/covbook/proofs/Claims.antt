@@ -2,7 +2,7 @@
 use Rattle.std.proofs.Common.{◌≡◌, ℕ, suc, ◌+◌, ◌<◌, List, [], ◌∷◌, ◌++◌, Result, Ok, Err, length, get_or, drop, sym, ap, ◌∙◌, inl, inr, add-one, drop-cons}
 use Rattle.covbook.specs.declared.gather_fault.GatherFault.{GatherFault}
 use Rattle.covbook.specs.Gather.{Claim, AllHold, FirstFails}
-use Rattle.covbook.specs.GatherSteps.{Tells}
+use Rattle.covbook.specs.GatherSteps.{Returns}
 
 pub all_join : (xs ys : List {1} Claim) → AllHold xs → AllHold ys → AllHold (xs ++ ys)
 all_join [] ys a b = b
@@ -40,7 +40,7 @@ one_fails (c ∷ xs) f g (inr h) (inl k) = absurd (k.0 h.0)
 one_fails (c ∷ xs) f g (inr h) (inr k) = one_fails xs f g h.1 k.1
 
 -- the answer for the claims after some that hold is the answer for all
-pub tells_after : {T : Type 0} (r : Result T GatherFault) (xs ys : List {1} Claim) → AllHold xs → Tells r ys → Tells r (xs ++ ys)
+pub tells_after : {T : Type 0} (r : Result T GatherFault) (xs ys : List {1} Claim) → AllHold xs → Returns r ys → Returns r (xs ++ ys)
 tells_after (Ok x) xs ys a t = all_join xs ys a t
 tells_after (Err f) xs ys a t = first_right xs ys f a t
 

@@ -5,8 +5,8 @@ use Rattle.covbook.specs.declared.gather_fault.GatherFault.{GatherFault}
 use Rattle.covbook.specs.Gather.{LogData, Rise, places_of, places_in, Claim, AllHold, FirstFails}
 
 -- all claims hold, or this is the fault of the first that doesn't
-abbrev pub Tells : {T : Type 0} → Result T GatherFault → List {1} Claim → Type 0
-Tells {T} result claims = MatchResult result (λ (x : T). AllHold claims) (λ (fault : GatherFault). FirstFails claims fault)
+abbrev pub Returns : {T : Type 0} → Result T GatherFault → List {1} Claim → Type 0
+Returns {T} result claims = MatchResult result (λ (x : T). AllHold claims) (λ (fault : GatherFault). FirstFails claims fault)
 
 -- how many of the places are this one
 abbrev pub times : ℕ → List ℕ → ℕ
@@ -24,6 +24,6 @@ pub record AreApart (logs : List LogData) : Type 0 where
   pub once : (place : ℕ) → times place (places_in logs) ≤ 1
 
 -- `None` if all places below this count are there, else the least place that isn't
-abbrev pub TellsLeast : Option ℕ → ℕ → List ℕ → Type 0
-TellsLeast result count places =
+abbrev pub ReturnsLeast : Option ℕ → ℕ → List ℕ → Type 0
+ReturnsLeast result count places =
     MatchOption result ((p : ℕ) → p < count → Contains places p) (λ (place : ℕ). (place < count) × (Contains places place → ⊥) × ((p : ℕ) → p < place → Contains places p))

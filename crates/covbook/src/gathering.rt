@@ -5,7 +5,7 @@ ghost use Rattle.std.specs.List.{All};
 ghost use Rattle.covbook.specs.declared.gather_fault.GatherFault.{GatherFault};
 ghost use Rattle.covbook.specs.EntryView.{entry_data, receipt_data};
 ghost use Rattle.covbook.specs.Gather.{IsGathered, IsGatherFault, IsReadingOf, claims_of, claims_of_log, job_claims, log_claims, reading_claims, receipt_claims};
-ghost use Rattle.covbook.specs.GatherSteps.{Tells};
+ghost use Rattle.covbook.specs.GatherSteps.{Returns};
 ghost use Rattle.covbook.specs.LogView.{log_data};
 ghost use Rattle.covbook.specs.Step.{last_totals, receipt_of};
 
@@ -36,7 +36,7 @@ pub fn gather<A: Allocator>(entries: &[Entry<A>], logs: &[JobLog<A>]) -> Result<
 
 /// Checks that each log's job differs from those of the logs before.
 fn check_jobs<A: Allocator>(logs: &[JobLog<A>]) -> Result<(), GatherFault>
-    ensures { Tells result (job_claims 0 [] (map log_data logs.now)) }
+    ensures { Returns result (job_claims 0 [] (map log_data logs.now)) }
 {
     for (number, log) in logs.iter().enumerate() {
         if !is_new_job(log.job, &logs[..number]) {
@@ -55,7 +55,7 @@ fn is_new_job<A: Allocator>(job: u32, logs: &[JobLog<A>]) -> bool
 
 /// Checks that the receipts and the readings of all logs are of the history.
 fn check_logs<A: Allocator>(entries: &[Entry<A>], logs: &[JobLog<A>]) -> Result<(), GatherFault>
-    ensures { Tells result (log_claims (map entry_data entries.now) 0 (map log_data logs.now)) }
+    ensures { Returns result (log_claims (map entry_data entries.now) 0 (map log_data logs.now)) }
 {
     for (number, log) in logs.iter().enumerate() {
         check_log(entries, number, log)?;
@@ -69,7 +69,7 @@ fn check_log<A: Allocator>(
     number: usize,
     log: &JobLog<A>,
 ) -> Result<(), GatherFault>
-    ensures { Tells result (claims_of_log (map entry_data entries.now) number (log_data log.now)) }
+    ensures { Returns result (claims_of_log (map entry_data entries.now) number (log_data log.now)) }
 {
     check_receipts(entries, number, log)?;
     check_readings(entries, number, log)?;
@@ -82,7 +82,7 @@ fn check_receipts<A: Allocator>(
     number: usize,
     log: &JobLog<A>,
 ) -> Result<(), GatherFault>
-    ensures { Tells result (receipt_claims (map entry_data entries.now) (log_data log.now).job number 0 0 (log_data log.now).receipts) }
+    ensures { Returns result (receipt_claims (map entry_data entries.now) (log_data log.now).job number 0 0 (log_data log.now).receipts) }
 {
     let receipts = log.receipts.get();
     let mut least = 0;
@@ -102,7 +102,7 @@ fn check_receipt<A: Allocator>(
     least: u64,
     receipt: &Receipt<A>,
 ) -> Result<u64, GatherFault>
-    ensures told { Tells result (claims_of (map entry_data entries.now) job log index least (receipt_data receipt.now)) }
+    ensures told { Returns result (claims_of (map entry_data entries.now) job log index least (receipt_data receipt.now)) }
     ensures next { IfOk result (λ n. n ≡ receipt.now.place + 1) }
 {
     let Some(entry) = entries.get(receipt.place as usize) else {
@@ -133,7 +133,7 @@ fn check_readings<A: Allocator>(
     number: usize,
     log: &JobLog<A>,
 ) -> Result<(), GatherFault>
-    ensures { Tells result (reading_claims (map entry_data entries.now) number 0 (log_data log.now).readings) }
+    ensures { Returns result (reading_claims (map entry_data entries.now) number 0 (log_data log.now).readings) }
 {
     let readings = log.readings.get();
     for (index, reading) in readings.iter().enumerate() {

@@ -2,7 +2,7 @@
 
 ghost use Rattle.std.specs.Prelude.{◌≡◌, map};
 ghost use Rattle.covbook.specs.Gather.{Rise, places_in, places_of};
-ghost use Rattle.covbook.specs.GatherSteps.{AreApart, TellsLeast, below};
+ghost use Rattle.covbook.specs.GatherSteps.{AreApart, ReturnsLeast, below};
 ghost use Rattle.covbook.specs.LogView.{log_data};
 
 use crate::log::JobLog;
@@ -13,7 +13,7 @@ use std::alloc::Allocator;
 /// missing.
 pub(crate) fn least_missing<A: Allocator>(count: u64, logs: &[JobLog<A>]) -> Option<u64>
     requires { AreApart (map log_data logs.now) }
-    ensures { TellsLeast result count (places_in (map log_data logs.now)) }
+    ensures { ReturnsLeast result count (places_in (map log_data logs.now)) }
 {
     if receipts_below(logs, count) == count {
         return None;

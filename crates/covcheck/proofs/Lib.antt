@@ -1,5 +1,5 @@
 pub mod Starts
 pub mod Passing
-pub mod Those
+pub mod AllThat
 pub mod Words
 pub mod Answered

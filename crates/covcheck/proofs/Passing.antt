@@ -4,7 +4,7 @@ use Rattle.std.proofs.Common.{◌≡◌, ℕ, ◌+◌, inl, inr, List, [], ◌�
 use Rattle.std.specs.Prelude.{MatchOption, IfSome}
 use Rattle.covcheck.specs.declared.text_summary.SkippedLine.{SkippedLine}
 use Rattle.covcheck.specs.TextSummary.{IsFirstOf}
-use Rattle.covcheck.specs.Skipped.{AreThose, start_of}
+use Rattle.covcheck.specs.Skipped.{AreAllThat, start_of}
 
 abbrev pub Line : Type 0
 Line = ℕ × List ℕ
@@ -18,8 +18,8 @@ IsFirstSoFar (Some first) left those = IsFirstOf those (Some first)
 -- `first` is as above
 abbrev pub Passing : (Line → Type 0) → List Line → List Line → ℕ → Option SkippedLine → Type 0
 Passing holds all rest count first =
-    (left : List Line) → AreThose holds rest left
-    → (those : List Line) × AreThose holds all those × (count + length left ≡ length those) × IsFirstSoFar first left those
+    (left : List Line) → AreAllThat holds rest left
+    → (those : List Line) × AreAllThat holds all those × (count + length left ≡ length those) × IsFirstSoFar first left those
 
 pub passing_begins : (holds : Line → Type 0) (all : List Line) → Passing holds all all 0 None
 passing_begins holds all left are = (left, are, omega arith, refl)
@@ -53,7 +53,7 @@ first_at_end those (Some f) is = is
 
 -- after the last line, the count and the first line are those of all lines that aren't read
 pub passing_ends : (holds : Line → Type 0) (all : List Line) (count : ℕ) (first : Option SkippedLine)
-    → Passing holds all [] count first → (those : List Line) × AreThose holds all those × (count ≡ length those) × IsFirstOf those first
+    → Passing holds all [] count first → (those : List Line) × AreAllThat holds all those × (count ≡ length those) × IsFirstOf those first
 passing_ends holds all count first passing =
     let p = passing [] refl in
     let n : count ≡ length p.0 = omega (arith, p.2) in

@@ -13,10 +13,10 @@ abbrev pub IsSkippedGcov : List ℕ → Type 0
 IsSkippedGcov line = (line ≢ []) × IsShapeOf line Other
 
 -- `those` are the elements of the list for which `holds` is true, in their order
-abbrev pub AreThose : {X : Type 0} → (X → Type 0) → List X → List X → Type 0
-AreThose holds [] those = those ≡ []
-AreThose holds (x ∷ xs) those =
-    (holds x × (others : List _) × (those ≡ x ∷ others) × AreThose holds xs others) ⊎ (¬ holds x × AreThose holds xs those)
+abbrev pub AreAllThat : {X : Type 0} → (X → Type 0) → List X → List X → Type 0
+AreAllThat holds [] those = those ≡ []
+AreAllThat holds (x ∷ xs) those =
+    (holds x × (others : List _) × (those ≡ x ∷ others) × AreAllThat holds xs others) ⊎ (¬ holds x × AreAllThat holds xs those)
 
 -- ---- how a line begins
 

@@ -6,11 +6,11 @@ use Rattle.covline.specs.Row.{SubmissionData, items_in}
 use Rattle.covread.specs.declared.fault.ReadFault.{ReadFault}
 use Rattle.covcheck.specs.declared.text_summary.TextSummary.{TextSummary}
 use Rattle.covcheck.specs.declared.text_summary.SkippedLine.{SkippedLine}
-use Rattle.covcheck.specs.Skipped.{AreThose, start_of}
+use Rattle.covcheck.specs.Skipped.{AreAllThat, start_of}
 
 -- `lines` are the lines of the text for which `is_so` is true, each with its number. Lines are counted from 1, empty ones too
 abbrev pub AreLinesThat : (List ℕ → Type 0) → List ℕ → List (ℕ × List ℕ) → Type 0
-AreLinesThat is_so text lines = AreThose (λ (l : ℕ × List ℕ). is_so l.1) (enumerate_from 1 (lines_of text)) lines
+AreLinesThat is_so text lines = AreAllThat (λ (l : ℕ × List ℕ). is_so l.1) (enumerate_from 1 (lines_of text)) lines
 
 -- the number and the beginning of the first of these lines, or `None` if there are no lines
 abbrev pub IsFirstOf : List (ℕ × List ℕ) → Option SkippedLine → Type 0

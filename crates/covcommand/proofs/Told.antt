@@ -10,7 +10,7 @@ use Rattle.clap.specs.declared.parser.matches.SubCommand.{SubCommand}
 use Rattle.clap.specs.declared.parser.matches.ArgMatches.{ArgMatches}
 use Rattle.clap.specs.declared.error.kind.ErrorKind.{ErrorKind}
 use Rattle.clap.specs.declared.error.kind.ErrorKind.TheVariants as kind
-use Rattle.covcommand.specs.Fault.{IsToldOf, Tells}
+use Rattle.covcommand.specs.Fault.{IsFaultAmong, Tells}
 use Rattle.covcommand.specs.declared.fault.CommandFault.{CommandFault}
 use Rattle.covcommand.specs.declared.fault.CommandFault.TheVariants.{Help, Line, Memory, Version}
 
@@ -28,7 +28,7 @@ told_memory k Memory told is = refl
 told_memory k (Version text) told is = absurd (version_is_no_memory (sym is ∙ told))
 
 -- if clap ran out of memory, or its error is of one of its kinds for the words, the fault fits these kinds
-pub told_of : (k : ErrorKind) (kinds : Kinds) (f : CommandFault) → Tells k f → (k ≡ kind.OutOfMemory) ⊎ IsAmong k kinds → IsToldOf kinds f
+pub told_of : (k : ErrorKind) (kinds : Kinds) (f : CommandFault) → Tells k f → (k ≡ kind.OutOfMemory) ⊎ IsAmong k kinds → IsFaultAmong kinds f
 told_of k kinds (Help text) told (inl is) = absurd (help_is_no_memory (sym is ∙ told))
 told_of k kinds (Help text) told (inr among) = subst (λ (x : ErrorKind). IsAmong x kinds) told among
 told_of k kinds (Line text) told (inl is) = absurd (told.2 is)

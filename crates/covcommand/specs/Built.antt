@@ -7,9 +7,9 @@ use Rattle.clap.specs.declared.builder.command.Command.{Command}
 use Rattle.clap.specs.declared.builder.command.Command.TheViews.{out-Command}
 
 -- the argument is described by this rule and isn't global: it is for its own command, and not for subcommands of this
-abbrev pub IsLocal : Rule → Arg → Type 0
-IsLocal rule a = (rule_of a ≡ rule) × (a.global ≡ false)
+abbrev pub IsRule : Rule → Arg → Type 0
+IsRule rule a = (rule_of a ≡ rule) × (a.global ≡ false)
 
 -- the command is described by `app`, and none of its arguments is global
-abbrev pub IsAlone : App → Command → Type 0
-IsAlone app c = (app_of c ≡ app) × ((out-Command c).has_globals ≡ false)
+abbrev pub HasNoGlobals : App → Command → Type 0
+HasNoGlobals app c = (app_of c ≡ app) × ((out-Command c).has_globals ≡ false)

@@ -28,8 +28,8 @@ Tells k (Version text) = k ≡ kind.DisplayVersion
 
 -- the fault for words for which clap has errors of these kinds. It is `Help` or `Version` only if the kind for that is among
 -- them, and `Line` only if another kind is
-abbrev pub IsToldOf : Kinds → CommandFault → Type 0
-IsToldOf kinds (Help text) = IsAmong kind.DisplayHelp kinds
-IsToldOf kinds (Line text) = (k : ErrorKind) × IsAmong k kinds × (k ≢ kind.DisplayHelp) × (k ≢ kind.DisplayVersion)
-IsToldOf kinds Memory = Unit {0}
-IsToldOf kinds (Version text) = IsAmong kind.DisplayVersion kinds
+abbrev pub IsFaultAmong : Kinds → CommandFault → Type 0
+IsFaultAmong kinds (Help text) = IsAmong kind.DisplayHelp kinds
+IsFaultAmong kinds (Line text) = (k : ErrorKind) × IsAmong k kinds × (k ≢ kind.DisplayHelp) × (k ≢ kind.DisplayVersion)
+IsFaultAmong kinds Memory = Unit {0}
+IsFaultAmong kinds (Version text) = IsAmong kind.DisplayVersion kinds

@@ -3,7 +3,7 @@
 ghost use Rattle.std.specs.Prelude.{◌≡◌, IfOk, codes};
 ghost use Rattle.clap.specs.Words.{app_of};
 ghost use Rattle.covcommand.specs.CommandLine as line;
-ghost use Rattle.covcommand.specs.Built.{IsAlone, IsLocal};
+ghost use Rattle.covcommand.specs.Built.{HasNoGlobals, IsRule};
 
 use crate::help;
 use clap::{Arg, ArgAction, Command, value_parser};
@@ -34,7 +34,7 @@ fn program<'a>(alloc: Global) -> Command<'a>
 }
 
 fn merge<'a>(alloc: Global) -> Result<Command<'a>, AllocError>
-    ensures { IfOk result (IsAlone line.merge) }
+    ensures { IfOk result (HasNoGlobals line.merge) }
 {
     let merge = Command::new(alloc, "merge")
         .about(help::MERGE)
@@ -45,7 +45,7 @@ fn merge<'a>(alloc: Global) -> Result<Command<'a>, AllocError>
 }
 
 fn summary<'a>(alloc: Global) -> Result<Command<'a>, AllocError>
-    ensures { IfOk result (IsAlone line.summary) }
+    ensures { IfOk result (HasNoGlobals line.summary) }
 {
     let summary = Command::new(alloc, "summary")
         .about(help::SUMMARY)
@@ -54,14 +54,14 @@ fn summary<'a>(alloc: Global) -> Result<Command<'a>, AllocError>
 }
 
 fn extract<'a>(alloc: Global) -> Result<Command<'a>, AllocError>
-    ensures { IfOk result (IsAlone line.extract) }
+    ensures { IfOk result (HasNoGlobals line.extract) }
 {
     let extract = filter(alloc, "extract")?;
     Ok(extract.about(help::EXTRACT).after_help(help::EXTRACT_END))
 }
 
 fn remove<'a>(alloc: Global) -> Result<Command<'a>, AllocError>
-    ensures { IfOk result (IsAlone line.remove) }
+    ensures { IfOk result (HasNoGlobals line.remove) }
 {
     let remove = filter(alloc, "remove")?;
     Ok(remove.about(help::REMOVE).after_help(help::REMOVE_END))
@@ -69,7 +69,7 @@ fn remove<'a>(alloc: Global) -> Result<Command<'a>, AllocError>
 
 /// A command that takes a tracefile and patterns.
 fn filter<'a>(alloc: Global, name: &'a str) -> Result<Command<'a>, AllocError>
-    ensures { IfOk result (IsAlone (line.filtering name.entry.now)) }
+    ensures { IfOk result (HasNoGlobals (line.filtering name.entry.now)) }
 {
     let filter = Command::new(alloc, name);
     filter
@@ -78,7 +78,7 @@ fn filter<'a>(alloc: Global, name: &'a str) -> Result<Command<'a>, AllocError>
 }
 
 fn gcov<'a>(alloc: Global) -> Result<Command<'a>, AllocError>
-    ensures { IfOk result (IsAlone line.gcov) }
+    ensures { IfOk result (HasNoGlobals line.gcov) }
 {
     let gcov = Command::new(alloc, "gcov")
         .about(help::GCOV)
@@ -88,7 +88,7 @@ fn gcov<'a>(alloc: Global) -> Result<Command<'a>, AllocError>
 }
 
 fn check<'a>(alloc: Global) -> Result<Command<'a>, AllocError>
-    ensures { IfOk result (IsAlone line.check) }
+    ensures { IfOk result (HasNoGlobals line.check) }
 {
     let check = Command::new(alloc, "check")
         .about(help::CHECK)
@@ -100,7 +100,7 @@ fn check<'a>(alloc: Global) -> Result<Command<'a>, AllocError>
 
 /// A required argument of one word or more.
 fn several<'a>(alloc: Global, id: &'a str, help: &'a str) -> Arg<'a>
-    ensures { IsLocal (line.several id.entry.now) result }
+    ensures { IsRule (line.several id.entry.now) result }
 {
     Arg::new(alloc, id)
         .required(true)
@@ -111,7 +111,7 @@ fn several<'a>(alloc: Global, id: &'a str, help: &'a str) -> Arg<'a>
 
 /// The tracefile that is filtered.
 fn tracefile<'a>(alloc: Global) -> Arg<'a>
-    ensures { IsLocal (line.single (codes "TRACEFILE")) result }
+    ensures { IsRule (line.single (codes "TRACEFILE")) result }
 {
     Arg::new(alloc, "TRACEFILE")
         .required(true)
@@ -121,7 +121,7 @@ fn tracefile<'a>(alloc: Global) -> Arg<'a>
 
 /// `--jobs N`, the number of jobs.
 fn jobs<'a>(alloc: Global) -> Arg<'a>
-    ensures { IsLocal line.jobs result }
+    ensures { IsRule line.jobs result }
 {
     Arg::new(alloc, "jobs")
         .long("jobs")
@@ -134,7 +134,7 @@ fn jobs<'a>(alloc: Global) -> Arg<'a>
 
 /// `--test NAME`, the name of a test.
 fn test<'a>(alloc: Global) -> Arg<'a>
-    ensures { IsLocal line.test result }
+    ensures { IsRule line.test result }
 {
     Arg::new(alloc, "test")
         .long("test")
@@ -146,7 +146,7 @@ fn test<'a>(alloc: Global) -> Arg<'a>
 
 /// The flag `--gcov`, which says that gcov wrote the files.
 fn annotated<'a>(alloc: Global) -> Arg<'a>
-    ensures { IsLocal line.annotated result }
+    ensures { IsRule line.annotated result }
 {
     Arg::new(alloc, "gcov")
         .long("gcov")

@@ -6,7 +6,7 @@ ghost use Rattle.clap.specs.Words.{rows_of, found_of, subcommand_of, takes, faul
 ghost use Rattle.covcommand.specs.CommandLine.{covcollect};
 ghost use Rattle.covcommand.specs.Asked.{AsksFor, IsFormatOf, IsInBounds, IsNumberOf, tracefile_and_patterns, values_of};
 ghost use Rattle.covcommand.specs.Found.{Fits, HasFilter, HasFlag, HasJobs, HasSome, HasTest};
-ghost use Rattle.covcommand.specs.Fault.{IsToldOf};
+ghost use Rattle.covcommand.specs.Fault.{IsFaultAmong};
 ghost use Rattle.covcommand.specs.declared.fault.CommandFault.TheVariants as faults;
 
 use crate::asked::{Command, TextFormat};
@@ -27,7 +27,7 @@ pub fn command(alloc: Global, words: &[String]) -> Result<Command, CommandFault>
     ensures fits { IfOk result (λ _. fault_of covcollect (map string_bytes words.now) ≡ []) }
     ensures takes { takes covcollect (map string_bytes words.now) ≡ true
         → IfErr result (λ f. f ≡ faults.Memory) }
-    ensures told { IfErr result (IsToldOf (fault_of covcollect (map string_bytes words.now))) }
+    ensures told { IfErr result (IsFaultAmong (fault_of covcollect (map string_bytes words.now))) }
 {
     let matches = match described(alloc)?.try_get_matches_from(words) {
         Ok(matches) => matches,

@@ -7,7 +7,7 @@ use Rattle.std.proofs.lemmas.List.{append-nil}
 use Rattle.covline.specs.declared.trace_line.LineFault.{LineFault}
 use Rattle.covline.specs.declared.trace_line.LineFault.TheVariants.{BadLine, NumberTooLarge}
 use Rattle.covline.specs.Spells.{LineData, Test, Path, FuncStart, FuncCount, Branch, Line, Total, End, Skip, comma, IsNumeral, IsCount, IsTaken, HasForm, HasSmallNumbers}
-use Rattle.covline.specs.Reading.{Fields, sized_number, with_fit, with_count, with_name, start_of, start_fields, calls_of, calls_fields, with_taken, branch_of, branch_fields, count_of, line_fields, total_of}
+use Rattle.covline.specs.Reading.{Fields, sized_number, with_fit, with_count, with_name, start_of, start_fields, func_count_of, func_count_fields, with_taken, branch_of, branch_fields, count_of, line_fields, total_of}
 use Rattle.covline.proofs.ReadNumbers.{Stops, fit_small, fit_large, count_small, count_large, field_is, BeginsWithField, field_or_none, field_read, count_is, BeginsWithCount, count_or_none, count_read, comma_or_none, taken_is, taken_or_none}
 use Rattle.covline.proofs.Checksums.{IsAfterCount, checksum_read, checksum_or_none}
 
@@ -16,7 +16,7 @@ abbrev pub sized : LineData → Result LineData LineFault
 sized (Test name) = Ok (Test name)
 sized (Path path) = Ok (Path path)
 sized (FuncStart number name) = start_of (sized_number number) name
-sized (FuncCount count name) = calls_of (sized_number count) name
+sized (FuncCount count name) = func_count_of (sized_number count) name
 sized (Branch number block branch taken) = branch_of (sized_number number) (sized_number block) (sized_number branch) (option_map sized_number taken)
 sized (Line number count checksum) = count_of (sized_number number) (sized_number count) checksum
 sized (Total kind value) = total_of kind (sized_number value)
@@ -118,7 +118,7 @@ named (b ∷ bs) says some = refl
 pub start_read : (digits name : List ℕ) (number : ℕ) → IsNumeral digits number → 0 < length name → start_fields (digits ++ comma ∷ name) ≡ sized (FuncStart number name)
 start_read digits name number numeral some = rw (field_is digits name number numeral) (named name (sized (FuncStart number name)) some)
 
-pub calls_read : (text name : List ℕ) (count : ℕ) → IsCount text count → 0 < length name → calls_fields (text ++ comma ∷ name) ≡ sized (FuncCount count name)
+pub calls_read : (text name : List ℕ) (count : ℕ) → IsCount text count → 0 < length name → func_count_fields (text ++ comma ∷ name) ≡ sized (FuncCount count name)
 calls_read text name count counts some = rw (count_is text (comma ∷ name) count counts refl) (named name (sized (FuncCount count name)) some)
 
 pub branch_read : (digits blocks branches text : List ℕ) (number block branch : ℕ) (taken : Option ℕ) → IsNumeral digits number → IsNumeral blocks block → IsNumeral branches branch → IsTaken text taken → branch_fields (digits ++ comma ∷ (blocks ++ comma ∷ (branches ++ comma ∷ text))) ≡ sized (Branch number block branch taken)
@@ -164,15 +164,15 @@ start_formed fields =
       | inr none ↦ inr (rw none refl)
     ]
 
-calls_from : (fields : List ℕ) (front : BeginsWithCount fields) (name : List ℕ) → front.rest ≡ comma ∷ name → IsFormed (codes "FNDA:") calls_fields fields
+calls_from : (fields : List ℕ) (front : BeginsWithCount fields) (name : List ℕ) → front.rest ≡ comma ∷ name → IsFormed (codes "FNDA:") func_count_fields fields
 calls_from fields front name after =
     let parts : fields ≡ front.counted ++ comma ∷ name = front.parts ∙ ap (λ (t : List ℕ). front.counted ++ t) after in
-    elim (name_or_none name (calls_of (sized_number front.count) name)) [
+    elim (name_or_none name (func_count_of (sized_number front.count) name)) [
       | inl some ↦ inl (FuncCount front.count name, (front.counted, ap (λ (t : List ℕ). codes "FNDA:" ++ t) parts, front.counts, some))
       | inr none ↦ inr (rw (count_read fields front, after) none)
     ]
 
-pub calls_formed : (fields : List ℕ) → IsFormed (codes "FNDA:") calls_fields fields
+pub calls_formed : (fields : List ℕ) → IsFormed (codes "FNDA:") func_count_fields fields
 calls_formed fields =
     elim (count_or_none fields) [
       | inl front ↦ elim (comma_or_none (sized_number front.count) front.rest) [

@@ -13,7 +13,7 @@ use Rattle.covline.specs.declared.trace_line.TotalKind.TheVariants.{FuncFound, F
 use Rattle.covline.specs.declared.trace_line.LineFault.{LineFault}
 use Rattle.covline.specs.declared.trace_line.LineFault.TheVariants.{BadLine, NumberTooLarge, EmptyPath}
 use Rattle.covline.specs.Spells.{LineData, Test, Path, FuncStart, FuncCount, Branch, Line, Total, End, Skip, line_data, comma, Begins, BeginsWithOneOf, HasKey, key_of, IsNumeral, HasForm, HasSmallNumbers, Spells, HasFault}
-use Rattle.covline.specs.Reading.{Gives, Fields, after_key, keyed, read_by, forms, read_of, with_part, start_fields, calls_fields, branch_fields, line_fields, total_of, total_fields, path_fields}
+use Rattle.covline.specs.Reading.{Gives, Fields, after_key, keyed, read_by, forms, read_of, with_part, start_fields, func_count_fields, branch_fields, line_fields, total_of, total_fields, path_fields}
 use Rattle.covline.proofs.ReadKeys.{begins_or_not, after_key-none, after_key-same}
 use Rattle.covline.proofs.ReadNumbers.{whole_is, whole_or_none}
 use Rattle.covline.proofs.ReadForms.{sized, sized_small, small_or_large, start_read, calls_read, branch_read, line_read, IsFormed, start_formed, calls_formed, branch_formed, line_formed}
@@ -67,27 +67,27 @@ abbrev SaysSomething : List ℕ → Type 0
 SaysSomething line = (says : LineData) × HasForm line says
 
 -- the line has a form, or it is read as `BadLine`, or it is `SF:` without a path
-abbrev IsJudged : List ℕ → Result LineData LineFault → Type 0
-IsJudged line read = SaysSomething line ⊎ (((read ≡ Err BadLine) × (line ≢ codes "SF:")) ⊎ (line ≡ codes "SF:"))
+abbrev HasFormOrFault : List ℕ → Result LineData LineFault → Type 0
+HasFormOrFault line read = SaysSomething line ⊎ (((read ≡ Err BadLine) × (line ≢ codes "SF:")) ⊎ (line ≡ codes "SF:"))
 
--- each line that begins with the key is as `IsJudged` says, with what the key's reader reads
-abbrev Judges : List ℕ × Fields → Type 0
-Judges form = (rest : List ℕ) → IsJudged (form.0 ++ rest) (form.1 rest)
+-- each line that begins with the key is as `HasFormOrFault` says, with what the key's reader reads
+abbrev ReaderIsRight : List ℕ × Fields → Type 0
+ReaderIsRight form = (rest : List ℕ) → HasFormOrFault (form.0 ++ rest) (form.1 rest)
 
--- the same for a line that is read by a table of keys. Beside the cases of `IsJudged`, the line may begin neither with one of
+-- the same for a line that is read by a table of keys. Beside the cases of `HasFormOrFault`, the line may begin neither with one of
 -- the keys nor with `end_of_record`
-abbrev IsJudgedBy : List (List ℕ × Fields) → List ℕ → Type 0
-IsJudgedBy table line =
+abbrev HasFormOrFaultBy : List (List ℕ × Fields) → List ℕ → Type 0
+HasFormOrFaultBy table line =
     SaysSomething line ⊎ (((read_by table line ≡ Err BadLine) × (line ≢ codes "SF:") × BeginsWithOneOf (keys_in table) line) ⊎ ((line ≡ codes "SF:") ⊎ (¬ BeginsWithOneOf (keys_in table) line × ¬ Begins line (codes "end_of_record"))))
 
-judged_here : (form : List ℕ × Fields) (others : List (List ℕ × Fields)) (line rest : List ℕ) → line ≡ form.0 ++ rest → IsJudged (form.0 ++ rest) (form.1 rest) → IsJudgedBy (form ∷ others) line
+judged_here : (form : List ℕ × Fields) (others : List (List ℕ × Fields)) (line rest : List ℕ) → line ≡ form.0 ++ rest → HasFormOrFault (form.0 ++ rest) (form.1 rest) → HasFormOrFaultBy (form ∷ others) line
 judged_here form others line rest same (inl says) = inl (says.0, let P : List ℕ → Type 0 = λ l. HasForm l says.0 in subst P (sym same) says.1)
 judged_here form others line rest same (inr (inl bad)) =
     let read : read_by (form ∷ others) line ≡ form.1 rest = ap (λ (o : Option (List ℕ)). keyed o form.1 (read_by others line)) (ap (after_key form.0) same ∙ after_key-same form.0 rest) in
     inr (inl (read ∙ bad.0, λ e. bad.1 (sym same ∙ e), inl (rest, same)))
 judged_here form others line rest same (inr (inr path)) = inr (inr (inl (same ∙ path)))
 
-judged_later : (form : List ℕ × Fields) (others : List (List ℕ × Fields)) (line : List ℕ) → ¬ Begins line form.0 → IsJudgedBy others line → IsJudgedBy (form ∷ others) line
+judged_later : (form : List ℕ × Fields) (others : List (List ℕ × Fields)) (line : List ℕ) → ¬ Begins line form.0 → HasFormOrFaultBy others line → HasFormOrFaultBy (form ∷ others) line
 judged_later form others line other (inl says) = inl says
 judged_later form others line other (inr (inl bad)) =
     let read : read_by (form ∷ others) line ≡ read_by others line = ap (λ (o : Option (List ℕ)). keyed o form.1 (read_by others line)) (after_key-none form.0 line other) in
@@ -96,7 +96,7 @@ judged_later form others line other (inr (inr (inl path))) = inr (inr (inl path)
 judged_later form others line other (inr (inr (inr none))) =
     inr (inr (inr (λ begins. elim begins [ inl here ↦ other here | inr there ↦ none.0 there ], none.1)))
 
-judged : (table : List (List ℕ × Fields)) → AllByRecursion Judges table → (line : List ℕ) → IsJudgedBy table line
+judged : (table : List (List ℕ × Fields)) → AllByRecursion ReaderIsRight table → (line : List ℕ) → HasFormOrFaultBy table line
 judged [] each line =
     elim (begins_or_not (codes "end_of_record") line) [
       | inl begins ↦ inl (End, begins)
@@ -108,27 +108,27 @@ judged (form ∷ others) each line =
       | inr other ↦ judged_later form others line other (judged others each.1 line)
     ]
 
--- ---- the readers of all keys are as `Judges` says
+-- ---- the readers of all keys are as `ReaderIsRight` says
 
 not_path : (line : List ℕ) → after_key (codes "SF:") line ≡ None → line ≢ codes "SF:"
 not_path line other e = none-some [] (sym other ∙ ap (after_key (codes "SF:")) e)
 
-path_judged : (rest : List ℕ) → IsJudged (codes "SF:" ++ rest) (path_fields rest)
+path_judged : (rest : List ℕ) → HasFormOrFault (codes "SF:" ++ rest) (path_fields rest)
 path_judged [] = inr (inr refl)
 path_judged (b ∷ bs) = inl (Path (b ∷ bs), (refl, omega arith))
 
-formed_judged : (key : List ℕ) (reader : Fields) (rest : List ℕ) → after_key (codes "SF:") (key ++ rest) ≡ None → IsFormed key reader rest → IsJudged (key ++ rest) (reader rest)
+formed_judged : (key : List ℕ) (reader : Fields) (rest : List ℕ) → after_key (codes "SF:") (key ++ rest) ≡ None → IsFormed key reader rest → HasFormOrFault (key ++ rest) (reader rest)
 formed_judged key reader rest other (inl says) = inl says
 formed_judged key reader rest other (inr bad) = inr (inl (bad, not_path (key ++ rest) other))
 
-total_judged : (kind : TotalKind) (rest : List ℕ) → after_key (codes "SF:") (key_of kind ++ rest) ≡ None → IsJudged (key_of kind ++ rest) (total_fields kind rest)
+total_judged : (kind : TotalKind) (rest : List ℕ) → after_key (codes "SF:") (key_of kind ++ rest) ≡ None → HasFormOrFault (key_of kind ++ rest) (total_fields kind rest)
 total_judged kind rest other =
     elim (whole_or_none rest) [
       | inl found ↦ inl (Total kind found.0, (rest, refl, found.1))
       | inr none ↦ inr (inl (rw none refl, not_path (key_of kind ++ rest) other))
     ]
 
-forms_judge : AllByRecursion Judges forms
+forms_judge : AllByRecursion ReaderIsRight forms
 forms_judge = (
   λ rest. inl (Test rest, refl),
   (
@@ -136,7 +136,7 @@ forms_judge = (
     (
       λ rest. formed_judged (codes "FN:") start_fields rest refl (start_formed rest),
       (
-        λ rest. formed_judged (codes "FNDA:") calls_fields rest refl (calls_formed rest),
+        λ rest. formed_judged (codes "FNDA:") func_count_fields rest refl (calls_formed rest),
         (
           λ rest. total_judged FuncFound rest refl,
           (

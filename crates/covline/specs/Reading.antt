@@ -146,11 +146,11 @@ abbrev pub start_fields : Fields
 start_fields fields = with_part (field_at fields) (λ line. with_name line.1 (start_of line.0 line.1))
 
 -- what `FNDA:` says with this count and this name
-abbrev pub calls_of : Number → List ℕ → Result LineData LineFault
-calls_of count name = with_count count (λ n. Ok (FuncCount n name))
+abbrev pub func_count_of : Number → List ℕ → Result LineData LineFault
+func_count_of count name = with_count count (λ n. Ok (FuncCount n name))
 
-abbrev pub calls_fields : Fields
-calls_fields fields = with_part (field_of (count_at fields)) (λ count. with_name count.1 (calls_of count.0 count.1))
+abbrev pub func_count_fields : Fields
+func_count_fields fields = with_part (field_of (count_at fields)) (λ count. with_name count.1 (func_count_of count.0 count.1))
 
 -- what `BRDA:` says of the branch with these three numbers, if it was taken this often
 abbrev pub with_taken : ℕ → ℕ → ℕ → Option Number → Result LineData LineFault
@@ -199,7 +199,7 @@ keyed (Some rest) fields otherwise = fields rest
 -- each key with the reader of its fields
 abbrev pub forms : List (List ℕ × Fields)
 forms =
-    (codes "TN:", test_fields) ∷ (codes "SF:", path_fields) ∷ (codes "FN:", start_fields) ∷ (codes "FNDA:", calls_fields) ∷ (codes "FNF:", total_fields FuncFound)
+    (codes "TN:", test_fields) ∷ (codes "SF:", path_fields) ∷ (codes "FN:", start_fields) ∷ (codes "FNDA:", func_count_fields) ∷ (codes "FNF:", total_fields FuncFound)
     ∷ (codes "FNH:", total_fields FuncHit) ∷ (codes "BRDA:", branch_fields) ∷ (codes "BRF:", total_fields BranchFound) ∷ (codes "BRH:", total_fields BranchHit)
     ∷ (codes "DA:", line_fields) ∷ (codes "LF:", total_fields LineFound) ∷ (codes "LH:", total_fields LineHit) ∷ []
 

@@ -8,7 +8,7 @@ ghost use Rattle.covline.specs.PointView.{branch_point_data};
 ghost use Rattle.covline.specs.Spells.{LineData, Line, Branch, line_data, Spells, HasFault, BeginsWithLine};
 ghost use Rattle.covline.specs.Fronts.{BeginsWithBranchLine, BeginsWithCountedLine, after_checksum, branch_front, checksum_front, count_end, counted_front, small_front, small_of, taken_front};
 ghost use Rattle.covline.specs.Lines.{line_feed};
-ghost use Rattle.covline.specs.Reading.{Gives, after_key, sized_number, with_digit, digits_from, number_at, number_of, count_at, before_comma, field_at, taken_of, only_checksum, checksum_of, fit, fit_count, start_fields, calls_fields, branch_of, branch_fields, line_fields, total_fields, path_fields, read_of};
+ghost use Rattle.covline.specs.Reading.{Gives, after_key, sized_number, with_digit, digits_from, number_at, number_of, count_at, before_comma, field_at, taken_of, only_checksum, checksum_of, fit, fit_count, start_fields, func_count_fields, branch_of, branch_fields, line_fields, total_fields, path_fields, read_of};
 
 use crate::names::{good_checksum, is_checksum_byte};
 use crate::point::BranchPoint;
@@ -225,8 +225,8 @@ fn start_record(fields: &[u8]) -> Result<TraceLine<'_>, LineFault>
 }
 
 /// Reads the fields after `FNDA:`.
-fn calls_record(fields: &[u8]) -> Result<TraceLine<'_>, LineFault>
-    ensures { Gives result (calls_fields fields.now) }
+fn func_count_record(fields: &[u8]) -> Result<TraceLine<'_>, LineFault>
+    ensures { Gives result (func_count_fields fields.now) }
 {
     let Some((count, rest)) = read_count(fields) else {
         return Err(LineFault::BadLine);
@@ -350,7 +350,7 @@ fn function_key(rest: &[u8]) -> Result<TraceLine<'_>, LineFault>
         return start_record(fields);
     }
     if let Some(fields) = strip_key(rest, b"NDA:") {
-        return calls_record(fields);
+        return func_count_record(fields);
     }
     if let Some(found) = strip_key(rest, b"NF:") {
         return total_record(TotalKind::FuncFound, found);

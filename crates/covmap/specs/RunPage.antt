@@ -3,7 +3,7 @@ use Rattle.std.specs.Prelude.{◌≡◌, ℕ, ◌<◌, ◌≤◌, Option, Some, 
 use Rattle.std.specs.declared.cmp.Ordering.{Ordering}
 use Rattle.std.specs.declared.cmp.Ordering.TheVariants.{Less, Equal}
 use Rattle.std.specs.List.{AllByRecursion}
-use Rattle.covmap.specs.Run.{told_one}
+use Rattle.covmap.specs.Run.{reports_one}
 use Rattle.covmap.specs.Slots.{IsAscending, filled, order_at, value_in}
 
 -- ---- the items of a run, and slots
@@ -40,21 +40,21 @@ FitHere cmp named fits sum page (item ∷ run) column =
 -- ---- along a page
 
 -- what the items report, in order, when each addend is added in its item's slot of a column
-abbrev pub told_here : {V Q M N : Type 0} → (M → Option V → V) → (M → Option V → V → Option N) → List (Placed Q M) → List (Option V) → List (Q × N)
-told_here sum told [] column = []
-told_here sum told (here ∷ placed) column =
-    told_one here.item.0 (told here.item.1 (value_in (slice_get column here.slot)) (sum here.item.1 (value_in (slice_get column here.slot))))
-    ++ told_here sum told placed (value_summed sum here.slot here.item column)
+abbrev pub reports_here : {V Q M N : Type 0} → (M → Option V → V) → (M → Option V → V → Option N) → List (Placed Q M) → List (Option V) → List (Q × N)
+reports_here sum reports [] column = []
+reports_here sum reports (here ∷ placed) column =
+    reports_one here.item.0 (reports here.item.1 (value_in (slice_get column here.slot)) (sum here.item.1 (value_in (slice_get column here.slot))))
+    ++ reports_here sum reports placed (value_summed sum here.slot here.item column)
 
 -- this number of items at the front of a run have slots on a page. Their addends are added to a column of the page, and their
 -- reports are appended
-pub record IsAlong {K V Q M N : Type 0} (cmp : K → K → Ordering) (named : Q → K) (sum : M → Option V → V) (told : M → Option V → V → Option N) (page : List (K × Option V)) (run : List (Q × M)) (count : ℕ)
+pub record IsAlong {K V Q M N : Type 0} (cmp : K → K → Ordering) (named : Q → K) (sum : M → Option V → V) (reports : M → Option V → V → Option N) (page : List (K × Option V)) (run : List (Q × M)) (count : ℕ)
     (old new : List (Option V)) (before after : List (Q × N)) : Type 0 where
   pub placed : List (Placed Q M)
   pub here : AllByRecursion (λ place. IsHere cmp named page place.slot place.item) placed
   pub items : map (λ place. place.item) placed ≡ take count run
   pub column : new ≡ column_summed sum placed old
-  pub notes : after ≡ before ++ told_here sum told placed old
+  pub notes : after ≡ before ++ reports_here sum reports placed old
 
 -- ---- a page of new slots
 

@@ -6,7 +6,7 @@ use Rattle.std.proofs.lemmas.Bool.{cases_Bool}
 use Rattle.std.proofs.lemmas.List.{append-nil}
 use Rattle.covline.specs.Row.{ItemData, SectData}
 use Rattle.covread.specs.Gcov.{GcovLine, Path}
-use Rattle.covread.specs.GcovItems.{is_path, after_last, last_given, items_given, items_until, section_at, sects_from, is_empty}
+use Rattle.covread.specs.GcovItems.{is_path, after_last, last_number, items_given, items_until, section_at, sects_from, is_empty}
 
 -- ---- the lines after the last one
 
@@ -43,9 +43,9 @@ or_assoc : (a b c : Option ℕ) → option_or (option_or a b) c ≡ option_or a 
 or_assoc None b c = refl
 or_assoc (Some x) b c = refl
 
-pub last_given-more : (gives : GcovLine → Option ℕ) (xs : List GcovLine) (says : GcovLine) → last_given gives (xs ++ says ∷ []) ≡ option_or (gives says) (last_given gives xs)
-last_given-more gives [] says = or_none (gives says)
-last_given-more gives (x ∷ xs) says = rw (last_given-more gives xs says) (or_assoc (gives says) (last_given gives xs) (gives x))
+pub last_number-more : (gives : GcovLine → Option ℕ) (xs : List GcovLine) (says : GcovLine) → last_number gives (xs ++ says ∷ []) ≡ option_or (gives says) (last_number gives xs)
+last_number-more gives [] says = or_none (gives says)
+last_number-more gives (x ∷ xs) says = rw (last_number-more gives xs says) (or_assoc (gives says) (last_number gives xs) (gives x))
 
 -- ---- the items up to the next path
 

@@ -11,9 +11,9 @@ use Rattle.covread.specs.declared.fault.ReadFault.{ReadFault}
 use Rattle.covread.specs.declared.fault.ReadFault.TheVariants as faults
 use Rattle.covread.specs.declared.gcov.reader.BranchAnchor.{BranchAnchor}
 use Rattle.covread.specs.Gcov.{GcovLine, Path, SourceLine, FuncCount, BranchCount, BlockNumber, Nothing}
-use Rattle.covread.specs.GcovItems.{is_path, is_source, source_number, block_number, func_said, after_last, last_given, waiting, line_above, or_zero, block_above, func_item, line_item, items_given, sects_from, has_path, has_line, is_empty, place_fault}
+use Rattle.covread.specs.GcovItems.{is_path, is_source, source_number, block_number, func_said, after_last, last_number, waiting, line_above, or_zero, block_above, func_item, line_item, items_given, sects_from, has_path, has_line, is_empty, place_fault}
 use Rattle.covread.specs.GcovSteps.{SectionData, HeldData, empty, closed, section_with, begun, step_func, in_block, section_in_block, step_block, step}
-use Rattle.covread.proofs.GcovPlaces.{any-yes, any-no, after_last-yes, after_last-no, last_given-more, extended, extended-last, sects-path, sects-more}
+use Rattle.covread.proofs.GcovPlaces.{any-yes, any-no, after_last-yes, after_last-no, last_number-more, extended, extended-last, sects-path, sects-more}
 
 -- this is where a branch below these lines belongs: the last source line and its last block; `None` if no source line comes
 -- after the last path
@@ -83,9 +83,9 @@ place_same : (above : List GcovLine) (says : GcovLine) (place : Option BranchAnc
 place_same above says None no_path no_source no_block stands = line_same above says no_path (ap (λ (o : Option ℕ). is_some o) no_source) ∙ stands
 place_same above says (Some p) no_path no_source no_block stands = (
   line_same above says no_path (ap (λ (o : Option ℕ). is_some o) no_source) ∙ stands.0,
-  last_given-more source_number above says ∙ ap (λ (o : Option ℕ). option_or o (line_above above)) no_source ∙ stands.1,
-  ap (λ (ls : List GcovLine). or_zero (last_given block_number ls)) (after_last-no is_source above says (ap (λ (o : Option ℕ). is_some o) no_source))
-      ∙ ap or_zero (last_given-more block_number (after_last is_source above) says ∙ ap (λ (o : Option ℕ). option_or o (last_given block_number (after_last is_source above))) no_block)
+  last_number-more source_number above says ∙ ap (λ (o : Option ℕ). option_or o (line_above above)) no_source ∙ stands.1,
+  ap (λ (ls : List GcovLine). or_zero (last_number block_number ls)) (after_last-no is_source above says (ap (λ (o : Option ℕ). is_some o) no_source))
+      ∙ ap or_zero (last_number-more block_number (after_last is_source above) says ∙ ap (λ (o : Option ℕ). option_or o (last_number block_number (after_last is_source above))) no_block)
       ∙ stands.2,
 )
 
@@ -131,8 +131,8 @@ goes_path test at above held (b ∷ bs) s =
 line_place : (above : List GcovLine) (line : ℕ) (count : Option ℕ) → has_path above ≡ true → PlaceStands (above ++ SourceLine line count ∷ []) (Some (record { line = line; block = 0 }))
 line_place above line count some = (
   rw (any-no is_path above (SourceLine line count) refl, some, after_last-no is_path above (SourceLine line count) refl, any-yes is_source (after_last is_path above) (SourceLine line count) refl) refl,
-  last_given-more source_number above (SourceLine line count),
-  ap (λ (ls : List GcovLine). or_zero (last_given block_number ls)) (after_last-yes is_source above (SourceLine line count) refl),
+  last_number-more source_number above (SourceLine line count),
+  ap (λ (ls : List GcovLine). or_zero (last_number block_number ls)) (after_last-yes is_source above (SourceLine line count) refl),
 )
 
 goes_source_in : (test : List ℕ) (at : ℕ) (above : List GcovLine) (held : HeldData) (line : ℕ) (count : Option ℕ) (section : Option SectionData) → held.section ≡ section
@@ -202,9 +202,9 @@ place_in_block : (above : List GcovLine) (block : ℕ) (place : Option BranchAnc
 place_in_block above block None stands = line_same above (BlockNumber block) refl refl ∙ stands
 place_in_block above block (Some p) stands = (
   line_same above (BlockNumber block) refl refl ∙ stands.0,
-  last_given-more source_number above (BlockNumber block) ∙ stands.1,
-  ap (λ (ls : List GcovLine). or_zero (last_given block_number ls)) (after_last-no is_source above (BlockNumber block) refl)
-      ∙ ap or_zero (last_given-more block_number (after_last is_source above) (BlockNumber block)),
+  last_number-more source_number above (BlockNumber block) ∙ stands.1,
+  ap (λ (ls : List GcovLine). or_zero (last_number block_number ls)) (after_last-no is_source above (BlockNumber block) refl)
+      ∙ ap or_zero (last_number-more block_number (after_last is_source above) (BlockNumber block)),
 )
 
 section_block : (above : List GcovLine) (block : ℕ) (section : Option SectionData) → SectionStands above section → SectionStands (above ++ BlockNumber block ∷ []) (option_map (section_in_block block) section)

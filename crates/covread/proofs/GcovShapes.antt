@@ -119,15 +119,15 @@ function_read rest s found = rw found refl
 -- ---- a line that has a shape is found to have it
 
 -- one of the first six shapes
-abbrev IsSome : Shape → Type 0
-IsSome Other = ⊥
-IsSome shape = Unit {0}
+abbrev IsKnownShape : Shape → Type 0
+IsKnownShape Other = ⊥
+IsKnownShape shape = Unit {0}
 
 instances_read : (line rest : List ℕ) → line ≡ codes "-----" ++ rest → shape_of line ≡ Instances
 unfolding shape_of
 instances_read line rest e = ap shape_of e
 
-pub shape_read : (line : List ℕ) (shape : Shape) → IsSome shape → HasShape line shape → (shape ≢ Instances → after_key (codes "-----") line ≡ None) → shape_of line ≡ shape
+pub shape_read : (line : List ℕ) (shape : Shape) → IsKnownShape shape → HasShape line shape → (shape ≢ Instances → after_key (codes "-----") line ≡ None) → shape_of line ≡ shape
 shape_read line Instances some form plain = instances_read line form.0 form.1
 shape_read line (Function name count) some form plain =
     ap shape_of form.1 ∙ function_read (name ++ (called ++ (count ++ form.0))) (Function name count) (function_found name count form.0 form.2 form.3 form.4 form.5)
@@ -390,7 +390,7 @@ found_fits line =
 
 -- ---- it is the first that fits
 
-some_by_place : (shape other : Shape) → place_of other < place_of shape → IsSome other
+some_by_place : (shape other : Shape) → place_of other < place_of shape → IsKnownShape other
 some_by_place shape Instances lt = tt
 some_by_place shape (Function name count) lt = tt
 some_by_place shape (Never branch) lt = tt

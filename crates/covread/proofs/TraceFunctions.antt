@@ -218,18 +218,18 @@ some_start name (End ∷ rs) = some_start name rs
 some_start name (Skip ∷ rs) = some_start name rs
 
 -- one of the record's items is of this function
-abbrev speaks : List LineData → List ℕ → LineData → Bool
-speaks inside name r = list_any (bytes_eq name) (func_points (items_said inside r))
+abbrev has_item_of : List LineData → List ℕ → LineData → Bool
+has_item_of inside name r = list_any (bytes_eq name) (func_points (items_said inside r))
 
-speaks_cons : (inside : List LineData) (name : List ℕ) (r : LineData) (rs : List LineData) → list_any (bytes_eq name) (func_points (flat_map (items_said inside) (r ∷ rs))) ≡ (speaks inside name r || list_any (bytes_eq name) (func_points (flat_map (items_said inside) rs)))
+speaks_cons : (inside : List LineData) (name : List ℕ) (r : LineData) (rs : List LineData) → list_any (bytes_eq name) (func_points (flat_map (items_said inside) (r ∷ rs))) ≡ (has_item_of inside name r || list_any (bytes_eq name) (func_points (flat_map (items_said inside) rs)))
 speaks_cons inside name r rs = ap (list_any (bytes_eq name)) (flat_map-append func_point (items_said inside r) (flat_map (items_said inside) rs)) ∙ list_any-append (bytes_eq name) (func_points (items_said inside r)) (func_points (flat_map (items_said inside) rs))
 
-any_speaks : (inside : List LineData) (name : List ℕ) (rs : List LineData) → list_any (bytes_eq name) (func_points (flat_map (items_said inside) rs)) ≡ list_any (speaks inside name) rs
+any_speaks : (inside : List LineData) (name : List ℕ) (rs : List LineData) → list_any (bytes_eq name) (func_points (flat_map (items_said inside) rs)) ≡ list_any (has_item_of inside name) rs
 any_speaks inside name [] = refl
-any_speaks inside name (r ∷ rs) = speaks_cons inside name r rs ∙ ap (λ b. speaks inside name r || b) (any_speaks inside name rs)
+any_speaks inside name (r ∷ rs) = speaks_cons inside name r rs ∙ ap (λ b. has_item_of inside name r || b) (any_speaks inside name rs)
 
 -- a record that gives a function a start line has an item of this function
-gives_speaks : (inside : List LineData) (name : List ℕ) (r : LineData) → gives name r ≡ true → speaks inside name r ≡ true
+gives_speaks : (inside : List LineData) (name : List ℕ) (r : LineData) → gives name r ≡ true → has_item_of inside name r ≡ true
 gives_speaks inside name (FuncStart line other) h = or_false (bytes_eq name other) ∙ bytes_eq_flips name other ∙ h
 gives_speaks inside name (FuncCount count other) h = absurd (cc)
 gives_speaks inside name (Branch line block branch taken) h = absurd (cc)
@@ -246,7 +246,7 @@ counted_speaks inside name other count (Some line) e h =
     let same : name ≡ other = (bytes_eq-Decides name other).0 (sym (or_false (bytes_eq name other)) ∙ h) in
     ap (λ (n : List ℕ). is_some (start_in n inside)) same ∙ ap is_some e
 
-speaks_gives : (inside : List LineData) (name : List ℕ) (r : LineData) → speaks inside name r ≡ true → (gives name r || is_some (start_in name inside)) ≡ true
+speaks_gives : (inside : List LineData) (name : List ℕ) (r : LineData) → has_item_of inside name r ≡ true → (gives name r || is_some (start_in name inside)) ≡ true
 speaks_gives inside name (FuncStart line other) h = ap (λ (b : Bool). b || is_some (start_in name inside)) (bytes_eq_flips other name ∙ sym (or_false (bytes_eq name other)) ∙ h)
 speaks_gives inside name (FuncCount count other) h = counted_speaks inside name other count (start_in other inside) refl h
 speaks_gives inside name (Branch line block branch taken) h = absurd (cc)
@@ -275,13 +275,13 @@ or_same : (a : Bool) → (a || a) ≡ true → a ≡ true
 or_same true h = refl
 or_same false h = h
 
-any_gives_speaks : (inside : List LineData) (name : List ℕ) (rs : List LineData) → list_any (gives name) rs ≡ true → list_any (speaks inside name) rs ≡ true
+any_gives_speaks : (inside : List LineData) (name : List ℕ) (rs : List LineData) → list_any (gives name) rs ≡ true → list_any (has_item_of inside name) rs ≡ true
 any_gives_speaks inside name [] h = h
-any_gives_speaks inside name (r ∷ rs) h = or_both (gives name r) (list_any (gives name) rs) (speaks inside name r) (list_any (speaks inside name) rs) (gives_speaks inside name r) (any_gives_speaks inside name rs) h
+any_gives_speaks inside name (r ∷ rs) h = or_both (gives name r) (list_any (gives name) rs) (has_item_of inside name r) (list_any (has_item_of inside name) rs) (gives_speaks inside name r) (any_gives_speaks inside name rs) h
 
-any_speaks_gives : (inside : List LineData) (name : List ℕ) (rs : List LineData) → list_any (speaks inside name) rs ≡ true → (list_any (gives name) rs || is_some (start_in name inside)) ≡ true
+any_speaks_gives : (inside : List LineData) (name : List ℕ) (rs : List LineData) → list_any (has_item_of inside name) rs ≡ true → (list_any (gives name) rs || is_some (start_in name inside)) ≡ true
 any_speaks_gives inside name [] h = absurd (cc)
-any_speaks_gives inside name (r ∷ rs) h = or_else (speaks inside name r) (list_any (speaks inside name) rs) (gives name r) (list_any (gives name) rs) (is_some (start_in name inside)) (speaks_gives inside name r) (any_speaks_gives inside name rs) h
+any_speaks_gives inside name (r ∷ rs) h = or_else (has_item_of inside name r) (list_any (has_item_of inside name) rs) (gives name r) (list_any (gives name) rs) (is_some (start_in name inside)) (speaks_gives inside name r) (any_speaks_gives inside name rs) h
 
 eq_from_both : (a b : Bool) → (a ≡ true → b ≡ true) → (b ≡ true → a ≡ true) → a ≡ b
 eq_from_both true b f g = sym (f refl)
@@ -292,8 +292,8 @@ eq_from_both false false f g = refl
 pub named_is : (inside : List LineData) (name : List ℕ) → is_some (start_in name inside) ≡ list_any (bytes_eq name) (func_points (items_of inside))
 named_is inside name =
     let given = list_any (gives name) inside in
-    let back : list_any (speaks inside name) inside ≡ true → given ≡ true = λ h. or_same given (ap (λ (b : Bool). given || b) (sym (some_start name inside)) ∙ any_speaks_gives inside name inside h) in
-    some_start name inside ∙ eq_from_both given (list_any (speaks inside name) inside) (any_gives_speaks inside name inside) back ∙ sym (any_speaks inside name inside)
+    let back : list_any (has_item_of inside name) inside ≡ true → given ≡ true = λ h. or_same given (ap (λ (b : Bool). given || b) (sym (some_start name inside)) ∙ any_speaks_gives inside name inside h) in
+    some_start name inside ∙ eq_from_both given (list_any (has_item_of inside name) inside) (any_gives_speaks inside name inside) back ∙ sym (any_speaks inside name inside)
 
 -- ---- how many functions the map has
 

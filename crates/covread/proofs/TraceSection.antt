@@ -82,26 +82,26 @@ few_stored (Line line count checksum ∷ inside) = let k = few_stored inside in 
 few_stored (says ∷ inside) = let k = few_stored inside in omega (arith, k)
 
 -- an item counts at most one of these points
-abbrev pub SpeaksOnce : {P : Type 0} → (ItemData → List P) → Type 0
-SpeaksOnce points = (item : ItemData) → length (points item) ≤ 1
+abbrev pub CountsAtMostOne : {P : Type 0} → (ItemData → List P) → Type 0
+CountsAtMostOne points = (item : ItemData) → length (points item) ≤ 1
 
 length_map : {X Y : Type 0} (f : X → Y) (xs : List X) → length (map f xs) ≡ length xs
 length_map f [] = refl
 length_map f (x ∷ xs) = let k = length_map f xs in omega (arith, k)
 
-pub few_hits : {P : Type 0} (points : ItemData → List P) → SpeaksOnce points → (items : List ItemData) → length (hits_said points items) ≤ length items
+pub few_hits : {P : Type 0} (points : ItemData → List P) → CountsAtMostOne points → (items : List ItemData) → length (hits_said points items) ≤ length items
 few_hits points once [] = omega arith
 few_hits {P} points once (i ∷ items) =
     let k = few_hits points once items in
     let f : P → Hit P = λ p. record { point = p; is_hit = is_hit i } in
     omega (arith, k, length-append (hits_of_item points i) (hits_said points items), length_map f (points i), once i)
 
-pub line_once : SpeaksOnce line_point
+pub line_once : CountsAtMostOne line_point
 line_once (LineItem line count checksum) = omega arith
 line_once (FuncItem name line count) = omega arith
 line_once (BranchItem line block branch taken) = omega arith
 
-pub branch_once : SpeaksOnce branch_key
+pub branch_once : CountsAtMostOne branch_key
 branch_once (LineItem line count checksum) = omega arith
 branch_once (FuncItem name line count) = omega arith
 branch_once (BranchItem line block branch taken) = omega arith

@@ -35,9 +35,9 @@ after_last so [] = []
 after_last so (says ∷ more) = if list_any so more then after_last so more else (if so says then more else says ∷ more)
 
 -- the last one of the numbers that the lines give; `None` if no line gives one
-abbrev pub last_given : (GcovLine → Option ℕ) → List GcovLine → Option ℕ
-last_given gives [] = None
-last_given gives (says ∷ more) = option_or (last_given gives more) (gives says)
+abbrev pub last_number : (GcovLine → Option ℕ) → List GcovLine → Option ℕ
+last_number gives [] = None
+last_number gives (says ∷ more) = option_or (last_number gives more) (gives says)
 
 -- the function lines after the last source line and the last path: they wait for a source line
 abbrev pub waiting : List GcovLine → List (List ℕ × ℕ)
@@ -45,7 +45,7 @@ waiting above = flat_map func_said (after_last (λ says. is_source says || is_pa
 
 -- the number of the nearest source line above
 abbrev pub line_above : List GcovLine → Option ℕ
-line_above above = last_given source_number above
+line_above above = last_number source_number above
 
 abbrev pub or_zero : Option ℕ → ℕ
 or_zero None = 0
@@ -53,7 +53,7 @@ or_zero (Some n) = n
 
 -- the number in the last block line after that source line, 0 if there is no such block line
 abbrev pub block_above : List GcovLine → ℕ
-block_above above = or_zero (last_given block_number (after_last is_source above))
+block_above above = or_zero (last_number block_number (after_last is_source above))
 
 -- the item of a function that begins at this source line
 abbrev pub func_item : ℕ → List ℕ × ℕ → ItemData

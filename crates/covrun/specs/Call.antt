@@ -13,7 +13,7 @@ use Rattle.covjobs.specs.declared.collect_fault.CollectFault.TheVariants as coll
 use Rattle.covjobs.specs.declared.refused.RefusedInput.{RefusedInput}
 use Rattle.covcommand.specs.Asked.{AsksFor, IsInBounds}
 use Rattle.covcommand.specs.CommandLine.{covcollect}
-use Rattle.covcommand.specs.Fault.{IsToldOf}
+use Rattle.covcommand.specs.Fault.{IsFaultAmong}
 use Rattle.covcommand.specs.declared.asked.Command.{Command}
 use Rattle.covcommand.specs.declared.fault.CommandFault.{CommandFault}
 use Rattle.covcommand.specs.declared.fault.CommandFault.TheVariants as line
@@ -92,7 +92,7 @@ pub record AreParsed (words : List (List ℕ)) (parsed : Result Command CommandF
   pub bounds : IfOk parsed IsInBounds
   pub fits : IfOk parsed (λ command. fault_of covcollect words ≡ [])
   pub taken : takes covcollect words ≡ true → IfErr parsed (λ fault. fault ≡ line.Memory)
-  pub told : IfErr parsed (IsToldOf (fault_of covcollect words))
+  pub told : IfErr parsed (IsFaultAmong (fault_of covcollect words))
 
 -- what a call does for its task. A session reads the input; the other tasks don't. Collecting files has an ending, which is
 -- reported. Checking files reports each file

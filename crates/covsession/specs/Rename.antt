@@ -24,5 +24,5 @@ TakesNames m n (Some names) =
 TakesNames m n None = (pieces : List (List ℕ)) × TakesPieces m n pieces Input [] × (length pieces < 2)
 
 -- of the two names, at most the first is there
-abbrev pub HasNames : List (List ℕ) → Type 0
-HasNames pieces = length pieces < 2
+abbrev pub LacksName : List (List ℕ) → Type 0
+LacksName pieces = length pieces < 2

@@ -10,7 +10,7 @@ use Rattle.std.specs.List.Sorted.{IsStrictlySortedBy}
 use Rattle.std.specs.Ordering.{nat_cmp}
 use Rattle.std.proofs.lemmas.List.{length-map}
 use Rattle.covline.specs.Row.{ItemData, Row}
-use Rattle.covstore.specs.declared.sums.Tests.{Tests}
+use Rattle.covstore.specs.declared.sums.TestCounts.{TestCounts}
 use Rattle.covstore.specs.Ascending.{ascending}
 use Rattle.covstore.specs.PointIndexCounts.{AreCounts}
 use Rattle.covmap.specs.Puts.{value_of}
@@ -26,7 +26,7 @@ use Rattle.covstore.proofs.Members.{In, All-in, In-unmap}
 use Rattle.covstore.proofs.Orders.{names_order}
 use Rattle.covstore.proofs.Puts.{pair_in, value_of_pair}
 use Rattle.covstore.proofs.StateSections.{points_there}
-use Rattle.covstore.proofs.Axis.{each_kind, of_all, order_of}
+use Rattle.covstore.proofs.EachKind.{each_kind, of_all, order_of}
 
 -- ---- ascending lists, one within the other
 
@@ -58,7 +58,7 @@ length-within {X} {cmp} t (x ∷ xs) (y ∷ ys) sorted ordered within =
 -- ---- the points of one kind
 
 -- if the list `all` has each point of the tests, the counts have at most as many points as this list
-kept_within : {K V : Type 0} {cmp : K → K → Ordering} (o : IsExactOrder cmp) {is_above : V → Bool} (tests : List (List (K × V))) (counts : List (K × Tests)) → AreCounts cmp is_above tests counts → (all : List K)
+kept_within : {K V : Type 0} {cmp : K → K → Ordering} (o : IsExactOrder cmp) {is_above : V → Bool} (tests : List (List (K × V))) (counts : List (K × TestCounts)) → AreCounts cmp is_above tests counts → (all : List K)
     → ((key : K) → In key (flat_map points_of tests) → In key all) → length counts ≤ length all
 kept_within {K} {V} {cmp} o tests counts are all within =
     let own : (key : K) → In key (points_of counts) → In key (ascending cmp all) =
@@ -66,7 +66,7 @@ kept_within {K} {V} {cmp} o tests counts are all within =
     (within key (In-ascending o.exact key (flat_map points_of tests) (subst (λ (keys : List K). In key keys) (points_kept o tests counts are) i))) in
     omega (
       arith,
-      length-map counts (λ (pair : K × Tests). pair.0),
+      length-map counts (λ (pair : K × TestCounts). pair.0),
       length-ascending cmp all,
       length-within o.total (points_of counts) (ascending cmp all) (sorted_keys cmp counts are.ascending) (ascending_sorted o.total all) own,
     )
@@ -93,7 +93,7 @@ module _ (rows : List Row) (files : List (List ℕ × FileData)) (state : IsStat
       let own = In-unfilter (has_key key) rows row.0 row.1 in
       In-flat (λ (r : Row). point r.item) rows row.0 k own.0 (subst (λ (it : ItemData). In k (point it)) (sym row.2) item.2)
 
-  few_kept : {K V : Type 0} {cmp : K → K → Ordering} (o : IsExactOrder cmp) {is_above : V → Bool} (part : TestData → List (K × V)) (point : ItemData → List K) (counts : List (K × Tests))
+  few_kept : {K V : Type 0} {cmp : K → K → Ordering} (o : IsExactOrder cmp) {is_above : V → Bool} (part : TestData → List (K × V)) (point : ItemData → List K) (counts : List (K × TestCounts))
       → ((items : List ItemData) (k : K) → In k (points_of (part (test_of items))) → In k (flat_map point items)) → ((item : ItemData) → length (point item) ≤ 1)
       → AreCounts cmp is_above (map part (tests_in file)) counts → length counts ≤ length rows
   few_kept {K} {V} o part point counts known one are =

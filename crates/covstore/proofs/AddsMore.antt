@@ -9,7 +9,7 @@ use Rattle.std.proofs.lemmas.List.{append-nil, map-append}
 use Rattle.std.proofs.lemmas.List.Concat.{flat_map-append}
 use Rattle.std.proofs.lemmas.Slice.Eq.{bytes_eq-Decides}
 use Rattle.covline.specs.Row.{ItemData, LineItem, FuncItem, BranchItem, Row, rows_of_sect}
-use Rattle.covstore.specs.Section.{Adds, ClashesAt, IsIn, clash_told, files_with, section_of_items}
+use Rattle.covstore.specs.Section.{Adds, ClashesAt, IsIn, clash_in_file, files_with, section_of_items}
 use Rattle.covstore.specs.Clash.{Agree, Checksum, checksum_of_row, checksums_in, clash_of, differs, first_clash}
 use Rattle.covstore.specs.FileIndex.{FileIndexData}
 use Rattle.covmap.specs.Puts.{put}
@@ -95,7 +95,7 @@ clash_later xs ys a b m n line committed given first later rows files file name 
 pub clash_front : (xs ys : List ItemData) (a : TestData) (m : FileIndexData) (line : ℕ) (committed given : List ℕ) → ClashesAt xs a m line committed given → ClashesAt (xs ++ ys) a m line committed given
 clash_front xs ys a m line committed given front rows files file name tests is =
     ap (first_clash (checksums_in rows)) (checksums_joined file name xs ys)
-    ∙ clash_before (checksums_in rows) (checksums_in (rows_of_sect (section_of_items file name xs))) (checksums_in (rows_of_sect (section_of_items file name ys))) (clash_told file line committed given)
+    ∙ clash_before (checksums_in rows) (checksums_in (rows_of_sect (section_of_items file name xs))) (checksums_in (rows_of_sect (section_of_items file name ys))) (clash_in_file file line committed given)
     (front rows files file name tests is)
 
 -- ---- one item that clashes
@@ -117,7 +117,7 @@ line_clashes line count checksum test index committed other rows files file name
     let own : Checksum = record { file = file; line = line; checksum = checksum } in
     let before : Checksum = record { file = file; line = line; checksum = committed } in
     let all : checksums_in rows ≡ checksums_in rows ++ [] = sym (append-nil (checksums_in rows)) in
-    told_first (checksums_in rows) (own ∷ []) (clash_told file line committed checksum) (record {
+    told_first (checksums_in rows) (own ∷ []) (clash_in_file file line committed checksum) (record {
       before = [];
       first = own;
       after = [];
@@ -132,7 +132,7 @@ line_clashes line count checksum test index committed other rows files file name
 pub item_clashes : (item : ItemData) (test : TestData) (index : FileIndexData) (told : ℕ) (committed given : List ℕ) → IsClashAt item index told committed given → ClashesAt (item ∷ []) test index told committed given
 item_clashes (LineItem line count (Some checksum)) test index told committed given clash rows files file name tests is =
     line_clashes line count checksum test index committed clash.2 rows files file name tests is
-    ∙ ap (λ (n : ℕ). Some (clash_told file n committed checksum)) (sym clash.0) ∙ ap (λ (text : List ℕ). Some (clash_told file told committed text)) (sym clash.1)
+    ∙ ap (λ (n : ℕ). Some (clash_in_file file n committed checksum)) (sym clash.0) ∙ ap (λ (text : List ℕ). Some (clash_in_file file told committed text)) (sym clash.1)
 item_clashes (LineItem line count None) test index told committed given clash rows files file name tests is = absurd clash
 item_clashes (FuncItem function line count) test index told committed given clash rows files file name tests is = absurd clash
 item_clashes (BranchItem line block branch taken) test index told committed given clash rows files file name tests is = absurd clash

@@ -59,10 +59,10 @@ agree_more held x agree none a b i j =
 
 -- ---- the first clash
 
-told_at : (held : List Checksum) (x : Checksum) (xs : List Checksum) (clash : ClashData) (other : Option Checksum) → find (differs x) held ≡ other → Agree held
+reports_at : (held : List Checksum) (x : Checksum) (xs : List Checksum) (clash : ClashData) (other : Option Checksum) → find (differs x) held ≡ other → Agree held
     → (Agree (held ++ x ∷ []) → first_clash (held ++ x ∷ []) xs ≡ Some clash → IsFirstClash (held ++ x ∷ []) xs clash)
     → or_later x other (first_clash (held ++ x ∷ []) xs) ≡ Some clash → IsFirstClash held (x ∷ xs) clash
-told_at held x xs clash (Some other) found agree later e =
+reports_at held x xs clash (Some other) found agree later e =
     let is = In-found (differs x) held other found in
     let all : held ≡ held ++ [] = sym (append-nil held) in
     record {
@@ -76,7 +76,7 @@ told_at held x xs clash (Some other) found agree later e =
       none_before = subst Agree all agree;
       told = same_Some clash (clash_with x other) (sym e);
     }
-told_at held x xs clash None found agree later e =
+reports_at held x xs clash None found agree later e =
     let l = later (agree_more held x agree found) e in
     let all : (held ++ x ∷ []) ++ l.before ≡ held ++ x ∷ l.before = append_assoc held (x ∷ []) l.before in
     record {
@@ -94,7 +94,7 @@ told_at held x xs clash None found agree later e =
 pub first_told : (held given : List Checksum) (clash : ClashData) → Agree held → first_clash held given ≡ Some clash → IsFirstClash held given clash
 first_told held [] clash agree e = absurd (none-some clash e)
 first_told held (x ∷ xs) clash agree e =
-    told_at held x xs clash (find (differs x) held) refl agree (λ more rest. first_told (held ++ x ∷ []) xs clash more rest) e
+    reports_at held x xs clash (find (differs x) held) refl agree (λ more rest. first_told (held ++ x ∷ []) xs clash more rest) e
 
 -- ---- a reported clash is the first
 
@@ -125,29 +125,29 @@ same_clash : (given a b : Checksum) → a.checksum ≡ b.checksum → clash_with
 unfolding clash_from
 same_clash given a b same = ap (λ (held : List ℕ). clash_from given held) same
 
-told_here : (held : List Checksum) (first other : Checksum) (found : Option Checksum) (later : Option ClashData) → find (differs first) held ≡ found
+reports_here : (held : List Checksum) (first other : Checksum) (found : Option Checksum) (later : Option ClashData) → find (differs first) held ≡ found
     → In other held → differs first other ≡ true → Agree held → or_later first found later ≡ Some (clash_with first other)
-told_here held first other (Some found) later is i differ agree =
+reports_here held first other (Some found) later is i differ agree =
     let f = In-found (differs first) held found is in
     ap (λ (clash : ClashData). Some clash) (same_clash first found other (same_checksum first found other f.1 differ (agree found other (Contains-from held found f.0) (Contains-from held other i))))
-told_here held first other None later is i differ agree = absurd (false≢true (sym (not_found (differs first) held other is i) ∙ differ))
+reports_here held first other None later is i differ agree = absurd (false≢true (sym (not_found (differs first) held other is i) ∙ differ))
 
-told_after : (held before : List Checksum) (first : Checksum) (after : List Checksum) (other : Checksum) → Contains (held ++ before) other → differs first other ≡ true
+reports_after : (held before : List Checksum) (first : Checksum) (after : List Checksum) (other : Checksum) → Contains (held ++ before) other → differs first other ≡ true
     → Agree (held ++ before) → first_clash held (before ++ first ∷ after) ≡ Some (clash_with first other)
-told_after held [] first after other among differ agree =
+reports_after held [] first after other among differ agree =
     let all : held ++ [] ≡ held = append-nil held in
-    told_here held first other (find (differs first) held) (first_clash (held ++ first ∷ []) after) refl (In-from held other (subst (λ (ys : List Checksum). Contains ys other) all among)) differ (subst Agree all agree)
-told_after held (b ∷ bs) first after other among differ agree =
+    reports_here held first other (find (differs first) held) (first_clash (held ++ first ∷ []) after) refl (In-from held other (subst (λ (ys : List Checksum). Contains ys other) all among)) differ (subst Agree all agree)
+reports_after held (b ∷ bs) first after other among differ agree =
     let all : held ++ b ∷ bs ≡ (held ++ b ∷ []) ++ bs = sym (append_assoc held (b ∷ []) bs) in
     let here : Contains (held ++ b ∷ bs) b = Contains-append_right held (b ∷ bs) b (Contains-from (b ∷ bs) b (inl refl)) in
     let none : find (differs b) held ≡ None = find_none (differs b) held (λ x i. agree b x here (Contains-append_left held (b ∷ bs) x (Contains-from held x i))) in
     ap (λ (found : Option Checksum). or_later b found (first_clash (held ++ b ∷ []) (bs ++ first ∷ after))) none
-    ∙ told_after (held ++ b ∷ []) bs first after other (subst (λ (ys : List Checksum). Contains ys other) all among) differ (subst Agree all agree)
+    ∙ reports_after (held ++ b ∷ []) bs first after other (subst (λ (ys : List Checksum). Contains ys other) all among) differ (subst Agree all agree)
 
 pub told_first : (held given : List Checksum) (clash : ClashData) → IsFirstClash held given clash → first_clash held given ≡ Some clash
 told_first held given clash is =
     ap (λ (xs : List Checksum). first_clash held xs) is.place
-    ∙ told_after held is.before is.first is.after is.other is.among is.differ is.none_before
+    ∙ reports_after held is.before is.first is.after is.other is.among is.differ is.none_before
     ∙ ap (λ (told : ClashData). Some told) (sym is.told)
 
 none_at : (held : List Checksum) (x : Checksum) (xs : List Checksum) (other : Option Checksum) → find (differs x) held ≡ other → Agree held

@@ -6,13 +6,13 @@ use Rattle.std.specs.Option.{is_some}
 use Rattle.std.proofs.lemmas.Bool.{ltb-true}
 use Rattle.std.proofs.lemmas.List.Sums.{count_by-le-length, sum_by-append, sum_by-cons, sum_by-le-sum_by}
 use Rattle.std.proofs.lemmas.Option.{none-some, same_Some}
-use Rattle.covstore.specs.declared.sums.Tests.{Tests}
+use Rattle.covstore.specs.declared.sums.TestCounts.{TestCounts}
 use Rattle.covstore.specs.PointIndexCounts.{AreCounts, count_above, count_with, is_above_at, one_if, tests_at}
 use Rattle.covmap.specs.Puts.{value_of}
 use Rattle.covstore.proofs.Puts.{counted_one}
 
 -- the numbers of a point, if this many tests have it, and this many have it above 0
-abbrev pub tests_of : ℕ → ℕ → Option Tests
+abbrev pub tests_of : ℕ → ℕ → Option TestCounts
 tests_of tests hit = if nat_lt 0 tests then Some (record { tests = tests; hit = hit }) else None
 
 pub same_tests : {tests others hit above : ℕ} → tests ≡ others → hit ≡ above → tests_of tests hit ≡ tests_of others above
@@ -21,7 +21,7 @@ same_tests {others = others} {hit = hit} e f = ap (λ (n : ℕ). tests_of n hit)
 -- ---- one test among others
 
 -- the numbers of a point after a test is added to this many tests and hits. The test has this value at the point, if any
-abbrev pub tests_among : {V : Type 0} → (V → Bool) → ℕ → ℕ → Option V → Option Tests
+abbrev pub tests_among : {V : Type 0} → (V → Bool) → ℕ → ℕ → Option V → Option TestCounts
 tests_among is_above tests hit value = tests_of (tests + one_if (is_some value)) (hit + one_if (is_above_at is_above value))
 
 pub sum_by-between : {X : Type 0} (f : X → ℕ) (front : List X) (x : X) (back : List X) → sum_by f (front ++ x ∷ back) ≡ sum_by f (front ++ back) + f x
@@ -64,32 +64,32 @@ module _ {K V : Type 0} (cmp : K → K → Ordering) (is_above : V → Bool) whe
       let above = count_above cmp is_above key (front ++ back) in
       tests_at-between key front [] back ∙ same_tests {tests = with_it + 0} {hit = above + 0} (omega arith) (omega arith)
 
-  pub counts_empty : (front back : List (List (K × V))) (counts : List (K × Tests)) → AreCounts cmp is_above (front ++ back) counts → AreCounts cmp is_above (front ++ [] ∷ back) counts
+  pub counts_empty : (front back : List (List (K × V))) (counts : List (K × TestCounts)) → AreCounts cmp is_above (front ++ back) counts → AreCounts cmp is_above (front ++ [] ∷ back) counts
   counts_empty front back counts are = record { ascending = are.ascending; counted = λ key. are.counted key ∙ sym (tests_at-empty key front back) }
 
-  pub counts_unempty : (front back : List (List (K × V))) (counts : List (K × Tests)) → AreCounts cmp is_above (front ++ [] ∷ back) counts → AreCounts cmp is_above (front ++ back) counts
+  pub counts_unempty : (front back : List (List (K × V))) (counts : List (K × TestCounts)) → AreCounts cmp is_above (front ++ [] ∷ back) counts → AreCounts cmp is_above (front ++ back) counts
   counts_unempty front back counts are = record { ascending = are.ascending; counted = λ key. are.counted key ∙ tests_at-empty key front back }
 
 -- ---- how large the numbers are
 
 -- bounds of a point's numbers: at least one test has the point, no more tests have it above 0 than have it, and no more have it
 -- than there are tests
-pub record IsWithin (committed : Tests) (tests : ℕ) : Type 0 where
+pub record IsWithin (committed : TestCounts) (tests : ℕ) : Type 0 where
   pub some : 0 < committed.tests
   pub hit : committed.hit ≤ committed.tests
   pub all : committed.tests ≤ tests
 
-within_at : (is : Bool) (tests hit all : ℕ) (committed : Tests) → nat_lt 0 tests ≡ is → hit ≤ tests → tests ≤ all → (if is then Some (record { tests = tests; hit = hit }) else None) ≡ Some committed → IsWithin committed all
+within_at : (is : Bool) (tests hit all : ℕ) (committed : TestCounts) → nat_lt 0 tests ≡ is → hit ≤ tests → tests ≤ all → (if is then Some (record { tests = tests; hit = hit }) else None) ≡ Some committed → IsWithin committed all
 within_at false tests hit all committed e less most h = absurd (none-some committed h)
 within_at true tests hit all committed e less most h =
     let same : record { tests = tests; hit = hit } ≡ committed = same_Some (record { tests = tests; hit = hit }) committed h in
-    let there : tests ≡ committed.tests = ap (λ (t : Tests). t.tests) same in
-    let above : hit ≡ committed.hit = ap (λ (t : Tests). t.hit) same in
+    let there : tests ≡ committed.tests = ap (λ (t : TestCounts). t.tests) same in
+    let above : hit ≡ committed.hit = ap (λ (t : TestCounts). t.hit) same in
     let more : 0 < tests = ltb-true 0 tests e in
     record { some = omega arith; hit = omega arith; all = omega arith }
 
-pub counts_within : {K V : Type 0} {cmp : K → K → Ordering} {is_above : V → Bool} {tests : List (List (K × V))} {counts : List (K × Tests)} → AreCounts cmp is_above tests counts
-    → (key : K) (committed : Tests) → value_of cmp key counts ≡ Some committed → IsWithin committed (length tests)
+pub counts_within : {K V : Type 0} {cmp : K → K → Ordering} {is_above : V → Bool} {tests : List (List (K × V))} {counts : List (K × TestCounts)} → AreCounts cmp is_above tests counts
+    → (key : K) (committed : TestCounts) → value_of cmp key counts ≡ Some committed → IsWithin committed (length tests)
 counts_within {cmp = cmp} {is_above = is_above} {tests = tests} are key committed e =
     within_at (nat_lt 0 (count_with cmp key tests)) (count_with cmp key tests) (count_above cmp is_above key tests) (length tests) committed refl
     (above_le_with cmp is_above key tests) (count_by-le-length (λ pairs. is_some (value_of cmp key pairs)) tests) (sym (are.counted key) ∙ e)

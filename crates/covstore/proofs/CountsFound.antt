@@ -11,7 +11,7 @@ use Rattle.std.proofs.lemmas.Bool.{cond-true, false≢true}
 use Rattle.std.proofs.lemmas.List.{length-map}
 use Rattle.std.proofs.lemmas.List.Sums.{sum_by-cons}
 use Rattle.std.proofs.lemmas.Option.{cond_some}
-use Rattle.covstore.specs.declared.sums.Tests.{Tests}
+use Rattle.covstore.specs.declared.sums.TestCounts.{TestCounts}
 use Rattle.covstore.specs.Ascending.{ascending}
 use Rattle.covstore.specs.PointIndexCounts.{AreCounts, count_above, count_with, found_of, hit_of, is_above_at}
 use Rattle.covmap.specs.Puts.{ArePairs, value_of}
@@ -54,17 +54,17 @@ some_value (Some v) e = (v, refl)
 abbrev pub points_of : {K V : Type 0} → List (K × V) → List K
 points_of pairs = map (λ pair. pair.0) pairs
 
-module _ {K V : Type 0} {cmp : K → K → Ordering} (o : IsExactOrder cmp) {is_above : V → Bool} (tests : List (List (K × V))) (counts : List (K × Tests)) (are : AreCounts cmp is_above tests counts) where
+module _ {K V : Type 0} {cmp : K → K → Ordering} (o : IsExactOrder cmp) {is_above : V → Bool} (tests : List (List (K × V))) (counts : List (K × TestCounts)) (are : AreCounts cmp is_above tests counts) where
   -- a counted point is in at least one test, and as many tests have it above 0 as its numbers say
-  numbers_kept : (pair : K × Tests) → In pair counts → (nat_lt 0 (count_with cmp pair.0 tests) ≡ true) × (count_above cmp is_above pair.0 tests ≡ pair.1.hit)
+  numbers_kept : (pair : K × TestCounts) → In pair counts → (nat_lt 0 (count_with cmp pair.0 tests) ≡ true) × (count_above cmp is_above pair.0 tests ≡ pair.1.hit)
   numbers_kept pair i =
       let found = cond_some (nat_lt 0 (count_with cmp pair.0 tests)) (record { tests = count_with cmp pair.0 tests; hit = count_above cmp is_above pair.0 tests }) pair.1
       (sym (are.counted pair.0) ∙ value_of_pair o pair.0 pair.1 counts are.ascending i) in
-      (found.0, ap (λ (committed : Tests). committed.hit) found.1)
+      (found.0, ap (λ (committed : TestCounts). committed.hit) found.1)
 
   kept_to : (key : K) → In key (points_of counts) → In key (flat_map points_of tests)
   kept_to key i =
-      let pair = In-unmap (λ (pair : K × Tests). pair.0) counts key i in
+      let pair = In-unmap (λ (pair : K × TestCounts). pair.0) counts key i in
       let some = numbers_kept pair.0 pair.1 in
       let has = λ (test : List (K × V)). is_some (value_of cmp pair.0.0 test) in
       let test = in_from_any has tests (sym (any_counted has tests) ∙ some.0) in
@@ -78,9 +78,9 @@ module _ {K V : Type 0} {cmp : K → K → Ordering} (o : IsExactOrder cmp) {is_
       let pair = In-unmap (λ (p : K × V). p.0) test.0 key test.2 in
       let has = λ (other : List (K × V)). is_some (value_of cmp pair.0.0 other) in
       let some : nat_lt 0 (count_with cmp pair.0.0 tests) ≡ true = any_counted has tests ∙ any_from_in has tests test.0 test.1 (some_in o pair.0.0 pair.0.1 test.0 pair.1) in
-      let committed : Tests = record { tests = count_with cmp pair.0.0 tests; hit = count_above cmp is_above pair.0.0 tests } in
+      let committed : TestCounts = record { tests = count_with cmp pair.0.0 tests; hit = count_above cmp is_above pair.0.0 tests } in
       subst (λ (k : K). In k (points_of counts)) pair.2
-      (In-map (λ (p : K × Tests). p.0) counts (pair.0.0, committed)
+      (In-map (λ (p : K × TestCounts). p.0) counts (pair.0.0, committed)
       (pair_in o pair.0.0 committed counts (are.counted pair.0.0 ∙ cond-true (nat_lt 0 (count_with cmp pair.0.0 tests)) (Some committed) None some)))
 
   -- the counted points are those of the tests, each once
@@ -91,14 +91,14 @@ module _ {K V : Type 0} {cmp : K → K → Ordering} (o : IsExactOrder cmp) {is_
       (λ key i. In-to_ascending o.exact key all (kept_to key i)) (λ key i. kept_from key (In-ascending o.exact key all i))
 
   pub found_is : length (ascending cmp (flat_map points_of tests)) ≡ found_of counts
-  found_is = ap (λ (keys : List K). length keys) (sym points_kept) ∙ length-map counts (λ (pair : K × Tests). pair.0)
+  found_is = ap (λ (keys : List K). length keys) (sym points_kept) ∙ length-map counts (λ (pair : K × TestCounts). pair.0)
 
   -- and the hit ones are those that some test has above 0
   pub hit_is : (is_hit : K → Bool) → ((key : K) → is_hit key ≡ nat_lt 0 (count_above cmp is_above key tests)) → count_by is_hit (ascending cmp (flat_map points_of tests)) ≡ hit_of counts
   hit_is is_hit same =
       ap (count_by is_hit) (sym points_kept)
-      ∙ count_by-map (λ (pair : K × Tests). is_hit pair.0) is_hit (λ (pair : K × Tests). pair.0) (λ pair. refl) counts
-      ∙ count_by-within (λ (pair : K × Tests). is_hit pair.0) (λ (pair : K × Tests). nat_lt 0 pair.1.hit) counts (λ pair i. same pair.0 ∙ ap (nat_lt 0) (numbers_kept pair i).1)
+      ∙ count_by-map (λ (pair : K × TestCounts). is_hit pair.0) is_hit (λ (pair : K × TestCounts). pair.0) (λ pair. refl) counts
+      ∙ count_by-within (λ (pair : K × TestCounts). is_hit pair.0) (λ (pair : K × TestCounts). nat_lt 0 pair.1.hit) counts (λ pair i. same pair.0 ∙ ap (nat_lt 0) (numbers_kept pair i).1)
 
 -- ---- a point's value in one test
 
@@ -135,7 +135,7 @@ any_map_within p q f P same [] all = refl
 any_map_within p q f P same (x ∷ xs) all =
     ap (λ (b : Bool). b || list_any p (map f xs)) (same x all.0) ∙ ap (λ (b : Bool). q x || b) (any_map_within p q f P same xs all.1)
 
-module _ {S K Y : Type 0} {cmp : K → K → Ordering} (o : IsExactOrder cmp) (items : S → List Y) (at : Y → K) (above : Y → Bool) (own : List S) (counts : List (K × Tests))
+module _ {S K Y : Type 0} {cmp : K → K → Ordering} (o : IsExactOrder cmp) (items : S → List Y) (at : Y → K) (above : Y → Bool) (own : List S) (counts : List (K × TestCounts))
     (are : AreCounts cmp above (map (λ s. map (λ y. (at y, y)) (items s)) own) counts) where
   abbrev pairs_of : S → List (K × Y)
   pairs_of s = map (λ y. (at y, y)) (items s)

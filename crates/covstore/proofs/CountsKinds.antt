@@ -24,7 +24,7 @@ use Rattle.covstore.proofs.Ascend.{IsExactOrder, ascending_sorted}
 use Rattle.covstore.proofs.CountsFound.{section_points_found, section_points_hit}
 use Rattle.covstore.proofs.Orders.{branches_order, lines_order, names_order}
 use Rattle.covstore.proofs.TotalsKinds.{itself, same_branch}
-use Rattle.covstore.proofs.Axis.{order_of}
+use Rattle.covstore.proofs.EachKind.{order_of}
 use Rattle.covstore.proofs.ContentsLists.{same_truth}
 
 -- ---- what sections show of a kind

@@ -5,7 +5,7 @@ use Rattle.std.specs.List.{count_by}
 use Rattle.std.specs.Option.{is_some}
 use Rattle.std.specs.Ordering.{is_eq}
 use Rattle.std.proofs.lemmas.List.Sums.{sum_by-cons}
-use Rattle.covstore.specs.declared.sums.Tests.{Tests}
+use Rattle.covstore.specs.declared.sums.TestCounts.{TestCounts}
 use Rattle.covstore.specs.PointIndexCounts.{AreCounts, is_above_at, tests_at}
 use Rattle.covmap.specs.Puts.{value_of}
 use Rattle.covstore.proofs.Counts.{same_tests}
@@ -44,10 +44,10 @@ module _ {K V W : Type 0} (cmp : K → K → Ordering) (is_above : V → Bool) (
       (count_by-map (λ (pairs : List (K × V)). is_above_at is_above (value_of cmp key pairs)) (λ (pairs : List (K × W)). is_above_at is_other (value_of cmp key pairs)) mapped (mapped_above key) tests)
 
   -- the values are replaced by what `f` gives for the point and its value
-  pub counts_mapped_at : (tests : List (List (K × V))) (counts : List (K × Tests)) → AreCounts cmp is_above tests counts
+  pub counts_mapped_at : (tests : List (List (K × V))) (counts : List (K × TestCounts)) → AreCounts cmp is_above tests counts
       → AreCounts cmp is_other (map (map (λ pair. (pair.0, f pair.0 pair.1))) tests) counts
   counts_mapped_at tests counts are = record { ascending = are.ascending; counted = λ key. are.counted key ∙ sym (tests_at-mapped key tests) }
 
-  pub counts_unmapped_at : (tests : List (List (K × V))) (counts : List (K × Tests)) → AreCounts cmp is_other (map (map (λ pair. (pair.0, f pair.0 pair.1))) tests) counts
+  pub counts_unmapped_at : (tests : List (List (K × V))) (counts : List (K × TestCounts)) → AreCounts cmp is_other (map (map (λ pair. (pair.0, f pair.0 pair.1))) tests) counts
       → AreCounts cmp is_above tests counts
   counts_unmapped_at tests counts are = record { ascending = are.ascending; counted = λ key. are.counted key ∙ tests_at-mapped key tests }

@@ -4,7 +4,7 @@ use Rattle.std.specs.declared.cmp.Ordering.{Ordering}
 use Rattle.std.specs.Ordering.{is_eq}
 use Rattle.std.proofs.lemmas.Bool.{cases_Bool, cond-true, false≢true, lt-ltb, ltb-false}
 use Rattle.std.proofs.lemmas.Map.Views.{tells_apart}
-use Rattle.covstore.specs.declared.sums.Tests.{Tests}
+use Rattle.covstore.specs.declared.sums.TestCounts.{TestCounts}
 use Rattle.covstore.specs.PointIndexCounts.{AreCounts, count_above, count_with, counts_with, is_above_at, is_new, is_newly_hit, one_if, tests_at, tests_more}
 use Rattle.covmap.specs.Puts.{ArePairs, put, value_of}
 use Rattle.covstore.proofs.Ascend.{IsExactOrder}
@@ -27,7 +27,7 @@ more_at new newly tests hit false e less some =
 tests_more_is : (new newly : Bool) (tests hit : ℕ) → hit ≤ tests → 0 < tests + one_if new → Some (tests_more new newly (tests_of tests hit)) ≡ tests_of (tests + one_if new) (hit + one_if newly)
 tests_more_is new newly tests hit less some = more_at new newly tests hit (nat_lt 0 tests) refl less some
 
-module _ {K V : Type 0} {cmp : K → K → Ordering} (o : IsExactOrder cmp) (is_above : V → Bool) (key : K) (value : V) (counts : List (K × Tests)) where
+module _ {K V : Type 0} {cmp : K → K → Ordering} (o : IsExactOrder cmp) (is_above : V → Bool) (key : K) (value : V) (counts : List (K × TestCounts)) where
   -- ---- the numbers of the other points, and their order
 
   apart_at : (new newly : Bool) (before : Option V) (other : K) → is_eq (cmp key other) ≡ false
@@ -53,7 +53,7 @@ module _ {K V : Type 0} {cmp : K → K → Ordering} (o : IsExactOrder cmp) (is_
       → value_of cmp key (put cmp key (tests_more true (above && true) (value_of cmp key counts)) counts) ≡ tests_of (tests + 1) (hit + one_if above)
   new_at above tests hit less e =
       value_of-put o key (tests_more true (above && true) (value_of cmp key counts)) counts
-      ∙ ap (λ (committed : Option Tests). Some (tests_more true (above && true) committed)) e
+      ∙ ap (λ (committed : Option TestCounts). Some (tests_more true (above && true) committed)) e
       ∙ tests_more_is true (above && true) (tests + 0) (hit + 0) (omega arith) (omega arith)
       ∙ same_tests {tests = tests + 0 + 1} {hit = hit + 0 + one_if (above && true)} (omega arith) (both above)
     where
@@ -66,7 +66,7 @@ module _ {K V : Type 0} {cmp : K → K → Ordering} (o : IsExactOrder cmp) (is_
   old_at true true tests hit less stays e = e
   old_at true false tests hit less stays e =
       value_of-put o key (tests_more false true (value_of cmp key counts)) counts
-      ∙ ap (λ (committed : Option Tests). Some (tests_more false true committed)) e
+      ∙ ap (λ (committed : Option TestCounts). Some (tests_more false true committed)) e
       ∙ tests_more_is false true (tests + 1) (hit + 0) (omega arith) (omega arith)
       ∙ same_tests {tests = tests + 1 + 0} {hit = hit + 0 + 1} (omega arith) (omega arith)
   old_at false true tests hit less stays e = absurd (false≢true (stays refl))

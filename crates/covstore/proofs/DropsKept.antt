@@ -4,7 +4,7 @@ use Rattle.std.specs.Cmp.Lexicographic.{slice_cmp}
 use Rattle.std.specs.declared.cmp.Ordering.{Ordering}
 use Rattle.std.specs.Ordering.{nat_cmp}
 use Rattle.std.proofs.lemmas.List.{map-append}
-use Rattle.covstore.specs.declared.sums.Tests.{Tests}
+use Rattle.covstore.specs.declared.sums.TestCounts.{TestCounts}
 use Rattle.covstore.specs.Kinds.{PointsOf, above_of, at, cmp_of}
 use Rattle.covstore.specs.PointIndexCounts.{AreCounts, is_above_at}
 use Rattle.covstore.specs.FileDrops.{IsWithoutTest, tests_without}
@@ -14,12 +14,12 @@ use Rattle.covstore.specs.State.{FileData, IsIndexOf, IsConsistentFile, file_tot
 use Rattle.covstore.specs.Sums.{TestData}
 use Rattle.covstore.proofs.Counts.{count_by-between, tests_at-between}
 use Rattle.covstore.proofs.DropsTests.{IsBetween, between, others_ascend, others_of_none}
-use Rattle.covstore.proofs.Axis.{map_between, order_of, same_each}
+use Rattle.covstore.proofs.EachKind.{map_between, order_of, same_each}
 use Rattle.covstore.proofs.Fewer.{one_rest}
 
 -- ---- one test moved to the front
 
-counts_first : {K V : Type 0} (cmp : K → K → Ordering) (is_above : V → Bool) (front : List (List (K × V))) (pairs : List (K × V)) (back : List (List (K × V))) (counts : List (K × Tests))
+counts_first : {K V : Type 0} (cmp : K → K → Ordering) (is_above : V → Bool) (front : List (List (K × V))) (pairs : List (K × V)) (back : List (List (K × V))) (counts : List (K × TestCounts))
     → AreCounts cmp is_above (front ++ pairs ∷ back) counts → AreCounts cmp is_above (pairs ∷ front ++ back) counts
 counts_first cmp is_above front pairs back counts are = record {
   ascending = are.ascending;

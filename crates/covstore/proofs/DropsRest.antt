@@ -10,7 +10,7 @@ use Rattle.std.proofs.lemmas.Bool.{cases_Bool, cond-false, cond-true, le-ltb, lt
 use Rattle.std.proofs.lemmas.List.Sums.{sum_by-cons}
 use Rattle.std.proofs.lemmas.Map.Views.{tells_apart}
 use Rattle.std.proofs.lemmas.Option.{none-some}
-use Rattle.covstore.specs.declared.sums.Tests.{Tests}
+use Rattle.covstore.specs.declared.sums.TestCounts.{TestCounts}
 use Rattle.covstore.specs.Kinds.{CountsOf, Kind, above_of, at, cmp_of, of_each}
 use Rattle.covstore.specs.PointIndexCounts.{AreCounts, count_above, count_with, is_above_at, tests_at}
 use Rattle.covstore.specs.FileDrops.{AreWithoutTest, IsWithoutTest, tests_without}
@@ -22,7 +22,7 @@ use Rattle.covstore.proofs.Ascend.{IsExactOrder}
 use Rattle.covstore.proofs.DropsKept.{index_first, points_of_all, without_found, without_unfound}
 use Rattle.covstore.proofs.Orders.{lines_order}
 use Rattle.covstore.proofs.Puts.{value_of_first, value_of_later}
-use Rattle.covstore.proofs.Axis.{of_all, order_of}
+use Rattle.covstore.proofs.EachKind.{of_all, order_of}
 
 -- ---- pairs in which each value is replaced, or removed
 
@@ -109,7 +109,7 @@ none_of_others : {X Y : Type 0} (p : Y → Bool) (first : Y) (others : List Y) (
 none_of_others p first others x z none =
     counted_none (count_by p others) z (omega (arith, none_counted (count_by p (first ∷ others)) x none, sum_by-cons (λ y. cond {A = ℕ} (p y) 1 0) first others))
 
-rest_counts : {K V : Type 0} {cmp : K → K → Ordering} → IsExactOrder cmp → (is_above : V → Bool) (pairs : List (K × V)) (others : List (List (K × V))) (counts : List (K × Tests))
+rest_counts : {K V : Type 0} {cmp : K → K → Ordering} → IsExactOrder cmp → (is_above : V → Bool) (pairs : List (K × V)) (others : List (List (K × V))) (counts : List (K × TestCounts))
     → AreCounts cmp is_above (pairs ∷ others) counts → AreCounts cmp is_above others (renewed (λ key. tests_at cmp is_above key others) counts)
 rest_counts {K} {V} {cmp} o is_above pairs others counts are = record {
   ascending = renewed_ascend (λ key. tests_at cmp is_above key others) o counts are.ascending;

@@ -3,7 +3,7 @@ use Rattle.std.proofs.Common.{◌≡◌, ℕ, ◌+◌, ◌-◌, ◌<◌, ◌≤�
 use Rattle.std.specs.declared.cmp.Ordering.{Ordering}
 use Rattle.std.specs.Ordering.{is_eq}
 use Rattle.std.proofs.lemmas.Bool.{cond-true, cond-false, lt-ltb, ltb-true, ltb-false}
-use Rattle.covstore.specs.declared.sums.Tests.{Tests}
+use Rattle.covstore.specs.declared.sums.TestCounts.{TestCounts}
 use Rattle.covstore.specs.PointIndexCounts.{AreCounts, count_above, count_with, one_if, tests_at}
 use Rattle.covstore.specs.PointIndexDrops.{CanLose, counts_without, fewer_of, fewer_tests}
 use Rattle.covmap.specs.Puts.{ArePairs, value_of}
@@ -14,7 +14,7 @@ use Rattle.covstore.proofs.Puts.{same_pairs, value_of_before, value_of_first, va
 
 -- ---- the numbers of one point
 
-abbrev numbers : ℕ → ℕ → Tests
+abbrev numbers : ℕ → ℕ → TestCounts
 numbers tests hit = record { tests = tests; hit = hit }
 
 some_tests : (tests hit : ℕ) → 0 < tests → tests_of tests hit ≡ Some (numbers tests hit)
@@ -43,26 +43,26 @@ can_more above tests hit less = subst (CanLose above) (sym (some_tests (tests + 
 
 module _ {K V : Type 0} {cmp : K → K → Ordering} (o : IsExactOrder cmp) {is_above : V → Bool} where
   -- the numbers of a point, by its value in the test that is dropped
-  numbers_with : (points : List (K × V)) (others : List (List (K × V))) (counts : List (K × Tests)) → AreCounts cmp is_above (points ∷ others) counts → (key : K) (value : Option V) → value_of cmp key points ≡ value
+  numbers_with : (points : List (K × V)) (others : List (List (K × V))) (counts : List (K × TestCounts)) → AreCounts cmp is_above (points ∷ others) counts → (key : K) (value : Option V) → value_of cmp key points ≡ value
       → value_of cmp key counts ≡ tests_among is_above (count_with cmp key others) (count_above cmp is_above key others) value
   numbers_with points others counts are key value e =
       are.counted key ∙ tests_at-between cmp is_above key [] points others ∙ ap (tests_among is_above (count_with cmp key others) (count_above cmp is_above key others)) e
 
   -- the point is counted at least once
-  pub can_lose : (points : List (K × V)) (others : List (List (K × V))) (counts : List (K × Tests)) → AreCounts cmp is_above (points ∷ others) counts → (key : K) (value : V) → value_of cmp key points ≡ Some value
+  pub can_lose : (points : List (K × V)) (others : List (List (K × V))) (counts : List (K × TestCounts)) → AreCounts cmp is_above (points ∷ others) counts → (key : K) (value : V) → value_of cmp key points ≡ Some value
       → CanLose (is_above value) (value_of cmp key counts)
   can_lose points others counts are key value e =
       subst (CanLose (is_above value)) (sym (numbers_with points others counts are key (Some value) e))
       (can_more (is_above value) (count_with cmp key others) (count_above cmp is_above key others) (above_le_with cmp is_above key others))
 
   -- a point has the same numbers in two counts if the only test that differs has the same value at the point
-  pub same_numbers : (points left : List (K × V)) (others : List (List (K × V))) (counts fewer : List (K × Tests)) → AreCounts cmp is_above (points ∷ others) counts → AreCounts cmp is_above (left ∷ others) fewer
+  pub same_numbers : (points left : List (K × V)) (others : List (List (K × V))) (counts fewer : List (K × TestCounts)) → AreCounts cmp is_above (points ∷ others) counts → AreCounts cmp is_above (left ∷ others) fewer
       → (key : K) (value : V) → value_of cmp key points ≡ Some value → value_of cmp key left ≡ Some value → value_of cmp key fewer ≡ value_of cmp key counts
   same_numbers points left others counts fewer are own key value e f =
       numbers_with left others fewer own key (Some value) f ∙ sym (numbers_with points others counts are key (Some value) e)
 
   -- the test loses its first point
-  module _ (key : K) (value : V) (left : List (K × V)) (sorted : ArePairs cmp ((key, value) ∷ left)) (others : List (List (K × V))) (counts : List (K × Tests)) (are : AreCounts cmp is_above (((key, value) ∷ left) ∷ others) counts) where
+  module _ (key : K) (value : V) (left : List (K × V)) (sorted : ArePairs cmp ((key, value) ∷ left)) (others : List (List (K × V))) (counts : List (K × TestCounts)) (are : AreCounts cmp is_above (((key, value) ∷ left) ∷ others) counts) where
     fewer_own : value_of cmp key (counts_without cmp key (is_above value) counts) ≡ tests_at cmp is_above key (left ∷ others)
     fewer_own =
         let with_it = count_with cmp key others in
@@ -89,5 +89,5 @@ module _ {K V : Type 0} {cmp : K → K → Ordering} (o : IsExactOrder cmp) {is_
   -- ---- a whole test
 
   -- the other tests have only one list of counts
-  pub one_rest : (others : List (List (K × V))) (rest counts : List (K × Tests)) → AreCounts cmp is_above others rest → AreCounts cmp is_above others counts → rest ≡ counts
+  pub one_rest : (others : List (List (K × V))) (rest counts : List (K × TestCounts)) → AreCounts cmp is_above others rest → AreCounts cmp is_above others counts → rest ≡ counts
   one_rest others rest counts left right = same_pairs o rest counts left.ascending right.ascending (λ key. left.counted key ∙ sym (right.counted key))

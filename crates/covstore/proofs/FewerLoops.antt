@@ -2,8 +2,8 @@
 use Rattle.std.proofs.Common.{◌≡◌, Bool, Some, List, [], ◌∷◌, sym, ap, ◌∙◌, subst}
 use Rattle.std.specs.declared.cmp.Ordering.{Ordering}
 use Rattle.std.proofs.lemmas.Option.{none-some}
-use Rattle.covstore.specs.declared.point_index.KindTotals.{KindTotals}
-use Rattle.covstore.specs.declared.sums.Tests.{Tests}
+use Rattle.covstore.specs.declared.point_index.KindTally.{KindTally}
+use Rattle.covstore.specs.declared.sums.TestCounts.{TestCounts}
 use Rattle.covstore.specs.PointIndex.{IsTallyOf}
 use Rattle.covstore.specs.PointIndexCounts.{AreCounts}
 use Rattle.covstore.specs.PointIndexDrops.{AreWith, CanLose, IsTallyAt, IsTallyWithout, LosesTest, counts_without}
@@ -15,22 +15,22 @@ use Rattle.covstore.proofs.Fewer.{can_lose, counts_fewer, one_rest, same_numbers
 use Rattle.covstore.proofs.Puts.{value_of_before, value_of_first, value_of_later}
 
 -- these points of the test are still to be removed
-pub record IsLosing {K V : Type 0} (cmp : K → K → Ordering) (is_above : V → Bool) (points : List (K × V)) (counts : List (K × Tests)) (left : List (K × V)) (fewer : List (K × Tests)) : Type 0 where
+pub record IsLosing {K V : Type 0} (cmp : K → K → Ordering) (is_above : V → Bool) (points : List (K × V)) (counts : List (K × TestCounts)) (left : List (K × V)) (fewer : List (K × TestCounts)) : Type 0 where
   pub sorted : ArePairs cmp left
   pub counted : (others : List (List (K × V))) → AreCounts cmp is_above (points ∷ others) counts → AreCounts cmp is_above (left ∷ others) fewer
 
 -- likewise for a tally alone: it counts the other tests and the test with the points that are left. These have the values that
 -- they have in the test
-pub record IsTallying {K V : Type 0} (cmp : K → K → Ordering) (is_above : V → Bool) (points : List (K × V)) (counts : List (K × Tests)) (left : List (K × V)) (tally : KindTotals) : Type 0 where
+pub record IsTallying {K V : Type 0} (cmp : K → K → Ordering) (is_above : V → Bool) (points : List (K × V)) (counts : List (K × TestCounts)) (left : List (K × V)) (tally : KindTally) : Type 0 where
   pub sorted : ArePairs cmp left
   pub values : (key : K) (value : V) → value_of cmp key left ≡ Some value → value_of cmp key points ≡ Some value
-  pub tallied : (others : List (List (K × V))) → AreCounts cmp is_above (points ∷ others) counts → (fewer : List (K × Tests)) × AreCounts cmp is_above (left ∷ others) fewer × IsTallyOf fewer tally
+  pub tallied : (others : List (List (K × V))) → AreCounts cmp is_above (points ∷ others) counts → (fewer : List (K × TestCounts)) × AreCounts cmp is_above (left ∷ others) fewer × IsTallyOf fewer tally
 
-module _ {K V : Type 0} {cmp : K → K → Ordering} (o : IsExactOrder cmp) (is_above : V → Bool) (points : List (K × V)) (counts : List (K × Tests)) where
+module _ {K V : Type 0} {cmp : K → K → Ordering} (o : IsExactOrder cmp) (is_above : V → Bool) (points : List (K × V)) (counts : List (K × TestCounts)) where
   -- ---- the counts
 
   -- the next point of the test, the query that names it, and whether its value was read as above 0
-  module _ (key : K) (value : V) (asked : K) (named : asked ≡ key) (above : Bool) (read : above ≡ is_above value) (left rest : List (K × V)) (first : left ≡ (key, value) ∷ rest) (fewer : List (K × Tests))
+  module _ (key : K) (value : V) (asked : K) (named : asked ≡ key) (above : Bool) (read : above ≡ is_above value) (left rest : List (K × V)) (first : left ≡ (key, value) ∷ rest) (fewer : List (K × TestCounts))
       (is : IsLosing cmp is_above points counts left fewer) where
     pub losing_can : AreWith cmp is_above points counts → CanLose above (value_of cmp asked fewer)
     losing_can are =
@@ -38,7 +38,7 @@ module _ {K V : Type 0} {cmp : K → K → Ordering} (o : IsExactOrder cmp) (is_
         (subst (λ (k : K). CanLose (is_above value) (value_of cmp k fewer)) (sym named)
         (can_lose o left are.0 fewer (is.counted are.0 are.1) key value (ap (value_of cmp key) first ∙ value_of_first o key value rest)))
 
-    pub losing_more : (more : List (K × Tests)) → more ≡ counts_without cmp asked above fewer → IsLosing cmp is_above points counts rest more
+    pub losing_more : (more : List (K × TestCounts)) → more ≡ counts_without cmp asked above fewer → IsLosing cmp is_above points counts rest more
     losing_more more moved =
         let sorted = subst (ArePairs cmp) first is.sorted in
         let same : more ≡ counts_without cmp key (is_above value) fewer =
@@ -50,13 +50,13 @@ module _ {K V : Type 0} {cmp : K → K → Ordering} (o : IsExactOrder cmp) (is_
               (counts_fewer o key value rest sorted others fewer (subst (λ (own : List (K × V)). AreCounts cmp is_above (own ∷ others) fewer) first (is.counted others are)));
         }
 
-  pub losing_all : (left : List (K × V)) (fewer : List (K × Tests)) → left ≡ [] → IsLosing cmp is_above points counts left fewer → LosesTest cmp is_above points counts fewer
+  pub losing_all : (left : List (K × V)) (fewer : List (K × TestCounts)) → left ≡ [] → IsLosing cmp is_above points counts left fewer → LosesTest cmp is_above points counts fewer
   losing_all left fewer none is others are =
       counts_unempty cmp is_above [] others fewer (subst (λ (own : List (K × V)). AreCounts cmp is_above (own ∷ others) fewer) none (is.counted others are))
 
   -- ---- the tally
 
-  module _ (key : K) (value : V) (asked : K) (named : asked ≡ key) (above : Bool) (read : above ≡ is_above value) (left rest : List (K × V)) (first : left ≡ (key, value) ∷ rest) (tally : KindTotals)
+  module _ (key : K) (value : V) (asked : K) (named : asked ≡ key) (above : Bool) (read : above ≡ is_above value) (left rest : List (K × V)) (first : left ≡ (key, value) ∷ rest) (tally : KindTally)
       (is : IsTallying cmp is_above points counts left tally) where
     value_there : value_of cmp key left ≡ Some value
     value_there = ap (value_of cmp key) first ∙ value_of_first o key value rest
@@ -66,7 +66,7 @@ module _ {K V : Type 0} {cmp : K → K → Ordering} (o : IsExactOrder cmp) (is_
         subst (λ (b : Bool). CanLose b (value_of cmp asked counts)) (sym read)
         (subst (λ (k : K). CanLose (is_above value) (value_of cmp k counts)) (sym named) (can_lose o points are.0 counts are.1 key value (is.values key value value_there)))
 
-    tally_at : (others : List (List (K × V))) → AreCounts cmp is_above (points ∷ others) counts → (fewer : List (K × Tests)) → AreCounts cmp is_above (left ∷ others) fewer → IsTallyOf fewer tally
+    tally_at : (others : List (List (K × V))) → AreCounts cmp is_above (points ∷ others) counts → (fewer : List (K × TestCounts)) → AreCounts cmp is_above (left ∷ others) fewer → IsTallyOf fewer tally
         → IsTallyAt cmp asked counts fewer tally
     tally_at others are fewer own tallied =
         subst (λ (k : K). IsTallyAt cmp k counts fewer tally) (sym named) (record {
@@ -75,7 +75,7 @@ module _ {K V : Type 0} {cmp : K → K → Ordering} (o : IsExactOrder cmp) (is_
           tallied = tallied;
         })
 
-    pub tallying_at : AreWith cmp is_above points counts → (fewer : List (K × Tests)) × IsTallyAt cmp asked counts fewer tally
+    pub tallying_at : AreWith cmp is_above points counts → (fewer : List (K × TestCounts)) × IsTallyAt cmp asked counts fewer tally
     tallying_at are = let of = is.tallied are.0 are.1 in (of.0, tally_at are.0 are.1 of.0 of.1 of.2)
 
     rest_value : ArePairs cmp ((key, value) ∷ rest) → (other : K) (found : V) → value_of cmp other rest ≡ Some found → value_of cmp other left ≡ Some found
@@ -84,7 +84,7 @@ module _ {K V : Type 0} {cmp : K → K → Ordering} (o : IsExactOrder cmp) (is_
         (λ there. absurd (none-some found (sym (value_of_before o key rest sorted.0) ∙ there)))
         (λ k apart there. ap (value_of cmp k) first ∙ value_of_later o k (key, value) rest apart ∙ there) other e
 
-    pub tallying_more : (less : KindTotals) → ((fewer : List (K × Tests)) → IsTallyAt cmp asked counts fewer tally → IsTallyOf (counts_without cmp asked above fewer) less)
+    pub tallying_more : (less : KindTally) → ((fewer : List (K × TestCounts)) → IsTallyAt cmp asked counts fewer tally → IsTallyOf (counts_without cmp asked above fewer) less)
         → IsTallying cmp is_above points counts rest less
     tallying_more less moved =
         let sorted = subst (ArePairs cmp) first is.sorted in
@@ -100,8 +100,8 @@ module _ {K V : Type 0} {cmp : K → K → Ordering} (o : IsExactOrder cmp) (is_
               );
         }
 
-  pub tallying_all : (left : List (K × V)) (tally : KindTotals) → left ≡ [] → IsTallying cmp is_above points counts left tally → IsTallyWithout cmp is_above points counts tally
+  pub tallying_all : (left : List (K × V)) (tally : KindTally) → left ≡ [] → IsTallying cmp is_above points counts left tally → IsTallyWithout cmp is_above points counts tally
   tallying_all left tally none is others rest are own =
       let of = is.tallied others are in
       let all = counts_unempty cmp is_above [] others of.0 (subst (λ (own : List (K × V)). AreCounts cmp is_above (own ∷ others) of.0) none of.1) in
-      subst (λ (kept : List (K × Tests)). IsTallyOf kept tally) (one_rest o others of.0 rest all own) of.2
+      subst (λ (kept : List (K × TestCounts)). IsTallyOf kept tally) (one_rest o others of.0 rest all own) of.2

@@ -3,8 +3,8 @@ use Rattle.std.proofs.Common.{◌≡◌, ℕ, ◌+◌, ◌-◌, Bool, true, fals
 use Rattle.std.specs.declared.cmp.Ordering.{Ordering}
 use Rattle.std.specs.Option.{is_some}
 use Rattle.std.proofs.lemmas.Bool.{false≢true, lt-ltb, ltb-true}
-use Rattle.covstore.specs.declared.point_index.KindTotals.{KindTotals}
-use Rattle.covstore.specs.declared.sums.Tests.{Tests}
+use Rattle.covstore.specs.declared.point_index.KindTally.{KindTally}
+use Rattle.covstore.specs.declared.sums.TestCounts.{TestCounts}
 use Rattle.covmap.specs.Assigned.{assigned}
 use Rattle.covstore.specs.PointIndex.{IsTallyOf}
 use Rattle.covstore.specs.PointIndexCounts.{found_of, hit_of, one_if}
@@ -19,11 +19,11 @@ one_some : {K V : Type 0} (key : K) (value : Option V) → at_before {K = K} {V 
 one_some key None = refl
 one_some key (Some value) = refl
 
-one_hit : {K : Type 0} (key : K) (value : Option Tests) → at_before {K = K} (λ pair. cond (nat_lt 0 pair.1.hit) 1 0) key value ≡ one_if (is_hit value)
+one_hit : {K : Type 0} (key : K) (value : Option TestCounts) → at_before {K = K} (λ pair. cond (nat_lt 0 pair.1.hit) 1 0) key value ≡ one_if (is_hit value)
 one_hit key None = refl
 one_hit key (Some committed) = counted_one (nat_lt 0 committed.hit)
 
-module _ {K : Type 0} {cmp : K → K → Ordering} (o : IsExactOrder cmp) (key : K) (after : Option Tests) (counts : List (K × Tests)) (sorted : ArePairs cmp counts) where
+module _ {K : Type 0} {cmp : K → K → Ordering} (o : IsExactOrder cmp) (key : K) (after : Option TestCounts) (counts : List (K × TestCounts)) (sorted : ArePairs cmp counts) where
   found_assigned : found_of (assigned cmp key after counts) + one_if (is_some (value_of cmp key counts)) ≡ found_of counts + one_if (is_some after)
   found_assigned =
       omega (arith, sum_assigned o (λ pair. 1) key after counts sorted, one_each (assigned cmp key after counts), one_each counts, one_some key after, one_some key (value_of cmp key counts))
@@ -32,12 +32,12 @@ module _ {K : Type 0} {cmp : K → K → Ordering} (o : IsExactOrder cmp) (key :
   hit_assigned =
       omega (arith, sum_assigned o (λ pair. cond (nat_lt 0 pair.1.hit) 1 0) key after counts sorted, one_hit key after, one_hit key (value_of cmp key counts))
 
-  module _ (before : Tests) (there : value_of cmp key counts ≡ Some before) (tally : KindTotals) (is : IsTallyOf counts tally) where
+  module _ (before : TestCounts) (there : value_of cmp key counts ≡ Some before) (tally : KindTally) (is : IsTallyOf counts tally) where
     one_found : one_if (is_some (value_of cmp key counts)) ≡ 1
-    one_found = ap (λ (committed : Option Tests). one_if (is_some committed)) there
+    one_found = ap (λ (committed : Option TestCounts). one_if (is_some committed)) there
 
     one_there : one_if (is_hit (value_of cmp key counts)) ≡ one_if (is_hit (Some before))
-    one_there = ap (λ (committed : Option Tests). one_if (is_hit committed)) there
+    one_there = ap (λ (committed : Option TestCounts). one_if (is_hit committed)) there
 
     pub can_be_less : (is_hit after ≡ true → is_hit (Some before) ≡ true) → CanBeLess tally before after
     can_be_less falls = record {
@@ -46,7 +46,7 @@ module _ {K : Type 0} {cmp : K → K → Ordering} (o : IsExactOrder cmp) (key :
       falls = falls;
     }
 
-    pub tally_less : (less : KindTotals) → IsLess tally before after less → IsTallyOf (assigned cmp key after counts) less
+    pub tally_less : (less : KindTally) → IsLess tally before after less → IsTallyOf (assigned cmp key after counts) less
     tally_less less moved = record {
       found = omega (arith, found_assigned, one_found, is.found, moved.found);
       hit = omega (arith, hit_assigned, one_there, is.hit, moved.hit);
@@ -57,19 +57,19 @@ falls_at true above tests hit e = lt-ltb 0 hit (omega (arith, ltb-true 0 (hit - 
 falls_at false above tests hit e = absurd (false≢true e)
 
 -- a point that is hit afterwards was hit before
-pub fewer_falls : (above : Bool) (before : Tests) → is_hit (fewer_tests above before) ≡ true → is_hit (Some before) ≡ true
+pub fewer_falls : (above : Bool) (before : TestCounts) → is_hit (fewer_tests above before) ≡ true → is_hit (Some before) ≡ true
 fewer_falls above before e = falls_at (nat_lt 1 before.tests) above (before.tests - 1) before.hit e
 
 -- ---- for other counts in which the point has the same numbers
 
-module _ {K : Type 0} {cmp : K → K → Ordering} (o : IsExactOrder cmp) (key : K) (above : Bool) (counts others : List (K × Tests)) (tally : KindTotals) (at : IsTallyAt cmp key counts others tally) (before : Tests)
-    (there : value_of cmp key counts ≡ Some before) (after : Option Tests) (fewer : after ≡ fewer_tests above before) where
+module _ {K : Type 0} {cmp : K → K → Ordering} (o : IsExactOrder cmp) (key : K) (above : Bool) (counts others : List (K × TestCounts)) (tally : KindTally) (at : IsTallyAt cmp key counts others tally) (before : TestCounts)
+    (there : value_of cmp key counts ≡ Some before) (after : Option TestCounts) (fewer : after ≡ fewer_tests above before) where
   pub can_be_less_at : CanBeLess tally before after
   can_be_less_at =
       can_be_less o key after others at.ascending before (at.same ∙ there) tally at.tallied (λ e. fewer_falls above before (ap is_hit (sym fewer) ∙ e))
 
-  pub tally_less_at : (less : KindTotals) → IsLess tally before after less → IsTallyOf (counts_without cmp key above others) less
+  pub tally_less_at : (less : KindTally) → IsLess tally before after less → IsTallyOf (counts_without cmp key above others) less
   tally_less_at less moved =
       let same : after ≡ fewer_of above (value_of cmp key others) = fewer ∙ ap (fewer_of above) (sym (at.same ∙ there)) in
-      subst (λ (value : Option Tests). IsTallyOf (assigned cmp key value others) less) same
+      subst (λ (value : Option TestCounts). IsTallyOf (assigned cmp key value others) less) same
       (tally_less o key after others at.ascending before (at.same ∙ there) tally at.tallied less moved)

@@ -15,7 +15,7 @@ use Rattle.covstore.specs.declared.sums.LineSum.{LineSum}
 use Rattle.covstore.specs.declared.sums.BranchSum.{BranchSum}
 use Rattle.covstore.specs.Content.{SectionData}
 use Rattle.covmap.specs.Puts.{ArePairs, value_of}
-use Rattle.covstore.specs.State.{FileData, IsConsistentFile, has_no_points, has_none, has_points_of, points_or_none, section_seen, section_with_points, sections_of, sections_of_file}
+use Rattle.covstore.specs.State.{FileData, IsConsistentFile, has_no_points, is_empty_list, has_points_of, points_or_none, section_seen, section_with_points, sections_of, sections_of_file}
 use Rattle.covstore.specs.Sums.{TestData}
 use Rattle.covstore.proofs.MapNames.{names_with}
 use Rattle.covstore.proofs.Orders.{names_order}
@@ -90,8 +90,8 @@ pub any_named : {K X Y : Type 0} (p : Y → Bool) (f : X → Y) (name : K → Li
 any_named p f name [] = refl
 any_named p f name (pair ∷ pairs) = ap (λ (b : Bool). p (f pair.1) || b) (any_named p f name pairs)
 
--- a truth value that is true exactly if a list is empty is `has_none` of the list
-pub none_as : {X : Type 0} (xs : List X) (b : Bool) → IsTrue b ↔ (xs ≡ []) → b ≡ has_none xs
+-- a truth value that is true exactly if a list is empty is `is_empty_list` of the list
+pub none_as : {X : Type 0} (xs : List X) (b : Bool) → IsTrue b ↔ (xs ≡ []) → b ≡ is_empty_list xs
 none_as [] b is = is.1 refl
 none_as (x ∷ xs) true is = absurd (cons-nil x xs (is.0 refl))
   where
@@ -100,8 +100,8 @@ none_as (x ∷ xs) true is = absurd (cons-nil x xs (is.0 refl))
 none_as (x ∷ xs) false is = refl
 
 pub no_points : (lines : List (ℕ × LineSum)) (functions : List (List ℕ × FunctionSum)) (branches : List (BranchPoint × BranchSum)) (b : Bool) → lines ≡ [] → functions ≡ [] → IsTrue b ↔ (branches ≡ [])
-    → b ≡ has_none lines && has_none functions && has_none branches
+    → b ≡ is_empty_list lines && is_empty_list functions && is_empty_list branches
 no_points lines functions branches b no_lines no_functions is =
     none_as branches b is
-    ∙ ap (λ (xs : List (List ℕ × FunctionSum)). has_none xs && has_none branches) (sym no_functions)
-    ∙ ap (λ (xs : List (ℕ × LineSum)). has_none xs && has_none functions && has_none branches) (sym no_lines)
+    ∙ ap (λ (xs : List (List ℕ × FunctionSum)). is_empty_list xs && is_empty_list branches) (sym no_functions)
+    ∙ ap (λ (xs : List (ℕ × LineSum)). is_empty_list xs && is_empty_list functions && is_empty_list branches) (sym no_lines)

@@ -11,7 +11,7 @@ use Rattle.covstore.specs.State.{FileData, found_at, hit_at}
 use Rattle.covstore.proofs.Orders.{names_order}
 use Rattle.covstore.proofs.Puts.{at_before, sum_by-put}
 use Rattle.covstore.proofs.StateMore.{file_more}
-use Rattle.covstore.proofs.Axis.{each_kind, totals_same}
+use Rattle.covstore.proofs.EachKind.{each_kind, totals_same}
 
 module _ (file : List ℕ) (files : List (List ℕ × FileData)) (ascending : ArePairs (slice_cmp nat_cmp) files) (none : value_of (slice_cmp nat_cmp) file files ≡ None) where
   -- a file that adds 0 to a sum over the files leaves the sum as it is

@@ -26,7 +26,7 @@ use Rattle.covstore.proofs.Puts.{ArePairs-put, at_before, sum_by-put, value_of-p
 use Rattle.covstore.proofs.StateMore.{test_more}
 use Rattle.covstore.proofs.StateRows.{file_whole, state_changed}
 use Rattle.covstore.proofs.StateSections.{points_same}
-use Rattle.covstore.proofs.Axis.{totals_same}
+use Rattle.covstore.proofs.EachKind.{totals_same}
 
 module _ (name : List ℕ) (before after : FileData) (files : List (List ℕ × FileData)) (ascending : ArePairs (slice_cmp nat_cmp) files) (there : value_of (slice_cmp nat_cmp) name files ≡ Some before) where
   as_much : (f : List ℕ × FileData → ℕ) → f (name, after) ≡ f (name, before) → sum_by f (put (slice_cmp nat_cmp) name after files) ≡ sum_by f files

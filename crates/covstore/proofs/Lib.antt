@@ -3,7 +3,7 @@ pub mod Ascend
 pub mod Orders
 pub mod Bounds
 pub mod Few
-pub mod TotalsWalks
+pub mod TotalsFiles
 pub mod TotalsCounts
 pub mod TotalsRows
 pub mod TotalsKinds
@@ -36,7 +36,7 @@ pub mod RunsSums
 pub mod StateRows
 pub mod MapKeys
 pub mod MapNames
-pub mod Opens
+pub mod WithTest
 pub mod Keeps
 pub mod StoreKept
 pub mod KeepsMore
@@ -65,7 +65,7 @@ pub mod AddsWritten
 pub mod RunsKept
 pub mod RunsAdds
 pub mod TextsHeld
-pub mod TextsAdds
+pub mod HeldChecksumsAdds
 pub mod TextsAscend
 pub mod AddsOrder
 pub mod StepsTally
@@ -76,7 +76,7 @@ pub mod StepsRun
 pub mod StepsMore
 pub mod StepsItems
 pub mod Assigned
-pub mod Axis
+pub mod EachKind
 pub mod Fewer
 pub mod FewerTally
 pub mod FewerLoops

@@ -14,7 +14,7 @@ use Rattle.covstore.proofs.Alike.{AreAlike, alike_said, sum_alike, least_alike}
 use Rattle.covstore.proofs.Ascend.{IsExactOrder}
 use Rattle.covstore.proofs.ContentsKinds.{same_ascending, map_same}
 use Rattle.covstore.proofs.Orders.{lines_order, names_order, branches_order}
-use Rattle.covstore.proofs.Axis.{same_test}
+use Rattle.covstore.proofs.EachKind.{same_test}
 
 -- two lists of items add up to the same if they do for each kind
 pub same_sums : (xs ys : List ItemData) → map (line_sum xs) (lines_in xs) ≡ map (line_sum ys) (lines_in ys) → map (function_sum xs) (names_in xs) ≡ map (function_sum ys) (names_in ys)

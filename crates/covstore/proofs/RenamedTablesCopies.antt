@@ -16,7 +16,7 @@ use Rattle.covmap.specs.Puts.{ArePairs, value_of}
 use Rattle.covstore.specs.Renamed.{moved_rows, renamed_row}
 use Rattle.covstore.specs.Renaming.{Copies, copied_rows, key_of, names_with}
 use Rattle.covstore.specs.StoreSection.{rows_of_items}
-use Rattle.covstore.specs.State.{FileData, IsStateOf, has_no_points, has_none, has_points_of, points_at, points_in}
+use Rattle.covstore.specs.State.{FileData, IsStateOf, has_no_points, is_empty_list, has_points_of, points_at, points_in}
 use Rattle.covstore.specs.Sums.{TestData, test_of}
 use Rattle.covstore.specs.Value.{Key, has_key, items_at}
 use Rattle.covstore.specs.Without.{is_of_test}
@@ -183,14 +183,14 @@ joined_at true has new rest own items others e is none =
     ∙ append-nil (cond (has && new) own []) ∙ ap (λ (all : List ItemData). cond (has && new) all []) (is refl) ∙ ap (λ (b : Bool). cond b items []) (and_turned has new)
 joined_at false has new rest own items others e is none = ap (λ (all : List ItemData). all ++ others) (never has own) ∙ e
 
-none_is : {X : Type 0} (xs : List X) → has_none xs ≡ true → xs ≡ []
+none_is : {X : Type 0} (xs : List X) → is_empty_list xs ≡ true → xs ≡ []
 none_is [] e = refl
 none_is (x ∷ xs) e = absurd (false≢true e)
 
 has_none_of : (points : TestData) → has_no_points points ≡ true → HasNone points
 has_none_of points e =
-    let last = both (has_none points.lines && has_none points.functions) (has_none points.branches) e in
-    let first = both (has_none points.lines) (has_none points.functions) last.0 in
+    let last = both (is_empty_list points.lines && is_empty_list points.functions) (is_empty_list points.branches) e in
+    let first = both (is_empty_list points.lines) (is_empty_list points.functions) last.0 in
     record { lines = none_is points.lines first.0; functions = none_is points.functions first.1; branches = none_is points.branches last.1 }
 
 -- if items add up to no points, there are no items

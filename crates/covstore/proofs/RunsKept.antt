@@ -1,7 +1,7 @@
 -- Items without a checksum are added. If the counts of each kind stay right, the index still counts its tests.
 use Rattle.std.proofs.Common.{◌≡◌, ℕ, Bool, false, Some, None, inl, inr, List, [], ◌∷◌, ◌++◌, length, map, refl, sym, ap, ◌∙◌, subst, arith}
 use Rattle.std.specs.declared.cmp.Ordering.{Ordering}
-use Rattle.covstore.specs.declared.sums.Tests.{Tests}
+use Rattle.covstore.specs.declared.sums.TestCounts.{TestCounts}
 use Rattle.std.specs.Ordering.{nat_cmp}
 use Rattle.std.specs.List.{flat_map}
 use Rattle.covline.specs.Row.{ItemData, LineItem, FuncItem, BranchItem}
@@ -19,7 +19,7 @@ use Rattle.covstore.specs.declared.sums.LineSum.{LineSum}
 use Rattle.covstore.proofs.AddsFew.{kept_few}
 use Rattle.covstore.proofs.AddsPlace.{as_many, its_back, its_front, its_kept}
 use Rattle.covstore.proofs.Assigned.{any_key}
-use Rattle.covstore.proofs.Axis.{map_between}
+use Rattle.covstore.proofs.EachKind.{map_between}
 use Rattle.covstore.proofs.Members.{In}
 use Rattle.covstore.proofs.Orders.{lines_order}
 use Rattle.covstore.proofs.Puts.{value_of-put, value_of-put_apart}
@@ -83,6 +83,6 @@ runs_have_room items test index room kind =
     run_at Branch = refl
 
 -- the length of the run may be replaced by an equal one
-pub room_as_long : {K V : Type 0} {cmp : K → K → Ordering} {is_above : V → Bool} {points : List (K × V)} {counts : List (K × Tests)} (some run : ℕ) → some ≡ run → HasRoomForRun cmp is_above points counts run
+pub room_as_long : {K V : Type 0} {cmp : K → K → Ordering} {is_above : V → Bool} {points : List (K × V)} {counts : List (K × TestCounts)} (some run : ℕ) → some ≡ run → HasRoomForRun cmp is_above points counts run
     → HasRoomForRun cmp is_above points counts some
 room_as_long {cmp = cmp} {is_above} {points} {counts} some run same room = subst (HasRoomForRun cmp is_above points counts) (sym same) room

@@ -22,7 +22,7 @@ use Rattle.covstore.proofs.Orders.{names_order}
 use Rattle.covstore.proofs.Puts.{ArePairs-put, value_of-put, value_of-put_other}
 use Rattle.covstore.proofs.StateRows.{file_whole, name_or_not, same_rows}
 use Rattle.covstore.proofs.StateSections.{points_none, points_same, points_there}
-use Rattle.covstore.proofs.Axis.{each_kind, map_between}
+use Rattle.covstore.proofs.EachKind.{each_kind, map_between}
 
 -- ---- a key is put in where it wasn't
 

@@ -7,7 +7,7 @@ use Rattle.covline.specs.Row.{Row}
 use Rattle.covstore.specs.declared.sums.FunctionSum.{FunctionSum}
 use Rattle.covstore.specs.declared.sums.LineSum.{LineSum}
 use Rattle.covstore.specs.declared.sums.BranchSum.{BranchSum}
-use Rattle.covstore.specs.declared.sums.Tests.{Tests}
+use Rattle.covstore.specs.declared.sums.TestCounts.{TestCounts}
 use Rattle.covstore.specs.Kinds.{Branch, Function, KeyOf, Kind, Line, SumOf, above_of, at, cmp_of}
 use Rattle.covstore.specs.Clash.{Agree, checksums_in}
 use Rattle.covstore.specs.Content.{BranchValueData, FunctionValueData, LineValueData, SectionData, content_of}
@@ -40,7 +40,7 @@ module _ {K V W : Type 0} (cmp : K → K → Ordering) (is_above : V → Bool) (
   all_points tests = map (map (λ (pair : K × V). (pair.0, seen pair.0 pair.1))) (map points (map (λ (test : List ℕ × TestData). test.1) tests))
 
   -- tests without points have no section, and aren't counted
-  seen_counts_from : (front : List (List (K × W))) (tests : List (List ℕ × TestData)) (counts : List (K × Tests)) → AreCounts cmp is_other (front ++ all_points tests) counts
+  seen_counts_from : (front : List (List (K × W))) (tests : List (List ℕ × TestData)) (counts : List (K × TestCounts)) → AreCounts cmp is_other (front ++ all_points tests) counts
       → AreCounts cmp is_other (front ++ map points_of (flat_map part tests)) counts
   seen_counts_from front [] counts are = are
   seen_counts_from front (test ∷ tests) counts are =
@@ -63,7 +63,7 @@ module _ {K V W : Type 0} (cmp : K → K → Ordering) (is_above : V → Bool) (
       subst (λ (sections : List SectionData). AreCounts cmp is_other (front ++ map points_of (sections ++ flat_map part tests)) counts) (sym found.1) of_section)
       (seen_or_not file texts test.0 test.1)
 
-  seen_counts : (tests : List (List ℕ × TestData)) (counts : List (K × Tests)) → AreCounts cmp is_above (map points (map (λ (test : List ℕ × TestData). test.1) tests)) counts
+  seen_counts : (tests : List (List ℕ × TestData)) (counts : List (K × TestCounts)) → AreCounts cmp is_above (map points (map (λ (test : List ℕ × TestData). test.1) tests)) counts
       → AreCounts cmp is_other (map points_of (flat_map part tests)) counts
   seen_counts tests counts are =
       seen_counts_from [] tests counts (counts_mapped_at cmp is_above is_other seen same (map points (map (λ (test : List ℕ × TestData). test.1) tests)) counts are)

@@ -2,7 +2,7 @@
 use Rattle.std.proofs.Common.{◌≡◌, ℕ, Bool, true, false, ◌||◌, if◌then◌else◌, Option, Some, None, List, refl}
 use Rattle.std.specs.declared.cmp.Ordering.{Ordering}
 use Rattle.covstore.specs.declared.sums.LineSum.{LineSum}
-use Rattle.covstore.specs.declared.sums.Tests.{Tests}
+use Rattle.covstore.specs.declared.sums.TestCounts.{TestCounts}
 use Rattle.covstore.specs.PointIndex.{changed}
 use Rattle.covstore.specs.PointIndexCounts.{change_by, change_of, counts_with, is_above_at, is_new, is_newly_hit, tests_more}
 use Rattle.covmap.specs.Puts.{put, value_of}
@@ -11,7 +11,7 @@ use Rattle.covstore.specs.Sums.{line_with}
 
 -- ---- the change of a point's numbers
 
-module _ {K V : Type 0} (cmp : K → K → Ordering) (is_above : V → Bool) (key : K) (counts : List (K × Tests)) where
+module _ {K V : Type 0} (cmp : K → K → Ordering) (is_above : V → Bool) (key : K) (counts : List (K × TestCounts)) where
   changed_by : (new newly : Bool) → changed cmp key (change_by new newly) counts
       ≡ (if new then put cmp key (tests_more true newly (value_of cmp key counts)) counts else if newly then put cmp key (tests_more false true (value_of cmp key counts)) counts else counts)
   changed_by true newly = refl

@@ -6,7 +6,7 @@ use Rattle.std.specs.Ordering.{is_eq, nat_cmp}
 use Rattle.std.proofs.lemmas.Bool.{cases_Bool, cond-true, lt-ltb, ltb-false}
 use Rattle.std.proofs.lemmas.Map.Views.{tells_apart}
 use Rattle.covstore.specs.declared.sums.LineSum.{LineSum}
-use Rattle.covstore.specs.declared.sums.Tests.{Tests}
+use Rattle.covstore.specs.declared.sums.TestCounts.{TestCounts}
 use Rattle.covstore.specs.Kinds.{CountsOf, Each, Kind, Line, PointsOf, above_of, at, cmp_of, line_above, with_at}
 use Rattle.covstore.specs.Checksums.{held_more, one_more}
 use Rattle.covstore.specs.PointIndexCounts.{AreCounts, counts_with, is_above_at, one_if}
@@ -21,28 +21,28 @@ use Rattle.covstore.proofs.CountsPut.{counts_put}
 use Rattle.covstore.proofs.Orders.{lines_order}
 use Rattle.covstore.proofs.Puts.{value_of-put, value_of-put_apart}
 use Rattle.covstore.proofs.Assigned.{any_key}
-use Rattle.covstore.proofs.Axis.{keeps_added}
+use Rattle.covstore.proofs.EachKind.{keeps_added}
 
 -- ---- one kind of points
 
-module _ {K V : Type 0} {cmp : K → K → Ordering} (is_above : V → Bool) (points : List (K × V)) (counts : List (K × Tests)) where
-  pub put_keeps : (o : IsExactOrder cmp) (key : K) (value : V) (after : List (K × V)) (more : List (K × Tests)) → after ≡ put cmp key value points
+module _ {K V : Type 0} {cmp : K → K → Ordering} (is_above : V → Bool) (points : List (K × V)) (counts : List (K × TestCounts)) where
+  pub put_keeps : (o : IsExactOrder cmp) (key : K) (value : V) (after : List (K × V)) (more : List (K × TestCounts)) → after ≡ put cmp key value points
       → (is_above_at is_above (value_of cmp key points) ≡ true → is_above value ≡ true) → more ≡ counts_with cmp is_above key (value_of cmp key points) value counts
       → KeepsCountsOfKind cmp is_above points after counts more
   put_keeps o key value after more puts stays moves front back are =
-      subst (λ (kept : List (K × Tests)). AreCounts cmp is_above (front ++ after ∷ back) kept) (sym moves)
+      subst (λ (kept : List (K × TestCounts)). AreCounts cmp is_above (front ++ after ∷ back) kept) (sym moves)
       (subst (λ (own : List (K × V)). AreCounts cmp is_above (front ++ own ∷ back) (counts_with cmp is_above key (value_of cmp key points) value counts)) (sym puts)
       (counts_put o is_above key value counts front points back stays are))
 
-within_few : (value : Option Tests) (tests : ℕ) → tests ≤ 2 ^ 63 → ((committed : Tests) → value ≡ Some committed → IsWithin committed tests) → IfSome value (λ committed. (committed.tests ≤ 2 ^ 63) × (committed.hit ≤ 2 ^ 63))
+within_few : (value : Option TestCounts) (tests : ℕ) → tests ≤ 2 ^ 63 → ((committed : TestCounts) → value ≡ Some committed → IsWithin committed tests) → IfSome value (λ committed. (committed.tests ≤ 2 ^ 63) × (committed.hit ≤ 2 ^ 63))
 within_few None tests few within = tt
 within_few (Some committed) tests few within = let is = within committed refl in (omega (arith, is.all), omega (arith, is.all, is.hit))
 
-pub numbers_few : {K V : Type 0} {cmp : K → K → Ordering} {is_above : V → Bool} {tests : List (List (K × V))} {counts : List (K × Tests)} → AreCounts cmp is_above tests counts → length tests ≤ 2 ^ 63
+pub numbers_few : {K V : Type 0} {cmp : K → K → Ordering} {is_above : V → Bool} {tests : List (List (K × V))} {counts : List (K × TestCounts)} → AreCounts cmp is_above tests counts → length tests ≤ 2 ^ 63
     → (key : K) → IfSome (value_of cmp key counts) (λ committed. (committed.tests ≤ 2 ^ 63) × (committed.hit ≤ 2 ^ 63))
 numbers_few {cmp = cmp} {tests = tests} {counts = counts} are few key = within_few (value_of cmp key counts) (length tests) few (counts_within are key)
 
-pub room_at : {K V : Type 0} {cmp : K → K → Ordering} {is_above : V → Bool} (points : List (K × V)) (counts : List (K × Tests)) → HasRoomOfKind cmp is_above points counts
+pub room_at : {K V : Type 0} {cmp : K → K → Ordering} {is_above : V → Bool} (points : List (K × V)) (counts : List (K × TestCounts)) → HasRoomOfKind cmp is_above points counts
     → (key : K) → IfSome (value_of cmp key counts) (λ committed. (committed.tests ≤ 2 ^ 63) × (committed.hit ≤ 2 ^ 63))
 room_at points counts room = numbers_few room.kept room.few_tests
 
@@ -114,7 +114,7 @@ keeps_point own after counts test index more keeps moved same stay front back ar
 }
 
 -- an item of a line is added, with or without a checksum
-module _ (line : ℕ) (value : LineSum) (after : List (ℕ × LineSum)) (counts : List (ℕ × Tests)) (test : TestData) (index more : FileIndexData) (puts : after ≡ put nat_cmp line value test.lines)
+module _ (line : ℕ) (value : LineSum) (after : List (ℕ × LineSum)) (counts : List (ℕ × TestCounts)) (test : TestData) (index more : FileIndexData) (puts : after ≡ put nat_cmp line value test.lines)
     (keeps : KeepsCountsOfKind nat_cmp line_above test.lines after index.counts.lines counts) (moved : more.counts ≡ with_at Line counts index.counts) where
   abbrev changed : TestData
   changed = with_at Line after test

@@ -36,11 +36,11 @@ all_true : (x y z : Bool) → x ≡ true → y ≡ true → z ≡ true → (x &&
 all_true x y z a b c = ap (λ (x : Bool). x && y && z) a ∙ ap (λ (y : Bool). y && z) b ∙ c
 
 -- the numbers that an item gives its branch: at most one
-abbrev told : Option ℕ → List ℕ
-told None = []
-told (Some taken) = taken ∷ []
+abbrev reports : Option ℕ → List ℕ
+reports None = []
+reports (Some taken) = taken ∷ []
 
-own_taken : (line block branch : ℕ) (taken : Option ℕ) → taken_said (point_of line block branch) (BranchItem line block branch taken) ≡ told taken
+own_taken : (line block branch : ℕ) (taken : Option ℕ) → taken_said (point_of line block branch) (BranchItem line block branch taken) ≡ reports taken
 own_taken line block branch None = refl
 own_taken line block branch (Some taken) =
     cond-true (is_branch (point_of line block branch) line block branch) (taken ∷ []) []
@@ -51,11 +51,11 @@ sum_one n =
     let nothing : sum_by (λ m. m) [] ≡ 0 = refl in
     omega (arith, sum_by-cons (λ m. m) n [], nothing)
 
-sum_told : (numbers : List ℕ) (taken : Option ℕ) → sum_if_any (numbers ++ told taken) ≡ sum_taken (sum_if_any numbers) taken
-sum_told [] None = refl
-sum_told [] (Some taken) = ap (λ (n : ℕ). Some (bounded n)) (sum_one taken)
-sum_told (n ∷ numbers) None = ap (λ (ns : List ℕ). Some (bounded (sum_by (λ (m : ℕ). m) (n ∷ ns)))) (append-nil numbers)
-sum_told (n ∷ numbers) (Some taken) =
+sum_reports : (numbers : List ℕ) (taken : Option ℕ) → sum_if_any (numbers ++ reports taken) ≡ sum_taken (sum_if_any numbers) taken
+sum_reports [] None = refl
+sum_reports [] (Some taken) = ap (λ (n : ℕ). Some (bounded n)) (sum_one taken)
+sum_reports (n ∷ numbers) None = ap (λ (ns : List ℕ). Some (bounded (sum_by (λ (m : ℕ). m) (n ∷ ns)))) (append-nil numbers)
+sum_reports (n ∷ numbers) (Some taken) =
     ap (λ (k : ℕ). Some (bounded k)) (sum_by-append (λ m. m) (n ∷ numbers) (taken ∷ []) ∙ ap (λ (k : ℕ). sum_by (λ (m : ℕ). m) (n ∷ numbers) + k) (sum_one taken))
     ∙ ap (λ (k : ℕ). Some k) (bounded_sum (sum_by (λ m. m) (n ∷ numbers)) taken)
 
@@ -64,7 +64,7 @@ module _ (items : List ItemData) (line block branch : ℕ) (taken : Option ℕ) 
   taken_more =
       let point = point_of line block branch in
       ap sum_if_any (last_said (taken_said point) items (BranchItem line block branch taken) ∙ ap (λ (said : List ℕ). flat_map (taken_said point) items ++ said) (own_taken line block branch taken))
-      ∙ sum_told (flat_map (taken_said point) items) taken
+      ∙ sum_reports (flat_map (taken_said point) items) taken
 
   branch_more : branch_held (items ++ BranchItem line block branch taken ∷ []) (point_of line block branch) ≡ branch_with taken (Some (branch_held items (point_of line block branch)))
   branch_more = λ i. record { times = taken_more i }

@@ -5,7 +5,7 @@ use Rattle.covstore.specs.Sums.{test_of, with_item}
 use Rattle.covstore.proofs.SumsBranches.{branches_put, branches_same}
 use Rattle.covstore.proofs.SumsFunctions.{functions_put, functions_same}
 use Rattle.covstore.proofs.SumsLines.{lines_put, lines_same}
-use Rattle.covstore.proofs.Axis.{same_test}
+use Rattle.covstore.proofs.EachKind.{same_test}
 
 -- one more item changes the sums as `with_item` says
 pub sums_more : (items : List ItemData) (item : ItemData) → test_of (items ++ item ∷ []) ≡ with_item item (test_of items)

@@ -16,7 +16,7 @@ use Rattle.covstore.specs.PointIndexCounts.{is_above_at}
 use Rattle.covstore.specs.Runs.{with_items}
 use Rattle.covstore.specs.State.{has_checksum, holders_at}
 use Rattle.covstore.specs.Sums.{TestData, line_with, with_item}
-use Rattle.covstore.specs.Texts.{HasRoomToHold, HoldsText, HoldsTexts, KeepsHolders, checked_line, checked_lines, holders_with}
+use Rattle.covstore.specs.HeldChecksums.{HasRoomToHold, HoldsText, HoldsTexts, KeepsHolders, checked_line, checked_lines, holders_with}
 use Rattle.covstore.specs.TestView.{test_staged}
 use Rattle.covstore.specs.FileIndexView.{KeepsCommitted, index_staged}
 use Rattle.covstore.specs.declared.index.FileIndex.{FileIndex}

@@ -16,7 +16,7 @@ use Rattle.covstore.specs.Value.{Key, key_of_row, keys_of, has_key, items_at}
 use Rattle.covstore.proofs.Ascend.{In-ascending, In-to_ascending, IsExactOrder}
 use Rattle.covstore.proofs.Members.{In, In-map, In-unmap}
 use Rattle.covstore.proofs.Orders.{keys_order, names_order}
-use Rattle.covstore.proofs.TotalsWalks.{file_of_key, key_of_file}
+use Rattle.covstore.proofs.TotalsFiles.{file_of_key, key_of_file}
 use Rattle.covstore.proofs.ContentsKinds.{same_ascending}
 use Rattle.covstore.proofs.ContentsLists.{In-filter, In-flat, In-unfilter, In-unflat, any_from_in, any_members, in_from_any, same_truth}
 

@@ -52,6 +52,6 @@ pub record IsOther (before : ChecksumsData) (line : ℕ) (held given : List ℕ)
   pub other : held ≡ given → ⊥
 
 -- a clash is reported only if the line holds another checksum, and then that one is reported
-abbrev pub IsToldOf : {A : Type 0} → ChecksumsData → ℕ → List ℕ → StageFault A → Type 0
-IsToldOf before line text Memory = Unit {0}
-IsToldOf before line text (Clash told held given) = (told ≡ line) × (given ≡ text) × IsOther before line held text
+abbrev pub IsReportedClash : {A : Type 0} → ChecksumsData → ℕ → List ℕ → StageFault A → Type 0
+IsReportedClash before line text Memory = Unit {0}
+IsReportedClash before line text (Clash told held given) = (told ≡ line) × (given ≡ text) × IsOther before line held text

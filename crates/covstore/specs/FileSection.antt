@@ -5,7 +5,7 @@ use Rattle.std.specs.Ordering.{nat_cmp}
 use Rattle.covline.specs.Row.{ItemData, Row, rows_of_sect}
 use Rattle.covstore.specs.declared.stage_fault.StageFault.{StageFault}
 use Rattle.covstore.specs.declared.stage_fault.StageFault.TheVariants.{Clash, Memory}
-use Rattle.covstore.specs.Section.{clash_told, section_of_items}
+use Rattle.covstore.specs.Section.{clash_in_file, section_of_items}
 use Rattle.covstore.specs.Clash.{Agree, checksums_in, clash_of}
 use Rattle.covmap.specs.Puts.{ArePairs, put, value_of}
 use Rattle.covstore.specs.State.{FileData, IsStateOf}
@@ -35,7 +35,7 @@ abbrev pub ClashesIn : {A : Type 0} → List ItemData → List ℕ → FileData 
 ClashesIn items test file Memory = Unit {0}
 ClashesIn items test file (Clash line held given) =
     (rows : List Row) (files : List (List ℕ × FileData)) (name : List ℕ) → HasFile rows files name file
-    → clash_of rows (rows_of_sect (section_of_items name test items)) ≡ Some (clash_told name line held given)
+    → clash_of rows (rows_of_sect (section_of_items name test items)) ≡ Some (clash_in_file name line held given)
 
 -- the file is one of the files that some rows add up to, and the number of these rows leaves room for the items
 pub record HasRoomIn (items : List ItemData) (file : FileData) : Type 0 where

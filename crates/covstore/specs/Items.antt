@@ -6,7 +6,7 @@ use Rattle.std.specs.Ordering.{nat_cmp}
 use Rattle.covline.specs.Row.{ItemData, LineItem, FuncItem, BranchItem}
 use Rattle.covstore.specs.declared.stage_fault.StageFault.{StageFault}
 use Rattle.covstore.specs.declared.stage_fault.StageFault.TheVariants.{Clash, Memory}
-use Rattle.covstore.specs.declared.sums.Tests.{Tests}
+use Rattle.covstore.specs.declared.sums.TestCounts.{TestCounts}
 use Rattle.covstore.specs.Checksums.{KeepsTexts}
 use Rattle.covstore.specs.FileIndex.{FileIndexData}
 use Rattle.covstore.specs.PointIndexCounts.{AreCounts}
@@ -18,7 +18,7 @@ use Rattle.covstore.specs.Sums.{TestData}
 -- ---- one kind of points, of any keys and sums
 
 -- the counts are those of at most 2^63 tests, and one of these tests has these points. There is room for one more point
-pub record HasRoomOfKind {K V : Type 0} (cmp : K → K → Ordering) (is_above : V → Bool) (points : List (K × V)) (counts : List (K × Tests)) : Type 0 where
+pub record HasRoomOfKind {K V : Type 0} (cmp : K → K → Ordering) (is_above : V → Bool) (points : List (K × V)) (counts : List (K × TestCounts)) : Type 0 where
   pub front : List (List (K × V))
   pub back : List (List (K × V))
   pub kept : AreCounts cmp is_above (front ++ points ∷ back) counts
@@ -26,7 +26,7 @@ pub record HasRoomOfKind {K V : Type 0} (cmp : K → K → Ordering) (is_above :
   pub few : length counts < 2 ^ 63
 
 -- the counts are those of at most 2^63 tests, and one of these tests has these points. There is room for this many items
-pub record HasRoomForRun {K V : Type 0} (cmp : K → K → Ordering) (is_above : V → Bool) (points : List (K × V)) (counts : List (K × Tests)) (items : ℕ) : Type 0 where
+pub record HasRoomForRun {K V : Type 0} (cmp : K → K → Ordering) (is_above : V → Bool) (points : List (K × V)) (counts : List (K × TestCounts)) (items : ℕ) : Type 0 where
   pub front : List (List (K × V))
   pub back : List (List (K × V))
   pub kept : AreCounts cmp is_above (front ++ points ∷ back) counts
@@ -35,7 +35,7 @@ pub record HasRoomForRun {K V : Type 0} (cmp : K → K → Ordering) (is_above :
 
 -- one test's points change from `before` to `after`. Whatever the other tests are: if `counts` are those of all tests before this
 -- change, `more` are those after it
-abbrev pub KeepsCountsOfKind : {K V : Type 0} → (K → K → Ordering) → (V → Bool) → List (K × V) → List (K × V) → List (K × Tests) → List (K × Tests) → Type 0
+abbrev pub KeepsCountsOfKind : {K V : Type 0} → (K → K → Ordering) → (V → Bool) → List (K × V) → List (K × V) → List (K × TestCounts) → List (K × TestCounts) → Type 0
 KeepsCountsOfKind {K} {V} cmp is_above before after counts more = (front back : List (List (K × V))) → AreCounts cmp is_above (front ++ before ∷ back) counts → AreCounts cmp is_above (front ++ after ∷ back) more
 
 -- ---- all kinds

@@ -8,7 +8,7 @@ use Rattle.covline.specs.Row.{ItemData}
 use Rattle.covstore.specs.declared.sums.LineSum.{LineSum}
 use Rattle.covstore.specs.declared.sums.FunctionSum.{FunctionSum}
 use Rattle.covstore.specs.declared.sums.BranchSum.{BranchSum}
-use Rattle.covstore.specs.declared.sums.Tests.{Tests}
+use Rattle.covstore.specs.declared.sums.TestCounts.{TestCounts}
 use Rattle.covstore.specs.Value.{branch_cmp, is_taken}
 
 pub data Kind : Type 0 where
@@ -78,4 +78,4 @@ PointsOf kind = List (KeyOf kind × SumOf kind)
 
 -- the points of a kind, each with how many tests have it, and how many have it above 0
 abbrev pub CountsOf : Kind → Type 0
-CountsOf kind = List (KeyOf kind × Tests)
+CountsOf kind = List (KeyOf kind × TestCounts)

@@ -26,7 +26,7 @@ pub mod Items
 pub mod Section
 pub mod Order
 pub mod Runs
-pub mod Texts
+pub mod HeldChecksums
 pub mod RunsView
 pub mod FileView
 pub mod FileSection

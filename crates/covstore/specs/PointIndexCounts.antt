@@ -2,7 +2,7 @@
 use Rattle.std.specs.Prelude.{◌≡◌, ℕ, ◌+◌, ◌≤◌, ◌^◌, Bool, true, false, nat_lt, ◌&&◌, ◌||◌, not, if◌then◌else◌, IfSome, Option, Some, None, List, length, count_by}
 use Rattle.std.specs.declared.cmp.Ordering.{Ordering}
 use Rattle.std.specs.Option.{is_some}
-use Rattle.covstore.specs.declared.sums.Tests.{Tests}
+use Rattle.covstore.specs.declared.sums.TestCounts.{TestCounts}
 use Rattle.covstore.specs.declared.sums.TestsAddend.{TestsAddend}
 use Rattle.covmap.specs.Puts.{ArePairs, put, value_of}
 
@@ -20,25 +20,25 @@ abbrev pub count_above : {K V : Type 0} → (K → K → Ordering) → (V → Bo
 count_above cmp is_above key tests = count_by (λ pairs. is_above_at is_above (value_of cmp key pairs)) tests
 
 -- the numbers of a point, or `None` if no test has it
-abbrev pub tests_at : {K V : Type 0} → (K → K → Ordering) → (V → Bool) → K → List (List (K × V)) → Option Tests
+abbrev pub tests_at : {K V : Type 0} → (K → K → Ordering) → (V → Bool) → K → List (List (K × V)) → Option TestCounts
 tests_at cmp is_above key tests =
     if nat_lt 0 (count_with cmp key tests) then Some (record { tests = count_with cmp key tests; hit = count_above cmp is_above key tests }) else None
 
 -- the counts are those of these tests: they have each point that some test has, with its numbers, and no other point
-pub record AreCounts {K V : Type 0} (cmp : K → K → Ordering) (is_above : V → Bool) (tests : List (List (K × V))) (counts : List (K × Tests)) : Type 0 where
+pub record AreCounts {K V : Type 0} (cmp : K → K → Ordering) (is_above : V → Bool) (tests : List (List (K × V))) (counts : List (K × TestCounts)) : Type 0 where
   pub ascending : ArePairs cmp counts
   pub counted : (key : K) → value_of cmp key counts ≡ tests_at cmp is_above key tests
 
 -- some test has the point above 0
-abbrev pub is_hit_by_some : Tests → Bool
+abbrev pub is_hit_by_some : TestCounts → Bool
 is_hit_by_some numbers = nat_lt 0 numbers.hit
 
 -- how many points there are
-abbrev pub found_of : {K : Type 0} → List (K × Tests) → ℕ
+abbrev pub found_of : {K : Type 0} → List (K × TestCounts) → ℕ
 found_of counts = length counts
 
 -- how many of the points some test has above 0
-abbrev pub hit_of : {K : Type 0} → List (K × Tests) → ℕ
+abbrev pub hit_of : {K : Type 0} → List (K × TestCounts) → ℕ
 hit_of counts = count_by (λ pair. nat_lt 0 pair.1.hit) counts
 
 -- ---- a value changes in one test
@@ -48,7 +48,7 @@ abbrev pub one_if : Bool → ℕ
 one_if true = 1
 one_if false = 0
 
-abbrev pub tests_more : Bool → Bool → Option Tests → Tests
+abbrev pub tests_more : Bool → Bool → Option TestCounts → TestCounts
 tests_more is_new is_newly_hit None = record { tests = one_if is_new; hit = one_if is_newly_hit }
 tests_more is_new is_newly_hit (Some numbers) = record { tests = numbers.tests + one_if is_new; hit = numbers.hit + one_if is_newly_hit }
 
@@ -61,18 +61,18 @@ abbrev pub is_newly_hit : {V : Type 0} → (V → Bool) → Option V → V → B
 is_newly_hit is_above before after = is_above after && not (is_above_at is_above before)
 
 -- the counts after the value of the key changes in one test from `before` to `after`
-abbrev pub counts_with : {K V : Type 0} → (K → K → Ordering) → (V → Bool) → K → Option V → V → List (K × Tests) → List (K × Tests)
+abbrev pub counts_with : {K V : Type 0} → (K → K → Ordering) → (V → Bool) → K → Option V → V → List (K × TestCounts) → List (K × TestCounts)
 counts_with cmp is_above key before after counts =
     if is_new before then put cmp key (tests_more true (is_newly_hit is_above before after) (value_of cmp key counts)) counts else
     if is_newly_hit is_above before after then put cmp key (tests_more false true (value_of cmp key counts)) counts else counts
 
 -- ---- what a test adds to the numbers of a point
 
-abbrev pub tests_with : TestsAddend → Option Tests → Tests
+abbrev pub tests_with : TestsAddend → Option TestCounts → TestCounts
 tests_with more before = tests_more more.is_new more.is_hit before
 
 -- the point's numbers can grow by 1
-abbrev pub tests_fit : TestsAddend → Option Tests → Type 0
+abbrev pub tests_fit : TestsAddend → Option TestCounts → Type 0
 tests_fit more before = IfSome before (λ numbers. (numbers.tests ≤ 2 ^ 63) × (numbers.hit ≤ 2 ^ 63))
 
 abbrev pub change_by : Bool → Bool → Option TestsAddend

@@ -3,9 +3,9 @@ use Rattle.std.specs.Prelude.{◌≡◌, ℕ, ◌+◌, ◌-◌, ◌<◌, ◌≤�
 use Rattle.std.specs.declared.cmp.Ordering.{Ordering}
 use Rattle.std.specs.Ordering.{nat_cmp}
 use Rattle.std.specs.Option.{is_some}
-use Rattle.covstore.specs.declared.point_index.KindTotals.{KindTotals}
+use Rattle.covstore.specs.declared.point_index.KindTally.{KindTally}
 use Rattle.covstore.specs.declared.sums.LineSum.{LineSum}
-use Rattle.covstore.specs.declared.sums.Tests.{Tests}
+use Rattle.covstore.specs.declared.sums.TestCounts.{TestCounts}
 use Rattle.covstore.specs.declared.totals.Totals.{Totals}
 use Rattle.covmap.specs.Assigned.{assigned}
 use Rattle.covstore.specs.PointIndex.{IsTallyOf}
@@ -16,62 +16,62 @@ use Rattle.covstore.specs.Sums.{TestData}
 
 -- the point's numbers without one test that had the point, or `None` if no other test has it. `was_above`: that test had the
 -- point above 0
-abbrev pub fewer_tests : Bool → Tests → Option Tests
+abbrev pub fewer_tests : Bool → TestCounts → Option TestCounts
 fewer_tests was_above numbers = if nat_lt 1 numbers.tests then Some (record { tests = numbers.tests - 1; hit = numbers.hit - one_if was_above }) else None
 
-abbrev pub fewer_of : Bool → Option Tests → Option Tests
+abbrev pub fewer_of : Bool → Option TestCounts → Option TestCounts
 fewer_of was_above None = None
 fewer_of was_above (Some numbers) = fewer_tests was_above numbers
 
 -- the counts without one test that had the point
-abbrev pub counts_without : {K : Type 0} → (K → K → Ordering) → K → Bool → List (K × Tests) → List (K × Tests)
+abbrev pub counts_without : {K : Type 0} → (K → K → Ordering) → K → Bool → List (K × TestCounts) → List (K × TestCounts)
 counts_without cmp key was_above counts = assigned cmp key (fewer_of was_above (value_of cmp key counts)) counts
 
 -- the numbers count a test that has the point above 0 if `was_above`, else one that has it, but not above 0. No more tests have
 -- the point above 0 than have it
-abbrev pub HaveOne : Bool → Tests → Type 0
+abbrev pub HaveOne : Bool → TestCounts → Type 0
 HaveOne was_above numbers = (one_if was_above ≤ numbers.hit) × (numbers.hit < numbers.tests + one_if was_above)
 
-abbrev pub CanLose : Bool → Option Tests → Type 0
+abbrev pub CanLose : Bool → Option TestCounts → Type 0
 CanLose was_above None = ⊥
 CanLose was_above (Some numbers) = HaveOne was_above numbers
 
 -- the counts are those of a test with these points and of some other tests
-abbrev pub AreWith : {K V : Type 0} → (K → K → Ordering) → (V → Bool) → List (K × V) → List (K × Tests) → Type 0
+abbrev pub AreWith : {K V : Type 0} → (K → K → Ordering) → (V → Bool) → List (K × V) → List (K × TestCounts) → Type 0
 AreWith {K} {V} cmp is_above points counts = (others : List (List (K × V))) × AreCounts cmp is_above (points ∷ others) counts
 
 -- whatever the other tests are: if `counts` are those of a test with these points and of the others, `fewer` are those of the
 -- others
-abbrev pub LosesTest : {K V : Type 0} → (K → K → Ordering) → (V → Bool) → List (K × V) → List (K × Tests) → List (K × Tests) → Type 0
+abbrev pub LosesTest : {K V : Type 0} → (K → K → Ordering) → (V → Bool) → List (K × V) → List (K × TestCounts) → List (K × TestCounts) → Type 0
 LosesTest {K} {V} cmp is_above points counts fewer = (others : List (List (K × V))) → AreCounts cmp is_above (points ∷ others) counts → AreCounts cmp is_above others fewer
 
 -- whatever the other tests are: if `counts` are those of a test with these points and of the others, the tally is that of the
 -- others' counts
-abbrev pub IsTallyWithout : {K V : Type 0} → (K → K → Ordering) → (V → Bool) → List (K × V) → List (K × Tests) → KindTotals → Type 0
+abbrev pub IsTallyWithout : {K V : Type 0} → (K → K → Ordering) → (V → Bool) → List (K × V) → List (K × TestCounts) → KindTally → Type 0
 IsTallyWithout {K} {V} cmp is_above points counts tally =
-    (others : List (List (K × V))) (rest : List (K × Tests)) → AreCounts cmp is_above (points ∷ others) counts → AreCounts cmp is_above others rest → IsTallyOf rest tally
+    (others : List (List (K × V))) (rest : List (K × TestCounts)) → AreCounts cmp is_above (points ∷ others) counts → AreCounts cmp is_above others rest → IsTallyOf rest tally
 
 -- the tally is that of `others`, which have the same numbers for this point as `counts`
-pub record IsTallyAt {K : Type 0} (cmp : K → K → Ordering) (key : K) (counts others : List (K × Tests)) (tally : KindTotals) : Type 0 where
+pub record IsTallyAt {K : Type 0} (cmp : K → K → Ordering) (key : K) (counts others : List (K × TestCounts)) (tally : KindTally) : Type 0 where
   pub ascending : ArePairs cmp others
   pub same : value_of cmp key others ≡ value_of cmp key counts
   pub tallied : IsTallyOf others tally
 
 -- the totals of a file, from the tally of each kind of points
-abbrev pub totals_by : KindTotals → KindTotals → KindTotals → Totals
+abbrev pub totals_by : KindTally → KindTally → KindTally → Totals
 totals_by lines functions branches = record { lf = lines.found; lh = lines.hit; ff = functions.found; fh = functions.hit; bf = branches.found; bh = branches.hit }
 
 -- some test has the point above 0
-abbrev pub is_hit : Option Tests → Bool
+abbrev pub is_hit : Option TestCounts → Bool
 is_hit numbers = is_above_at (λ tests. nat_lt 0 tests.hit) numbers
 
 -- `less` is the tally after a point's numbers fall from `before` to `after`. One point less is found if no test has the point any
 -- more. One less is hit if the point was hit and isn't any more
-pub record IsLess (tally : KindTotals) (before : Tests) (after : Option Tests) (less : KindTotals) : Type 0 where
+pub record IsLess (tally : KindTally) (before : TestCounts) (after : Option TestCounts) (less : KindTally) : Type 0 where
   pub found : less.found + 1 ≡ tally.found + one_if (is_some after)
   pub hit : less.hit + one_if (is_hit (Some before)) ≡ tally.hit + one_if (is_hit after)
 
-pub record CanBeLess (tally : KindTotals) (before : Tests) (after : Option Tests) : Type 0 where
+pub record CanBeLess (tally : KindTally) (before : TestCounts) (after : Option TestCounts) : Type 0 where
   pub found : 1 ≤ tally.found + one_if (is_some after)
   pub hit : one_if (is_hit (Some before)) ≤ tally.hit + one_if (is_hit after)
   pub falls : is_hit after ≡ true → is_hit (Some before) ≡ true

@@ -35,14 +35,14 @@ Adds items test index test_after index_after =
     × IsIn (rows ++ rows_of_sect (section_of_items file name items)) (files_with file name tests test_after index_after files) file name (put (slice_cmp nat_cmp) name test_after tests) test_after index_after
 
 -- a clash in this file
-abbrev pub clash_told : List ℕ → ℕ → List ℕ → List ℕ → ClashData
-clash_told file line held given = record { file = file; line = line; held = held; given = given }
+abbrev pub clash_in_file : List ℕ → ℕ → List ℕ → List ℕ → ClashData
+clash_in_file file line held given = record { file = file; line = line; held = held; given = given }
 
 -- whatever the other files are: these items clash, and this is their first clash
 abbrev pub ClashesAt : List ItemData → TestData → FileIndexData → ℕ → List ℕ → List ℕ → Type 0
 ClashesAt items test index line held given =
     (rows : List Row) (files : List (List ℕ × FileData)) (file name : List ℕ) (tests : List (List ℕ × TestData)) → IsIn rows files file name tests test index
-    → clash_of rows (rows_of_sect (section_of_items file name items)) ≡ Some (clash_told file line held given)
+    → clash_of rows (rows_of_sect (section_of_items file name items)) ≡ Some (clash_in_file file line held given)
 
 abbrev pub Clashes : {A : Type 0} → List ItemData → TestData → FileIndexData → StageFault A → Type 0
 Clashes items test index Memory = Unit {0}

@@ -81,12 +81,12 @@ section_with_points file texts test points = record {
   lines = map (line_seen texts) points.lines;
 }
 
-abbrev pub has_none : {X : Type 0} → List X → Bool
-has_none [] = true
-has_none (x ∷ xs) = false
+abbrev pub is_empty_list : {X : Type 0} → List X → Bool
+is_empty_list [] = true
+is_empty_list (x ∷ xs) = false
 
 abbrev pub has_no_points : TestData → Bool
-has_no_points points = has_none points.lines && has_none points.functions && has_none points.branches
+has_no_points points = is_empty_list points.lines && is_empty_list points.functions && is_empty_list points.branches
 
 -- this section alone, or no section if the test has no points
 abbrev pub section_seen : List ℕ → List (ℕ × List ℕ) → List ℕ → TestData → List SectionData

@@ -1,7 +1,7 @@
 //! The checksums of a file's lines. A line has one, however many tests hold it.
 
 ghost use Rattle.std.specs.Prelude.{◌≡◌, ◌≤◌, ◌^◌, [], true, Some, is_some, option_map, IfErr, IfSome, OnOk};
-ghost use Rattle.covstore.specs.Checksums.{IsToldOf, IsHeldToo, KeepsTexts, StayTexts, held_more};
+ghost use Rattle.covstore.specs.Checksums.{IsReportedClash, IsHeldToo, KeepsTexts, StayTexts, held_more};
 ghost use Rattle.covstore.specs.PointIndexDrops.{held_less, one_less};
 ghost use Rattle.covmap.specs.Puts.{put, value_of};
 ghost use Rattle.covstore.specs.declared.stage_fault.StageFault.TheVariants as stops;
@@ -61,7 +61,7 @@ impl<A: Allocator + Copy> Checksums<A> {
         ensures text { OnOk result (IsHeldToo line text.now self.old self.new) }
         ensures others { OnOk result (KeepsTexts self.old.staged self.old.texts self.new.staged self.new.texts) }
         ensures stay { StayTexts self.old.committed self.old.texts self.new.texts }
-        ensures clash { IfErr result (IsToldOf self.old line text.now) }
+        ensures clash { IfErr result (IsReportedClash self.old line text.now) }
     {
         let Some(tests) = self.holders.lookup_staged(line) else {
             self.texts.insert(line, Bytes::of(alloc, text)?)?;
@@ -94,7 +94,7 @@ impl<A: Allocator + Copy> Checksums<A> {
         requires held { is_some (value_of nat_cmp line self.now.staged) ≡ true }
         requires kept { is_some (value_of nat_cmp line self.now.texts) ≡ true }
         ensures ok { OnOk result (value_of nat_cmp line self.now.texts ≡ Some text.now) }
-        ensures clash { IfErr result (IsToldOf self.now line text.now) }
+        ensures clash { IfErr result (IsReportedClash self.now line text.now) }
     {
         let Some(held) = self.text(line) else {
             unreachable!();

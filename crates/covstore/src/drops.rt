@@ -81,7 +81,7 @@ pub(crate) fn add_up<A: Allocator + Copy>(files: &BTreeMap<Path<A>, Boxed<File<A
 {
     let mut totals = Totals::none();
     for (_, file) in files.iter() {
-        totals = totals.plus(file.get().totals_now());
+        totals = totals.plus(file.get().committed_totals());
     }
     totals
 }

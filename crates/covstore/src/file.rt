@@ -8,7 +8,7 @@ use crate::copies::stage_values;
 use crate::index::FileIndex;
 use crate::refuse::Refuse;
 use crate::stage_fault::StageFault;
-use crate::stage_section::stage_items;
+use crate::stage_items::stage_items;
 use crate::test::Test;
 use crate::totals::Totals;
 use covline::{Bytes, Item, Memory};
@@ -217,10 +217,10 @@ impl<A: Allocator + Copy> File<A> {
     }
 
     /// The committed totals of the file.
-    pub(crate) fn totals_now(&self) -> Totals
+    pub(crate) fn committed_totals(&self) -> Totals
         ensures { result ≡ file_totals (file_committed self.now) }
     {
-        self.index.totals_now()
+        self.index.committed_totals()
     }
 
     /// Whether the test has committed points.
@@ -254,6 +254,6 @@ impl<A: Allocator + Copy> File<A> {
             let points = points.get();
             return (!points.is_empty(), self.index.totals_without(points));
         }
-        (false, self.index.totals_now())
+        (false, self.index.committed_totals())
     }
 }

@@ -8,7 +8,7 @@ mod drops;
 use crate::checksums::Checksums;
 use crate::index::drops::{drop_checksums, drop_kind, tally_without};
 use crate::keys::{Branch, FunctionName};
-use crate::point_index::{KindTotals, PointIndex};
+use crate::point_index::{KindTally, PointIndex};
 use crate::test::Test;
 use crate::totals::Totals;
 use std::alloc::Allocator;
@@ -90,7 +90,7 @@ impl<A: Allocator + Copy> FileIndex<A> {
     }
 
     /// The committed totals of the file.
-    pub(crate) fn totals_now(&self) -> Totals
+    pub(crate) fn committed_totals(&self) -> Totals
         ensures { result ≡ index_totals (index_committed self.now) }
     {
         totals_of(
@@ -114,7 +114,7 @@ impl<A: Allocator + Copy> FileIndex<A> {
 }
 
 /// The totals of a file, from the tally of each kind of points.
-fn totals_of(lines: KindTotals, functions: KindTotals, branches: KindTotals) -> Totals
+fn totals_of(lines: KindTally, functions: KindTally, branches: KindTally) -> Totals
     ensures { result ≡ totals_by lines functions branches }
 {
     Totals {

@@ -6,49 +6,49 @@ ghost use Rattle.covstore.specs.PointIndexCounts.{found_of, hit_of, tests_fit, t
 ghost use Rattle.covmap.specs.Puts.{ArePairs, value_of};
 ghost use Rattle.covmap.specs.Run.{FitRun, summed};
 
-use crate::sums::{Tests, TestsAddend};
+use crate::sums::{TestCounts, TestsAddend};
 use covmap::{Key, Query, SlotIndex, StagedMap};
 use std::alloc::{AllocError, Allocator};
 use std::marker::Model;
 
 /// How many points are found, and how many of them are hit.
 #[derive(Clone, Copy)]
-pub(crate) struct KindTotals {
+pub(crate) struct KindTally {
     pub found: u64,
     pub hit: u64,
 }
 
-impl KindTotals {
+impl KindTally {
     ghost use Rattle.std.specs.Prelude.{nat_lt, count_by};
     ghost use Rattle.covstore.specs.PointIndexCounts.{is_above_at, is_new, one_if};
     ghost use Rattle.covstore.specs.PointIndexDrops.{CanBeLess, IsLess};
 
     /// The tally after a point's numbers grow. The point is newly found if it had no numbers, and newly hit if it wasn't hit
     /// before.
-    fn more(self, before: &Option<Tests>, after: &Tests) -> KindTotals
+    fn more(self, before: &Option<TestCounts>, after: &TestCounts) -> KindTally
         requires found { self.found < 2 ^ 63 }
         requires hit { self.hit < 2 ^ 63 }
         requires rises { IfSome before.now (λ numbers. numbers.hit ≤ after.now.hit) }
         ensures found { result.found ≡ self.found + one_if (is_new before.now) }
         ensures hit { result.hit + one_if (is_above_at (λ numbers. nat_lt 0 numbers.hit) before.now) ≡ self.hit + one_if (nat_lt 0 after.now.hit) }
     {
-        let was_hit = Tests::is_hit(before);
+        let was_hit = TestCounts::is_hit(before);
         let is_new = before.is_none();
-        KindTotals {
+        KindTally {
             found: self.found + u64::from(is_new),
             hit: self.hit + u64::from(after.hit.get() > 0 && !was_hit),
         }
     }
 
-    /// The tally after the numbers of a run of points grow. `told` lists the points that are newly found, newly hit, or both.
-    fn with_told<Q>(self, told: &[(Q, TestsAddend)]) -> KindTotals
-        requires found { self.found + length told.now ≤ 2 ^ 63 }
-        requires hit { self.hit + length told.now ≤ 2 ^ 63 }
-        ensures found { result.found ≡ self.found + count_by (λ item. item.1.is_new) told.now }
-        ensures hit { result.hit ≡ self.hit + count_by (λ item. item.1.is_hit) told.now }
+    /// The tally after the numbers of a run of points grow. `reports` lists the points that are newly found, newly hit, or both.
+    fn with_reports<Q>(self, reports: &[(Q, TestsAddend)]) -> KindTally
+        requires found { self.found + length reports.now ≤ 2 ^ 63 }
+        requires hit { self.hit + length reports.now ≤ 2 ^ 63 }
+        ensures found { result.found ≡ self.found + count_by (λ item. item.1.is_new) reports.now }
+        ensures hit { result.hit ≡ self.hit + count_by (λ item. item.1.is_hit) reports.now }
     {
         let mut tally = self;
-        for item in told {
+        for item in reports {
             tally.found += u64::from(item.1.is_new);
             tally.hit += u64::from(item.1.is_hit);
         }
@@ -57,14 +57,14 @@ impl KindTotals {
 
     /// The tally after a point's numbers fall. One point less is found if no test has the point any more. One less is hit if the
     /// point was hit and isn't any more.
-    fn less(self, before: &Tests, after: &Option<Tests>) -> KindTotals
+    fn less(self, before: &TestCounts, after: &Option<TestCounts>) -> KindTally
         requires { CanBeLess self before.now after.now }
         ensures { IsLess self before.now after.now result }
     {
         // A point never becomes hit when its numbers fall. So if `stays_hit` is false, it was hit and isn't any more.
         let stays = after.is_some();
-        let stays_hit = (before.hit.get() > 0) == Tests::is_hit(after);
-        KindTotals {
+        let stays_hit = (before.hit.get() > 0) == TestCounts::is_hit(after);
+        KindTally {
             found: if stays { self.found } else { self.found - 1 },
             hit: if stays_hit { self.hit } else { self.hit - 1 },
         }
@@ -75,7 +75,7 @@ impl KindTotals {
 /// at first for the next point.
 #[derive(Clone, Copy)]
 pub(crate) struct TallyWalk {
-    pub tally: KindTotals,
+    pub tally: KindTally,
     place: SlotIndex,
 }
 
@@ -83,17 +83,17 @@ pub(crate) struct TallyWalk {
 /// the points with these numbers.
 #[derive(Drop)]
 pub(crate) struct PointIndex<K: Key, A: Allocator> {
-    counts: StagedMap<K, Tests, A>,
-    totals: KindTotals,
-    staged_totals: KindTotals,
+    counts: StagedMap<K, TestCounts, A>,
+    totals: KindTally,
+    staged_totals: KindTally,
 }
 
 impl<K: Key, A: Allocator> Model for PointIndex<K, A> {
-    ghost use Rattle.covstore.specs.declared.sums.Tests.{Tests};
+    ghost use Rattle.covstore.specs.declared.sums.TestCounts.{TestCounts};
     ghost use Rattle.covmap.specs.MapData.{MapData};
     ghost use Rattle.covstore.specs.PointIndex.{IsTallyOf};
 
-    ghost Value = { MapData K Tests };
+    ghost Value = { MapData K TestCounts };
 
     ghost view = { λ k. k.counts };
 
@@ -106,7 +106,7 @@ impl<K: Key + Drop, A: Allocator + Copy> PointIndex<K, A> {
         ensures committed { result.committed ≡ [] }
         ensures staged { result.staged ≡ [] }
     {
-        let none = KindTotals { found: 0, hit: 0 };
+        let none = KindTally { found: 0, hit: 0 };
         PointIndex {
             counts: StagedMap::new(alloc),
             totals: none,
@@ -159,13 +159,13 @@ impl<K: Key + Drop, A: Allocator + Copy> PointIndex<K, A> {
         if changes.is_empty() {
             return Ok(());
         }
-        let mut told = Vec::with_capacity(alloc, changes.len())?;
-        if let Err(refused) = self.counts.stage_run(alloc, changes, &mut told) {
+        let mut reports = Vec::with_capacity(alloc, changes.len())?;
+        if let Err(refused) = self.counts.stage_run(alloc, changes, &mut reports) {
             self.counts.rollback();
             self.staged_totals = self.totals;
             return Err(refused);
         }
-        self.staged_totals = self.staged_totals.with_told(told.as_slice());
+        self.staged_totals = self.staged_totals.with_reports(reports.as_slice());
         Ok(())
     }
 
@@ -188,7 +188,7 @@ impl<K: Key + Drop, A: Allocator + Copy> PointIndex<K, A> {
     }
 
     /// The staged tally: how many points are found, and how many of them are hit.
-    pub(crate) fn staged(&self) -> KindTotals
+    pub(crate) fn staged(&self) -> KindTally
         ensures found { result.found ≡ found_of self.now.staged }
         ensures hit { result.hit ≡ hit_of self.now.staged }
     {
@@ -196,7 +196,7 @@ impl<K: Key + Drop, A: Allocator + Copy> PointIndex<K, A> {
     }
 
     /// The committed tally: how many points are found, and how many of them are hit.
-    pub(crate) fn committed(&self) -> KindTotals
+    pub(crate) fn committed(&self) -> KindTally
         ensures found { result.found ≡ found_of self.now.committed }
         ensures hit { result.hit ≡ hit_of self.now.committed }
     {
@@ -206,7 +206,7 @@ impl<K: Key + Drop, A: Allocator + Copy> PointIndex<K, A> {
 
 impl<K: Key, A: Allocator> PointIndex<K, A> {
     ghost use Rattle.std.specs.Prelude.{List};
-    ghost use Rattle.covstore.specs.declared.sums.Tests.{Tests};
+    ghost use Rattle.covstore.specs.declared.sums.TestCounts.{TestCounts};
     ghost use Rattle.covstore.specs.PointIndex.{IsTallyOf};
     ghost use Rattle.covstore.specs.PointIndexDrops.{CanLose, IsTallyAt, counts_without};
 
@@ -243,8 +243,8 @@ impl<K: Key, A: Allocator> PointIndex<K, A> {
         was_above: bool,
     ) -> TallyWalk
         requires lose { CanLose was_above (value_of K.cmp (Q.named query) self.now.committed) }
-        requires at { (others : List (K × Tests)) × IsTallyAt K.cmp (Q.named query) self.now.committed others walk.tally }
-        ensures { (others : List (K × Tests)) → IsTallyAt K.cmp (Q.named query) self.now.committed others walk.tally → IsTallyOf (counts_without K.cmp (Q.named query) was_above others) result.tally }
+        requires at { (others : List (K × TestCounts)) × IsTallyAt K.cmp (Q.named query) self.now.committed others walk.tally }
+        ensures { (others : List (K × TestCounts)) → IsTallyAt K.cmp (Q.named query) self.now.committed others walk.tally → IsTallyOf (counts_without K.cmp (Q.named query) was_above others) result.tally }
     {
         let (numbers, place) = self.counts.lookup_at(query, walk.place);
         let Some(before) = numbers else {

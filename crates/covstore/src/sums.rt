@@ -13,7 +13,7 @@ use crate::packed_u64::PackedU64;
 use crate::packed_u128::PackedU128;
 use covmap::{Addend, ReportingAddend, Value};
 
-/// A value of a point that may be above 0: what the items of a test add up to there, or how many tests have the point (`Tests`).
+/// A value of a point that may be above 0: what the items of a test add up to there, or how many tests have the point (`TestCounts`).
 pub(crate) trait PointSum: Value {
     ghost above: { Self → Bool };
 
@@ -29,7 +29,7 @@ pub(crate) trait PointAddend<S: PointSum>: ReportingAddend<S, TestsAddend> {
 
     ghost stays: { (more : Self) (before : Option S) → is_above_at S.above before ≡ true → S.above (Self.sum more before) ≡ true };
 
-    ghost tells: { (more : Self) (before : Option S) (after : S) → Self.told more before after ≡ change_of S.above before after };
+    ghost tells: { (more : Self) (before : Option S) (after : S) → Self.reports more before after ≡ change_of S.above before after };
 }
 
 /// Whether there is a sum, and it is above 0.
@@ -69,7 +69,7 @@ const _: () = prove!(size_of::<Option<FunctionSum>>() <= 28);
 
 const _: () = prove!(size_of::<Option<BranchSum>>() <= 24);
 
-const _: () = prove!(size_of::<Option<Tests>>() <= 20);
+const _: () = prove!(size_of::<Option<TestCounts>>() <= 20);
 
 /// A line's item: its count, and whether it has a checksum.
 #[derive(Clone, Copy)]
@@ -100,7 +100,7 @@ impl Addend<LineSum> for LineAddend {
 }
 
 impl ReportingAddend<LineSum, TestsAddend> for LineAddend {
-    ghost told = { λ more before after. change_of line_above before after };
+    ghost reports = { λ more before after. change_of line_above before after };
 
     fn report(self, before: &Option<LineSum>, after: &LineSum) -> Option<TestsAddend> {
         TestsAddend::of(before, after)
@@ -142,7 +142,7 @@ impl Addend<FunctionSum> for FunctionAddend {
 }
 
 impl ReportingAddend<FunctionSum, TestsAddend> for FunctionAddend {
-    ghost told = { λ more before after. change_of function_above before after };
+    ghost reports = { λ more before after. change_of function_above before after };
 
     fn report(self, before: &Option<FunctionSum>, after: &FunctionSum) -> Option<TestsAddend> {
         TestsAddend::of(before, after)
@@ -180,7 +180,7 @@ impl Addend<BranchSum> for BranchAddend {
 }
 
 impl ReportingAddend<BranchSum, TestsAddend> for BranchAddend {
-    ghost told = { λ more before after. change_of branch_above before after };
+    ghost reports = { λ more before after. change_of branch_above before after };
 
     fn report(self, before: &Option<BranchSum>, after: &BranchSum) -> Option<TestsAddend> {
         TestsAddend::of(before, after)
@@ -219,12 +219,12 @@ impl TestsAddend {
     }
 }
 
-impl Addend<Tests> for TestsAddend {
+impl Addend<TestCounts> for TestsAddend {
     ghost fits = { tests_fit };
 
     ghost sum = { tests_with };
 
-    fn plus(self, value: &Option<Tests>) -> Tests
+    fn plus(self, value: &Option<TestCounts>) -> TestCounts
         requires { tests_fit self value.now }
         ensures { result ≡ tests_with self value.now }
     {
@@ -232,7 +232,7 @@ impl Addend<Tests> for TestsAddend {
             Some(value) => (value.tests.get(), value.hit.get()),
             None => (0, 0),
         };
-        Tests {
+        TestCounts {
             tests: PackedU64::of(if self.is_new { tests + 1 } else { tests }),
             hit: PackedU64::of(if self.is_hit { hit + 1 } else { hit }),
         }
@@ -240,26 +240,26 @@ impl Addend<Tests> for TestsAddend {
 }
 
 /// Reports whether the point is new in the file, and whether some test has it above 0 for the first time.
-impl ReportingAddend<Tests, TestsAddend> for TestsAddend {
-    ghost told = { λ more before after. change_of is_hit_by_some before after };
+impl ReportingAddend<TestCounts, TestsAddend> for TestsAddend {
+    ghost reports = { λ more before after. change_of is_hit_by_some before after };
 
-    fn report(self, before: &Option<Tests>, after: &Tests) -> Option<TestsAddend> {
+    fn report(self, before: &Option<TestCounts>, after: &TestCounts) -> Option<TestsAddend> {
         TestsAddend::of(before, after)
     }
 }
 
 /// How many tests of a file have a point, and how many have it above 0.
 #[derive(Drop)]
-pub(crate) struct Tests {
+pub(crate) struct TestCounts {
     pub tests: PackedU64,
     pub hit: PackedU64,
 }
 
-impl Tests {
+impl TestCounts {
     ghost use Rattle.covstore.specs.PointIndexDrops.{HaveOne, fewer_tests, is_hit};
 
     /// Whether some test has the point above 0.
-    pub(crate) fn is_hit(value: &Option<Tests>) -> bool
+    pub(crate) fn is_hit(value: &Option<TestCounts>) -> bool
         ensures { result ≡ is_hit value.now }
     {
         match value {
@@ -269,7 +269,7 @@ impl Tests {
     }
 
     /// The numbers without one test, or `None` if it was the only one. `was_above`: the test had the point above 0.
-    pub(crate) fn fewer(&self, was_above: bool) -> Option<Tests>
+    pub(crate) fn fewer(&self, was_above: bool) -> Option<TestCounts>
         requires { HaveOne was_above self.now }
         ensures { result ≡ fewer_tests was_above self.now }
     {
@@ -277,7 +277,7 @@ impl Tests {
         if tests <= 1 {
             return None;
         }
-        Some(Tests {
+        Some(TestCounts {
             tests: PackedU64::of(tests - 1),
             hit: PackedU64::of(if was_above { hit - 1 } else { hit }),
         })
@@ -316,11 +316,11 @@ impl Value for BranchSum {
     }
 }
 
-impl Value for Tests {
-    fn copy(&self) -> Tests
+impl Value for TestCounts {
+    fn copy(&self) -> TestCounts
         ensures { result ≡ self.now }
     {
-        Tests {
+        TestCounts {
             tests: self.tests.copy(),
             hit: self.hit.copy(),
         }
@@ -351,7 +351,7 @@ impl PointSum for BranchSum {
     }
 }
 
-impl PointSum for Tests {
+impl PointSum for TestCounts {
     ghost above = { is_hit_by_some };
 
     fn is_above(&self) -> bool {

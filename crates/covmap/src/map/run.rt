@@ -1,7 +1,7 @@
 //! A run of keys with addends, staged at once.
 
 ghost use Rattle.std.specs.Prelude.{◌≡◌, ◌<◌, ◌≤◌, ◌++◌, IfOk, OnOk, length, take};
-ghost use Rattle.covmap.specs.Run.{FitRun, summed, told_run};
+ghost use Rattle.covmap.specs.Run.{FitRun, summed, reports_run};
 
 use crate::key::{Key, Query, ReportingAddend, Value};
 use crate::map::StagedMap;
@@ -10,7 +10,7 @@ use std::alloc::{AllocError, Allocator};
 
 impl<K: Key + Drop, V: Value, A: Allocator + Copy> StagedMap<K, V, A> {
     /// Stages, for each item in turn, the sum of its key's staged value and its addend. Appends what the addends report to the
-    /// list `told`. Keys may come in any order, and more than once.
+    /// list `reports`. Keys may come in any order, and more than once.
     ///
     /// Ascending keys that have slots are looked up once for each page that they are on. New keys that are greater than all
     /// others get a page at once, unless fewer than 32 items are left and the last page has room. Any other new key is inserted
@@ -23,16 +23,16 @@ impl<K: Key + Drop, V: Value, A: Allocator + Copy> StagedMap<K, V, A> {
         &mut self,
         alloc: A,
         run: &[(Q, M)],
-        told: &mut Vec<(Q, N), A>,
+        reports: &mut Vec<(Q, N), A>,
     ) -> Result<(), AllocError>
         requires { FitRun K.cmp Q.named M.fits M.sum run.now self.old.staged }
         ensures committed { self.new.committed ≡ self.old.committed }
         ensures ok { OnOk result (self.new.staged ≡ summed K.cmp Q.named M.sum run.now self.old.staged) }
-        ensures told { OnOk result (told.new.items ≡ told.old.items ++ told_run K.cmp Q.named M.sum M.told run.now self.old.staged) }
+        ensures reports { OnOk result (reports.new.items ≡ reports.old.items ++ reports_run K.cmp Q.named M.sum M.reports run.now self.old.staged) }
     {
         let mut rest = run;
         while !rest.is_empty() {
-            let count = self.stage_some(alloc, rest, told)?;
+            let count = self.stage_some(alloc, rest, reports)?;
             rest = rest.split_at(count).1;
         }
         Ok(())
@@ -43,17 +43,19 @@ impl<K: Key + Drop, V: Value, A: Allocator + Copy> StagedMap<K, V, A> {
         &mut self,
         alloc: A,
         run: &[(Q, M)],
-        told: &mut Vec<(Q, N), A>,
+        reports: &mut Vec<(Q, N), A>,
     ) -> Result<usize, AllocError>
         requires some { 0 < length run.now }
         requires fits { FitRun K.cmp Q.named M.fits M.sum run.now self.old.staged }
         ensures committed { self.new.committed ≡ self.old.committed }
         ensures count { IfOk result (λ count. (0 < count) × (count ≤ length run.now)) }
         ensures ok { IfOk result (λ count. self.new.staged ≡ summed K.cmp Q.named M.sum (take count run.now) self.old.staged) }
-        ensures told { IfOk result (λ count. told.new.items ≡ told.old.items ++ told_run K.cmp Q.named M.sum M.told (take count run.now) self.old.staged) }
+        ensures reports { IfOk result (λ count. reports.new.items ≡ reports.old.items ++ reports_run K.cmp Q.named M.sum M.reports (take count run.now) self.old.staged) }
     {
         let place = make_slots(&mut self.slots, &mut self.staged, alloc, run, self.cursor)?;
-        let along = self.staged.add_run(alloc, &self.slots, place, run, told)?;
+        let along = self
+            .staged
+            .add_run(alloc, &self.slots, place, run, reports)?;
         self.cursor = place.at(along.next);
         Ok(along.count)
     }

@@ -6,7 +6,7 @@ ghost use Rattle.covbook.specs.Step.{max_entries, ops_in};
 ghost use Rattle.covbook.specs.View.{op_data};
 ghost use Rattle.covsession.specs.Broken.{FailsAfter, FailsTaking, IsLinePart, IsPart};
 ghost use Rattle.covsession.specs.Streams.{moment, CanCall};
-ghost use Rattle.covsession.specs.Rename.{HasNames, IsThere, TakesName, TakesNames};
+ghost use Rattle.covsession.specs.Rename.{LacksName, IsThere, TakesName, TakesNames};
 ghost use Rattle.covsession.specs.Run.{TakesAfter};
 ghost use Rattle.covsession.specs.declared.session.fault.SessionFault.TheVariants as session_faults;
 
@@ -71,7 +71,7 @@ fn take_names<I: Source, O: Sink, A: Allocator + Copy>(
     requires { CanCall (moment input.old output.old) }
     ensures taken { IfOk result (λ names. TakesNames (moment input.old output.old) (moment input.new output.new) names) }
     ensures fault { IfErr result (λ f. f ≢ session_faults.Full) }
-    ensures fails { IfErr result (λ f. FailsTaking (IsPart HasNames) (moment input.old output.old) (moment input.new output.new) f) }
+    ensures fails { IfErr result (λ f. FailsTaking (IsPart LacksName) (moment input.old output.old) (moment input.new output.new) f) }
 {
     let Some((old, first)) = take_name(alloc, input, output)? else {
         return Ok(None);
@@ -103,7 +103,7 @@ pub fn answer_rename<I: Source, O: Sink, A: Allocator + Copy>(
     ensures takes { IfOk result (λ ending. TakesAfter (λ line. line ≡ codes "rename")
         (moment input.old output.old) (moment input.new output.new) (ops_in book.old.entries) (ops_in book.new.entries) ending) }
     ensures full { result ≡ Err session_faults.Full → length book.old.entries ≡ max_entries }
-    ensures fails { IfErr result (λ f. FailsTaking (IsPart HasNames) (moment input.old output.old) (moment input.new output.new) f
+    ensures fails { IfErr result (λ f. FailsTaking (IsPart LacksName) (moment input.old output.old) (moment input.new output.new) f
         ⊎ FailsAfter (λ line. line ≡ codes "rename") (moment input.old output.old) (moment input.new output.new) (ops_in book.old.entries) f) }
 {
     let Some(names) = take_names(alloc, input, output)? else {

@@ -5,7 +5,7 @@ ghost use Rattle.covstore.specs.PointIndexDrops.{AreHoldersWith, AreWith, IsTall
 
 use crate::checksums::Checksums;
 use crate::keys::PointKey;
-use crate::point_index::{KindTotals, PointIndex};
+use crate::point_index::{KindTally, PointIndex};
 use crate::sums::{LineSum, PointSum};
 use covmap::StagedMap;
 use std::alloc::Allocator;
@@ -49,7 +49,7 @@ pub(super) fn drop_checksums<A: Allocator + Copy>(
 pub(super) fn tally_without<'a, K: PointKey<'a, A>, S: PointSum, A: Allocator>(
     kept: &PointIndex<K, A>,
     points: &'a StagedMap<K, S, A>,
-) -> KindTotals
+) -> KindTally
     requires { AreWith K.cmp S.above points.now.committed kept.now.committed }
     ensures { IsTallyWithout K.cmp S.above points.now.committed kept.now.committed result }
 {

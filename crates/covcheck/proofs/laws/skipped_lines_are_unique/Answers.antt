@@ -2,7 +2,7 @@ use Rattle.std.proofs.Common.{ℕ, List}
 use Rattle.std.specs.List.{enumerate_from}
 use Rattle.covline.specs.Lines.{lines_of}
 use Rattle.covcheck.specs.Skipped.{IsSkippedGcov, IsSkippedRecord}
-use Rattle.covcheck.proofs.Those.{those_are_one}
+use Rattle.covcheck.proofs.AllThat.{those_are_one}
 use Rattle.covcheck.proofs.laws.skipped_lines_are_unique.Goals as goal
 
 pub returns : goal.returns

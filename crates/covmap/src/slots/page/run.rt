@@ -2,7 +2,7 @@
 
 ghost use Rattle.std.specs.Prelude.{◌≡◌, ◌<◌, ◌≤◌, ◌++◌, IfOk, OnOk, length, slice_get};
 ghost use Rattle.std.specs.declared.cmp.Ordering.TheVariants.{Equal};
-ghost use Rattle.covmap.specs.Run.{told_one};
+ghost use Rattle.covmap.specs.Run.{reports_one};
 ghost use Rattle.covmap.specs.RunPage.{FirstHere, FitHere, IsAlong, IsNewPage, value_summed};
 ghost use Rattle.covmap.specs.Slots.{IsAscending, order_at, value_in};
 
@@ -32,7 +32,7 @@ impl<K: Key, V: Value, A: Allocator> Page<K, V, A> {
         column: &mut [Option<V>],
         start: usize,
         run: &[(Q, M)],
-        told: &mut Vec<(Q, N), A>,
+        reports: &mut Vec<(Q, N), A>,
     ) -> Result<Along, AllocError>
         requires ascending { IsAscending K.cmp self.now }
         requires long { length column.old ≡ length self.now }
@@ -41,7 +41,7 @@ impl<K: Key, V: Value, A: Allocator> Page<K, V, A> {
         ensures long { length column.new ≡ length column.old }
         ensures some { IfOk result (λ along. 0 < length run.now → 0 < along.count) }
         ensures count { IfOk result (λ along. along.count ≤ length run.now) }
-        ensures added { IfOk result (λ along. IsAlong K.cmp Q.named M.sum M.told self.now run.now along.count column.old column.new told.old.items told.new.items) }
+        ensures added { IfOk result (λ along. IsAlong K.cmp Q.named M.sum M.reports self.now run.now along.count column.old column.new reports.old.items reports.new.items) }
     {
         let mut next = start;
         let mut count = 0;
@@ -51,7 +51,7 @@ impl<K: Key, V: Value, A: Allocator> Page<K, V, A> {
             if !self.order(index, query).is_eq() {
                 return Ok(Along { count, next });
             }
-            add_at(column, index, query, addend, told)?;
+            add_at(column, index, query, addend, reports)?;
             next = index.saturating_add(1);
             count += 1;
         }
@@ -115,36 +115,36 @@ impl<K: Drop, V: Value, A: Allocator + Copy> Page<K, V, A> {
     }
 }
 
-/// Adds an item to the value in its slot of a column. Appends what the addend reports, if anything, to `told`.
+/// Adds an item to the value in its slot of a column. Appends what the addend reports, if anything, to `reports`.
 fn add_at<V: Drop, A: Allocator, Q: Copy, N: Drop, M: ReportingAddend<V, N>>(
     column: &mut [Option<V>],
     slot: usize,
     query: Q,
     addend: M,
-    told: &mut Vec<(Q, N), A>,
+    reports: &mut Vec<(Q, N), A>,
 ) -> Result<(), AllocError>
     requires there { slot < length column.old }
     requires fits { M.fits addend (value_in (slice_get column.old slot)) }
     ensures column { column.new ≡ value_summed M.sum slot (query, addend) column.old }
-    ensures told { OnOk result (told.new.items ≡ told.old.items ++ told_one query (M.told addend (value_in (slice_get column.old slot)) (M.sum addend (value_in (slice_get column.old slot))))) }
+    ensures reports { OnOk result (reports.new.items ≡ reports.old.items ++ reports_one query (M.reports addend (value_in (slice_get column.old slot)) (M.sum addend (value_in (slice_get column.old slot))))) }
 {
     let after = addend.plus(&column[slot]);
     let note = addend.report(&column[slot], &after);
     column[slot] = Some(after);
-    push_told(told, query, note)
+    push_reports(reports, query, note)
 }
 
 /// Appends a report, if there is one.
-fn push_told<Q: Copy, N: Drop, A: Allocator>(
-    told: &mut Vec<(Q, N), A>,
+fn push_reports<Q: Copy, N: Drop, A: Allocator>(
+    reports: &mut Vec<(Q, N), A>,
     query: Q,
     note: Option<N>,
 ) -> Result<(), AllocError>
-    ensures { OnOk result (told.new.items ≡ told.old.items ++ told_one query note) }
+    ensures { OnOk result (reports.new.items ≡ reports.old.items ++ reports_one query note) }
 {
     match note {
         Some(note) => {
-            told.push((query, note))?;
+            reports.push((query, note))?;
             Ok(())
         }
         None => Ok(()),

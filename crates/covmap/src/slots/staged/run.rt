@@ -1,7 +1,7 @@
 //! Adds a run of keys with addends to the staged values of one page.
 
 ghost use Rattle.std.specs.Prelude.{◌≡◌, ◌<◌, ◌≤◌, ◌++◌, IfOk, length, take};
-ghost use Rattle.covmap.specs.Run.{FitRun, summed, told_run};
+ghost use Rattle.covmap.specs.Run.{FitRun, summed, reports_run};
 ghost use Rattle.covmap.specs.RunPage.{FirstHere};
 ghost use Rattle.covmap.specs.Slots.{filled, page_at, slots_of};
 ghost use Rattle.covmap.specs.Staged.{AreColumnsOf, staged_of};
@@ -21,7 +21,7 @@ impl<V: Value, A: Allocator> StagedColumns<V, A> {
         slots: &Slots<K, V, A>,
         place: SlotIndex,
         run: &[(Q, M)],
-        told: &mut Vec<(Q, N), A>,
+        reports: &mut Vec<(Q, N), A>,
     ) -> Result<Along, AllocError>
         requires some { 0 < length run.now }
         requires first { FirstHere K.cmp Q.named (page_at slots.now place.page) place.index run.now }
@@ -30,12 +30,12 @@ impl<V: Value, A: Allocator> StagedColumns<V, A> {
         ensures columns { AreColumnsOf slots.now self.new }
         ensures count { IfOk result (λ along. (0 < along.count) × (along.count ≤ length run.now)) }
         ensures ok { IfOk result (λ along. filled (slots_of (staged_of slots.now self.new)) ≡ summed K.cmp Q.named M.sum (take along.count run.now) (filled (slots_of (staged_of slots.now self.old)))) }
-        ensures told { IfOk result (λ along. told.new.items ≡ told.old.items ++ told_run K.cmp Q.named M.sum M.told (take along.count run.now) (filled (slots_of (staged_of slots.now self.old)))) }
+        ensures reports { IfOk result (λ along. reports.new.items ≡ reports.old.items ++ reports_run K.cmp Q.named M.sum M.reports (take along.count run.now) (filled (slots_of (staged_of slots.now self.old)))) }
     {
         slots.are_whole();
         let index = self.touch(alloc, slots, place.page)?;
         let page = slots.page_there(place.page);
-        let along = page.add_along(&mut self.columns[index].1, place.index, run, told)?;
+        let along = page.add_along(&mut self.columns[index].1, place.index, run, reports)?;
         Ok(along)
     }
 }

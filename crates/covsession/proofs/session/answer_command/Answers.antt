@@ -9,7 +9,7 @@ use Rattle.covsession.proofs.SessionRename.{names_last}
 use Rattle.covsession.proofs.SessionSteps.{line_command, says_on, taken_run, after_command}
 use Rattle.std.proofs.Common.{inl, inr, refl}
 use Rattle.std.proofs.lemmas.Result.{err_from_is_err_and}
-use Rattle.covsession.specs.Rename.{HasNames}
+use Rattle.covsession.specs.Rename.{LacksName}
 use Rattle.covsession.proofs.SessionBroken.{either_with_line, fails_after_line, fails_in_line, fails_line, given_fails}
 use Rattle.covsession.proofs.SessionOpen.{open_rename, open_text}
 use Rattle.covsession.proofs.session.answer_command.Goals as goal
@@ -121,7 +121,7 @@ returns-in_err-ended-clause-fails g c =
     let o = moment c.answer_rename.new.input c.answer_rename.new.output in
     let follows = c.names_after.ensures.0 c.if-names_after.true in
     let p = err_from_is_err_and c.from_residual-in_err-ended.result c.from_residual-in_err-ended.ensures.1 in
-    rw (p.1, p.2) (either_with_line (λ line. line ≡ codes "rename") HasNames m n o t.0 c.in_ok-ending.ending before c.in_err-ended.field-0.0
+    rw (p.1, p.2) (either_with_line (λ line. line ≡ codes "rename") LacksName m n o t.0 c.in_ok-ending.ending before c.in_err-ended.field-0.0
     t.1 follows.1 (subst Q follows.0 word) (λ first pieces is part. open_rename first pieces is part) c.in_err-ended.ensures.fails)
 
 pub returns-in_err-answer_word-clause-fails : goal.returns-in_err-answer_word-clause-fails

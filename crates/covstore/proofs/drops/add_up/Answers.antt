@@ -23,7 +23,7 @@ plus-totals-requires g c =
     let all = files_committed file_name c.args.files.now.entries in
     let before = subst (λ (pairs : List (Vec ℕ g.row.A.Denot × File g.row.A.Denot)). IsAddedUp all (files_committed file_name pairs) c.loop-file.totals)
     (c.in-Some.ensures.steps ∙ ap (λ (file : File g.row.A.Denot). (c.in-Some.field-0-0.now, file) ∷ c.next.new.self) (sym c.get.ensures)) c.loop-file.invariant.2 in
-    subst (λ (own : Totals). FitTogether own c.loop-file.totals) (sym c.totals_now.ensures)
+    subst (λ (own : Totals). FitTogether own c.loop-file.totals) (sym c.committed_totals.ensures)
     (one_fits all (c.in-Some.field-0-0.now.items, file_committed c.get.result.now) (files_committed file_name c.next.new.self) c.loop-file.totals before c.requires)
 
 pub loop-file-preserved : goal.loop-file-preserved
@@ -32,7 +32,7 @@ loop-file-preserved g c =
     let left = files_committed file_name c.next.new.self in
     let before = subst (λ (pairs : List (Vec ℕ g.row.A.Denot × File g.row.A.Denot)). IsAddedUp all (files_committed file_name pairs) c.loop-file.totals)
     (c.in-Some.ensures.steps ∙ ap (λ (file : File g.row.A.Denot). (c.in-Some.field-0-0.now, file) ∷ c.next.new.self) (sym c.get.ensures)) c.loop-file.invariant.2 in
-    let added = c.plus-totals.ensures ∙ ap (together c.loop-file.totals) c.totals_now.ensures in (
+    let added = c.plus-totals.ensures ∙ ap (together c.loop-file.totals) c.committed_totals.ensures in (
       tt,
       tt,
       subst (IsAddedUp all left) (sym added) (one_added all (c.in-Some.field-0-0.now.items, file_committed c.get.result.now) left c.loop-file.totals before),

@@ -2,7 +2,7 @@ use Rattle.std.proofs.Common.{refl}
 use Rattle.covstore.specs.FileIndexView.{index_staged}
 use Rattle.covstore.specs.Kinds.{Branch}
 use Rattle.covstore.specs.TestView.{test_staged}
-use Rattle.covstore.proofs.Axis.{room_in}
+use Rattle.covstore.proofs.EachKind.{room_in}
 use Rattle.covstore.proofs.StepsKept.{keeps_point}
 use Rattle.covstore.proofs.items.stage_branch.Goals as goal
 

@@ -10,7 +10,7 @@ use Rattle.covstore.specs.Sums.{line_with}
 use Rattle.covstore.specs.TestView.{test_staged}
 use Rattle.covstore.specs.FileIndexView.{index_staged}
 use Rattle.covstore.specs.Kinds.{Line}
-use Rattle.covstore.proofs.Axis.{room_in}
+use Rattle.covstore.proofs.EachKind.{room_in}
 use Rattle.covstore.proofs.StepsItems.{held_by_test, holders_few}
 use Rattle.covstore.proofs.StepsKept.{keeps_line_bare, keeps_line_checked}
 use Rattle.covstore.proofs.StepsCounts.{line_bare, line_checked}

@@ -10,7 +10,7 @@ use Rattle.covstore.specs.Runs.{points_with, sum_of, with_runs}
 use Rattle.covstore.specs.RunsView.{runs_seen}
 use Rattle.covstore.specs.TestView.{test_staged}
 use Rattle.covstore.specs.Value.{branch_cmp}
-use Rattle.covstore.proofs.Axis.{each_kind, same_test}
+use Rattle.covstore.proofs.EachKind.{each_kind, same_test}
 use Rattle.covstore.proofs.RunsKept.{room_as_long}
 use Rattle.covstore.proofs.RunsSums.{summed_as}
 use Rattle.covstore.proofs.runs.stage_runs.Goals as goal

@@ -1,5 +1,5 @@
 use Rattle.std.proofs.Common.{ℕ, List, Option, subst}
-use Rattle.covsession.specs.Rename.{HasNames, TakesName}
+use Rattle.covsession.specs.Rename.{LacksName, TakesName}
 use Rattle.covsession.specs.Streams.{AreCut, moment}
 use Rattle.covsession.specs.declared.session.text.LineEnd.{LineEnd}
 use Rattle.covsession.proofs.SessionRename.{names_short, names_both}
@@ -36,7 +36,7 @@ returns-in_err-new-clause-fails g c =
     let name = subst P c.in-Some.is c.in_ok-old.ensures.taken in
     let Q : LineEnd → Type 0 = λ e. AreCut e name.1.bytes (name.0 ∷ []) in
     let p = err_from_is_err_and c.from_residual-in_err-new.result c.from_residual-in_err-new.ensures.1 in
-    rw (p.1, p.2) (taking_later HasNames m n o c.in_err-new.field-0.0 (name.0 ∷ []) name.1.bytes (subst Q c.in-Feed.is name.1.cut) (omega arith) name.1.moves
+    rw (p.1, p.2) (taking_later LacksName m n o c.in_err-new.field-0.0 (name.0 ∷ []) name.1.bytes (subst Q c.in-Feed.is name.1.cut) (omega arith) name.1.moves
     c.in_err-new.ensures.fails)
 
 pub returns-in_err-old-clause-fails : goal.returns-in_err-old-clause-fails
@@ -44,4 +44,4 @@ returns-in_err-old-clause-fails g c =
     let m = moment c.args.input.now c.args.output.now in
     let n = moment c.take_name.new.input c.take_name.new.output in
     let p = err_from_is_err_and c.from_residual.result c.from_residual.ensures.1 in
-    rw (p.1, p.2) (taking_first HasNames m n c.in_err-old.field-0.0 (omega arith) c.in_err-old.ensures.fails)
+    rw (p.1, p.2) (taking_first LacksName m n c.in_err-old.field-0.0 (omega arith) c.in_err-old.ensures.fails)

@@ -4,7 +4,7 @@ use Rattle.std.specs.Ordering.{nat_cmp}
 use Rattle.covstore.specs.FileView.{file_staged, file_committed}
 use Rattle.covstore.specs.TestView.{test_staged, test_committed}
 use Rattle.covstore.proofs.AddsSettled.{test_inserted}
-use Rattle.covstore.proofs.Opens.{test_there, test_opened}
+use Rattle.covstore.proofs.WithTest.{test_there, test_opened}
 use Rattle.covstore.proofs.file.File.open.Goals as goal
 
 pub returns-then-contains_key-clause-committed : goal.returns-then-contains_key-clause-committed

@@ -44,4 +44,4 @@ returns-clause-totals g c = λ after is.
     let entries = c.args.self.now.tests.entries in
     let test = c.args.test.now in
     let none = value_of_named file_name test_committed test entries ∙ ap (option_map test_committed) (sym c.in_default.ensures.value) in
-    c.totals_now.ensures ∙ totals_unfound test (file_committed c.args.self.now) c.requires none after is
+    c.committed_totals.ensures ∙ totals_unfound test (file_committed c.args.self.now) c.requires none after is

@@ -1,6 +1,6 @@
 use Rattle.std.proofs.Common.{map, refl, ◌∙◌}
 use Rattle.covstore.specs.Kinds.{Branch, Function, Line, at}
-use Rattle.covstore.proofs.Axis.{totals_are}
+use Rattle.covstore.proofs.EachKind.{totals_are}
 use Rattle.covstore.proofs.index.FileIndex.totals_without.Goals as goal
 
 pub tally_without-requires : goal.tally_without-requires

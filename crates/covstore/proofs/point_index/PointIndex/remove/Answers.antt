@@ -1,5 +1,5 @@
 use Rattle.std.proofs.Common.{◌≡◌, ◌∙◌, List, Some, ap, refl, subst, sym}
-use Rattle.covstore.specs.declared.sums.Tests.{Tests}
+use Rattle.covstore.specs.declared.sums.TestCounts.{TestCounts}
 use Rattle.covmap.specs.Assigned.{assigned}
 use Rattle.covstore.specs.PointIndex.{IsTallyOf}
 use Rattle.covstore.specs.PointIndexDrops.{counts_without, fewer_of}
@@ -28,7 +28,7 @@ invariant_of-self g c =
     less c.less-self-inside.ensures in
     let after : c.replace.new.self.committed ≡ counts_without g.K.Key.cmp named c.args.was_above counts =
     c.replace.ensures.committed
-    ∙ ap (λ (points : MapData g.row.K.Denot Tests). assigned g.K.Key.cmp named c.fewer-after.result points.committed) c.lookup.ensures.same
+    ∙ ap (λ (points : MapData g.row.K.Denot TestCounts). assigned g.K.Key.cmp named c.fewer-after.result points.committed) c.lookup.ensures.same
     ∙ ap (λ value. assigned g.K.Key.cmp named value counts) (c.fewer-after.ensures ∙ ap (fewer_of c.args.was_above) (sym there)) in
-    let committed = subst (λ (points : List (g.row.K.Denot × Tests)). IsTallyOf points less) (sym after) own in
-    (committed, subst (λ (points : List (g.row.K.Denot × Tests)). IsTallyOf points less) (sym c.replace.ensures.staged) committed)
+    let committed = subst (λ (points : List (g.row.K.Denot × TestCounts)). IsTallyOf points less) (sym after) own in
+    (committed, subst (λ (points : List (g.row.K.Denot × TestCounts)). IsTallyOf points less) (sym c.replace.ensures.staged) committed)

@@ -1,0 +1,104 @@
+//! Stages that a test holds the checksums of a section's items. This is done before the items' sums are staged.
+
+ghost use Rattle.std.specs.Prelude.{◌≡◌, List, ◌++◌, ◌∷◌, map, IfErr, IfSome, IsTrue, OnOk, ℕ};
+ghost use Rattle.std.specs.List.Sorted.{IsStrictlySortedBy};
+ghost use Rattle.std.specs.Ordering.{nat_cmp};
+ghost use Rattle.covline.specs.Row.{item_data};
+ghost use Rattle.covstore.specs.FileIndexView.{KeepsCommitted, index_staged};
+ghost use Rattle.covstore.specs.Items.{HasRoom, IsClashOf};
+ghost use Rattle.covstore.specs.Section.{Clashes};
+ghost use Rattle.covstore.specs.TestView.{test_staged};
+ghost use Rattle.covstore.specs.HeldChecksums.{AscendFrom, HasRoomToHold, HoldsText, HoldsTexts, checked_line, checked_lines};
+
+use crate::index::FileIndex;
+use crate::stage_fault::StageFault;
+use crate::sums::LineSum;
+use crate::test::Test;
+use covline::Item;
+use std::alloc::Allocator;
+
+/// Whether the lines of the items with a checksum strictly ascend, and none of them is the greatest `u64`.
+pub(crate) fn checked_lines_ascend<A: Allocator>(items: &[Item<A>]) -> bool
+    ensures { IsTrue result → IsStrictlySortedBy nat_cmp (checked_lines (map item_data items.now)) }
+{
+    let mut least = 0;
+    for item in items {
+        let Some(next) = least_after(item, least) else {
+            return false;
+        };
+        least = next;
+    }
+    true
+}
+
+/// The least line that the next item with a checksum may have. `None` if this item has a checksum, and its line is below
+/// `least` or is the greatest `u64`.
+fn least_after<A: Allocator>(item: &Item<A>, least: u64) -> Option<u64>
+    ensures { IfSome result (λ next. (lines : List ℕ) → AscendFrom next lines → AscendFrom least (checked_line (item_data item.now) ++ lines)) }
+{
+    match item {
+        Item::Line {
+            line,
+            checksum: Some(_),
+            ..
+        } => line_after(*line, least),
+        Item::Line { checksum: None, .. } | Item::Func { .. } | Item::Branch { .. } => Some(least),
+    }
+}
+
+/// The line after this one. `None` if this line is below `least`, or is the greatest `u64`.
+fn line_after(line: u64, least: u64) -> Option<u64>
+    ensures { IfSome result (λ next. (lines : List ℕ) → AscendFrom next lines → AscendFrom least (line ∷ lines)) }
+{
+    if line < least || line == u64::MAX {
+        return None;
+    }
+    Some(line + 1)
+}
+
+/// Stages that the test holds the checksums of the items, up to the first that clashes. The lines of the items with a
+/// checksum ascend, so whether the test holds the checksum of an item's line doesn't depend on the items before it.
+pub(crate) fn hold_checksums<A: Allocator + Copy>(
+    test: &mut Test<A>,
+    index: &mut FileIndex<A>,
+    alloc: A,
+    items: &[Item<A>],
+) -> Result<(), StageFault<A>>
+    requires room { HasRoom (test_staged test.old) (index_staged index.old) }
+    requires ascend { IsStrictlySortedBy nat_cmp (checked_lines (map item_data items.now)) }
+    ensures test { test.new ≡ test.old }
+    ensures index_committed { KeepsCommitted index.old index.new }
+    ensures ok { OnOk result (HoldsTexts (map item_data items.now) (test_staged test.old) (index_staged index.old) (index_staged index.new)) }
+    ensures clash { IfErr result (Clashes (map item_data items.now) (test_staged test.old) (index_staged index.old)) }
+{
+    for item in items {
+        hold_checksum(test, index, alloc, item)?;
+    }
+    Ok(())
+}
+
+/// Stages that the test holds the checksum of an item, if the item has one.
+fn hold_checksum<A: Allocator + Copy>(
+    test: &mut Test<A>,
+    index: &mut FileIndex<A>,
+    alloc: A,
+    item: &Item<A>,
+) -> Result<(), StageFault<A>>
+    requires room { HasRoomToHold (item_data item.now) (test_staged test.old) (index_staged index.old) }
+    ensures test { test.new ≡ test.old }
+    ensures index_committed { KeepsCommitted index.old index.new }
+    ensures ok { OnOk result (HoldsText (item_data item.now) (test_staged test.old) (index_staged index.old) (index_staged index.new)) }
+    ensures clash { IfErr result (IsClashOf (item_data item.now) (index_staged index.old)) }
+{
+    if let Item::Line {
+        line,
+        checksum: Some(text),
+        ..
+    } = item
+    {
+        let before = test.lines.lookup_staged(*line);
+        let is_held = LineSum::is_checked(&before);
+        index.checksums.hold(alloc, *line, text.get(), is_held)?;
+    }
+    Ok(())
+}
