@@ -1,12 +1,13 @@
-//! What one thread alone is answered.
+//! The check that a single thread gets the same answers.
 
 use covbook::{Answer, Book, Entry, JobLog, Op, SubRef};
 use covread::read_trace;
 use covstore::Totals;
 use std::alloc::Global;
 
-/// Checks that one thread that takes the steps of the history in order is answered the same, and prints the report that job 0
-/// got last. Read back, this report gives the totals and the report.
+/// Checks that a book of a single thread, which takes the steps of the history in order, gives the same answers and totals. It
+/// must also print the report that job 0 got last. Read back into an empty book, this report must give the same totals and the
+/// same report.
 pub(crate) fn check_alone(alloc: Global, entries: &[Entry], logs: &[JobLog]) -> anyhow::Result<()> {
     let mut book = Book::new(alloc);
     for entry in entries {
@@ -18,7 +19,7 @@ pub(crate) fn check_alone(alloc: Global, entries: &[Entry], logs: &[JobLog]) -> 
     }
 }
 
-/// Checks that the book answers what the entry says, with its totals.
+/// Takes the entry's step with this book, and checks that the answer and the totals are those of the entry.
 fn check_step(alloc: Global, book: &mut Book, entry: &Entry) -> anyhow::Result<()> {
     let receipt = book.step(alloc, entry.job, &entry.op)?;
     let place = receipt.place;
@@ -31,13 +32,13 @@ fn check_step(alloc: Global, book: &mut Book, entry: &Entry) -> anyhow::Result<(
     Ok(())
 }
 
-/// The text that the first job got last.
+/// The text that answers the first job's last call; `None` if the answer isn't a text.
 fn last_text(logs: &[JobLog]) -> Option<&[u8]> {
     let receipt = logs.first()?.receipts.get().last()?;
     text_of(&receipt.answer)
 }
 
-/// The answer's text.
+/// The answer's text; `None` if the answer isn't a text.
 fn text_of(answer: &Answer) -> Option<&[u8]> {
     match answer {
         Answer::Text(text) => Some(text.get().get()),
@@ -45,8 +46,8 @@ fn text_of(answer: &Answer) -> Option<&[u8]> {
     }
 }
 
-/// Checks that the book prints this report, and so does an empty book that it is submitted to, which has the same
-/// totals.
+/// Checks that the book prints this report. If the report is submitted to an empty book, that book must print it too, and have
+/// the same totals.
 fn check_report(alloc: Global, book: &mut Book, report: &[u8]) -> anyhow::Result<()> {
     let totals = book.totals();
     check_printed(alloc, book, report, totals)?;

@@ -14,9 +14,9 @@ pub(crate) struct Job<L: Name> {
     live: Live<L>,
     random: Random,
     log: JobLog,
-    /// How many entries it read or learned of. No reading may have fewer.
+    /// The largest number of entries that it read or learned of. No later reading may have fewer.
     known: u64,
-    /// How its work ended.
+    /// How its work ended. Before it is begun, this is an error.
     ended: anyhow::Result<()>,
 }
 
@@ -38,12 +38,13 @@ impl<L: Name> Job<L> {
         }
     }
 
-    /// Makes `calls` random calls, or ends at the first fault.
+    /// Makes `calls` random calls, up to the first fault, and keeps how this ended.
     pub(crate) fn work<R: Wait>(&mut self, rt: &R, alloc: Global, book: &Shared<L>, calls: u64) {
         self.ended = self.call_often(rt, alloc, book, calls);
     }
 
-    /// Makes `calls` random calls, and keeps the receipts. After a call it may learn the news and may read.
+    /// Makes `calls` random calls, and keeps the receipts. After each call it learns the news in two of three cases, and then
+    /// reads the totals in two of three cases.
     fn call_often<R: Wait>(
         &mut self,
         rt: &R,
@@ -64,7 +65,7 @@ impl<L: Name> Job<L> {
         Ok(())
     }
 
-    /// Makes a call, and keeps its receipt.
+    /// Makes one call, keeps its receipt, and returns its news.
     pub(crate) fn ask<R: Wait>(
         &mut self,
         rt: &R,
@@ -83,7 +84,7 @@ impl<L: Name> Job<L> {
         self.known = self.known.max(news.reading().upto);
     }
 
-    /// Keeps a reading, which may not have fewer entries than were read or learned of.
+    /// Reads the totals, and keeps the reading. It is an error if the reading has fewer entries than were read or learned of.
     fn read(&mut self) -> anyhow::Result<()> {
         let reading = self.live.totals();
         if reading.upto < self.known {
@@ -94,7 +95,7 @@ impl<L: Name> Job<L> {
         Ok(())
     }
 
-    /// Its seat, what it keeps, and its reader, if its work ended well.
+    /// The job's seat, its log and its reader, if its work ended well.
     pub(crate) fn into_parts(self) -> anyhow::Result<(Seat<L>, JobLog, Live<L>)> {
         let Job {
             seat,

@@ -1,20 +1,21 @@
-//! covbench puts the book that threads share to work: `bench/soak` and `bench/readers.sh` call it.
+//! covbench tests and measures a shared book with many threads. `bench/soak` and `bench/readers.sh` call it.
 //!
 //! ```text
 //! covbench soak THREADS ROUNDS CALLS SEED
 //! covbench pace SUBMITTERS READERS SUBMITS
 //! ```
 //!
-//! `soak`: in each round THREADS threads (1 to 64) make CALLS random calls each on one shared book, and read its totals in
-//! between. The book is then closed. Its history has to be gathered from what the threads kept, and one thread alone that takes
-//! the same steps in the same order has to be answered the same. Each round has the next seed. A difference ends the program
-//! with its seed and status 1; otherwise it prints one line.
+//! `soak`: in each round, THREADS threads (1 to 64) make CALLS random calls each on one shared book, and read its totals in
+//! between. Then the book is closed, and two checks are made: the history is gathered from what the threads kept, and a single
+//! thread that takes the same steps in the same order gets the same answers. The first round has the seed SEED, and each later
+//! round the next number. If a check fails, covbench reports the round's seed and ends with status 1. Otherwise it prints one
+//! line at the end.
 //!
 //! `pace`: SUBMITTERS threads (1 to 64) submit one small tracefile to one shared book, SUBMITS times each, while READERS others
 //! (0 to 64) ask for the totals without a pause. It prints one line: submits a second, the slowest submit in microseconds, and
 //! readings a second.
 //!
-//! Other words are answered by these two lines.
+//! If it is called with any other words, covbench prints the two lines above.
 #![tactic(auto)]
 
 mod alone;
@@ -30,7 +31,7 @@ use crate::pace::{PacePlan, started};
 use crate::soak::{SoakPlan, all_rounds};
 use std::env;
 
-/// How it is called.
+/// The two ways to call the program.
 const USAGE: &str =
     "covbench soak THREADS ROUNDS CALLS SEED\ncovbench pace SUBMITTERS READERS SUBMITS";
 
@@ -60,7 +61,7 @@ fn main(rt: HostRuntime) -> anyhow::Result<()> {
     Ok(())
 }
 
-/// The plan that the words give; the first word is the program's name.
+/// The plan that the words of the call give, or `None` if they don't fit. The first word is the program's name.
 fn plan_of(words: &[String]) -> Option<Plan> {
     match words.get(1)?.as_str() {
         "soak" => Some(Plan::Soak(soak_of(words)?)),
@@ -69,7 +70,7 @@ fn plan_of(words: &[String]) -> Option<Plan> {
     }
 }
 
-/// The soak that the words give.
+/// The plan of a soak that the words give, or `None` if they don't fit.
 fn soak_of(words: &[String]) -> Option<SoakPlan> {
     let [_name, _soak, threads, rounds, calls, seed] = words else {
         return None;
@@ -82,7 +83,7 @@ fn soak_of(words: &[String]) -> Option<SoakPlan> {
     })
 }
 
-/// The measure that the words give.
+/// The plan of a measurement that the words give, or `None` if they don't fit.
 fn pace_of(words: &[String]) -> Option<PacePlan> {
     let [_name, _pace, submitters, readers, submits] = words else {
         return None;
@@ -94,7 +95,7 @@ fn pace_of(words: &[String]) -> Option<PacePlan> {
     })
 }
 
-/// The number that the word is.
+/// The number that the word spells, or `None` if it spells none.
 fn number(word: &String) -> Option<u64> {
     word.as_str().parse::<u64>().ok()
 }

@@ -13,10 +13,10 @@ use std::thread;
 use std::thread::Threads;
 use std::time::{Clock, Instant};
 
-/// How many lines the submitted tracefile has of its source.
+/// How many lines of its source file the submitted tracefile counts.
 const LINES: u64 = 100;
 
-/// What is asked of a measure.
+/// What is asked of a measurement.
 #[derive(Clone, Copy)]
 pub(crate) struct PacePlan {
     pub(crate) submitters: u32,
@@ -38,7 +38,7 @@ struct Watcher<L: Name> {
     readings: u64,
 }
 
-/// A tracefile of one test, one source and its lines, of which every second one is hit.
+/// A tracefile with one section, which counts `LINES` lines. Every second line is hit.
 fn tracefile(alloc: Global) -> Result<String, AllocError> {
     let mut text = String::from_str(alloc, "TN:pace\nSF:/src/pace.c\n")?;
     for line in 1..=LINES {
@@ -48,21 +48,21 @@ fn tracefile(alloc: Global) -> Result<String, AllocError> {
     Ok(text)
 }
 
-/// Appends the record of a line.
+/// Appends the record that counts the line.
 fn put_line(text: &mut String, line: u64) -> Result<(), AllocError> {
     let count = line % 2;
     let record = format!(in *text.allocator(); "DA:{line},{count}\n")?;
     text.push_str(record.as_str())
 }
 
-/// The submission of that tracefile, as an operation.
+/// An operation that submits this tracefile.
 fn submit(alloc: Global) -> anyhow::Result<Op> {
     let text = tracefile(alloc)?;
     let given = read(alloc, text.as_bytes())?;
     Ok(Op::Submit(shared(alloc, given)?))
 }
 
-/// Measures a new book. Returns its line: submits a second, the slowest submit in microseconds, and readings a second.
+/// Measures a new book. Returns the line to print: submits a second, the slowest submit in microseconds, and readings a second.
 pub(crate) fn started<R: Threads + Wait + Clock + Sync>(
     rt: &R,
     alloc: Global,
@@ -72,7 +72,7 @@ pub(crate) fn started<R: Threads + Wait + Clock + Sync>(
     measured::<Brand, _>(rt, alloc, start, plan)
 }
 
-/// Measures the book, and returns its line.
+/// Opens the book, measures it, and returns the line to print.
 fn measured<L: Name + Send + Sync, R: Threads + Wait + Clock + Sync>(
     rt: &R,
     alloc: Global,
@@ -91,7 +91,7 @@ fn measured<L: Name + Send + Sync, R: Threads + Wait + Clock + Sync>(
     line_of(alloc, nanos, submitters.as_slice(), watchers.as_slice())
 }
 
-/// A thread for each seat.
+/// A submitter for each seat.
 fn submitters_of<L: Name>(alloc: Global, seats: Seats<L>) -> anyhow::Result<Vec<Submitter<L>>> {
     let mut submitters = Vec::new(alloc);
     for seat in seats.into_vec() {
@@ -100,7 +100,7 @@ fn submitters_of<L: Name>(alloc: Global, seats: Seats<L>) -> anyhow::Result<Vec<
     Ok(submitters)
 }
 
-/// The threads that read.
+/// This number of watchers, each with a reader of the book.
 fn watchers_of<L: Name, R: Wait>(
     rt: &R,
     alloc: Global,
@@ -130,7 +130,7 @@ fn timed<L: Name + Send + Sync, R: Threads + Wait + Clock + Sync>(
     Ok(begun.elapsed(rt)?.as_nanos())
 }
 
-/// What was measured.
+/// The line that says what was measured.
 fn line_of<L: Name>(
     alloc: Global,
     nanos: u128,
@@ -172,12 +172,12 @@ fn readings_of<L: Name>(watchers: &[Watcher<L>]) -> u64 {
     readings
 }
 
-/// How often a second something happens that happens `times` times in `nanos` nanoseconds.
+/// The rate per second of something that happens `times` times in `nanos` nanoseconds.
 fn a_second(times: u64, nanos: u128) -> u128 {
     u128::from(times).saturating_mul(1_000_000_000) / nanos.max(1)
 }
 
-/// Runs all threads: the readers ask until the last of the others has ended.
+/// Runs all threads, and waits until they have ended. The watchers read the totals until the last submitter has ended.
 fn run<L: Name + Send + Sync, R: Threads + Wait + Clock + Sync>(
     rt: &R,
     alloc: Global,
@@ -205,7 +205,7 @@ fn run<L: Name + Send + Sync, R: Threads + Wait + Clock + Sync>(
     });
 }
 
-/// Asks for the totals without a pause, as long as a thread submits.
+/// Reads the totals without a pause, until no submitter is running, and counts the readings.
 fn watch<L: Name>(watcher: &mut Watcher<L>, running: &AtomicU64) {
     for _ in 0..u64::MAX {
         if running.load(Ordering::SeqCst) == 0 {
@@ -216,8 +216,8 @@ fn watch<L: Name>(watcher: &mut Watcher<L>, running: &AtomicU64) {
     }
 }
 
-/// Submits `submits` times, and keeps how long the slowest submit took. A refusal ends it; the seat counts the submits that
-/// succeeded.
+/// Submits `submits` times, up to the first refusal, and keeps how long the slowest submit took. The seat counts the submits
+/// that succeeded.
 fn submit_often<L: Name, R: Wait + Clock>(
     rt: &R,
     alloc: Global,
@@ -234,7 +234,7 @@ fn submit_often<L: Name, R: Wait + Clock>(
     }
 }
 
-/// Submits once, and returns how many nanoseconds it took.
+/// Submits once, and returns how many nanoseconds this took; `None` if the submit was refused or the time can't be told.
 fn submit_once<L: Name, R: Wait + Clock>(
     rt: &R,
     alloc: Global,

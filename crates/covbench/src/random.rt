@@ -1,13 +1,13 @@
-//! Random numbers.
+//! Pseudorandom numbers.
 
-/// Numbers that a seed determines and that are as good as random here.
+/// Pseudorandom numbers, which a seed determines (splitmix64).
 #[derive(Drop)]
 pub(crate) struct Random {
     state: u64,
 }
 
 impl Random {
-    /// The numbers of a job in the round of a seed.
+    /// The numbers of this job in the round with this seed.
     pub(crate) fn of(seed: u64, job: u32) -> Random {
         let mut seeds = Random { state: seed };
         let state = seeds.next().wrapping_add(u64::from(job));
@@ -15,7 +15,7 @@ impl Random {
         Random { state: jobs.next() }
     }
 
-    /// The next number: the state goes on by a fixed odd step, and its bits are mixed.
+    /// The next number. A fixed odd number is added to the state, and the bits of the sum are mixed.
     fn next(&mut self) -> u64 {
         self.state = self.state.wrapping_add(0x9e37_79b9_7f4a_7c15);
         let mut bits = self.state;
@@ -24,12 +24,12 @@ impl Random {
         bits ^ (bits >> 31)
     }
 
-    /// A number below a limit, and 0 if the limit is 0.
+    /// A random number below the limit; 0 if the limit is 0.
     pub(crate) fn below(&mut self, limit: u64) -> u64 {
         self.next().checked_rem(limit).unwrap_or(0)
     }
 
-    /// Whether a number below the limit is 0.
+    /// True in about one of `limit` cases: whether a random number below the limit is 0.
     pub(crate) fn one_in(&mut self, limit: u64) -> bool {
         self.below(limit) == 0
     }

@@ -1,4 +1,4 @@
-//! Random operations, over so few tests, files and lines that they meet.
+//! Random operations. They have only few tests, files and lines, so that many of them change the same points.
 
 use crate::random::Random;
 use covbook::{Op, SubRef};
@@ -12,7 +12,7 @@ const FILES: u64 = 6;
 
 const LINES: u64 = 12;
 
-/// A random operation: more than half of them submit.
+/// A random operation. More than half of these operations are submits.
 pub(crate) fn random_op(alloc: Global, random: &mut Random) -> anyhow::Result<Op> {
     let kind = random.below(20);
     if kind < 11 {
@@ -37,7 +37,7 @@ fn test_name(alloc: Global, random: &mut Random) -> anyhow::Result<Bytes> {
     Ok(Bytes::of(alloc, name.as_bytes())?)
 }
 
-/// The submission of a random tracefile.
+/// An operation that submits a random tracefile.
 fn submit(alloc: Global, random: &mut Random) -> anyhow::Result<Op> {
     let text = tracefile(alloc, random)?;
     let submission = read_trace(alloc, text.as_bytes())?;
@@ -67,7 +67,7 @@ fn put_section(alloc: Global, random: &mut Random, text: &mut String) -> anyhow:
     Ok(())
 }
 
-/// A random record: more than half of them are of lines.
+/// A random record. More than half of these records count a line (`DA:`).
 fn record(alloc: Global, random: &mut Random) -> anyhow::Result<String> {
     let kind = random.below(10);
     let line = random.below(LINES);
@@ -83,7 +83,7 @@ fn record(alloc: Global, random: &mut Random) -> anyhow::Result<String> {
     }
 }
 
-/// The record of a branch of the line, of which every third one wasn't reached.
+/// The record of a branch of the line. About one in three says that the branch wasn't reached.
 fn branch(alloc: Global, random: &mut Random, line: u64) -> anyhow::Result<String> {
     let branch = random.below(2);
     if random.one_in(3) {
@@ -93,7 +93,8 @@ fn branch(alloc: Global, random: &mut Random, line: u64) -> anyhow::Result<Strin
     Ok(format!(in alloc; "BRDA:{line},0,{branch},{count}\n")?)
 }
 
-/// The record of the line, of which every fourth one has a checksum. Two checksums of a line hardly ever differ.
+/// The record that counts the line. About one in four has a checksum. About one in twenty of these checksums differs from the
+/// line's usual one.
 fn line_count(alloc: Global, random: &mut Random, line: u64) -> anyhow::Result<String> {
     let count = random_count(random);
     if !random.one_in(4) {
@@ -105,7 +106,7 @@ fn line_count(alloc: Global, random: &mut Random, line: u64) -> anyhow::Result<S
     Ok(format!(in alloc; "DA:{line},{count},sum{line}\n")?)
 }
 
-/// A small count, or, hardly ever, the largest one.
+/// A random count below 4. About one in thirty is the largest `u128` instead.
 fn random_count(random: &mut Random) -> u128 {
     if random.one_in(30) {
         return u128::MAX;

@@ -1,4 +1,4 @@
-//! One round: a shared book from its opening to its history.
+//! One round of a soak, with a shared book of its own.
 
 ghost use Rattle.std.specs.Prelude.{◌≡◌};
 
@@ -19,8 +19,8 @@ struct HandedIn<L: Name> {
     lives: Vec<Live<L>>,
 }
 
-/// Makes a round with this seed: each job makes `calls` random calls, and the first job then asks for the report. Returns how
-/// many calls there were.
+/// Makes the round with this seed. Each job makes `calls` random calls, and then the first job asks for the report. Checks the
+/// history against what the jobs kept, and against the answers that a single thread gets. Returns how many calls were made.
 pub(crate) fn soaked<L: Name + Send + Sync, R: Threads + Wait + Sync>(
     rt: &R,
     alloc: Global,
@@ -50,7 +50,7 @@ pub(crate) fn soaked<L: Name + Send + Sync, R: Threads + Wait + Sync>(
     Ok(made)
 }
 
-/// The jobs do their work at once, and then hand in what they have.
+/// Lets the jobs make their random calls at once, and then the first job ask for the report. Returns what they hand in.
 fn worked<L: Name + Send + Sync, R: Threads + Wait + Sync>(
     rt: &R,
     alloc: Global,
@@ -71,7 +71,7 @@ fn worked<L: Name + Send + Sync, R: Threads + Wait + Sync>(
     hand_in(alloc, jobs)
 }
 
-/// Each job does its work in a thread of its own.
+/// Lets each job make its random calls in a thread of its own, and waits until all have ended.
 fn work_at_once<L: Name + Send + Sync, R: Threads + Wait + Sync>(
     rt: &R,
     alloc: Global,
@@ -81,13 +81,13 @@ fn work_at_once<L: Name + Send + Sync, R: Threads + Wait + Sync>(
 ) {
     thread::scope(thread::scope_env(), rt, |scope| {
         for job in jobs.iter_mut() {
-            // A job whose thread isn't started says so itself.
+            // If a thread isn't started, the `ended` of its job still says so.
             let _ = scope.spawn(move || job.work(rt, alloc, book, calls));
         }
     });
 }
 
-/// What the jobs have, if all of them ended well.
+/// What the jobs hand in, if all of them ended well.
 fn hand_in<L: Name>(alloc: Global, jobs: Vec<Job<L>>) -> anyhow::Result<HandedIn<L>> {
     let mut seats = Seats::new(alloc);
     let mut logs = Logs::new(alloc);
@@ -110,7 +110,7 @@ fn calls_of<L: Name>(seats: &[Seat<L>]) -> u64 {
     calls
 }
 
-/// The history of the book, and news of it.
+/// Closes the book, and returns its history and news of it.
 fn closed<L: Name, R: Wait>(
     rt: &R,
     book: Shared<L>,
@@ -122,8 +122,8 @@ fn closed<L: Name, R: Wait>(
     }
 }
 
-/// Checks that there is an entry for each call, that the news count them all, and that each reader reports them once it
-/// learns the news.
+/// Checks that there are as many entries as calls, that the news are of all of them, and that each reader reports the same
+/// totals as the news once it has learned them.
 fn check_news<L: Name>(
     entries: &Entries,
     news: &News<L>,

@@ -1,4 +1,4 @@
-//! Rounds of random calls, each of a new book.
+//! Rounds of random calls. Each round has a new book.
 
 use crate::round::soaked;
 use covjobs::Start;
@@ -16,8 +16,8 @@ pub(crate) struct SoakPlan {
     pub(crate) seed: u64,
 }
 
-/// Makes all rounds, and returns how many calls they made together. The first difference ends them, and is reported with its
-/// seed.
+/// Makes all rounds, and returns how many calls they made together. The first failure ends them, and is reported with the
+/// round's seed.
 pub(crate) fn all_rounds<R: Threads + Wait + Sync>(
     rt: &R,
     alloc: Global,

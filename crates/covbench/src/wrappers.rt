@@ -1,5 +1,5 @@
-//! Calls of the crates below, without their contracts: a measure only makes them, and its proof is quicker if it knows nothing
-//! of them.
+//! Functions of other crates without their `ensures` clauses. A measurement only calls these functions, and is proved faster if
+//! the prover knows nothing of what they ensure.
 
 ghost use Rattle.std.specs.Prelude.{◌≡◌};
 
@@ -14,7 +14,7 @@ pub(crate) fn read<A: Allocator + Copy>(alloc: A, text: &[u8]) -> Result<Submiss
     read_trace(alloc, text)
 }
 
-/// The submission, to be shared.
+/// The submission, as an operation holds it.
 pub(crate) fn shared<A: Allocator + Copy>(
     alloc: A,
     given: Submission<A>,

@@ -1,9 +1,9 @@
-//! covcollect, a coverage collector for lcov tracefiles. Without a subcommand it reads commands from standard input, a line
-//! each, and answers them on standard output; it reports a fault that ends it on standard error and by its exit status. A
-//! subcommand reads the files that its words name and prints one text.
+//! covcollect, a coverage collector for lcov tracefiles. Without a subcommand it reads commands from standard input, and answers
+//! them on standard output. A fault that ends the program is reported on standard error and by the exit status. A subcommand
+//! reads the files that its arguments name, and prints one text.
 //!
-//! `main` only takes the words and makes the streams; the program is covrun's `run`. What `merge`, `extract`, `remove` and `gcov`
-//! print reads back: the laws that say so are covlaws'.
+//! `main` only collects the words of the call and makes the streams; the rest of the program is covrun's `run`. By the laws of
+//! covlaws, what `merge`, `extract`, `remove` and `gcov` print reads back.
 //!
 //! ```text
 //! $ covcollect <<'END'
@@ -48,7 +48,7 @@ fn main(rt: HostRuntime) -> ExitCode {
     ExitCode::from(status)
 }
 
-/// The words of the call as text, the program's name first.
+/// The words of the call as strings, the program's name first. A word that isn't UTF-8 is a fault.
 fn words_of_call<R: Env + AllocGlobal>(rt: &R) -> Result<Vec<String>, CommandFault> {
     let mut words = Vec::new(rt.alloc());
     for index in 0..usize::MAX {
@@ -63,7 +63,7 @@ fn words_of_call<R: Env + AllocGlobal>(rt: &R) -> Result<Vec<String>, CommandFau
     Ok(words)
 }
 
-/// The bytes of a word of the call; `None` past the last word. The program's name has the index 0.
+/// The bytes of the word with this index; `None` if there are fewer words. The program's name has the index 0.
 fn bytes_of_word<R: Env + AllocGlobal>(
     rt: &R,
     index: usize,

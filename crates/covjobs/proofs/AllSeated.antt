@@ -1,4 +1,4 @@
--- The seats that workers hand in are those of all jobs, and there is a worker, since there is a job.
+-- If all workers have done their work, each job's seat is among those that they hand in. If there is a job, there is a worker.
 use Rattle.std.proofs.Common.{◌≡◌, ◌∙◌, inl, inr, ℕ, zero, suc, ◌+◌, ◌<◌, ◌≤◌, ◌||◌, true, List, [], ◌∷◌, length, ap, sym, arith}
 use Rattle.std.proofs.Math.Dec.{eqb}
 use Rattle.std.proofs.lemmas.Bool.{cases_lt, eq-eqb, false≢true, or_left, or_right}
@@ -9,7 +9,7 @@ use Rattle.covjobs.specs.Collect.{InputData}
 use Rattle.covjobs.specs.Work.{WorkerData, HaveDone, FirstAsks, seats_in}
 use Rattle.covjobs.proofs.Whole.{works_from}
 
--- from a number on, each job has its worker
+-- if there are workers of `some` jobs from the job `from` on, each of these jobs has a seat among theirs
 seated_from : (inputs : List InputData) (jobs from some : ℕ) (workers : List WorkerData) → HaveDone (works_from inputs jobs from some) workers
     → (job : ℕ) → from ≤ job → job < from + some → is_seated (seats_in workers) job ≡ true
 seated_from inputs jobs from zero workers done job least less = absurd (omega (arith, least, less))
@@ -26,14 +26,14 @@ seated_from inputs jobs from (suc some) (worker ∷ workers) done job least less
       | inr more ↦ absurd (differs (omega (arith, least, more)))
     ]
 
--- the last operation changes no worker's job
+-- the last operation changes no worker's job, so the same jobs have seats before and after it
 same_seated : (workers after : List WorkerData) (end : ℕ) (last : OpData) → FirstAsks workers after end last → (job : ℕ) → is_seated (seats_in workers) job ≡ is_seated (seats_in after) job
 same_seated workers after end last asks job =
     ap (λ (ws : List WorkerData). is_seated (seats_in ws) job) asks.old
     ∙ ap (λ (j : ℕ). eqb job j || is_seated (seats_in asks.others) job) (sym asks.job)
     ∙ sym (ap (λ (ws : List WorkerData). is_seated (seats_in ws) job) asks.new)
 
--- so no job's seat is missing
+-- so no job's seat is missing after the last operation
 pub none_missing : (inputs : List InputData) (jobs end : ℕ) (last : OpData) (workers after : List WorkerData) → HaveDone (works_from inputs jobs 0 jobs) workers
     → FirstAsks workers after end last → (job : ℕ) → IsLeastMissing jobs (seats_in after) job → ⊥
 none_missing inputs jobs end last workers after done asks job missing =

@@ -1,4 +1,4 @@
--- There is only one list of what is refused, in the order of the places.
+-- The refused inputs, in ascending order of their places, are only one list.
 use Rattle.std.proofs.Common.{◌≡◌, ◌∙◌, inl, inr, ℕ, suc, ◌<◌, ◌≤◌, Bool, cond, List, [], ◌∷◌, ◌++◌, length, map, ap, sym, refl, arith, slice_index_or}
 use Rattle.std.proofs.Math.Dec.{eqb}
 use Rattle.std.proofs.lemmas.Bool.Decides.{eqb_tells}
@@ -9,7 +9,7 @@ use Rattle.covjobs.specs.Collect.{refusal}
 use Rattle.covjobs.proofs.Places.{times}
 use Rattle.covjobs.proofs.Taken.{Outcome}
 
--- no number is above a later one
+-- no number in the list is greater than a later one
 abbrev pub Up : List ℕ → Type 0
 Up [] = Unit {0}
 Up (x ∷ xs) = AllByRecursion (λ (y : ℕ). x ≤ y) xs × Up xs
@@ -33,7 +33,7 @@ comes_first x xs = elim (eqb_tells x x) [
   | inr (no_is, differs) ↦ absurd (differs refl)
 ]
 
--- two such lists are the same if each number comes as often in both
+-- two such lists are equal if each number is in both equally often
 pub one_order : (xs ys : List ℕ) → Up xs → Up ys → ((k : ℕ) → times k xs ≡ times k ys) → xs ≡ ys
 one_order [] [] up ups same = refl
 one_order [] (y ∷ ys) up ups same = absurd (omega (arith, same y, comes_first y ys))
@@ -48,7 +48,7 @@ one_order (x ∷ xs) (y ∷ ys) up ups same =
 abbrev pub places_of : List RefusedInput → List ℕ
 places_of inputs = map (λ (r : RefusedInput). r.index) inputs
 
--- an input that is refused is what became of the input at its place
+-- the refused input has the fault that is the outcome of the input at its place
 abbrev pub IsRefusal : (ℕ → Outcome) → RefusedInput → Type 0
 IsRefusal outcome r = refusal r.index (outcome r.index) ≡ r ∷ []
 
@@ -65,7 +65,7 @@ one_refused outcome (a ∷ some) [] all alls same = absurd cc
 one_refused outcome (a ∷ some) (b ∷ others) all alls same =
     ap (λ (r : RefusedInput). r ∷ some) (same_refusal outcome a b all.0 alls.0 cc) ∙ ap (λ (rs : List RefusedInput). b ∷ rs) (one_refused outcome some others all.1 alls.1 cc)
 
--- ---- what is sorted ascends
+-- ---- the places of sorted refusals ascend
 
 all_from_places : (least : ℕ) (inputs : List RefusedInput) → ((j : ℕ) (d : RefusedInput) → j < length inputs → least ≤ (slice_index_or inputs j d).index) → AllByRecursion (λ (y : ℕ). least ≤ y) (places_of inputs)
 all_from_places least [] above = tt
@@ -76,7 +76,7 @@ up_from_sorted [] sorted = tt
 up_from_sorted (r ∷ inputs) sorted =
     (all_from_places r.index inputs (λ j d less. sorted 0 (suc j) d (omega arith) (omega (arith, less))), up_from_sorted inputs (λ i j d le less. sorted (suc i) (suc j) d (omega (arith, le)) (omega (arith, less))))
 
--- ---- what all places bring ascends
+-- ---- the places of all refusals, taken place by place, ascend
 
 pub up_after : (xs : List ℕ) (n : ℕ) → Up xs → AllByRecursion (λ (x : ℕ). x < n) xs → Up (xs ++ n ∷ [])
 up_after [] n up below = (tt, tt)

@@ -1,4 +1,4 @@
--- The logs of all jobs, once job 0 has asked the last operation.
+-- The logs of all jobs after job 0 has asked the last operation: they have what each job asks, and what it read.
 use Rattle.std.proofs.Common.{◌≡◌, ◌∙◌, ℕ, zero, suc, ◌+◌, ◌<◌, Bool, if◌then◌else◌, List, [], ◌∷◌, ◌++◌, map, ap, sym, refl, subst, arith}
 use Rattle.std.proofs.lemmas.Bool.{ne_eqb}
 use Rattle.std.proofs.lemmas.List.{append-nil, map-append}

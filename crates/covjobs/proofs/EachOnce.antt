@@ -1,5 +1,5 @@
--- Receipts in logs of different jobs have different places, and the logs of a merge have each place of the history
--- once.
+-- If a history is a merge of logs, these logs together have each place of the history once: receipts of different jobs have
+-- different places.
 use Rattle.std.proofs.Common.{◌≡◌, ℕ, zero, suc, ◌+◌, ◌<◌, ◌≤◌, Bool, true, false, cond, eqb, List, [], ◌∷◌, ◌++◌, length, map, Option, Some, None, sym, refl, ap, ◌∙◌, inl, inr, subst, ⊎_elim, arith}
 use Rattle.std.specs.Prelude.{◌⊎◌, ◌≢◌, slice_get, IsSomeAnd}
 use Rattle.std.specs.List.{AllByRecursion, Contains}
@@ -8,7 +8,7 @@ use Rattle.covbook.specs.Op.{EntryData, ReceiptData}
 use Rattle.covbook.specs.Gather.{LogData, jobs_of, places_of, places_in, Rise, Differ, IsOfJob, IsLogOf, IsMerge}
 use Rattle.covjobs.proofs.Places.{times, AreBelow}
 
--- ---- members
+-- ---- elements
 
 abbrev pub In : ℕ → List ℕ → Type 0
 In x [] = ⊥
@@ -34,7 +34,7 @@ In-all P [] x a h = absurd h
 In-all P (y ∷ ys) x a (inl e) = subst P e a.0
 In-all P (y ∷ ys) x a (inr h) = In-all P ys x a.1 h
 
--- ---- how often a number comes
+-- ---- how often a number is in a list
 
 times_head : (b : Bool) (n : ℕ) → b ≡ true → cond b 1 0 + n ≡ 1 + n
 times_head b n e = ap (λ (t : Bool). cond t 1 0 + n) e
@@ -45,12 +45,13 @@ times_other b n e = ap (λ (t : Bool). cond t 1 0 + n) e ∙ omega arith
 times_more : (a b : ℕ) → 1 ≤ b → 1 ≤ a + b
 times_more a b h = omega (arith, h)
 
--- a member comes at least once, and what comes is a member
+-- an element of a list is in it at least once
 pub in_times : (xs : List ℕ) (x : ℕ) → In x xs → 1 ≤ times x xs
 in_times [] x h = absurd h
 in_times (y ∷ ys) x (inl e) = let here : times x (y ∷ ys) ≡ 1 + times x ys = times_head (eqb x y) (times x ys) (eq-eqb x y (sym e)) in omega (arith, here)
 in_times (y ∷ ys) x (inr h) = times_more (cond (eqb x y) 1 0) (times x ys) (in_times ys x h)
 
+-- a number that is in a list at least once is an element of it
 pub times_in : (xs : List ℕ) (x : ℕ) → 1 ≤ times x xs → In x xs
 times_in [] x h = absurd (omega (arith, h))
 times_in (y ∷ ys) x h = elim (cases_eq x y) [
@@ -82,7 +83,7 @@ pub times_append : (m : ℕ) (xs ys : List ℕ) → times m (xs ++ ys) ≡ times
 times_append m [] ys = omega arith
 times_append m (x ∷ xs) ys = sum_more (cond (eqb m x) 1 0) (times m (xs ++ ys)) (times m xs) (times m ys) (times_append m xs ys)
 
--- at the place of a log's receipt there is an entry of the log's job
+-- if a place is that of a log's receipt, the entry there is of the log's job
 owned : (entries : List EntryData) (job : ℕ) (receipts : List ReceiptData) (place : ℕ) → AllByRecursion (IsOfJob entries job) receipts → In place (map (λ (r : ReceiptData). r.place) receipts)
     → IsSomeAnd (slice_get entries place) (λ (e : EntryData). e.job ≡ job)
 owned entries job [] place own h = absurd h
@@ -93,7 +94,7 @@ one_job : (o : Option EntryData) (job other : ℕ) → IsSomeAnd o (λ (e : Entr
 one_job None job other a b = absurd a
 one_job (Some e) job other a b = sym a ∙ b
 
--- no log of another job has it
+-- if the entry at a place is of one job, no log of another job has a receipt with this place
 not_others : (entries : List EntryData) (job place : ℕ) (logs : List LogData) → IsSomeAnd (slice_get entries place) (λ (e : EntryData). e.job ≡ job)
     → AllByRecursion (λ (other : ℕ). job ≢ other) (jobs_of logs) → AllByRecursion (IsLogOf entries) logs → In place (places_in logs) → ⊥
 not_others entries job place [] at differ of h = h

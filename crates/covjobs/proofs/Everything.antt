@@ -1,4 +1,4 @@
--- All that workers hand in, beside the history of the book, is what is collected.
+-- The history of the book, and the logs and refused inputs that the workers hand in, are what is collected.
 use Rattle.std.proofs.Common.{◌≡◌, ◌∙◌, ℕ, ◌<◌, List, ◌++◌, length, ap, sym, subst}
 use Rattle.std.specs.List.Sorted.{IsPermutation, IsNonDecreasingBy}
 use Rattle.covbook.specs.Gather.{LogData, IsGathered}
@@ -12,7 +12,7 @@ use Rattle.covjobs.proofs.Gathered.{refused_is}
 use Rattle.covjobs.proofs.LastEntry.{GoesOn, SameTexts, ends_with}
 use Rattle.covjobs.proofs.Whole.{works_from, whole_of}
 
--- the last operation refuses nothing
+-- the last operation doesn't change which inputs are refused
 same_refused : (workers after : List WorkerData) (end : ℕ) (last : OpData) → FirstAsks workers after end last → refused_in workers ≡ refused_in after
 same_refused workers after end last asks =
     ap (λ (ws : List WorkerData). refused_in ws) asks.old

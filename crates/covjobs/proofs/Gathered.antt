@@ -1,4 +1,4 @@
--- All that the workers refused, and all that they submitted, from one account of what became of each input.
+-- All that the workers refused, and all that they submitted, follows from one function that gives the outcome of each input.
 use Rattle.std.proofs.Common.{◌≡◌, ◌∙◌, ℕ, zero, suc, ◌+◌, ◌<◌, cond, List, [], ◌∷◌, ◌++◌, map, Ok, Err, ap, sym, refl, subst, arith}
 use Rattle.std.proofs.Math.Dec.{eqb}
 use Rattle.std.proofs.lemmas.List.{append-nil, map-append}
@@ -19,7 +19,7 @@ use Rattle.covjobs.proofs.Taken.{Outcome}
 use Rattle.covjobs.proofs.Together.{all_together}
 use Rattle.covjobs.proofs.Whole.{HasTold, HaveTold}
 
--- what numbers from 0 on bring, one after the other
+-- a range with one more number is the shorter range followed by this number
 range_after : (from count : ℕ) → range_with_len from (suc count) ≡ range_with_len from count ++ (from + count) ∷ []
 range_after from zero = ap (λ (n : ℕ). n ∷ []) (none_more from)
   where
@@ -30,6 +30,7 @@ range_after from (suc count) = ap (λ (ns : List ℕ). from ∷ ns) (range_after
     one_more : (from count : ℕ) → from + 1 + count ≡ from + suc count
     one_more from count = omega arith
 
+-- all places below a bound bring what the numbers of the range from 0 bring
 pub brought_by_range : {X : Type 0} (f : ℕ → List X) (count : ℕ) → flat_map f (range_with_len 0 count) ≡ brought all_places f count
 brought_by_range f zero = refl
 brought_by_range {X} f (suc count) =
@@ -41,7 +42,7 @@ brought_by_range {X} f (suc count) =
     none_before : (count : ℕ) → 0 + count ≡ count
     none_before count = omega arith
 
--- what workers refused, by their jobs
+-- what all workers refused is what the outcomes say for each job, one job after another
 refused_by_jobs : (jobs count : ℕ) (outcome : ℕ → Outcome) (workers : List WorkerData) → AllByRecursion (HasTold jobs count outcome) workers
     → refused_in workers ≡ flat_map (λ job. refusals_of (places_of_job jobs job) outcome count) (map (λ (w : WorkerData). w.seat.job) workers)
 refused_by_jobs jobs count outcome [] told = refl
@@ -56,7 +57,7 @@ all_refused jobs count outcome workers some told =
     (sym (refused_by_jobs jobs count outcome workers told.each ∙ ap (λ (js : List ℕ). flat_map by_job js) told.are ∙ brought_by_range by_job jobs))
     (all_together jobs (λ index. refusal index (outcome index)) count (λ place. mod_below place jobs some))
 
--- ---- the refused ones in order
+-- ---- the refused inputs in order
 
 pub all_joined : {X : Type 0} (P : X → Type 0) (xs ys : List X) → AllByRecursion P xs → AllByRecursion P ys → AllByRecursion P (xs ++ ys)
 all_joined P [] ys a b = b
@@ -99,7 +100,7 @@ times_by_sum k [] = refl
 times_by_sum k (r ∷ inputs) =
     ap (λ (n : ℕ). cond (eqb k r.index) 1 0 + n) (times_by_sum k inputs) ∙ sym (sum_by-cons (λ (r : RefusedInput). cond (eqb k r.index) 1 0) r inputs)
 
--- all that the workers refused, sorted, is what all places refuse
+-- all that the workers refused, sorted by place, is what the outcomes of all inputs refuse
 pub refused_is : (jobs count : ℕ) (outcome : ℕ → Outcome) (workers : List WorkerData) (refused : List RefusedInput) → 0 < jobs → HaveTold jobs 0 jobs count outcome workers
     → IsPermutation (refused_in workers) refused → IsNonDecreasingBy (λ (r : RefusedInput). r.index) refused → refused ≡ refusals_of all_places outcome count
 refused_is jobs count outcome workers refused some told same sorted =
@@ -111,7 +112,7 @@ refused_is jobs count outcome workers refused some told same sorted =
     (one_order (places_of refused) (places_of all) (up_from_sorted refused sorted) (refusals_rise outcome count).up
     (λ k. times_by_sum k refused ∙ sum_by-IsPermutation (λ (r : RefusedInput). cond (eqb k r.index) 1 0) all refused moved ∙ sym (times_by_sum k all)))
 
--- what all jobs submit is what all places submit, in another order
+-- the submissions of all jobs, one job after another, are those of all inputs in another order
 pub all_submitted : (jobs count : ℕ) (outcome : ℕ → Outcome) → 0 < jobs
     → IsPermutation (flat_map (λ job. submissions_of (places_of_job jobs job) outcome count) (range_with_len 0 jobs)) (submissions_of all_places outcome count)
 all_submitted jobs count outcome some =

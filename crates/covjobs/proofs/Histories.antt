@@ -1,4 +1,4 @@
--- What the places of a history bring is what its entries bring.
+-- If logs have each place of a history once, they submit what the history's entries submit.
 use Rattle.std.proofs.Common.{◌≡◌, ◌∙◌, ℕ, zero, suc, ◌+◌, List, [], ◌∷◌, ◌++◌, length, map, Option, Some, None, slice_get, ap, sym, refl, subst, arith}
 use Rattle.std.specs.Prelude.{IsSomeAnd}
 use Rattle.std.proofs.lemmas.List.Concat.{flat_map-append}
@@ -13,7 +13,7 @@ use Rattle.covjobs.specs.Collect.{brought, all_places, ops_in}
 use Rattle.covjobs.proofs.Gathered.{brought_by_range}
 use Rattle.covjobs.proofs.Places.{AreBelow, all_below_bring}
 
--- what the entry there submits, if there is one
+-- what an entry submits; nothing if there is no entry
 abbrev pub submits_there : Option EntryData → List SubmissionData
 submits_there None = []
 submits_there (Some e) = submission_of e.op
@@ -32,7 +32,7 @@ receipts_submit entries (r ∷ receipts) are =
     ap (λ (ss : List SubmissionData). ss ++ flat_map (submits_at entries) (map (λ (r : ReceiptData). r.place) receipts)) (receipt_submits (slice_get entries r.place) r are.0)
     ∙ ap (λ (ss : List SubmissionData). submission_of r.op ++ ss) (receipts_submit entries receipts are.1)
 
--- what logs submit is what the entries at their places do
+-- the logs submit what the entries at the places of their receipts submit
 pub logs_submit : (entries : List EntryData) (logs : List LogData) → AllByRecursion (IsLogOf entries) logs
     → flat_map (submits_at entries) (places_in logs) ≡ flat_map (λ (log : LogData). submissions_in (ops_in log.receipts)) logs
 logs_submit entries [] are = refl
@@ -59,7 +59,7 @@ entries_in_order (e ∷ entries) =
     first : 0 + 1 ≡ suc 0
     first = omega arith
 
--- if the logs have each place once, the entries submit what the logs do, in another order
+-- if the logs have each place once, the entries submit what the logs submit, in another order
 pub same_submitted : (entries : List EntryData) (logs : List LogData) → AllByRecursion (IsLogOf entries) logs → AreBelow (length entries) (places_in logs)
     → IsPermutation (flat_map (λ (log : LogData). submissions_in (ops_in log.receipts)) logs) (submissions_in (map (λ (e : EntryData). e.op) entries))
 same_submitted entries logs are once =

@@ -1,4 +1,4 @@
--- The last entry of a history is that of job 0's last receipt, and its answer depends on what is submitted alone.
+-- The last entry of a history is that of job 0's last receipt. If its answer is a text, it depends only on the submissions.
 use Rattle.std.proofs.Common.{◌≡◌, ◌∙◌, inl, inr, ℕ, zero, suc, ◌+◌, ◌<◌, Bool, true, false, if◌then◌else◌, List, [], ◌∷◌, ◌++◌, length, map, Option, Some, None, slice_get, ap, sym, refl, subst, arith}
 use Rattle.std.specs.Prelude.{IsSomeAnd}
 use Rattle.std.proofs.Math.Dec.{eqb}
@@ -21,16 +21,18 @@ use Rattle.covjobs.proofs.Gathered.{all_joined, all_submitted}
 use Rattle.covjobs.proofs.Histories.{same_submitted}
 use Rattle.covjobs.proofs.Taken.{Outcome}
 
--- two laws of the book: a run goes on where it ended, and the order of submissions doesn't matter to texts
+-- a law of the book: a run with one more operation has the same answers, and then the answer to this operation at the table
+-- where the run ended
 abbrev pub GoesOn : Type 0
 GoesOn = (ops : List OpData) (op : OpData) → answers_to (ops ++ op ∷ []) ≡ answers_to ops ++ answer_of (table_of ops) op ∷ []
 
+-- a law of the book: a text doesn't depend on the order of the submissions, if nothing is dropped or renamed and they agree
 abbrev pub SameTexts : Type 0
 SameTexts =
     (some others : List OpData) → OnlySubmitsAndAsks some → OnlySubmitsAndAsks others → AreTheSame (submissions_in some) (submissions_in others)
     → AreAgreeing (submissions_in some) → (op : OpData) → IsText op → answer_of (table_of some) op ≡ answer_of (table_of others) op
 
--- ---- the last of a list
+-- ---- the last element of a list
 
 all_front : {X : Type 0} (P : X → Type 0) (xs ys : List X) → AllByRecursion P (xs ++ ys) → AllByRecursion P xs
 all_front P [] ys all = tt
@@ -51,7 +53,7 @@ final_after d (x ∷ xs) y = final_after x xs y
 last_same : {X : Type 0} (xs ys : List X) (x y : X) → ◌≡◌ {A = List X} (xs ++ x ∷ []) (ys ++ y ∷ []) → x ≡ y
 last_same {X} xs ys x y is = sym (final_after x xs x) ∙ ap (λ (zs : List X). final x zs) is ∙ final_after x ys y
 
--- the last entry, of which this holds
+-- there is a last entry, and P holds of it
 record LastIs (P : EntryData → Type 0) (entries : List EntryData) : Type 0 where
   before : List EntryData
   entry : EntryData
@@ -93,7 +95,7 @@ last_is outcome count jobs end last workers after entries some asks kept asked l
     let same = all_last (IsReceiptOf entries) asks.first.receipts r (subst (λ (rs : List ReceiptData). AllByRecursion (IsReceiptOf entries) rs) asks.asks.behind new.0.same) in
     last_at (IsLastOf last) entries r.place (asks.asks.place ∙ sym long) (is_last_of (slice_get entries r.place) asks.next.seat.job r last zero_is asks.asks.asked own same)
 
--- ---- its answer
+-- ---- the answer of the last entry
 
 last_answer : (before : List EntryData) (entry : EntryData) (entries : List EntryData) → IsLegal entries → entries ≡ before ++ entry ∷ [] → GoesOn
     → entry.answer ≡ answer_of (table_of (ops_of before)) entry.op
@@ -103,7 +105,7 @@ last_answer before entry entries legal place goes =
     (sym (map-append (λ (e : EntryData). e.answer) before (entry ∷ [])) ∙ told
     ∙ ap (λ (ops : List OpData). answers_to ops) (map-append (λ (e : EntryData). e.op) before (entry ∷ [])) ∙ goes (ops_of before) entry.op)
 
--- ---- what a log asks holds of the entries
+-- ---- what holds of all operations in the logs holds of those in the entries
 
 has_op : (P : OpData → Type 0) (found : Option EntryData) (r : ReceiptData) → IsSomeAnd found (λ (e : EntryData). receipt_of r.place e ≡ r) → P r.op → IsSomeAnd found (λ (e : EntryData). P e.op)
 has_op P None r is hold = absurd is
@@ -129,7 +131,7 @@ from_places : (P : OpData → Type 0) (entries : List EntryData) → ((place : �
 from_places P [] at = tt
 from_places P (e ∷ entries) at = (at 0 (omega arith), from_places P entries (λ place less. at (suc place) (omega (arith, less))))
 
--- ---- submissions, and what is asked of them
+-- ---- the submissions in logs and entries, and that all other operations ask for texts
 
 submits_all : (subs : List SubmissionData) → OnlySubmitsAndAsks (map SubmitOp subs)
 submits_all [] = tt
@@ -196,7 +198,7 @@ logs_ask outcome count jobs last (log ∷ logs) is asked =
       logs_ask outcome count jobs last logs is asked.1,
     )
 
--- the history submits what all places do, in another order
+-- the history's submissions are those of all inputs, in another order
 history_submits : (outcome : ℕ → Outcome) (count jobs : ℕ) (last : OpData) (entries : List EntryData) (logs : List LogData) → 0 < jobs → IsText last → IsMerge entries logs
     → AreJobLogs outcome count jobs last logs → IsPermutation (submissions_of all_places outcome count) (submissions_in (ops_of entries))
 history_submits outcome count jobs last entries logs some is merge asked =
@@ -239,7 +241,7 @@ text_is outcome count jobs last entries logs before entry some legal merge asked
     (subst (λ (ss : List SubmissionData). IsPermutation ss (submissions_in (ops_of before))) (sym (submitted_all all)) moved)
     (subst (λ (ss : List SubmissionData). AreAgreeing ss) (sym (submitted_all all)) agree) last is)
 
--- a history that is as long as job 0 saw after its last call ends with that call
+-- if the history has as many entries as job 0 saw after its last call, it ends with that call's entry
 pub ends_with : (outcome : ℕ → Outcome) (count jobs end : ℕ) (last : OpData) (workers after : List WorkerData) (entries : List EntryData) → 0 < jobs → FirstAsks workers after end last
     → IsLegal entries → IsMerge entries (logs_in after) → AreJobLogs outcome count jobs last (logs_in after) → length entries ≡ end → GoesOn → SameTexts
     → EndsWith (submissions_of all_places outcome count) last entries

@@ -1,4 +1,4 @@
--- What a reader answers is what becomes of the input.
+-- What covread's readers return for a text is the outcome of the input.
 use Rattle.std.proofs.Common.{◌≡◌, inl, inr, ℕ, List, Result, Ok, Err, refl}
 use Rattle.covline.specs.Row.{SubmissionData}
 use Rattle.covread.specs.declared.fault.ReadFault.{ReadFault}
@@ -15,14 +15,14 @@ pub gcov_outcome : (test text : List ℕ) (answer : Result SubmissionData ReadFa
 gcov_outcome test text answer (inl (few, good, refused)) = inr ((few, good), refused)
 gcov_outcome test text answer (inr is) = inl is
 
--- a submission is no fault
+-- the result that is a submission; by `no_fault` it isn't `Memory`
 abbrev answered : SubmissionData → Result SubmissionData ReadFault
 answered submission = Ok submission
 
 no_fault : (submission : SubmissionData) → answered submission ≡ Err faults.Memory → ⊥
 no_fault submission is = cc
 
--- memory may run out for an input that can be read
+-- if an input is read, memory may still run out for it later
 pub late_outcome : (input : InputData) (submission : SubmissionData) → IsOutcomeOf input (Ok submission) → IsOutcomeOf input (Err faults.Memory)
 late_outcome (TraceInput text) submission (inl (few, reads)) = inr (few, refl)
 late_outcome (GcovInput test text) submission (inl (few, good, reads)) = inr ((few, good), refl)

@@ -1,4 +1,5 @@
--- A list that has each number below a bound once and no other: what its members bring is what all places below the bound bring, in another order.
+-- A list that has each number below a bound once, and no other number. What its numbers bring is what all places below the bound
+-- bring, in another order.
 use Rattle.std.proofs.Common.{◌≡◌, ◌∙◌, inl, inr, ℕ, zero, suc, ◌+◌, ◌<◌, ◌≤◌, Bool, cond, List, [], ◌∷◌, ◌++◌, ap, sym, refl, subst, arith, append_assoc}
 use Rattle.std.proofs.Math.Dec.{eqb}
 use Rattle.std.proofs.lemmas.Bool.Decides.{eqb_tells}
@@ -8,11 +9,12 @@ use Rattle.std.specs.List.{flat_map}
 use Rattle.std.specs.List.Sorted.{IsPermutation}
 use Rattle.covjobs.specs.Collect.{brought, all_places}
 
+-- how often the number is in the list
 abbrev pub times : ℕ → List ℕ → ℕ
 times place [] = 0
 times place (p ∷ places) = cond (eqb place p) 1 0 + times place places
 
--- a number that comes is somewhere
+-- the list has this number, between the numbers before it and those after it
 record Found (place : ℕ) (places : List ℕ) : Type 0 where
   before : List ℕ
   after : List ℕ
@@ -40,7 +42,7 @@ times_around place other (p ∷ before) after =
     exchanged : (a b c : ℕ) → a + (b + c) ≡ b + (a + c)
     exchanged a b c = omega arith
 
--- each number below the bound comes once, and no other comes
+-- the list has each number below the bound once, and no other number
 pub record AreBelow (bound : ℕ) (places : List ℕ) : Type 0 where
   pub once : (place : ℕ) → place < bound → times place places ≡ 1
   pub none : (place : ℕ) → bound ≤ place → times place places ≡ 0
@@ -70,7 +72,7 @@ one_less bound before after are = record {
   ];
 }
 
--- ((us ++ x) ++ vs) in another order
+-- the list in the middle may be moved to the end
 moved_last : {X : Type 0} (us x vs : List X) → IsPermutation (us ++ (x ++ vs)) ((us ++ vs) ++ x)
 moved_last {X} us x vs =
     subst (λ (xs : List X). IsPermutation (us ++ (x ++ vs)) xs) (sym (append_assoc us vs x)) (IsPermutation-append_right us (x ++ vs) (vs ++ x) (IsPermutation-append_comm x vs))

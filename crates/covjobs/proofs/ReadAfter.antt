@@ -1,11 +1,11 @@
--- What a job reads after its receipts.
+-- The readings of a job: one after each receipt, if it has a reader.
 use Rattle.std.proofs.Common.{◌≡◌, ◌∙◌, ℕ, ◌<◌, Bool, true, false, List, [], ◌∷◌, ◌++◌, sym, subst, arith}
 use Rattle.covbook.specs.declared.reading.Reading.{Reading}
 use Rattle.covbook.specs.Op.{OpData, ReceiptData}
 use Rattle.covjobs.specs.Collect.{AreReadAfter, HasRead}
 use Rattle.covjobs.specs.Work.{Asks, ReadsOn, WorkerData}
 
--- nothing was asked and nothing was read
+-- a job without receipts and readings has read what it should
 pub none_read : (has_reader : Bool) (receipts : List ReceiptData) (readings : List Reading) → receipts ≡ [] → readings ≡ [] → HasRead has_reader receipts readings
 none_read true receipts readings none nothing =
     subst (λ (rs : List ReceiptData). AreReadAfter rs readings) (sym none) (subst (λ (rs : List Reading). AreReadAfter [] rs) (sym nothing) tt)
@@ -18,7 +18,7 @@ one_after [] (r ∷ readings) receipt reading so_far later = absurd so_far
 one_after (r ∷ receipts) [] receipt reading so_far later = absurd so_far
 one_after (x ∷ receipts) (y ∷ readings) receipt reading so_far later = (so_far.0, one_after receipts readings receipt reading so_far.1 later)
 
--- one more operation is asked, and if there is a reader the history after it is read
+-- a job has read what it should after one more operation, if it then reads on, in case it has a reader
 pub read_more : (has_reader : Bool) (receipts after : List ReceiptData) (readings behind : List Reading) (seen least : ℕ) (op : OpData) → Asks receipts after seen op → least ≡ seen
     → ReadsOn has_reader least readings behind → HasRead has_reader receipts readings → HasRead has_reader after behind
 read_more true receipts after readings behind seen least op asks same reads so_far =
@@ -27,7 +27,7 @@ read_more true receipts after readings behind seen least op asks same reads so_f
     (subst (λ (rs : List Reading). AreReadAfter (receipts ++ asks.receipt ∷ []) rs) (sym reads.1) (one_after receipts readings asks.receipt reads.0 so_far later))
 read_more false receipts after readings behind seen least op asks same reads so_far = reads ∙ so_far
 
--- a job submits, and reads after it
+-- the same for the states of a worker: before a submit, after it, and after the reading
 pub submitted_read : (old asked read : WorkerData) {least : ℕ} {op : OpData} → Asks old.receipts asked.receipts asked.seat.seen op → least ≡ asked.seat.seen
     → asked.has_reader ≡ old.has_reader → asked.readings ≡ old.readings → ReadsOn asked.has_reader least asked.readings read.readings
     → read.has_reader ≡ asked.has_reader → read.receipts ≡ asked.receipts

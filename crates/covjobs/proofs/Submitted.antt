@@ -1,4 +1,4 @@
--- An operation whose receipt comes after others is asked after theirs.
+-- If a receipt comes after others, its operation comes after theirs.
 use Rattle.std.proofs.Common.{◌≡◌, ◌∙◌, ℕ, List, [], ◌∷◌, ◌++◌, ap}
 use Rattle.std.proofs.lemmas.List.{map-append}
 use Rattle.covbook.specs.Op.{OpData, ReceiptData}

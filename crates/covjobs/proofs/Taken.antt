@@ -1,4 +1,4 @@
--- A worker's inputs, taken one after another.
+-- A worker takes its inputs one after another.
 use Rattle.std.proofs.Common.{◌≡◌, ◌∙◌, ◌⊎◌, inl, inr, ℕ, zero, suc, ◌+◌, ◌<◌, Bool, true, false, IsTrue, if◌then◌else◌, List, [], ◌∷◌, ◌++◌, map, Option, Some, Result, Err, slice_get, ap, sym, refl, subst, arith}
 use Rattle.std.specs.Prelude.{IsSomeAnd}
 use Rattle.std.proofs.Math.Dec.{eqb}
@@ -15,7 +15,7 @@ use Rattle.covjobs.specs.Work.{Takes}
 abbrev pub Outcome : Type 0
 Outcome = Result SubmissionData ReadFault
 
--- what becomes of the inputs, once it is known of one more
+-- the function `old` with the value `new` at the number `at`
 abbrev pub put : {X : Type 0} → ℕ → X → (ℕ → X) → ℕ → X
 put at new old index = if eqb index at then new else old index
 
@@ -25,7 +25,7 @@ put_here at new old = ap (λ (b : Bool). if b then new else old at) (eq-eqb at a
 pub put_apart : {X : Type 0} (at : ℕ) (new : X) (old : ℕ → X) (index : ℕ) → (index ≡ at → ⊥) → put at new old index ≡ old index
 put_apart at new old index apart = ap (λ (b : Bool). if b then new else old index) (ne_eqb index at apart)
 
--- what the first places bring depends on these alone
+-- what the first places bring depends only on what is given for these places
 pub brought_same : {X : Type 0} (meant : ℕ → Bool) (bring brings : ℕ → List X) (count : ℕ) → ((index : ℕ) → index < count → brings index ≡ bring index)
     → brought meant brings count ≡ brought meant bring count
 brought_same meant bring brings zero same = refl
@@ -36,7 +36,7 @@ brought_same {X} meant bring brings (suc count) same =
 behind : (count : ℕ) → suc count ≡ count + 1
 behind count = omega arith
 
--- one more place, that is meant or isn't
+-- with one more place that is meant, what it brings comes after the rest
 pub brought_more : {X : Type 0} (meant : ℕ → Bool) (bring brings : ℕ → List X) (count : ℕ) (here : List X) → ((index : ℕ) → index < count → brings index ≡ bring index)
     → meant count ≡ true → brings count ≡ here → brought meant brings (count + 1) ≡ brought meant bring count ++ here
 brought_more {X} meant bring brings count here same own is =
@@ -49,6 +49,7 @@ pub append_nothing : {X : Type 0} (xs : List X) → xs ++ [] ≡ xs
 append_nothing [] = refl
 append_nothing {X} (x ∷ xs) = ap (λ (rest : List X). x ∷ rest) (append_nothing xs)
 
+-- one more place that isn't meant brings nothing
 pub brought_past : {X : Type 0} (meant : ℕ → Bool) (bring : ℕ → List X) (count : ℕ) → meant count ≡ false → brought meant bring (count + 1) ≡ brought meant bring count
 brought_past {X} meant bring count apart =
     sym (ap (λ (n : ℕ). brought meant bring n) (behind count))

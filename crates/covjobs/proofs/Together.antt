@@ -1,4 +1,4 @@
--- What the places of all jobs bring together is what all places bring, in another order.
+-- What the places of each job bring, one job after another, is what all places bring, in another order.
 use Rattle.std.proofs.Common.{◌≡◌, ◌∙◌, inl, inr, ℕ, zero, suc, ◌<◌, ◌≤◌, ◌%◌, Bool, true, false, if◌then◌else◌, List, [], ◌++◌, ap, sym, refl, subst, arith, append_assoc}
 use Rattle.std.proofs.Math.Dec.{eqb}
 use Rattle.std.proofs.lemmas.Bool.Decides.{eqb_tells}
@@ -7,7 +7,7 @@ use Rattle.std.proofs.lemmas.List.Sorted.{IsPermutation-refl, IsPermutation-tran
 use Rattle.std.specs.List.Sorted.{IsPermutation}
 use Rattle.covjobs.specs.Collect.{brought, all_places, places_of_job}
 
--- what the first jobs bring, one after the other
+-- what the first jobs bring, one job after another
 abbrev pub joined : {X : Type 0} → (ℕ → List X) → ℕ → List X
 joined bring jobs = brought all_places bring jobs
 
@@ -27,7 +27,7 @@ joined_both some others (suc jobs) =
     (IsPermutation-append_left (some jobs ++ others jobs) (joined (λ job. some job ++ others job) jobs) (joined some jobs ++ joined others jobs) (joined_both some others jobs))
     (crossed (joined some jobs) (joined others jobs) (some jobs) (others jobs))
 
--- of all jobs one alone has a place
+-- what a job brings if only the job `owner` brings anything
 abbrev pub own_part : {X : Type 0} → ℕ → List X → ℕ → List X
 own_part owner here job = if eqb owner job then here else []
 
@@ -55,7 +55,7 @@ joined_none : {X : Type 0} (jobs : ℕ) → joined {X = X} (λ job. []) jobs ≡
 joined_none zero = refl
 joined_none {X} (suc jobs) = ap (λ (xs : List X). xs ++ []) (joined_none jobs)
 
--- each place is of one job
+-- each place is one of exactly one job, so all jobs together bring what all places bring
 pub all_together : {X : Type 0} (jobs : ℕ) (bring : ℕ → List X) (count : ℕ) → ((place : ℕ) → place % jobs < jobs)
     → IsPermutation (joined (λ job. brought (places_of_job jobs job) bring count) jobs) (brought all_places bring count)
 all_together {X} jobs bring zero within = subst (λ (xs : List X). IsPermutation xs []) (sym (joined_none jobs)) (IsPermutation-refl [])
@@ -67,7 +67,7 @@ all_together {X} jobs bring (suc count) within =
     (IsPermutation-append (joined before jobs) (brought all_places bring count) (joined here jobs) (bring count) (all_together jobs bring count within)
     (subst (λ (xs : List X). IsPermutation (joined here jobs) xs) (one_owner (count % jobs) (bring count) jobs (within count)) (IsPermutation-refl (joined here jobs))))
 
--- ---- what a place of a job brings depends on that job alone
+-- ---- what the places that are meant bring depends only on these places
 
 pub brought_own : {X : Type 0} (meant : ℕ → Bool) (bring brings : ℕ → List X) (count : ℕ) → ((index : ℕ) → index < count → meant index ≡ true → brings index ≡ bring index)
     → brought meant brings count ≡ brought meant bring count

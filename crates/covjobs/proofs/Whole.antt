@@ -1,4 +1,4 @@
--- What all workers have done, by one account of what became of each input.
+-- All that the workers have done follows from one function that gives the outcome of each input.
 use Rattle.std.proofs.Common.{◌≡◌, ◌∙◌, inl, inr, ℕ, zero, suc, ◌+◌, ◌<◌, ◌%◌, Bool, true, IsTrue, List, [], ◌∷◌, length, map, Err, slice_get, ap, sym, refl, subst, arith}
 use Rattle.std.specs.Prelude.{IsSomeAnd}
 use Rattle.std.specs.List.{AllByRecursion, range_with_len}
@@ -15,11 +15,11 @@ use Rattle.covjobs.specs.Work.{WorkerData, WorkData, HasDone, HaveDone, work_of}
 use Rattle.covjobs.proofs.Taken.{Outcome}
 use Rattle.covjobs.proofs.Together.{brought_own}
 
--- the work of the jobs from a number on
+-- the work of `count` jobs, from the job `from` on
 abbrev pub works_from : List InputData → (jobs from count : ℕ) → List WorkData
 works_from inputs jobs from count = map (work_of inputs jobs) (map fresh_seat (range_with_len from count))
 
--- what became of the inputs of the job at a place
+-- the outcomes of the inputs by the k-th worker's own account, which is right for the inputs of its job
 abbrev fates_at : (works : List WorkData) (workers : List WorkerData) → HaveDone works workers → ℕ → ℕ → Outcome
 fates_at [] [] done k = λ index. Err faults.Memory
 fates_at [] (worker ∷ workers) done k = absurd done
@@ -27,7 +27,8 @@ fates_at (work ∷ works) [] done k = absurd done
 fates_at (work ∷ works) (worker ∷ workers) done zero = done.0.taken.outcome
 fates_at (work ∷ works) (worker ∷ workers) done (suc k) = fates_at works workers done.1 k
 
--- a worker has asked and refused what one account of all inputs says, and has read after what it asked
+-- a worker has submitted and refused what the outcomes say for its job's inputs. If it has a reader, it has read after each
+-- submit
 pub record HasTold (jobs count : ℕ) (outcome : ℕ → Outcome) (worker : WorkerData) : Type 0 where
   pub asked : ops_in worker.receipts ≡ map SubmitOp (submissions_of (places_of_job jobs worker.seat.job) outcome count)
   pub are_refused : worker.refused ≡ refusals_of (places_of_job jobs worker.seat.job) outcome count
@@ -54,7 +55,7 @@ told inputs jobs job worker done whole same =
       | inr (no_is, differs) ↦ absurd (false≢true (sym no_is ∙ meant))
     ]
 
--- this holds of all workers, and they are of the jobs in order
+-- this holds of each worker, and the workers are those of `some` jobs from the job `from` on, in order
 pub record HaveTold (jobs from some count : ℕ) (outcome : ℕ → Outcome) (workers : List WorkerData) : Type 0 where
   pub are : map (λ (w : WorkerData). w.seat.job) workers ≡ range_with_len from some
   pub each : AllByRecursion (HasTold jobs count outcome) workers
@@ -93,7 +94,7 @@ holds_at inputs jobs from (suc some) (worker ∷ workers) done (suc k) index bel
     one_more : (from k : ℕ) → from + suc k ≡ from + 1 + k
     one_more from k = omega arith
 
--- one account of all that became of the inputs
+-- one function gives the outcomes of all inputs, and all that the workers have done follows from it
 pub record IsWhole (inputs : List InputData) (jobs : ℕ) (workers : List WorkerData) : Type 0 where
   pub outcome : ℕ → Outcome
   pub outcomes : AreOutcomes inputs outcome

@@ -1,4 +1,4 @@
--- A list that is overwritten as a whole.
+-- If a list is overwritten from the front by a list of the same length, the result is the new list.
 use Rattle.std.proofs.Common.{◌≡◌, ◌∙◌, ℕ, List, ◌++◌, length, take, drop, ap, sym}
 use Rattle.std.proofs.Math.Seq.{take-length, drop-length}
 use Rattle.std.proofs.lemmas.List.{append-nil}

@@ -1,5 +1,5 @@
--- What workers collect: of each input what it is read as, of each job the submissions of its inputs, and after all of
--- them one last operation (lcov(1), --add-tracefile, for many files at once).
+-- What workers collect. Each input is read; each job submits what its inputs are read as; and after all submissions there is one
+-- last operation (lcov(1), --add-tracefile, for many files at once).
 use Rattle.std.specs.Prelude.{◌≡◌, ◌⊎◌, ◌==◌, ℕ, zero, suc, ◌<◌, ◌≤◌, ◌%◌, if◌then◌else◌, Bool, true, false, IsTrue, List, [], ◌∷◌, ◌++◌, length, map, slice_get, IsSomeAnd, Result, Ok, Err}
 use Rattle.std.specs.List.{AllByRecursion, range_with_len}
 use Rattle.covline.specs.Lawful.{IsGoodTest}
@@ -16,86 +16,92 @@ use Rattle.covbook.specs.Step.{IsLegal, table_of, answer_of, ops_in as ops_of}
 use Rattle.covbook.specs.Texts.{IsText}
 use Rattle.covjobs.specs.declared.refused.RefusedInput.{RefusedInput}
 
--- a tracefile, or a text of gcov's with the test whose counts it has
+-- an input: a tracefile, or gcov's output and the name of the test whose counts it has
 pub data InputData : Type 0 where
   TraceInput : (text : List ℕ) → InputData
   GcovInput : (test text : List ℕ) → InputData
 
--- what an input is read as: a submission, or its first fault
+-- what an input is read as: a submission, or the first fault in it
 abbrev pub IsReadAs : InputData → Result SubmissionData ReadFault → Type 0
 IsReadAs (TraceInput text) outcome = trace.IsOutcome text outcome
 IsReadAs (GcovInput test text) outcome = gcov.IsOutcome test text outcome
 
--- the input's length, and the name of its test, are good: before that memory can't run out
+-- memory may run out while the input is read. This needs a text that isn't too long and a good test name, since both are checked
+-- before any memory is taken
 abbrev pub MayRunOut : InputData → Type 0
 MayRunOut (TraceInput text) = length text ≤ trace.max_bytes
 MayRunOut (GcovInput test text) = (length text ≤ trace.max_bytes) × IsGoodTest test
 
--- what becomes of an input: what it is read as, or memory ran out
+-- the outcome of an input: what it is read as, or the fault `Memory` if memory ran out
 abbrev pub IsOutcomeOf : InputData → Result SubmissionData ReadFault → Type 0
 IsOutcomeOf input outcome = IsReadAs input outcome ⊎ (MayRunOut input × (outcome ≡ Err faults.Memory))
 
--- what becomes of each of these inputs, by its place
+-- `outcome` gives the outcome of each of these inputs, by the input's place
 abbrev pub AreOutcomes : List InputData → (ℕ → Result SubmissionData ReadFault) → Type 0
 AreOutcomes inputs outcome = (index : ℕ) → index < length inputs → IsSomeAnd (slice_get inputs index) (λ input. IsOutcomeOf input (outcome index))
 
--- an input that is read is submitted, one that isn't is refused with its place
+-- what is submitted for an outcome: the submission that was read, or nothing
 abbrev pub submitted : Result SubmissionData ReadFault → List SubmissionData
 submitted (Ok submission) = submission ∷ []
 submitted (Err fault) = []
 
+-- what is refused for an outcome: nothing, or the input's place with its fault
 abbrev pub refusal : ℕ → Result SubmissionData ReadFault → List RefusedInput
 refusal index (Ok submission) = []
 refusal index (Err fault) = record { index = index; fault = fault } ∷ []
 
--- what the meant ones among the first `count` places bring, in their order
+-- of the first `count` places, take those for which `meant` is true. These are the elements that `bring` gives for each of them,
+-- in ascending order of the places
 abbrev pub brought : {X : Type 0} → (meant : ℕ → Bool) → (bring : ℕ → List X) → (count : ℕ) → List X
 brought meant bring zero = []
 brought meant bring (suc count) = brought meant bring count ++ (if meant count then bring count else [])
 
--- all places, and those of a job: each `jobs`-th from its number on
+-- all places are meant
 abbrev pub all_places : ℕ → Bool
 all_places index = true
 
+-- the places of a job are meant: its number, and every `jobs`-th place after that
 abbrev pub places_of_job : (jobs job : ℕ) → ℕ → Bool
 places_of_job jobs job index = index % jobs == job
 
--- what is submitted, and what is refused, of the meant ones among the first `count` inputs
+-- the submissions of those of the first `count` inputs whose places are meant
 abbrev pub submissions_of : (meant : ℕ → Bool) → (ℕ → Result SubmissionData ReadFault) → (count : ℕ) → List SubmissionData
 submissions_of meant outcome count = brought meant (λ index. submitted (outcome index)) count
 
+-- the refusals of those of the first `count` inputs whose places are meant
 abbrev pub refusals_of : (meant : ℕ → Bool) → (ℕ → Result SubmissionData ReadFault) → (count : ℕ) → List RefusedInput
 refusals_of meant outcome count = brought meant (λ index. refusal index (outcome index)) count
 
--- what a job asks: the submissions of its inputs, and job 0 the last operation after them
+-- what a job asks at the end: job 0 the last operation, any other job nothing
 abbrev pub last_of : (last : OpData) → (job : ℕ) → List OpData
 last_of last job = if job == 0 then last ∷ [] else []
 
+-- all that a job asks: it submits the submissions of its inputs, and job 0 then asks the last operation
 abbrev pub asked_by : (ℕ → Result SubmissionData ReadFault) → (count jobs : ℕ) → (last : OpData) → (job : ℕ) → List OpData
 asked_by outcome count jobs last job = map SubmitOp (submissions_of (places_of_job jobs job) outcome count) ++ last_of last job
 
--- the operations of a log
+-- the operations of a log's receipts
 abbrev pub ops_in : List ReceiptData → List OpData
 ops_in receipts = map (λ (r : ReceiptData). r.op) receipts
 
--- there is one log for each job from 0 on, and it has what the job asks
+-- there is one log for each job from 0 to `jobs - 1`, in order, and each has the operations that its job asks
 abbrev pub AreJobLogs : (ℕ → Result SubmissionData ReadFault) → (count jobs : ℕ) → (last : OpData) → List LogData → Type 0
 AreJobLogs outcome count jobs last logs =
     (map (λ (log : LogData). log.job) logs ≡ range_with_len 0 jobs)
     × AllByRecursion (λ (log : LogData). ops_in log.receipts ≡ asked_by outcome count jobs last log.job) logs
 
--- one reading for each of these receipts, in their order, of a history that has the receipt's entry
+-- there is one reading for each of these receipts, in order, and each reading counts its receipt's entry
 abbrev pub AreReadAfter : List ReceiptData → List Reading → Type 0
 AreReadAfter [] [] = Unit {0}
 AreReadAfter (receipt ∷ receipts) (reading ∷ readings) = (receipt.place < reading.upto) × AreReadAfter receipts readings
 AreReadAfter receipts readings = ⊥
 
--- what a job has read after these receipts: one reading after each, or none at all if it has no reader
+-- the readings of a job with these receipts: one after each receipt, or none at all if the job has no reader
 abbrev pub HasRead : (has_reader : Bool) → List ReceiptData → List Reading → Type 0
 HasRead true receipts readings = AreReadAfter receipts readings
 HasRead false receipts readings = readings ≡ []
 
--- a log has one reading for each of its submissions, or none at all; none is for the last operation
+-- a log has one reading for each of its submissions, or none at all. The last operation has no reading
 pub record HasReadings (last : OpData) (log : LogData) : Type 0 where
   pub has_reader : Bool
   pub submits : List ReceiptData
@@ -104,8 +110,9 @@ pub record HasReadings (last : OpData) (log : LogData) : Type 0 where
   pub asked : ops_in others ≡ last_of last log.job
   pub read : HasRead has_reader submits log.readings
 
--- the last entry is that of the last operation. If the submissions agree, a text is the one that a run over the
--- submissions alone ends with, in the order of the inputs and whatever the number of jobs
+-- the last entry is that of the last operation, asked by job 0. If this operation is answered with a text and the submissions
+-- agree, its answer is the one after a run over only these submissions, in the order of the inputs. So it doesn't depend on the
+-- number of jobs
 pub record EndsWith (submissions : List SubmissionData) (last : OpData) (entries : List EntryData) : Type 0 where
   pub before : List EntryData
   pub entry : EntryData
@@ -114,9 +121,9 @@ pub record EndsWith (submissions : List SubmissionData) (last : OpData) (entries
   pub asker : entry.job ≡ 0
   pub text : IsText last → AreAgreeing submissions → entry.answer ≡ answer_of (table_of (map SubmitOp submissions)) last
 
--- what this number of jobs collects of inputs: what became of each input decides what the jobs ask. The order of their
--- turns, and how many entries their readings count, stay open. The submissions are lawful, and each reading has the
--- totals after its number of entries
+-- what this number of jobs collects from these inputs. The outcome of each input decides what the jobs ask. Nothing is said about
+-- the order in which the jobs take their turns, or about how many entries their readings count, except that a reading after a
+-- submit counts its entry. The submissions are lawful, and each reading has the totals after its number of entries
 pub record IsCollected (inputs : List InputData) (jobs : ℕ) (last : OpData) (entries : List EntryData) (logs : List LogData) (refused : List RefusedInput) : Type 0 where
   pub outcome : ℕ → Result SubmissionData ReadFault
   pub outcomes : AreOutcomes inputs outcome
@@ -129,7 +136,8 @@ pub record IsCollected (inputs : List InputData) (jobs : ℕ) (last : OpData) (e
   pub are_refused : refused ≡ refusals_of all_places outcome (length inputs)
   pub ends : EndsWith (submissions_of all_places outcome (length inputs)) last entries
 
--- what a job has done with its inputs among the first `count`: the operations of its receipts, and what it refused
+-- what a job has done with those of the first `count` inputs that are its own: its receipts are those of the submits of what was
+-- read, and the inputs that weren't read are refused
 pub record HasTaken (inputs : List InputData) (jobs job count : ℕ) (receipts : List ReceiptData) (refused : List RefusedInput) : Type 0 where
   pub outcome : ℕ → Result SubmissionData ReadFault
   pub outcomes : (index : ℕ) → index < count → IsTrue (places_of_job jobs job index) → IsSomeAnd (slice_get inputs index) (λ input. IsOutcomeOf input (outcome index))

@@ -1,4 +1,4 @@
--- The numbers of the faults of collecting, and which of them a fault of the book is.
+-- The numbers of the faults of collecting, and which of these faults is returned for a fault of a start or of the book.
 use Rattle.std.specs.Prelude.{ℕ}
 use Rattle.covbook.specs.declared.book.BookFault.{BookFault}
 use Rattle.covbook.specs.declared.book.BookFault.TheVariants as book

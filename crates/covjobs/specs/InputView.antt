@@ -1,4 +1,4 @@
--- Inputs of the code, seen as plain data.
+-- The program's inputs as plain data.
 use Rattle.covjobs.specs.declared.input.Input.{Input}
 use Rattle.covjobs.specs.declared.input.Input.TheVariants as inputs
 use Rattle.covjobs.specs.Collect.{InputData, TraceInput, GcovInput}

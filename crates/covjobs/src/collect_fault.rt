@@ -5,20 +5,20 @@ use covline::Memory;
 use covlock::OpenFault;
 use thiserror::Error;
 
-/// Why inputs aren't collected. A job stops at its first `Full` or `Memory`, the others go on to their end, and the fault of
-/// the least job is returned.
+/// Why inputs aren't collected. A job stops at its first `Full` or `Memory`, and the other jobs go on to their end. Then the
+/// fault of the least of the jobs that stopped is returned, or `Memory` if memory ran out for the list of the workers.
 #[derive(Clone, Copy, Debug, PartialEq, Eq, Error)]
 pub enum CollectFault {
     /// Fault 1: there are no jobs, or more than 64. This is tested first.
     #[error("BadJobs")]
     BadJobs,
-    /// Fault 2: the history has 1,048,576 entries.
+    /// Fault 2: the history is full. It has 1,048,576 entries.
     #[error("book full")]
     Full,
     /// Fault 3: memory was refused, or a worker couldn't be started.
     #[error("out of memory")]
     Memory,
-    /// Fault 4: the history isn't gathered from the jobs' logs: it is no merge of them, or a reading is wrong.
+    /// Fault 4: the history can't be gathered from the jobs' logs: it isn't a merge of them, or a reading is wrong.
     #[error("gather: {0}")]
     Gather(GatherFault),
     /// Fault 5: there is an entry after that of the last operation. This is tested last.

@@ -2,8 +2,8 @@
 
 use std::sync::Wait;
 
-/// What a worker calls right before and right after each submit, outside the book's lock. With it a test sees that the
-/// workers run at once. `call` counts the job's submits from 0. `after` is called for a submit that is refused, too.
+/// Two calls that a worker makes right before and right after each submit, outside the book's lock. A test uses them to see that
+/// workers run at the same time. `call` counts the job's submits from 0. `after` is also called if the submit was refused.
 pub trait Gate {
     /// The job is about to submit.
     fn before<R: Wait>(&self, rt: &R, job: u32, call: u64);

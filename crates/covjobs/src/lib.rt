@@ -1,14 +1,18 @@
-//! Many jobs at one book: the book that threads share, and workers that collect inputs into it.
+//! A book for many jobs: threads share the book, and workers collect inputs into it.
 //!
-//! The shared book is `covlock`'s, which this crate re-exports: a `Start` is what it is made of, `open_book` makes it
-//! and a `Seat` for each job, `Shared::perform` is one step with a seat under the book's lock, `Shared::reader` makes a
-//! reader of the totals that takes no lock (`Live`), and `Shared::close` takes all seats back and returns the history.
+//! The shared book is `covlock`'s. This crate re-exports it:
 //!
-//! `collect` does all of this for texts that are there already: it opens a book, has one thread for each job read and submit its
-//! share of the inputs, performs a last operation, closes the book, and gathers what the jobs were answered.
+//! - `open_book` makes a book out of a `Start`, and a `Seat` for each job.
+//! - `Shared::perform` takes one step of the book with a seat, while it holds the book's lock.
+//! - `Shared::reader` makes a reader of the totals (`Live`), which takes no lock.
+//! - `Shared::close` takes all seats back and returns the history.
 //!
-//! What a thread asks (`Op`) and keeps (`Receipt`, `Reading`, in a `JobLog`), and `gather`, which checks that the logs
-//! are those of the closed history (`Entries`), are covbook's and re-exported too, so a user lists this crate alone.
+//! `collect` does all of this for texts that are already in memory. It opens a book, and starts a thread for each job, which
+//! reads its share of the inputs and submits them. Then it performs a last operation, closes the book, and gathers the history
+//! from the jobs' logs.
+//!
+//! This crate also re-exports what a thread asks (`Op`) and what it keeps (`Receipt` and `Reading`, in a `JobLog`), and `gather`,
+//! which checks that the logs fit the closed history (`Entries`). All of this is covbook's. So a user needs only this crate.
 //!
 //! A sketch, which no test runs:
 //!
@@ -40,7 +44,8 @@ mod workers;
 
 pub use collect_fault::CollectFault;
 pub use collected::{Collected, collect};
-// Readings of a reader that is no job are gathered too: as a log with a job number that no seat has, and no receipts.
+// `gather` can also check the readings of a reader that isn't a job. They are given as a log without receipts, with a job number
+// that no seat has.
 pub use covbook::{BookFault, Entries, JobLog, Op, Reading, Receipt, gather};
 pub use covlock::{
     CloseFault, Done, Live, MAX_JOBS, MAX_READERS, Name, News, OpenFault, ReaderFault, Seat, Seats,

@@ -12,7 +12,7 @@ pub struct RefusedInput {
     pub fault: ReadFault,
 }
 
-/// A list of refused inputs. Contracts see its members.
+/// A list of refused inputs. Contracts see these inputs in order.
 #[derive(Drop)]
 pub struct Refused<A: Allocator = Global> {
     inputs: Vec<RefusedInput, A>,
@@ -67,7 +67,7 @@ impl<A: Allocator> Refused<A> {
         Ok(())
     }
 
-    /// Puts the inputs in the order of their places.
+    /// Sorts the inputs by their places.
     pub(crate) fn sort(&mut self)
         ensures same { IsPermutation self.old self.new }
         ensures ascending { IsNonDecreasingBy (λ (r : RefusedInput). r.index) self.new }

@@ -1,4 +1,5 @@
--- Lists no two of whose members are the same: how many different members they have, and what sorting keeps of them.
+-- Lists in which no two elements are the same, by a given test. How many different elements a list has, and what is still true of
+-- a list after it is sorted.
 use Rattle.std.proofs.Common.{◌≡◌, ℕ, ◌+◌, Bool, true, false, cond, ◌||◌, List, [], ◌∷◌, ◌++◌, length, map, refl, sym, ap, ◌∙◌, arith}
 use Rattle.std.specs.Prelude.{filter, count_by}
 use Rattle.std.specs.Cmp.{IsEquivalence}
@@ -12,12 +13,12 @@ use Rattle.std.proofs.lemmas.List.Sums.{sum_by-cons}
 use Rattle.covread.specs.Reads.{distinct}
 use Rattle.covreport.specs.Report.{put_in, sorted}
 
--- no two of them are the same
+-- no two elements of the list are the same, by the test `same`
 abbrev pub AreApart : {X : Type 0} → (X → X → Bool) → List X → Type 0
 AreApart same [] = Unit {0}
 AreApart same (x ∷ xs) = AllByRecursion (λ y. same x y ≡ false) xs × AreApart same xs
 
--- ---- what holds of all members
+-- ---- what holds of all elements
 
 pub all_zip : {X : Type 0} (P Q R : X → Type 0) → ((x : X) → P x → Q x → R x) → (xs : List X) → AllByRecursion P xs → AllByRecursion Q xs → AllByRecursion R xs
 all_zip P Q R both [] p q = tt
@@ -39,13 +40,13 @@ pub all_unmapped : {X Y : Type 0} (f : X → Y) (P : Y → Type 0) (xs : List X)
 all_unmapped f P [] all = tt
 all_unmapped f P (x ∷ xs) all = (all.0, all_unmapped f P xs all.1)
 
--- ---- how many different members there are
+-- ---- how many different elements there are
 
 or_true : (b : Bool) → (b || true) ≡ true
 or_true true = refl
 or_true false = refl
 
--- no member of xs is the same as x
+-- if each element of xs differs from x, a search for x in xs finds nothing
 none_same : {X : Type 0} (same : X → X → Bool) (x : X) (xs : List X) → AllByRecursion (λ y. same x y ≡ false) xs → list_any (same x) xs ≡ false
 none_same same x [] apart = refl
 none_same same x (y ∷ ys) apart = ap (λ (b : Bool). b || list_any (same x) ys) apart.0 ∙ none_same same x ys apart.1
@@ -60,7 +61,7 @@ found_later : {X : Type 0} (same : X → X → Bool) → IsEquivalence same → 
 found_later same laws [] x back = ap (λ (b : Bool). b || list_any (same x) back) (laws.refl x)
 found_later same laws (y ∷ front) x back = ap (λ (b : Bool). same x y || b) (found_later same laws front x back) ∙ or_true (same x y)
 
--- members that come again later are counted there alone
+-- elements that are all in the list after them add nothing to the number of different elements
 pub distinct_again : {X : Type 0} (same : X → X → Bool) → IsEquivalence same → (xs front : List X) (ys : List X) → ys ≡ front ++ xs → distinct same (xs ++ ys) ≡ distinct same ys
 distinct_again same laws [] front ys is = refl
 distinct_again {X} same laws (x ∷ xs) front ys is =
@@ -78,7 +79,7 @@ distinct_again {X} same laws (x ∷ xs) front ys is =
         ∙ ap (λ (b : Bool). list_any (same x) xs || b) (found_later same laws front x xs)
         ∙ or_true (list_any (same x) xs)
 
--- ---- members that pass a test, or are mapped, are as different
+-- ---- elements that differ still do after a filter or a map
 
 none_kept : {X : Type 0} (same : X → X → Bool) (q : X → Bool) (x : X) (xs : List X) → AllByRecursion (λ y. same x y ≡ false) xs → AllByRecursion (λ y. same x y ≡ false) (filter q xs)
 none_kept same q x [] apart = tt
@@ -104,14 +105,14 @@ pub apart_unmapped : {X Y : Type 0} (f : X → Y) (same : Y → Y → Bool) (xs 
 apart_unmapped f same [] apart = tt
 apart_unmapped f same (x ∷ xs) apart = (all_unmapped f (λ y. same (f x) y ≡ false) xs apart.0, apart_unmapped f same xs apart.1)
 
--- a strictly sorted list's members are apart if what is less isn't the same
+-- no two elements of a strictly sorted list are the same, if `same` is false of any two of which one is less
 pub apart_ordered : {X : Type 0} (cmp : X → X → Ordering) (same : X → X → Bool) → ((x y : X) → cmp x y ≡ Less → same x y ≡ false) → (xs : List X)
     → IsStrictlySortedBy cmp xs → AreApart same xs
 unfolding IsStrictlySortedBy
 apart_ordered cmp same differ [] up = tt
 apart_ordered cmp same differ (x ∷ xs) up = (all_more (λ y. cmp x y ≡ Less) (λ y. same x y ≡ false) (differ x) xs up.0, apart_ordered cmp same differ xs up.1)
 
--- ---- what sorting keeps
+-- ---- what is still true of a sorted list
 
 module _ {X : Type 0} (cmp : X → X → Ordering) where
   all_put_in : (P : X → Type 0) (x : X) (ys : List X) → P x → AllByRecursion P ys → AllByRecursion P (put_in cmp x ys)
@@ -141,7 +142,7 @@ module _ {X : Type 0} (cmp : X → X → Ordering) where
     apart_sorted [] apart = tt
     apart_sorted (x ∷ xs) apart = apart_put_in x (sorted cmp xs) (all_sorted (λ y. same x y ≡ false) xs apart.0) (apart_sorted xs apart.1)
 
-  -- what is added up member by member is the same for the sorted list
+  -- a number that is a sum over the elements is the same for the sorted list
   module _ (whole : List X → ℕ) (one : X → ℕ) (adds : (x : X) (xs : List X) → whole (x ∷ xs) ≡ one x + whole xs) where
     whole_put_in : (x : X) (ys : List X) → whole (put_in cmp x ys) ≡ one x + whole ys
     whole_put_in x [] = adds x []

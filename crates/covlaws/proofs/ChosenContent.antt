@@ -1,4 +1,4 @@
--- The chosen part of what rows add up to is what the rows of the chosen files add up to.
+-- The sections of the chosen files, in the content of some rows, are the content of the rows of these files.
 use Rattle.std.proofs.Common.{◌≡◌, List, sym}
 use Rattle.std.specs.Prelude.{filter}
 use Rattle.covline.specs.Row.{Row}

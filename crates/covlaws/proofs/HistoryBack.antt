@@ -1,4 +1,5 @@
--- Each entry of a legal history is answered at the table of the operations before it, so what its reports print reads back.
+-- In a legal history, each entry has the answer that follows from the table of the operations before it. So the texts of its
+-- reports, extracts and removes read back.
 use Rattle.std.proofs.Common.{◌≡◌, ℕ, ◌≤◌, List, [], ◌∷◌, ◌++◌, length, sym, ◌∙◌, subst}
 use Rattle.covbook.specs.Op.{OpData, EntryData, TextAnswer, AreLawfulOps, HaveGoodNames}
 use Rattle.covbook.specs.Step.{IsLegal, answer_of, answers_from, answers_in, ops_in, table_after, table_from, table_of}
@@ -12,7 +13,7 @@ same_first x y xs ys e = cc
 same_rest : {X : Type 0} (x y : X) (xs ys : List X) → x ∷ xs ≡ y ∷ ys → xs ≡ ys
 same_rest x y xs ys e = cc
 
--- the answer at a place is that at the table of the operations before it
+-- an entry has the answer that follows from the table of the operations before it
 answer_at : (table : Table) (before after : List EntryData) (entry : EntryData) → answers_in (before ++ entry ∷ after) ≡ answers_from table (ops_in (before ++ entry ∷ after))
     → entry.answer ≡ answer_of (table_from table (ops_in before)) entry.op
 answer_at table [] after entry e = same_first entry.answer (answer_of table entry.op) (answers_in after) (answers_from (table_after table entry.op) (ops_in after)) e
@@ -20,7 +21,7 @@ answer_at table (first ∷ before) after entry e =
     answer_at (table_after table first.op) before after entry
     (same_rest first.answer (answer_of table first.op) (answers_in (before ++ entry ∷ after)) (answers_from (table_after table first.op) (ops_in (before ++ entry ∷ after))) e)
 
--- the operations before it are lawful too
+-- if all operations of a history are lawful, so are those of its first entries
 lawful_before : (before after : List EntryData) → AreLawfulOps (ops_in (before ++ after)) → AreLawfulOps (ops_in before)
 lawful_before [] after lawful = tt
 lawful_before (first ∷ before) after lawful = (lawful.0, lawful_before before after lawful.1)

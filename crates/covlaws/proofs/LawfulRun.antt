@@ -1,4 +1,4 @@
--- The rows of a table that lawful operations leave are lawful, if each new name is a good one.
+-- The rows of the table after lawful operations are lawful, if each new name is a good test name.
 use Rattle.std.proofs.Common.{◌≡◌, ℕ, Bool, true, false, not, cond, Option, Some, None, List, [], ◌∷◌, ◌++◌, map, filter, refl, sym, ap, ◌∙◌, subst}
 use Rattle.std.specs.List.{AllByRecursion, flat_map}
 use Rattle.std.specs.Str.{bytes_eq}

@@ -1,4 +1,4 @@
--- Lists of mapped members, and lists with a member.
+-- Lists of mapped elements, and lists with an element.
 use Rattle.std.proofs.Common.{◌<◌, List, [], ◌∷◌, length, map, arith}
 use Rattle.std.specs.List.{AllByRecursion}
 use Rattle.covstore.proofs.Members.{In}
@@ -7,7 +7,7 @@ pub All-mapped : {X Y : Type 0} (P : Y → Type 0) (f : X → Y) (xs : List X) �
 All-mapped P f [] all = tt
 All-mapped P f (x ∷ xs) all = (all.0, All-mapped P f xs all.1)
 
--- a list with a member isn't empty
+-- a list with an element isn't empty
 pub In-some : {X : Type 0} (xs : List X) (x : X) → In x xs → 0 < length xs
 In-some [] x i = absurd i
 In-some (y ∷ ys) x i = omega arith

@@ -1,5 +1,5 @@
--- A merge of merges is the merge of all: what the parts' reports are read as is lawful. It agrees and adds up to the same,
--- also beside other submissions, and so gives the same texts.
+-- A merge of merges is the merge of all. The submissions that the parts' reports are read as are lawful. Their checksums agree,
+-- and they have the same content as the parts, also together with other submissions. So they give the same texts.
 use Rattle.std.proofs.Common.{◌≡◌, ℕ, ◌≤◌, List, [], ◌∷◌, ◌++◌, length, map, Result, Ok, refl, sym, ap, ◌∙◌, subst, inl, inr, ⊎_elim}
 use Rattle.std.specs.Prelude.{Contains}
 use Rattle.std.specs.List.{AllByRecursion, flat_map}
@@ -55,7 +55,7 @@ among_front rows others c i = subst (In c) (sym (checksums_joined rows others)) 
 among_back : (rows others : List Row) → AreAmong others (rows ++ others)
 among_back rows others c i = subst (In c) (sym (checksums_joined rows others)) (In-joined (checksums_in rows) (checksums_in others) c (inr i))
 
--- two lists of rows, each among the whole
+-- if the checksums of two lists of rows are among those of the whole, so are those of the joined list
 among_both : (rows others whole : List Row) → AreAmong rows whole → AreAmong others whole → AreAmong (rows ++ others) whole
 among_both rows others whole left right c i =
     ⊎_elim (left c) (right c) (In-parts (checksums_in rows) (checksums_in others) c (subst (In c) (checksums_joined rows others) i))
@@ -78,7 +78,7 @@ lawful_all (s ∷ submissions) lawful = All-joined IsLawfulRow (rows_of s) (rows
 rows_in_joined : (some others : List SubmissionData) → rows_in (some ++ others) ≡ rows_in some ++ rows_in others
 rows_in_joined some others = flat_map-append rows_of some others
 
--- submissions that agree still do without others
+-- if submissions agree, the first of them agree without the rest
 agree_front : (some others : List SubmissionData) → AreAgreeing (some ++ others) → AreAgreeing some
 agree_front some others agree =
     agree_among (rows_in some) (rows_in some ++ rows_in others) (among_front (rows_in some) (rows_in others))
@@ -98,11 +98,11 @@ all_in parts = flat_map (λ part. part) parts
 abbrev shown_of : List SubmissionData → SubmissionData
 shown_of part = submission_shown (content_of (rows_in part))
 
--- the rows that all parts are shown as
+-- the rows of all submissions that the parts' reports are read as
 abbrev rows_shown : List (List SubmissionData) → List Row
 rows_shown parts = rows_in (map shown_of parts)
 
--- their checksums are among those of the submissions
+-- the checksums of these rows are among those of the parts' submissions
 shown_among : (parts : List (List SubmissionData)) → AreAmong (rows_shown parts) (rows_in (all_in parts))
 shown_among [] = λ c i. absurd i
 shown_among (part ∷ parts) =
@@ -111,7 +111,7 @@ shown_among (part ∷ parts) =
     (λ c i. among_front (rows_in part) (rows_in (all_in parts)) c (among_shown (rows_in part) c i))
     (λ c i. among_back (rows_in part) (rows_in (all_in parts)) c (shown_among parts c i)))
 
--- so they agree beside others too
+-- so these checksums agree with those of other submissions, if those of the parts do
 agree_beside : (parts : List (List SubmissionData)) (others : List SubmissionData) → AreAgreeing (all_in parts ++ others) → AreAgreeing (map shown_of parts ++ others)
 agree_beside parts others agree =
     let whole = rows_in (all_in parts) ++ rows_in others in
@@ -122,7 +122,7 @@ agree_beside parts others agree =
     (among_back (rows_in (all_in parts)) (rows_in others)))
     (subst (λ (rows : List Row). Agree (checksums_in rows)) (rows_in_joined (all_in parts) others) agree))
 
--- ---- what they add up to
+-- ---- the content of what the parts' reports are read as
 
 abbrev SameInAnyOrder : Type 0
 SameInAnyOrder = (rows others : List Row) → IsPermutation rows others → Agree (checksums_in rows) → content_of rows ≡ content_of others
@@ -131,7 +131,7 @@ module _ (order : SameInAnyOrder) where
   swapped : (rows others : List Row) → Agree (checksums_in (rows ++ others)) → content_of (rows ++ others) ≡ content_of (others ++ rows)
   swapped rows others agree = order (rows ++ others) (others ++ rows) (IsPermutation-append_comm rows others) agree
 
-  -- what is known to add up to the same may also come after other rows
+  -- if two lists of rows have the same content, they still do after the same other rows
   content_after : (front rows others : List Row) → Agree (checksums_in (front ++ others)) → AreAmong rows others → content_of rows ≡ content_of others
       → content_of (front ++ rows) ≡ content_of (front ++ others)
   content_after front rows others agree among same =
@@ -150,14 +150,14 @@ module _ (order : SameInAnyOrder) where
       (shown_among parts) (content_of_parts parts (agree_back part (all_in parts) agree))
       ∙ ap content_of (sym (rows_in_joined part (all_in parts)))
 
-  -- with any others beside them
+  -- the parts' reports, read back, have the content of the parts, also when other submissions follow
   content_beside : (parts : List (List SubmissionData)) (others : List SubmissionData) → AreAgreeing (all_in parts) → content_of (rows_in (map shown_of parts ++ others)) ≡ content_of (rows_in (all_in parts ++ others))
   content_beside parts others agree =
       ap content_of (rows_in_joined (map shown_of parts) others)
       ∙ content-append (rows_shown parts) (rows_in (all_in parts)) (rows_in others) (content_of_parts parts agree)
       ∙ ap content_of (sym (rows_in_joined (all_in parts) others))
 
--- ---- a text depends only on what the table adds up to
+-- ---- a printed text depends only on the table's content
 
 text_told : (op : OpData) → IsText op → (some other : Table) → content_at some ≡ content_at other → answer_of some op ≡ answer_of other op
 text_told (SubmitOp submission) asks some other same = absurd asks
@@ -191,7 +191,7 @@ module _ (taken : AllAreTaken) where
         one is.text merge (shown_of part) is.read
         (is.read.0, text_read spells behind (rows_in part) (lawful_all part lawful) agree is.text (printed_is part merge agree is) is.read.0)
 
-    -- and lawful
+    -- the merge of a part is lawful
     merge_lawful : (part : List SubmissionData) (merge : SubmissionData) → AllByRecursion IsLawful part → AreAgreeing part → IsMergeOf part merge → IsLawful merge
     merge_lawful part merge lawful agree is =
         subst IsLawful (sym (merge_is part merge lawful agree is))
@@ -221,7 +221,7 @@ module _ (taken : AllAreTaken) where
     )
 
     module _ (order : SameInAnyOrder) (parts : List (List SubmissionData)) (others : List SubmissionData) (agree : AreAgreeing (all_in parts ++ others)) where
-      -- beside the others they are like the submissions of all parts
+      -- followed by the others, these merges agree, and they give the same texts as the submissions of all parts do
       abbrev AreLikeAll : List SubmissionData → Type 0
       AreLikeAll merges =
           AreAgreeing (merges ++ others)
@@ -242,7 +242,7 @@ module _ (taken : AllAreTaken) where
       pub merged_parts : (merges : List SubmissionData) → AllByRecursion IsLawful (all_in parts) → AreMergesOf parts merges → AreLikeAll merges
       merged_parts merges lawful are = subst AreLikeAll (sym (merges_are parts merges lawful agree_parts are)) shown_like_all
 
--- a text that is read as two submissions is read as one
+-- if a text is read as one submission and as another, the two are equal
 pub one_reading : ((text : List ℕ) (x y : Result SubmissionData ReadFault) → IsOutcome text x → IsOutcome text y → x ≡ y)
     → (text : List ℕ) (some other : SubmissionData) → IsReadAs text some → IsReadAs text other → some ≡ other
 one_reading one text some other read too = let same : Ok some ≡ Ok other = one text (Ok some) (Ok other) read too in cc

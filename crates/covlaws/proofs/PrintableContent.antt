@@ -1,4 +1,4 @@
--- What lawful rows add up to is printable.
+-- The content of lawful rows is printable, if their checksums agree.
 use Rattle.std.proofs.Common.{◌≡◌, ℕ, Bool, true, false, cond, eqb, Option, Some, None, List, [], ◌∷◌, map, filter, refl, sym, ap, ◌∙◌, subst, inl, inr}
 use Rattle.std.specs.Prelude.{Contains}
 use Rattle.std.specs.List.{AllByRecursion, flat_map}
@@ -27,7 +27,7 @@ use Rattle.covstore.proofs.Orders.{keys_order}
 abbrev checksum_with : List ℕ → ℕ → List ℕ → Checksum
 checksum_with file line checksum = record { file = file; line = line; checksum = checksum }
 
--- what an item says of a line is the checksum of that line
+-- a checksum that an item gives a line is among the item's checksums, as one of this line
 said_of_line : (file : List ℕ) (line : ℕ) (said : List ℕ) (item : ItemData) → In said (checksum_said line item) → In (checksum_with file line said) (checksum_of file item)
 said_of_line file line said (LineItem at count (Some checksum)) i = by (eqb at line) refl i
   where
@@ -40,7 +40,7 @@ said_of_line file line said (FuncItem name start count) i = absurd i
 said_of_line file line said (BranchItem at block branch taken) i = absurd i
 
 module _ (rows : List Row) where
-  -- what is said of a line in a file and a test is among the checksums
+  -- a checksum that the items of a file and a test give a line is among the checksums of the rows
   said_among : (key : Key) (line : ℕ) (said : List ℕ) → In said (flat_map (checksum_said line) (items_at key rows)) → In (checksum_with key.file line said) (checksums_in rows)
   said_among key line said i =
       let item = In-unflat (checksum_said line) (items_at key rows) said i in
@@ -51,7 +51,7 @@ module _ (rows : List Row) where
       subst (λ (k : Key). In (checksum_with k.file line said) (checksums_in rows)) (own_key key row.0 own.1)
       (In-flat checksum_of_row rows row.0 (checksum_with row.0.file line said) own.0 here)
 
-  -- the checksums of an item in this file are among them
+  -- the checksums of an item in this file are among those of the rows
   abbrev IsAmong : List ℕ → ItemData → Type 0
   IsAmong file item = (c : Checksum) → In c (checksum_of file item) → In c (checksums_in rows)
 
@@ -82,7 +82,7 @@ module _ (rows : List Row) where
 -- ---- each section is printable
 
 module _ (rows : List Row) (lawful : AllByRecursion IsLawfulRow rows) where
-  -- what holds of lawful rows holds of the items of a file and a test
+  -- what holds of the item of any lawful row holds of all items of a file and a test
   items_hold : (P : ItemData → Type 0) → ((row : Row) → IsLawfulRow row → P row.item) → (key : Key) → AllByRecursion P (items_at key rows)
   items_hold P each key =
       let own = filter (has_key key) rows in

@@ -1,4 +1,5 @@
--- The items that a printed section shows: they say no more than the items of which it is made, so they are lawful and fit.
+-- The items that a printed section shows. Their names, checksums and numbers are made from the items that the section is made
+-- of, so they are lawful and fit.
 use Rattle.std.proofs.Common.{◌≡◌, ℕ, ◌-◌, ◌<◌, ◌≤◌, ◌^◌, Bool, true, false, cond, eqb, min, Option, Some, None, unwrap_or, List, [], ◌∷◌, ◌++◌, length, map, refl, sym, subst, inl, inr, arith}
 use Rattle.std.specs.Cmp.Lexicographic.{slice_cmp}
 use Rattle.std.specs.declared.cmp.Ordering.{Ordering}
@@ -48,7 +49,7 @@ some-sorted : {X : Type 0} (cmp : X → X → Ordering) (xs : List X) → 0 < le
 some-sorted cmp [] some = some
 some-sorted cmp (x ∷ xs) some = some-put_in cmp x (sorted cmp xs)
 
--- a value for each point: mapped back, they are the points
+-- if each point has a value that leads back to the point, the list of the values leads back to the list of the points
 pub map_back : {P V : Type 0} (f : P → V) (back : V → P) (ps : List P) → ((p : P) → back (f p) ≡ p) → map back (map f ps) ≡ ps
 map_back f back [] own = refl
 map_back {P} {V} f back (p ∷ ps) own = let here : back (f p) ≡ p = own p in let others : map back (map f ps) ≡ ps = map_back f back ps own in cc
@@ -62,7 +63,7 @@ points_in_order key items = record {
   lines = subst (IsStrictlySortedBy nat_cmp) (sym (map_back (line_at items) (λ l. l.line) (lines_in items) (λ line. refl))) (ascending_sorted lines_order.total (line_points items));
 }
 
--- ---- what is shown of each point holds of all items shown
+-- ---- a property of all items shown, from the items of each point
 
 module _ (P : ItemData → Type 0) (key : Key) (items : List ItemData) where
   all_functions : (show : FunctionValueData → ItemData) → ((name : List ℕ) → In name (func_points items) → P (show (function_at items name)))
@@ -103,7 +104,7 @@ lawful_name name (FuncItem other line count) (inr none) lawful = absurd none
 lawful_name name (LineItem line count checksum) i lawful = absurd i
 lawful_name name (BranchItem line block branch taken) i lawful = absurd i
 
--- the members of a list of one or none
+-- in a list that has only x, or nothing, an element equals x
 if_there : {X : Type 0} (b : Bool) (x y : X) → In y (cond b (x ∷ []) []) → x ≡ y
 if_there true x y (inl is) = is
 if_there true x y (inr none) = absurd none
@@ -132,7 +133,7 @@ module _ (items : List ItemData) (lawful : AllByRecursion IsLawfulItem items) wh
   pub lawful_shown : (key : Key) → AllByRecursion IsLawfulItem (items_shown (section_with key items))
   lawful_shown key = all_shown IsLawfulItem key items good_names good_names (λ point i. tt) (λ line i. good_checksum line (line_checksum line items) refl)
 
--- ---- its numbers fit
+-- ---- the numbers of what is shown fit
 
 least_at_most : (n : ℕ) (ns : List ℕ) → fold min n ns ≤ n
 least_at_most n [] = omega arith
@@ -191,7 +192,7 @@ module _ (items : List ItemData) (fit : AllFit items) where
       (λ point i. taken_fits point (flat_map (taken_said point) items) (points_fit point i))
       (λ line i. (lines_fit line i, bounded_fits _))
 
--- ---- a section with an item shows one
+-- ---- a section that is made of an item shows an item
 
 some_left : {X : Type 0} (xs ys : List X) → 0 < length xs → 0 < length (xs ++ ys)
 some_left [] ys some = absurd (omega (arith, some))

@@ -1,4 +1,4 @@
--- Printed sections as parts of a lawful text, and the submission that they are read as.
+-- Printed sections are read as parts of a lawful text, and as the submission that they show.
 use Rattle.std.proofs.Common.{◌≡◌, ℕ, ◌≤◌, List, [], ◌∷◌, ◌++◌, length, map, refl, sym, ap, subst, ◌∙◌, arith}
 use Rattle.std.specs.List.{flat_map, sum_by, AllByRecursion}
 use Rattle.std.proofs.lemmas.List.Elements.{All-from_recursion}
@@ -21,7 +21,7 @@ use Rattle.covlaws.proofs.ShownTotals.{all_if_any, all_inside, odd_back}
 use Rattle.covlaws.proofs.ShownSizes.{records_shown, few_points, all_short, items_in_text}
 use Rattle.covlaws.proofs.ShownLines.{all_spell, text_printed, readable_sections}
 
--- a line with the test's name, and then the section
+-- the parts of the printed text: for each section, a line with the test's name and then the section's lines
 abbrev parts_of : List SectionData → List Part
 parts_of sections = flat_map (λ s. Outside (Test s.key.test) ∷ Section s.key.file (inside_of s) ∷ []) sections
 
@@ -35,7 +35,7 @@ sects_back test (s ∷ sections) apart =
     made : List ItemData → SectData
     made items = record { test = s.key.test; file = s.key.file; items = items }
 
--- the records of the parts are those that are printed
+-- the records of the parts are those of the sections that are printed
 records_back : (sections : List SectionData) → flat_map records_of (parts_of sections) ≡ flat_map section_records sections
 records_back [] = refl
 records_back (s ∷ sections) =
@@ -72,7 +72,7 @@ none_odd (s ∷ sections) apart =
 all_apart : (sections : List SectionData) → IsPrintable sections → AllByRecursion HasPointsApart sections
 all_apart sections printable = all_more _ _ (λ s own. points_apart s own.order) sections printable.each
 
--- the lines of the whole text say what the parts' records are
+-- the lines of the whole text say the records of the parts, in order
 parts_spelled : PrintedSpells → OneAfterOther → (sections : List SectionData) → IsPrintable sections → length (flat_map section_text sections) ≤ max_bytes
     → AllSpell (lines_of (flat_map section_text sections)) (flat_map records_of (parts_of sections))
 parts_spelled spells behind sections printable short =

@@ -1,4 +1,4 @@
--- The report of lawful rows reads back, and with it each text that answers a report, an extract or a remove.
+-- The report of lawful rows reads back. So does each text that a run answers to a report, an extract or a remove.
 use Rattle.std.proofs.Common.{◌≡◌, ℕ, ◌≤◌, Bool, true, List, [], ◌∷◌, ◌++◌, length, filter, None, refl, sym, ap, ◌∙◌, subst}
 use Rattle.std.specs.Prelude.{◌↔◌, Contains}
 use Rattle.std.specs.List.{AllByRecursion, flat_map}
@@ -35,11 +35,11 @@ all_passed : {X : Type 0} (xs : List X) → filter (λ x. true) xs ≡ xs
 all_passed [] = refl
 all_passed {X} (x ∷ xs) = ap (λ (others : List X). x ∷ others) (all_passed xs)
 
--- a report includes all files
+-- with all files chosen, the text is that of all sections
 pub text_of_all : (sections : List SectionData) → report_text AllFiles sections ≡ flat_map section_text sections
 text_of_all sections = ap (flat_map section_text) (all_passed sections)
 
--- ---- an empty book, which is given a submission
+-- ---- an empty book after a first submission
 
 abbrev pub ToldByFirstClash : Type 0
 ToldByFirstClash = (held given : List Checksum) → Agree held → first_clash held given ≡ None ↔ Agree (held ++ given)
@@ -56,7 +56,7 @@ accepted_first s none = ap (answer_to_submit [] s) none
 table_of_one : (s : SubmissionData) → clash_at [] s ≡ None → table_of (SubmitOp s ∷ []) ≡ rows_of s ∷ []
 table_of_one s none = ap (table_after_submit [] s) none
 
--- the content is that of its rows
+-- its content is that of the submission's rows
 content_of_one : (s : SubmissionData) → clash_at [] s ≡ None → content_at (table_of (SubmitOp s ∷ [])) ≡ content_of (rows_of s)
 content_of_one s none = ap content_at (table_of_one s none) ∙ ap content_of (append-nil (rows_of s))
 
@@ -69,13 +69,13 @@ module _ (spells : PrintedSpells) (behind : OneAfterOther) (rows : List Row) (la
   printable : IsPrintable (content_of rows)
   printable = printable_content rows lawful agree
 
-  -- it is read as what it shows
+  -- the text is read as the submission that the content shows
   pub text_read : (text : List ℕ) → flat_map section_text (content_of rows) ≡ text → length text ≤ max_bytes → Reads (lines_of text) shown
   text_read text is short =
       subst (λ (t : List ℕ). Reads (lines_of t) shown) is
       (text_reads_back spells behind (content_of rows) printable (subst (λ (t : List ℕ). length t ≤ max_bytes) (sym is) short))
 
-  -- an empty book that accepted it reports it again
+  -- an empty book that has accepted this submission reports the text again
   text_again : clash_at [] shown ≡ None → answer_of (table_of (SubmitOp shown ∷ [])) ReportOp ≡ TextAnswer (flat_map section_text (content_of rows))
   text_again none =
       ap (λ (sections : List SectionData). TextAnswer (report_text AllFiles sections)) (content_of_one shown none ∙ content_shown rows)
@@ -93,9 +93,9 @@ module _ (spells : PrintedSpells) (behind : OneAfterOther) (rows : List Row) (la
         same = text_again none ∙ ap TextAnswer is;
       }
 
--- ---- those rows that are chosen
+-- ---- the rows of chosen files
 
--- the checksums of picked rows agree
+-- if the checksums of rows agree, so do those of the rows that pass a test
 agree_picked : (p : Row → Bool) (rows : List Row) → Agree (checksums_in rows) → Agree (checksums_in (filter p rows))
 agree_picked p rows agree a b i j = agree a b (among a i) (among b j)
   where
@@ -112,7 +112,7 @@ module _ (spells : PrintedSpells) (behind : OneAfterOther) (told : ToldByFirstCl
       rows_read_back spells behind (filter test rows) (All-picked IsLawfulRow test rows lawful) (agree_picked test rows agree) told text
       (ap (flat_map section_text) (sym (chosen_content choice rows)) ∙ is) short
 
-  -- what is answered to such an operation is the text of a choice
+  -- a report, an extract and a remove are each answered with the text of chosen files, so the text reads back
   answer_reads_back : (table : Table) → AllByRecursion IsLawfulRow (all_rows table) → Agree (checksums_in (all_rows table))
       → (op : OpData) → IsReport op → (text : List ℕ) → answer_of table op ≡ TextAnswer text → length text ≤ max_bytes → ReadsBack text
   answer_reads_back table lawful agree (SubmitOp submission) asks text is short = absurd asks

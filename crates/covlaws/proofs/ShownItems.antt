@@ -1,5 +1,4 @@
--- The items of a printed section: what they say and add, part by part, and that the order of the functions doesn't
--- matter.
+-- The items of a printed section: what their four parts say and add. The order of the functions doesn't matter.
 use Rattle.std.proofs.Common.{◌≡◌, ℕ, ◌+◌, List, [], ◌∷◌, ◌++◌, map, ap, ap₂, ◌∙◌, arith}
 use Rattle.std.specs.declared.cmp.Ordering.{Ordering}
 use Rattle.std.specs.declared.cmp.Ordering.TheVariants.{Less, Equal, Greater}
@@ -18,7 +17,7 @@ use Rattle.covline.specs.Row.{ItemData}
 use Rattle.covstore.proofs.Alike.{AreAlike, alike_permuted, sum_by-map}
 use Rattle.covlaws.proofs.ShownLists.{flat_nothing, sum_nothing}
 
--- ---- a sort only moves members
+-- ---- a sort only moves elements
 
 moved_put_in : {X : Type 0} (cmp : X → X → Ordering) (x : X) (ys : List X) → IsPermutation (put_in cmp x ys) (x ∷ ys)
 moved_put_in cmp x [] = IsPermutation-refl (x ∷ [])
@@ -35,11 +34,11 @@ moved_sorted cmp (x ∷ xs) = IsPermutation-trans (put_in cmp x (sorted cmp xs))
 
 -- ---- the items part by part
 
--- the items of functions in some order, of branches and of lines
+-- the items of these functions, branches and lines, in the order of the lists
 abbrev pub items_with : List FunctionValueData → List BranchValueData → List LineValueData → List ItemData
 items_with fs bs ls = map start_item fs ++ (map call_item fs ++ (map branch_item bs ++ map line_item ls))
 
--- the items with the functions in the order of their names
+-- the items of a section, with the functions in the order in which the section has them, by name
 abbrev pub items_by_name : SectionData → List ItemData
 items_by_name s = items_with s.functions s.branches s.lines
 
@@ -56,7 +55,7 @@ shown_alike s =
     (parts_moved (by_start s.functions) s.functions (map branch_item s.branches ++ map line_item s.lines) (moved_sorted function_cmp s.functions))
 
 module _ (fs : List FunctionValueData) (bs : List BranchValueData) (ls : List LineValueData) where
-  -- what all items say is what the parts say
+  -- all items say what the four parts say, in turn
   said_parts : {Y : Type 0} (g : ItemData → List Y)
       → flat_map g (items_with fs bs ls)
       ≡ flat_map (λ f. g (start_item f)) fs ++ (flat_map (λ f. g (call_item f)) fs ++ (flat_map (λ b. g (branch_item b)) bs ++ flat_map (λ l. g (line_item l)) ls))
@@ -82,7 +81,7 @@ module _ (fs : List FunctionValueData) (bs : List BranchValueData) (ls : List Li
   skip : {Y : Type 0} (xs ys : List Y) → xs ≡ [] → xs ++ ys ≡ ys
   skip {Y} xs ys none = ap (λ (zs : List Y). zs ++ ys) none
 
-  -- what functions and branches don't say, the lines say
+  -- if functions and branches say nothing, all items say what the lines say
   pub said_of_lines : {Y : Type 0} (g : ItemData → List Y) → ((f : FunctionValueData) → g (start_item f) ≡ []) → ((f : FunctionValueData) → g (call_item f) ≡ [])
       → ((b : BranchValueData) → g (branch_item b) ≡ []) → flat_map g (items_with fs bs ls) ≡ flat_map (λ l. g (line_item l)) ls
   said_of_lines g starts calls branches =
@@ -108,7 +107,7 @@ module _ (fs : List FunctionValueData) (bs : List BranchValueData) (ls : List Li
       (skip (flat_map (λ b. g (branch_item b)) bs) _ (flat_nothing (λ b. g (branch_item b)) bs (λ b _. branches b)) ∙ flat_nothing (λ l. g (line_item l)) ls (λ l _. lines l))
       ∙ ap (λ (ys : List Y). flat_map (λ f. g (start_item f)) fs ++ ys) (append-nil (flat_map (λ f. g (call_item f)) fs))
 
-  -- and what they don't add
+  -- if functions and branches add nothing, all items add up to what the lines do
   pub added_by_lines : (f : ItemData → ℕ) → ((v : FunctionValueData) → f (start_item v) ≡ 0) → ((v : FunctionValueData) → f (call_item v) ≡ 0)
       → ((b : BranchValueData) → f (branch_item b) ≡ 0) → sum_by f (items_with fs bs ls) ≡ sum_by (λ l. f (line_item l)) ls
   added_by_lines f starts calls branches =

@@ -1,4 +1,4 @@
--- Each printed record is readable, and its lines say the records.
+-- Each record of a printable section is readable, and the lines of the printed text say these records.
 use Rattle.std.proofs.Common.{◌≡◌, ℕ, ◌<◌, ◌≤◌, ◌^◌, List, [], ◌∷◌, ◌++◌, map, Option, Some, None, refl, sym, ap, subst, ◌∙◌, append_assoc, arith}
 use Rattle.std.specs.Prelude.{nat_lt}
 use Rattle.std.specs.List.{flat_map, AllByRecursion}
@@ -25,7 +25,7 @@ use Rattle.covlaws.proofs.ShownSizes.{all_records, HasFewPoints}
 
 -- ---- each record of a printable section is readable
 
--- an item's texts are lawful, and its numbers fit
+-- the item's name or checksum is lawful, and its numbers fit
 abbrev IsGoodItem : ItemData → Type 0
 IsGoodItem item = IsLawfulItem item × FitsItem item
 
@@ -46,11 +46,11 @@ readable_line line count (Some checksum) good = record { texts = good.0; small =
 readable_total : (kind : TotalKind) (value : ℕ) → value < 2 ^ 64 → IsReadable (Total kind value)
 readable_total kind value small = record { texts = tt; small = small }
 
--- no more are hit than found
+-- the number of points hit is readable, since no more points are hit than found
 readable_hit : (kind : TotalKind) (hit found : ℕ) → hit ≤ found → found < 2 ^ 64 → IsReadable (Total kind hit)
 readable_hit kind hit found most small = readable_total kind hit (omega arith)
 
--- each part of the items that a section shows is good
+-- if all items that a section shows are good, so are those of each part
 module _ (s : SectionData) (good : AllByRecursion IsGoodItem (items_shown s)) where
   after_starts : AllByRecursion IsGoodItem (map call_item (by_start s.functions) ++ (map branch_item s.branches ++ map line_item s.lines))
   after_starts = all_back IsGoodItem (map start_item (by_start s.functions)) _ good
@@ -132,7 +132,7 @@ module _ (spells : PrintedSpells) (behind : OneAfterOther) where
       subst (λ (lines : List (List ℕ)). AllSpell lines (says ∷ records)) (sym (first_line says readable.0 (flat_map printed records)))
       ((spells says readable.0).1, all_spell records readable.1)
 
--- ---- the text of sections is that of their records
+-- ---- the text of sections is made of their records
 
 pub text_printed : (sections : List SectionData) → flat_map printed (flat_map section_records sections) ≡ flat_map section_text sections
 text_printed [] = refl

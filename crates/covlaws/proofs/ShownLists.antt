@@ -1,4 +1,4 @@
--- Lists in which one member alone says or adds anything, and ascending lists of ascending lists.
+-- Lists in which only one element says or adds anything, and lists with the same elements that are made ascending.
 use Rattle.std.proofs.Common.{◌≡◌, ℕ, List, [], ◌∷◌, ◌++◌, map, refl, sym, ap, ◌∙◌, subst, inl, inr, arith}
 use Rattle.std.specs.Cmp.{IsTotalOrder}
 use Rattle.std.specs.declared.cmp.Ordering.{Ordering}
@@ -13,7 +13,7 @@ use Rattle.covstore.proofs.Ascend.{IsExactOrder, In-ascending, In-to_ascending}
 use Rattle.covstore.proofs.ContentsKinds.{same_ascending}
 use Rattle.covstore.proofs.Members.{In, All-in}
 
--- ---- lists in which no member adds anything
+-- ---- lists in which no element adds anything
 
 pub flat_nothing : {X Y : Type 0} (g : X → List Y) (xs : List X) → ((x : X) → In x xs → g x ≡ []) → flat_map g xs ≡ []
 flat_nothing g [] none = refl
@@ -23,7 +23,7 @@ pub sum_nothing : {X : Type 0} (f : X → ℕ) (xs : List X) → ((x : X) → In
 sum_nothing f [] none = refl
 sum_nothing f (x ∷ xs) none = omega (arith, sum_by-cons f x xs, none x (inl refl), sum_nothing f xs (λ y i. none y (inr i)))
 
--- ---- strictly ascending lists in which only one member adds anything
+-- ---- strictly ascending lists in which only one element adds anything
 
 module _ {P : Type 0} {cmp : P → P → Ordering} (total : IsTotalOrder cmp) where
   less_differs : (p q : P) → cmp p q ≡ Less → q ≡ p → ⊥
@@ -32,7 +32,7 @@ module _ {P : Type 0} {cmp : P → P → Ordering} (total : IsTotalOrder cmp) wh
       let own : cmp p p ≡ Less = subst (λ (z : P). cmp p z ≡ Less) e less in
       cc
 
-  -- no later member equals the first
+  -- no later element equals the first
   after_differs : (p : P) (ps : List P) → IsStrictlySortedBy cmp (p ∷ ps) → (q : P) → In q ps → q ≡ p → ⊥
   unfolding IsStrictlySortedBy
   after_differs p ps up q i = less_differs p q (All-in (λ z. cmp p z ≡ Less) ps q up.0 i)
@@ -56,7 +56,7 @@ module _ {P : Type 0} {cmp : P → P → Ordering} (total : IsTotalOrder cmp) wh
   sum_one f (q ∷ ps) p up (inr i) others =
       omega (arith, sum_by-cons f q ps, others q (λ e. after_differs q ps up p i (sym e)), sum_one f ps p (rest_ascends q ps up) i others)
 
--- ---- members
+-- ---- elements
 
 pub flat_self : {X : Type 0} (xs : List X) → flat_map (λ x. x ∷ []) xs ≡ xs
 flat_self [] = refl
@@ -69,7 +69,7 @@ map_same_in {X} {Y} f g (x ∷ xs) same =
     let others : map f xs ≡ map g xs = map_same_in f g xs (λ y i. same y (inr i)) in
     cc
 
--- a list with the members of an ascending list gives that list
+-- if a list has the same elements as an ascending list, then made ascending it is that list
 pub ascending_again : {X : Type 0} (cmp : X → X → Ordering) → IsExactOrder cmp → (xs ys : List X) → ((x : X) → In x ys → In x (ascending cmp xs)) → ((x : X) → In x (ascending cmp xs) → In x ys) → ascending cmp ys ≡ ascending cmp xs
 ascending_again cmp order xs ys there back =
     same_ascending cmp order ys xs (λ x i. In-ascending order.exact x xs (there x i)) (λ x i. back x (In-to_ascending order.exact x xs i))

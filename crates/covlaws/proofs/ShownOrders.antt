@@ -1,4 +1,5 @@
--- The points of a printable section differ: its functions' names, in their printed order, its branches and its lines.
+-- A printable section has no point twice: no two of its functions have the same name, no two of its branches are the same, and no
+-- two of its lines.
 use Rattle.std.proofs.Common.{◌≡◌, ℕ, Bool, false, ◌&&◌, List, map, refl, sym, ap, ◌∙◌}
 use Rattle.std.specs.Prelude.{◌==◌, nat_eq}
 use Rattle.std.specs.declared.cmp.Ordering.{Ordering}
@@ -17,7 +18,7 @@ use Rattle.covreport.specs.Report.{by_start, function_cmp}
 use Rattle.covlaws.specs.Printable.{HasPointsInOrder}
 use Rattle.covlaws.proofs.Apart.{AreApart, apart_ordered, apart_sorted, apart_unmapped}
 
--- what is less isn't the same
+-- if one line number is less than another, they aren't the same
 less_line : (x y : ℕ) → nat_cmp x y ≡ Less → nat_eq x y ≡ false
 less_line x y less = sym (unsigned_tied x y) ∙ ap is_eq less
 
@@ -49,7 +50,7 @@ same_branch a b = branch_eq a.point b.point
 abbrev pub same_line : LineValueData → LineValueData → Bool
 same_line a b = nat_eq a.line b.line
 
--- no name, no branch and no line is there twice
+-- the section has no function's name, no branch and no line twice
 pub record HasPointsApart (s : SectionData) : Type 0 where
   pub functions : AreApart same_name (by_start s.functions)
   pub branches : AreApart same_branch s.branches

@@ -1,4 +1,4 @@
--- What a printed section has between its path and its end, and the items that it gives back.
+-- The records that a printed section has between its path and its end, and the items that they are read as.
 use Rattle.std.proofs.Common.{◌≡◌, ℕ, Bool, true, false, cond, List, [], ◌∷◌, ◌++◌, length, map, Some, refl, ap, ◌∙◌}
 use Rattle.std.specs.Prelude.{◌==◌, if◌then◌else◌}
 use Rattle.std.specs.List.{flat_map, AllByRecursion}
@@ -17,7 +17,7 @@ use Rattle.covlaws.proofs.Apart.{AreApart, all_zip, all_more}
 use Rattle.covlaws.proofs.MappedParts.{joined, none_in, none_among, each_in, each_among}
 use Rattle.covlaws.proofs.ShownOrders.{same_name, HasPointsApart}
 
--- the totals of a section's functions, branches and lines
+-- the records with the totals of a section's functions
 abbrev pub function_totals : SectionData → List LineData
 function_totals s = totals_if_any FuncFound FuncHit (length s.functions) (functions_hit s.functions)
 
@@ -27,16 +27,16 @@ branch_totals s = totals_if_any BranchFound BranchHit (length s.branches) (branc
 abbrev pub line_totals : SectionData → List LineData
 line_totals s = totals LineFound LineHit (length s.lines) (lines_hit s.lines)
 
--- what a section has between its path and its end
+-- the records that a printed section has between its path and its end
 abbrev pub inside_of : SectionData → List LineData
 inside_of s =
     map start_record (by_start s.functions) ++ (map call_record (by_start s.functions) ++ (function_totals s
     ++ (map branch_record s.branches ++ (branch_totals s ++ (map line_record s.lines ++ line_totals s)))))
 
--- ---- what its parts give
+-- ---- what `flat_map f` gives of these records
 
 module _ {A : Type 0} (f : LineData → List A) (none : (kind : TotalKind) (value : ℕ) → f (Total kind value) ≡ []) where
-  -- totals give nothing
+  -- records of totals give nothing
   none_totals : (a b : TotalKind) (n m : ℕ) → flat_map f (totals a b n m) ≡ []
   none_totals a b n m = ap (λ (l : List A). l ++ (f (Total b m) ++ [])) (none a n) ∙ ap (λ (l : List A). l ++ []) (none b m)
 
@@ -47,7 +47,7 @@ module _ {A : Type 0} (f : LineData → List A) (none : (kind : TotalKind) (valu
       by true = refl
       by false = none_totals a b n m
 
-  -- what a section's records give, part by part
+  -- a section's records give what their four parts other than totals give, in turn
   pub by_parts : (s : SectionData) (starts calls branches lines : List A)
       → flat_map f (map start_record (by_start s.functions)) ≡ starts → flat_map f (map call_record (by_start s.functions)) ≡ calls
       → flat_map f (map branch_record s.branches) ≡ branches → flat_map f (map line_record s.lines) ≡ lines
@@ -65,7 +65,7 @@ module _ {A : Type 0} (f : LineData → List A) (none : (kind : TotalKind) (valu
 chosen : (b : Bool) (line : ℕ) → b ≡ false → (if b then line ∷ [] else []) ≡ []
 chosen b line e = ap (λ (c : Bool). cond c (line ∷ []) []) e
 
--- each function's start line is said once
+-- if no two functions have the same name, their start records say one start line for each name
 own_starts : (fs : List FunctionValueData) → AreApart same_name fs → AllByRecursion (λ f. flat_map (start_said f.name) (map start_record fs) ≡ f.line ∷ []) fs
 own_starts [] apart = tt
 own_starts (f ∷ fs) apart = (first, all_zip _ _ _ later fs apart.0 (own_starts fs apart.1))
@@ -91,13 +91,13 @@ starts_inside s name =
     (none_in (start_said name) line_record (λ l. refl) s.lines)
     ∙ append-nil _
 
--- the start line that a function's counts find is the printed one
+-- the reader finds for each function's name the start line that was printed
 pub starts_found : (s : SectionData) → HasPointsApart s → AllByRecursion (λ f. start_in f.name (inside_of s) ≡ Some f.line) (by_start s.functions)
 starts_found s apart = all_more _ _ (λ f one. ap least (starts_inside s f.name ∙ one)) (by_start s.functions) (own_starts (by_start s.functions) apart.functions)
 
 -- ---- items
 
--- a printed section's items are those that it shows
+-- the items that a printed section's records are read as are those that it shows
 pub items_back : (s : SectionData) → HasPointsApart s → items_of (inside_of s) ≡ items_shown s
 items_back s apart =
     by_parts (items_said (inside_of s)) (λ kind value. refl) s _ _ _ _

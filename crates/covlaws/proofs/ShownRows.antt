@@ -1,5 +1,5 @@
--- The rows of a printed report: their files and tests are those of the rows that it was printed from, and the items of each
--- are those of its printed section.
+-- The rows that a printed report is read as. They have the same files and tests as the rows that the report was printed from. For
+-- each file and test, their items are those that its printed section shows. So they have the same content.
 use Rattle.std.proofs.Common.{◌≡◌, Bool, true, ◌&&◌, List, [], ◌∷◌, ◌++◌, map, filter, refl, sym, ap, ◌∙◌, subst}
 use Rattle.std.specs.List.{flat_map}
 use Rattle.std.proofs.lemmas.Bool.{cond-true}
@@ -35,7 +35,7 @@ items_own key (item ∷ items) =
     (cond-true (has_key key (row_with key item)) (row_with key item ∷ filter (has_key key) (rows_with key items)) (filter (has_key key) (rows_with key items)) (own_row (row_with key item)))
     ∙ ap (λ (others : List ItemData). item ∷ others) (items_own key items)
 
--- they have no key but the section's
+-- each row of a section has the section's key
 one_key : (key other : Key) (items : List ItemData) (row : Row) → In row (rows_with key items) → key_of_row row ≡ other → key ≡ other
 one_key key other items row i e = let item = In-unmap (row_with key) items row i in ap key_of_row item.2 ∙ e
 

@@ -1,4 +1,4 @@
--- A printed section has at least as many bytes as records, so its points and its items are few.
+-- A printed section has at least as many bytes as records. So it has at most as many items as bytes, and fewer points than 2^64.
 use Rattle.std.proofs.Common.{◌≡◌, ℕ, ◌+◌, ◌<◌, ◌≤◌, ◌^◌, List, [], ◌∷◌, ◌++◌, length, map, refl, sym, ap, subst, ◌∙◌, append_assoc, arith, length-append}
 use Rattle.std.specs.List.{flat_map, AllByRecursion}
 use Rattle.std.proofs.lemmas.List.{length-map}
@@ -17,7 +17,7 @@ use Rattle.covlaws.proofs.Apart.{all_mapped, always, length-sorted}
 use Rattle.covlaws.proofs.ShownParts.{inside_of, function_totals, branch_totals, line_totals}
 use Rattle.covlaws.proofs.ShownTotals.{all_if_any, all_inside}
 
--- ---- the records of a section are a test's line, a path, what is inside, and an end
+-- ---- the records of a section: the test's name, the path, what is inside, and the end
 
 regrouped : (a b c d e f g z : List LineData) → (a ++ (b ++ (c ++ (d ++ (e ++ (f ++ g)))))) ++ z ≡ (a ++ (b ++ c)) ++ ((d ++ e) ++ ((f ++ g) ++ z))
 regrouped a b c d e f g z = simp append_assoc
@@ -28,7 +28,7 @@ records_shown s =
     (regrouped (map start_record (by_start s.functions)) (map call_record (by_start s.functions)) (function_totals s)
     (map branch_record s.branches) (branch_totals s) (map line_record s.lines) (line_totals s) (End ∷ []))
 
--- what holds of each record of a section
+-- what holds of the test's name, the path, what is inside and the end holds of each record of a section
 pub all_records : (P : LineData → Type 0) (s : SectionData) → P (Test s.key.test) → P (Path s.key.file) → AllByRecursion P (inside_of s) → P End → AllByRecursion P (section_records s)
 all_records P s test path inside end = subst (AllByRecursion P) (records_shown s) (test, (path, all_append P (inside_of s) (End ∷ []) inside (end, tt)))
 
@@ -54,7 +54,7 @@ section_ends s =
     (ends _ refl, (ends _ refl, tt)))
     (ends _ refl)
 
--- so there are as many bytes as records
+-- so there are at least as many bytes as records
 as_many_bytes : (records : List LineData) → AllByRecursion EndsInFeed records → length records ≤ length (flat_map printed records)
 as_many_bytes [] all = omega arith
 as_many_bytes (says ∷ records) all =
@@ -62,7 +62,7 @@ as_many_bytes (says ∷ records) all =
 
 -- ---- a section shows at most as many items as it has bytes
 
--- a start line, a count, a branch and a line are a record each; totals are records that show no item
+-- each item that a section shows has a record: there are at least as many records as items, since records of totals show none
 items_in_records : (a b c d e f g : List LineData) (p q r t : List ItemData) → length p ≡ length a → length q ≡ length b → length r ≡ length d → length t ≡ length f
     → length (p ++ (q ++ (r ++ t))) ≤ length (a ++ (b ++ (c ++ (d ++ (e ++ (f ++ g))))))
 items_in_records a b c d e f g p q r t x y z w = simp length-append (omega arith)
@@ -82,7 +82,7 @@ items_printed s =
     let records : length (Test s.key.test ∷ Path s.key.file ∷ (inside_of s ++ End ∷ [])) ≡ length (section_records s) = ap length (records_shown s) in
     omega (arith, items_inside s, records, length-append (inside_of s) (End ∷ []), as_many_bytes (section_records s) (section_ends s))
 
--- so do all sections together
+-- all sections together show at most as many items as they have bytes
 pub items_in_text : (sections : List SectionData) → items_in (map sect_shown sections) ≤ length (flat_map section_text sections)
 items_in_text [] = omega arith
 items_in_text (s ∷ sections) =
@@ -96,13 +96,13 @@ items_in_text (s ∷ sections) =
 
 -- ---- the points of a section are few
 
--- a section has so few points that their totals are small numbers
+-- a section has fewer than 2^64 points of each kind, so a reader can read their totals
 pub record HasFewPoints (s : SectionData) : Type 0 where
   pub functions : length s.functions < 2 ^ 64
   pub branches : length s.branches < 2 ^ 64
   pub lines : length s.lines < 2 ^ 64
 
--- each point that a section has is among its items
+-- a section shows at least as many items as it has points
 points_in_items : (starts calls branches lines : List ItemData) → length starts + length branches + length lines ≤ length (starts ++ (calls ++ (branches ++ lines)))
 points_in_items starts calls branches lines = simp length-append (omega arith)
 
@@ -122,7 +122,7 @@ few_points s short =
     let most : length s.functions + length s.branches + length s.lines ≤ max_bytes = omega (arith, points_shown s, items_printed s, short) in
     record { functions = omega (arith, most); branches = omega (arith, most); lines = omega (arith, most) }
 
--- each section's text is part of the whole text
+-- each section's text is at most as long as the whole text
 pub all_short : (sections : List SectionData) (n : ℕ) → length (flat_map section_text sections) ≤ n → AllByRecursion (λ s. length (section_text s) ≤ n) sections
 all_short [] n short = tt
 all_short (s ∷ sections) n short =

@@ -1,4 +1,4 @@
--- The totals that a printed section states are its own, so nothing in it is odd.
+-- The totals that a printed section states are those of its points, so none of its lines is odd.
 use Rattle.std.proofs.Common.{◌≡◌, ℕ, Bool, true, false, not, List, [], ◌∷◌, ◌++◌, length, map, Option, Some, None, refl, sym, ap, ◌∙◌, eq-eqb}
 use Rattle.std.specs.Prelude.{filter, count_by, nat_eq, nat_lt, ◌==◌, if◌then◌else◌, is_none}
 use Rattle.std.specs.List.{flat_map, AllByRecursion}
@@ -34,7 +34,7 @@ module _ {A : Type 0} (f : ItemData → List A) (s : SectionData) (starts calls 
   hit_joined : (xs ys : List ItemData) (a b : List A) → flat_map f (filter is_hit xs) ≡ a → flat_map f (filter is_hit ys) ≡ b → flat_map f (filter is_hit (xs ++ ys)) ≡ a ++ b
   hit_joined xs ys a b x y = ap (flat_map f) (filter-append is_hit xs ys) ∙ joined f (filter is_hit xs) (filter is_hit ys) a b x y
 
-  -- and what those of them give that are hit
+  -- those of the items that are hit give what the hit items of the four parts give, in turn
   pub hit_by_parts : flat_map f (filter is_hit (map start_item (by_start s.functions))) ≡ starts → flat_map f (filter is_hit (map call_item (by_start s.functions))) ≡ calls
       → flat_map f (filter is_hit (map branch_item s.branches)) ≡ branches → flat_map f (filter is_hit (map line_item s.lines)) ≡ lines
       → flat_map f (filter is_hit (items_shown s)) ≡ starts ++ (calls ++ (branches ++ lines))
@@ -71,7 +71,7 @@ names_shown s =
     (none_in func_point branch_item (λ b. refl) s.branches)
     (none_in func_point line_item (λ l. refl) s.lines)
 
--- as many functions are found as are printed, though two lines are about each
+-- as many functions are found as are printed, although each has two items
 functions_found : (s : SectionData) → HasPointsApart s → own_total FuncFound (items_shown s) ≡ length s.functions
 functions_found s apart =
     ap (distinct bytes_eq) (names_shown s)
@@ -80,7 +80,7 @@ functions_found s apart =
     ∙ all_counted name_of bytes_eq (by_start s.functions) apart.functions
     ∙ length-sorted function_cmp s.functions
 
--- those that are hit follow from their counts alone
+-- the names of hit items are those of the functions with a count above 0, each once: an `FN:` line's item has the count 0
 names_hit : (s : SectionData) → flat_map func_point (filter is_hit (items_shown s)) ≡ map name_of (filter is_called (by_start s.functions)) ++ []
 names_hit s =
     hit_by_parts func_point s [] _ [] []
@@ -166,7 +166,7 @@ all_if_any P a b n m x y = by (n == 0)
     by true = tt
     by false = (x, (y, tt))
 
--- what holds of each record inside of a section, part by part
+-- what holds of the records of each part holds of all records inside a section
 pub all_inside : (P : LineData → Type 0) (s : SectionData)
     → AllByRecursion P (map start_record (by_start s.functions)) → AllByRecursion P (map call_record (by_start s.functions)) → AllByRecursion P (function_totals s)
     → AllByRecursion P (map branch_record s.branches) → AllByRecursion P (branch_totals s)
@@ -177,7 +177,7 @@ all_inside P s starts calls called branches taken lines run =
 total_fits : (kind : TotalKind) (items : List ItemData) (value : ℕ) → own_total kind items ≡ value → not (value == own_total kind items) ≡ false
 total_fits kind items value own = ap not (eq-eqb value (own_total kind items) (sym own))
 
--- a total that is the section's own isn't odd
+-- a total isn't odd if it is the number that the section's items have
 own_even : (s : SectionData) → HasPointsApart s → (kind : TotalKind) (value : ℕ) → own_total kind (items_shown s) ≡ value → is_odd (inside_of s) (Total kind value) ≡ false
 own_even s apart kind value own = total_fits kind (items_of (inside_of s)) value (ap (own_total kind) (items_back s apart) ∙ own)
 
@@ -196,6 +196,6 @@ none_passes : {X : Type 0} (p : X → Bool) (xs : List X) → AllByRecursion (λ
 none_passes p [] none = refl
 none_passes p (x ∷ xs) none = ap (λ b. if b then x ∷ filter p xs else filter p xs) none.0 ∙ none_passes p xs none.1
 
--- nothing that is printed inside of a section is odd
+-- no record that is printed inside a section is odd
 pub odd_back : (s : SectionData) → HasPointsApart s → count_by (is_odd (inside_of s)) (inside_of s) ≡ 0
 odd_back s apart = sym (length-filter (is_odd (inside_of s)) (inside_of s)) ∙ ap length (none_passes (is_odd (inside_of s)) (inside_of s) (none_odd s apart))

@@ -55,7 +55,7 @@ bounded_one n =
 abbrev branch_with : ℕ → ℕ → ℕ → BranchPoint
 branch_with line block branch = record { line = line; block = block; branch = branch }
 
--- the item of a branch with these numbers says as much as they
+-- if a branch's item has the sum of these numbers, it adds the same to the branch as they do
 own_taken : (point : BranchPoint) (numbers : List ℕ) → sum_if_any (taken_said point (BranchItem point.line point.block point.branch (sum_if_any numbers))) ≡ sum_if_any numbers
 own_taken point [] = refl
 own_taken point (n ∷ numbers) =
@@ -74,7 +74,7 @@ own_start name line count = cond-true (bytes_eq name name) (line ∷ []) [] (own
 own_calls : (name : List ℕ) (line count : ℕ) → function_added name (FuncItem name line count) ≡ count
 own_calls name line count = cond-true (bytes_eq name name) count 0 (own_name name)
 
--- a start line counts its function 0 times
+-- the item of an `FN:` line adds 0 to the count of any function
 start_adds : (name : List ℕ) (f : FunctionValueData) → function_added name (start_item f) ≡ 0
 start_adds name f = by (bytes_eq f.name name)
   where
@@ -92,7 +92,7 @@ function_from : (name : List ℕ) (xs ys : List ItemData) → function_start nam
 unfolding function_with
 function_from name xs ys start count = ap₂ (λ (line count : ℕ). function_with line name count) start count
 
--- ---- a section's items and those of its printed form
+-- ---- the items that a section is made of, and those that it shows
 
 module _ (key : Key) (items : List ItemData) where
   abbrev s : SectionData
@@ -174,7 +174,7 @@ module _ (key : Key) (items : List ItemData) where
       (alike_said func_point shown (items_by_name s) (shown_alike s)).back name
       (subst (In name) (sym names_by_name) (In-joined (names_in items) (names_in items) name (inl i)))
 
-  -- what one of the two items of each function says
+  -- each function has two items. If one of them is taken of each, only one of these says a start line for a given name
   said_once : (item : FunctionValueData → ItemData) → ((f : FunctionValueData) → func_point (item f) ≡ f.name ∷ []) → (name : List ℕ) → In name (names_in items)
       → flat_map (λ f. start_said name (item f)) s.functions ≡ start_said name (item (function_at items name))
   said_once item named name i =
@@ -214,7 +214,7 @@ module _ (key : Key) (items : List ItemData) where
   pub section_shown : section_with key shown ≡ section_with key items
   section_shown = same_section key shown items functions_shown branches_shown lines_shown
 
-  -- if there is an item, one is printed
+  -- if a point is among those of the items shown, an item is shown
   shown_of : {P : Type 0} (point : ItemData → List P) (p : P) → In p (flat_map point shown) → (item : ItemData) × In item shown
   shown_of point p i = let found = In-unflat point shown p i in (found.0, found.1)
 

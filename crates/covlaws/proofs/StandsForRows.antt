@@ -1,4 +1,4 @@
--- The rows of a printed report add up to what it was printed from, also together with any others.
+-- The rows that a printed report is read as have the content that it was printed from, also together with any other rows.
 use Rattle.std.proofs.Common.{◌≡◌, List, ◌++◌}
 use Rattle.covstore.specs.Content.{content_of}
 use Rattle.covlaws.specs.Printable.{submission_shown}

@@ -13,10 +13,11 @@ use Rattle.covreport.specs.Report.{by_start}
 
 -- ---- what a printed section is read as
 
--- an `FN:` line gives the count 0, an `FNDA:` line its count
+-- the item of a function's `FN:` line, with the count 0
 abbrev pub start_item : FunctionValueData → ItemData
 start_item f = FuncItem f.name f.line 0
 
+-- the item of a function's `FNDA:` line, with its count
 abbrev pub call_item : FunctionValueData → ItemData
 call_item f = FuncItem f.name f.line f.count
 
@@ -34,26 +35,28 @@ items_shown s =
 abbrev pub sect_shown : SectionData → SectData
 sect_shown s = record { test = s.key.test; file = s.key.file; items = items_shown s }
 
--- the submission that printed sections are read as: nothing in it is odd
+-- the submission that printed sections are read as. It has no odd lines
 abbrev pub submission_shown : List SectionData → SubmissionData
 submission_shown sections = record { sects = map sect_shown sections; odd = 0 }
 
 -- ---- what a report may print
 
--- the functions are in the order of their names, the branches and the lines in that of their numbers, each once
+-- the section has each point once: its functions in ascending order of their names, its branches and its lines in ascending
+-- order of their numbers
 pub record HasPointsInOrder (s : SectionData) : Type 0 where
   pub functions : IsStrictlySortedBy (slice_cmp nat_cmp) (map (λ f. f.name) s.functions)
   pub branches : IsStrictlySortedBy branch_cmp (map (λ b. b.point) s.branches)
   pub lines : IsStrictlySortedBy nat_cmp (map (λ l. l.line) s.lines)
 
--- a section with points, in order, whose texts are lawful and whose numbers fit
+-- the section has a point, its points are in order, its names and checksums are lawful, and its numbers fit
 pub record IsPrintableSection (s : SectionData) : Type 0 where
   pub order : HasPointsInOrder s
   pub some : 0 < length (items_shown s)
   pub lawful : IsLawfulSect (sect_shown s)
   pub fit : AllFit (items_shown s)
 
--- such sections in order, one for each file and test, whose checksums agree
+-- each section is printable, the sections are in ascending order with at most one for each file and test, and their checksums
+-- agree
 pub record IsPrintable (sections : List SectionData) : Type 0 where
   pub keys : IsStrictlySortedBy key_cmp (map (λ s. s.key) sections)
   pub each : AllByRecursion IsPrintableSection sections
@@ -61,7 +64,7 @@ pub record IsPrintable (sections : List SectionData) : Type 0 where
 
 -- ---- lawful rows
 
--- the texts of a row are lawful, and its numbers fit
+-- the names and the checksum of a row are lawful, and its numbers fit
 pub record IsLawfulRow (row : Row) : Type 0 where
   pub test : IsGoodTest row.test
   pub file : IsGoodName row.file

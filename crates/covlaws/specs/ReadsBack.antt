@@ -10,7 +10,7 @@ use Rattle.covbook.specs.Step.{answer_of, table_of}
 abbrev pub IsReadAs : List ℕ → SubmissionData → Type 0
 IsReadAs text submission = IsOutcome text (Ok submission)
 
--- the operation is answered by a tracefile
+-- the operation is one that is answered with a tracefile
 abbrev pub IsReport : OpData → Type 0
 IsReport ReportOp = Unit {0}
 IsReport (ExtractOp patterns) = Unit {0}
@@ -20,8 +20,8 @@ IsReport (DropTestOp test) = ⊥
 IsReport (RenameOp old new) = ⊥
 IsReport SummaryOp = ⊥
 
--- the text is read as a lawful submission in which nothing is odd; an empty book accepts it with all its items, and reports
--- the same text again. The submission is the only one that the text is read as: covread's law each_text_has_one_outcome
+-- the text is read as a lawful submission without odd lines. An empty book accepts this submission with all its items, and then
+-- reports the same text. The text is read as no other submission, by covread's law each_text_has_one_outcome
 pub record ReadsBack (text : List ℕ) : Type 0 where
   pub submission : SubmissionData
   pub read : IsReadAs text submission
@@ -30,13 +30,13 @@ pub record ReadsBack (text : List ℕ) : Type 0 where
   pub accepted : answer_of [] (SubmitOp submission) ≡ AcceptedAnswer 1 (items_in submission.sects) 0
   pub same : answer_of (table_of (SubmitOp submission ∷ [])) ReportOp ≡ TextAnswer text
 
--- the submission is what the report of these submissions is read as
+-- `merge` is the submission that the report of the submissions `part` is read as
 pub record IsMergeOf (part : List SubmissionData) (merge : SubmissionData) : Type 0 where
   pub text : List ℕ
   pub told : answer_of (table_of (map SubmitOp part)) ReportOp ≡ TextAnswer text
   pub read : IsReadAs text merge
 
--- each submission is the merge of the part at its place
+-- there are as many merges as parts, and each is the merge of the part at the same index
 abbrev pub AreMergesOf : List (List SubmissionData) → List SubmissionData → Type 0
 AreMergesOf [] [] = Unit {0}
 AreMergesOf [] (merge ∷ merges) = ⊥

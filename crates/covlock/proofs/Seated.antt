@@ -1,4 +1,4 @@
--- As many seats as jobs are needed to have one of each.
+-- If each job has a seat, there are at least as many seats as jobs.
 use Rattle.std.proofs.Common.{◌≡◌, ◌∙◌, ℕ, suc, ◌≤◌, Bool, ◌||◌, List, [], ◌∷◌, length, map, ap, refl}
 use Rattle.std.proofs.Math.Dec.{eqb}
 use Rattle.std.proofs.lemmas.Map.Steps.{le-length_from_below}

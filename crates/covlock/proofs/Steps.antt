@@ -1,4 +1,4 @@
--- A step under the lock, seen from the history that was there before it.
+-- A step under the lock: its entry, receipt, fault and news follow from the history before it.
 use Rattle.std.proofs.Common.{◌≡◌, ◌∙◌, ◌⊎◌, inl, inr, ℕ, ◌<◌, ◌≤◌, List, [], ◌∷◌, ◌++◌, length, Result, Ok, Err, refl, sym, ap, arith, subst}
 use Rattle.std.proofs.lemmas.List.{length_push}
 use Rattle.covbook.specs.declared.book.BookFault.{BookFault}

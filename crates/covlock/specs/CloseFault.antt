@@ -6,5 +6,6 @@ use Rattle.covlock.specs.declared.shared.CloseFault.TheVariants.{Missing}
 abbrev pub close_number : CloseFault → ℕ
 close_number (Missing job) = 1
 
+-- the job whose seat is missing
 abbrev pub told_job : CloseFault → ℕ
 told_job (Missing job) = job

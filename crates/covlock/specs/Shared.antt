@@ -1,4 +1,4 @@
--- What a shared book shows to its callers. Until it is closed, each of them knows of its history only their own calls.
+-- What contracts see of a shared book. Until the book is closed, a caller knows only the entries of its own calls.
 use Rattle.std.specs.Prelude.{ℕ}
 
 -- how many jobs share it

@@ -14,8 +14,7 @@ pub record AreJobs (jobs : ℕ) : Type 0 where
   pub some : 1 ≤ jobs
   pub few : jobs ≤ 64
 
--- this number of jobs may share a book, the count of the calls has a part for each of them, and nothing is in the book
--- yet
+-- this number of jobs may share a book, the count of the calls has a part for each of them, and the book has no entry yet
 pub record IsStart (jobs parts : ℕ) (entries : List EntryData) : Type 0 where
   pub bounds : AreJobs jobs
   pub parts_are : parts ≡ jobs

@@ -1,17 +1,16 @@
 //! One book that many threads share under a lock.
 //!
-//! A `Start` is what a shared book is made of. `open_book` makes the book, and a `Seat` for each job. Any thread that has a
-//! seat performs steps on the book with it (`Shared::perform`); each is one step of the book's table, taken while its lock is
-//! held. `Shared::close` takes all seats back and returns the history, which has exactly one entry for each call that
-//! succeeded.
+//! `open_book` makes a book out of a `Start`, and a `Seat` for each job. A thread that has a seat takes steps of the book with it
+//! (`Shared::perform`). Each step is taken while the book's lock is held. `Shared::close` takes all seats back and returns the
+//! history, which has exactly one entry for each call that succeeded.
 //!
-//! A reader of the totals (`Shared::reader`, `Live`) waits for nobody: it takes no lock. Each call returns news, and so does
-//! `close`; a reader that learns them (`Live::learn`) has at least their entries, whatever it was shown.
+//! A reader of the totals (`Shared::reader`, `Live`) takes no lock, so it waits for nobody. Each call of `perform` returns news,
+//! and so does `close`. A reader that learns news (`Live::learn`) then reports at least their entries.
 //!
-//! A function that uses a book is generic in the book's name `L: Name`, and its caller calls it at `Brand` and says in its
-//! `Invariants.antt` that this names the start (`docs/ARCHITECTURE.md` has the lines). So the seats, news and readers of two
-//! books have different types if the books are opened in two such functions. Two books that one function opens at `Brand` have
-//! one type: the compiler then takes a seat of one for the other, and only the prover refuses it.
+//! A function that uses a book is generic in the book's name `L: Name`. Its caller chooses `Brand` for `L`, and says in an
+//! `Invariants.antt` that this is the name of the start (`docs/ARCHITECTURE.md` has the lines). So the seats, news and readers of
+//! two books have different types if the books are opened in two such functions. But if one function opens two books at `Brand`,
+//! their types are the same. The compiler then accepts a seat of one book for the other, and only the prover refuses it.
 //!
 //! `covjobs` re-exports all of this: a user of it lists that crate alone. Its page has a sketch.
 #![tactic(auto)]

@@ -65,7 +65,7 @@ impl<L: Name> Seat<L> {
         self.seen
     }
 
-    /// Counts a call that is answered at this place, in the seat and in the book's count.
+    /// Counts a call whose entry is at this place, in the seat and in the book's count.
     pub(crate) fn count_call(&mut self, count: &mut Book<L>, place: u64)
         requires few { count.old.total < max_entries }
         requires place { place < max_entries }

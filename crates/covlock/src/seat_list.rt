@@ -1,4 +1,4 @@
-//! Seats that are handed out and handed in.
+//! Lists of seats, as they are handed out to jobs and handed in again.
 
 use crate::seat::Seat;
 use covline::Memory;
@@ -7,7 +7,7 @@ use std::alloc::{Allocator, Global};
 use std::marker::Model;
 use std::sync::ledger::Share;
 
-/// A list of seats. Contracts see what they show.
+/// A list of seats. Contracts see the model of each seat, in order.
 #[derive(Drop)]
 pub struct Seats<L: Name, A: Allocator = Global> {
     seats: Vec<Seat<L>, A>,
@@ -43,7 +43,7 @@ impl<L: Name, A: Allocator> Seats<L, A> {
         Seats { seats }
     }
 
-    /// The seats in order, to be taken out. Takes no memory.
+    /// Consumes the list, and returns its seats in order. Takes no memory.
     pub fn into_vec(self) -> Vec<Seat<L>, A>
         ensures { result.items ≡ self }
     {
@@ -66,14 +66,14 @@ impl<L: Name, A: Allocator> Seats<L, A> {
         self.seats.as_slice()
     }
 
-    /// Whether a seat of the job is among them.
+    /// Whether the list has a seat of this job.
     fn has(&self, job: u32) -> bool
         ensures { result ≡ is_seated self.now job }
     {
         self.get().iter().any(|seat| job == seat.job())
     }
 
-    /// The least job below `jobs` that has no seat among them.
+    /// The least job below `jobs` whose seat isn't in the list; `None` if all are.
     pub(crate) fn missing(&self, jobs: u32) -> Option<u32>
         ensures { MatchOption result (AllAreSeated jobs self.now) (λ job. IsLeastMissing jobs self.now job) }
     {
@@ -85,7 +85,7 @@ impl<L: Name, A: Allocator> Seats<L, A> {
         None
     }
 
-    /// Adds the shares of all seats to this one.
+    /// Consumes the seats, and adds their shares to the share `to`.
     pub(crate) fn give_shares(self, to: &mut Share<L>)
         requires few { to.old.parts ≤ L.parts }
         ensures parts { to.new.parts ≡ to.old.parts + length self }
@@ -101,7 +101,7 @@ impl<L: Name, A: Allocator> Seats<L, A> {
 ghost use Rattle.std.specs.Prelude.{◌≡◌, IfOk};
 ghost use Rattle.covlock.specs.Seat.{first_seats};
 
-/// The seats of the jobs below `jobs`, none of which has made a call. Each takes a part of the share.
+/// A seat for each job from 0 to `jobs - 1`. No job has made a call yet. Each seat takes one part of the share `all`.
 pub(crate) fn seats_for<L: Name, A: Allocator>(
     alloc: A,
     jobs: u32,

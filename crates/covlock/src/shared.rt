@@ -15,8 +15,8 @@ use thiserror::Error;
 /// The most readers that can be made of one book.
 pub const MAX_READERS: u32 = 64;
 
-/// A book under a lock, which threads share by reference. Contracts see how many jobs it is for. A book that is dropped
-/// without being closed never frees the memory that it shares with its readers (some 17 KB).
+/// A book with a lock. Threads share it by reference. Contracts see how many jobs it is for. A book that is dropped without being
+/// closed never frees the memory that it shares with its readers (some 17 KB).
 #[derive(Drop)]
 pub struct Shared<L: Name, A: Allocator = Global> {
     jobs: u32,
@@ -44,7 +44,7 @@ pub struct Done<L: Name, A: Allocator = Global> {
 /// Why a book isn't closed.
 #[derive(Clone, Copy, Debug, PartialEq, Eq, Error)]
 pub enum CloseFault {
-    /// Fault 1: the seat of this job isn't handed in; those of all lower jobs are.
+    /// Fault 1: the seat of this job isn't handed in. The seats of all lower jobs are.
     #[error("Missing {job}")]
     Missing { job: u32 },
 }
@@ -92,11 +92,12 @@ impl<L: Name, A: Allocator + Copy> Shared<L, A> {
     ghost use Rattle.covlock.specs.Call.{IsReceiptFor, IsNewsOf};
     ghost use Rattle.covlock.specs.Seat.{after_call};
 
-    /// Takes one step of the book for the seat's job, answered as the table answers it after a legal history. The news
-    /// are of the history that ends with the call's entry, which readers are shown from then on. Waits for the lock,
-    /// and holds it for the step alone; waits for readers that still read what was shown two steps ago. `Full` if the
-    /// history is full, or if it is shorter than what the seat has seen, which no seat of this book meets. After a
-    /// refusal the book's history and content, what readers are shown, and the seat are as they were.
+    /// Takes one step of the book for the seat's job. The answer is that of a run over the operations before this step, which are
+    /// a legal history. The news are of the history up to this step's entry, and readers are shown this entry from then on. Waits
+    /// for the lock, and holds it only for the step. Also waits for readers that still read what was shown two steps ago. `Full`
+    /// if the history is full. It would also be returned if the history had fewer entries than the seat has seen, but this
+    /// doesn't happen to a seat of this book. After a refusal, the book's history and content, what readers are shown, and the
+    /// seat are unchanged.
     pub fn perform<R: Wait>(
         &self,
         rt: &R,
@@ -124,8 +125,9 @@ impl<L: Name, A: Allocator> Shared<L, A> {
     ghost use Rattle.covlock.specs.Handed.{AllAreSeated, IsLeastMissing};
     ghost use Rattle.covlock.specs.CloseFault.{told_job};
 
-    /// Makes a reader of the totals, which waits for nobody once it is made. `NoPlace` if 64 readers were made, dropped ones
-    /// among them, or earlier if no free place is found. Takes no memory, so `Memory` isn't returned. Waits for the lock.
+    /// Makes a reader of the totals. The reader itself waits for nobody, but this call waits for the lock. `NoPlace` if 64
+    /// readers were made, including those that were dropped, or earlier if no free place is found. Takes no memory, so `Memory`
+    /// isn't returned.
     pub fn reader<R: Wait>(&self, rt: &R) -> Result<Live<L, A>, ReaderFault>
         ensures legal { IfOk result (λ live. IsLegal live) }
         ensures fault { IfErr result (λ fault. fault ≡ reader_faults.NoPlace) }
@@ -133,10 +135,9 @@ impl<L: Name, A: Allocator> Shared<L, A> {
         self.shared_state.lock(rt).reader()
     }
 
-    /// Closes the book if the seat of each job is handed in, and returns its history, whose submissions are lawful, with news
-    /// of it. Otherwise returns the book and the seats, with the least job whose seat is missing. Takes no memory. May wait for
-    /// a reader that is inside a read. Readers are then shown nothing new: they report the longest history that they saw or
-    /// learned.
+    /// Closes the book if the seat of each job is handed in. Returns the book's history, whose submissions are lawful, and news
+    /// of it. If a seat is missing, returns the book and the seats, and the least job whose seat is missing. Takes no memory. May
+    /// wait for readers that are inside a read. After the close, each reader reports the longest history that it saw or learned.
     pub fn close<R: Wait>(
         self,
         rt: &R,

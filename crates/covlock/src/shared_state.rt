@@ -1,4 +1,4 @@
-//! What lies under the lock of a shared book, and the step that is taken there.
+//! What the lock of a shared book guards, and the step that is taken while it is held.
 
 use crate::seat::Seat;
 use crate::seat_list::Seats;
@@ -9,12 +9,13 @@ use std::marker::Model;
 use std::sync::Wait;
 use std::sync::ledger::{Book as Count, Share};
 
-/// The book, the count of its calls, whose shares the seats have, and the publisher of its history. Contracts see the history.
+/// What the lock of a shared book guards: the book, the count of its calls, and the publisher of its history. The seats have the
+/// shares of the count. Contracts see the history.
 #[derive(Drop)]
 pub(crate) struct SharedState<L: Name, A: Allocator> {
     book: Book<A>,
     count: Count<L>,
-    /// A share without a part. `close` adds those of the seats to it.
+    /// A share that has no part of the count. `close` adds the shares of the seats to it.
     rest: Share<L>,
     publisher: Publisher<L, A>,
 }
@@ -40,7 +41,7 @@ impl<L: Name, A: Allocator + Copy> SharedState<L, A> {
     ghost use Rattle.covlock.specs.Call.{IsReceiptAfter, IsNewsOf};
     ghost use Rattle.covlock.specs.Seat.{after_call};
 
-    /// An empty book: no call is counted yet, and nothing is published.
+    /// The state of an empty book: no call is counted yet, and the history without entries is noted and published.
     pub(crate) fn new(
         book: Book<A>,
         count: Count<L>,
@@ -63,9 +64,9 @@ impl<L: Name, A: Allocator + Copy> SharedState<L, A> {
         }
     }
 
-    /// Takes one step of the book for the seat's job, and publishes the history with its entry. All that can be refused comes
-    /// first, so after a refusal the history, what is published of it, and the seat are as they were. Waits for readers that
-    /// still read what was published two steps ago.
+    /// Takes one step of the book for the seat's job, and publishes the history with the step's entry. All that can be refused is
+    /// done first, so a refusal leaves the history, what is published of it, and the seat unchanged. Waits for readers that still
+    /// read what was published two steps ago.
     pub(crate) fn step<R: Wait>(
         &mut self,
         rt: &R,
@@ -105,7 +106,7 @@ impl<L: Name, A: Allocator> SharedState<L, A> {
     ghost use Rattle.covlock.specs.Seat.{calls_in};
     ghost use Rattle.covnews.specs.declared.fault.ReaderFault.TheVariants as reader_faults;
 
-    /// Makes one more reader of what is published, which is the history.
+    /// Makes one more reader. It begins with the whole history, since all of it is published.
     pub(crate) fn reader(&mut self) -> Result<Live<L, A>, ReaderFault>
         ensures live { IfOk result (λ live. live ≡ self.old) }
         ensures fault { IfErr result (λ fault. fault ≡ reader_faults.NoPlace) }
@@ -115,7 +116,7 @@ impl<L: Name, A: Allocator> SharedState<L, A> {
         self.publisher.reader()
     }
 
-    /// Takes all seats, and returns the history with news of it. Waits for readers to leave.
+    /// Takes all seats back, and returns the history and news of it. Waits for readers that are inside a read.
     pub(crate) fn close<R: Wait>(self, rt: &R, seats: Seats<L, A>) -> (Entries<A>, News<L>)
         requires { L.parts ≤ length seats }
         ensures history { result.0 ≡ self }

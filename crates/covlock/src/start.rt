@@ -70,7 +70,7 @@ impl<A: Allocator + Copy> Start<A> {
     ghost use Rattle.covlock.specs.declared.start.OpenFault.TheVariants as faults;
     ghost use Rattle.covlock.specs.Start.{AreJobs};
 
-    /// What a book for `jobs` jobs is made of. `BadJobs` if they aren't 1 to 64. Takes no memory yet, so `Memory` isn't
+    /// What a book for `jobs` jobs is made of. `BadJobs` if `jobs` isn't from 1 to 64. Takes no memory, so `Memory` isn't
     /// returned.
     pub fn new(alloc: A, jobs: u32) -> Result<Start<A>, OpenFault>
         ensures jobs { IfOk result (λ s. s.jobs ≡ jobs) }
@@ -92,7 +92,7 @@ impl<A: Allocator> Start<A> {
     ghost use Rattle.std.specs.Prelude.{◌≡◌, []};
     ghost use Rattle.covlock.specs.Start.{AreJobs};
 
-    /// How many jobs there are, the count without a call, the empty book, and the seed of its published history.
+    /// The number of jobs, the count with no call yet, the empty book, and the seed of its published history.
     pub(crate) fn into_parts(self) -> (u32, Blank, Book<A>, HistorySeed)
         ensures jobs { result.0 ≡ self.jobs }
         ensures bounds { AreJobs self.jobs }

@@ -11,14 +11,15 @@ use Rattle.covnews.specs.History.{Appends, IsNoted}
 use Rattle.covnews.proofs.Prefixes.{whole_prefix}
 use Rattle.covnews.proofs.Runs.{legal_with_next}
 
--- clients of the history see nothing of it, and each update moves nothing
+-- the rule's `shows`: nothing of the history is shown
 abbrev pub shown : List EntryData → List EntryData
 shown history = []
 
+-- the rule's `moves`: nothing is asked of an update
 abbrev pub moved : List EntryData → List EntryData → ℕ → Type 0
 moved before after answer = Unit {0}
 
--- what was seen, by a thread that holds no pen and whose update hasn't run
+-- the view of a thread that has seen this history, has no pen, and hasn't made its update yet
 abbrev seen_as : List EntryData → View EntryData ℕ
 seen_as history = (history, (no_nib, None))
 
@@ -26,11 +27,11 @@ seen_as history = (history, (no_nib, None))
 abbrev words_at : ℕ → List Cell
 words_at length = (length, true) ∷ (0, true) ∷ []
 
--- the step on the word of the length: from `upto` to one more, with this entry
+-- the step that changes the length from `upto` to `upto + 1`, and appends this entry
 abbrev GoesOn : List EntryData → EntryData → ℕ → List Cell → List EntryData → Type 0
 GoesOn seen entry upto = Goes IsNoted shown moved 0 (seen_as seen) (λ n. either (n == upto) (upto + 1) n) (Appends (step 0 upto (upto + 1) entry) (seen_as seen))
 
--- if the length is the one that was seen, the entry is appended; else nothing is
+-- if the history is still as long as the one that was seen, the entry is appended; else nothing is
 goes_on : (history seen : List EntryData) (entry : EntryData) (upto : ℕ) → length seen ≡ upto → ComesNext seen entry → IsLegal history → IsPrefix seen history
     → (same : Bool) → (length history == upto) ≡ same → GoesOn seen entry upto (words_at (length history)) history
 goes_on history seen entry upto long next legal prefix true is =
@@ -58,7 +59,7 @@ goes_on history seen entry upto long next legal prefix false is =
       rw is tt,
     )
 
--- whatever the history has become, the step may be taken
+-- the step may be taken however long the history is by now
 pub may_append : (seen : List EntryData) (entry : EntryData) (upto : ℕ) → length seen ≡ upto → ComesNext seen entry
     → Moves IsNoted shown moved 0 (seen_as seen) (λ n. either (n == upto) (upto + 1) n) (Appends (step 0 upto (upto + 1) entry) (seen_as seen))
 may_append seen entry upto long next words history kept prefix away =

@@ -1,4 +1,4 @@
--- Prefixes of one list.
+-- Prefixes of a list.
 use Rattle.std.proofs.Common.{◌≡◌, ◌≤◌, List, [], ◌∷◌, ◌++◌, length, refl, ap, sym, ◌∙◌, append_assoc, arith}
 use mathlib.Core.List.{IsPrefix}
 

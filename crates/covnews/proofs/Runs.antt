@@ -1,11 +1,12 @@
--- Legal histories: with the entry that comes next, and their prefixes.
+-- A legal history with the entry that comes next is legal, and so is each prefix of a legal history.
 use Rattle.std.proofs.Common.{◌≡◌, List, [], ◌∷◌, ◌++◌, ap, refl, subst, sym}
 use mathlib.Core.List.{IsPrefix}
 use Rattle.covbook.specs.Op.{EntryData}
 use Rattle.covstore.specs.Table.{Table}
 use Rattle.covbook.specs.Step.{ComesNext, IsLegal, answer_of, answers_from, answers_in, last_totals, ops_in, table_after, table_from, totals_at, totals_from, totals_in}
 
--- the entry's answer is that of the run at its end
+-- if the answers of a history are those of the run, and the next entry has the answer that comes next in the run, then the
+-- answers of the history with this entry are those of the run
 answers_go_on : (table : Table) (history : List EntryData) (entry : EntryData) → answers_in history ≡ answers_from table (ops_in history) → entry.answer ≡ answer_of (table_from table (ops_in history)) entry.op → answers_in (history ++ entry ∷ []) ≡ answers_from table (ops_in (history ++ entry ∷ []))
 answers_go_on table [] entry legal next = cc next
 answers_go_on table (e ∷ history) entry legal next =

@@ -5,7 +5,7 @@ use Rattle.logbook.specs.Pages.{Book, Cell, Named, Step, View}
 use Rattle.covbook.specs.Op.{EntryData}
 use Rattle.covbook.specs.Step.{IsLegal}
 
--- a noted history is legal, and the first of the two words beside it is its length. The second one isn't used
+-- a noted history is legal, and the first of its two words in memory is its length. The second word isn't used
 pub record IsNoted (words : List Cell) (history : List EntryData) : Type 0 where
   pub word : words ≡ (length history, true) ∷ (0, true) ∷ []
   pub legal : IsLegal history
@@ -14,6 +14,7 @@ pub record IsNoted (words : List Cell) (history : List EntryData) : Type 0 where
 abbrev pub length_of : Book → Named
 length_of book = record { tracked = true; key = 0; book = book }
 
--- the step appended the entry to the history that had been seen. If it found another length, this says nothing
+-- if the step found the length that it expected, it has appended the entry to the history that was seen before it. If it found
+-- another length, this says nothing
 abbrev pub Appends : Step EntryData → View EntryData ℕ → ℕ → View EntryData ℕ → Type 0
 Appends step before found after = MatchBool (found == step.old) (after.0 ≡ before.0 ++ step.ask ∷ []) (Unit {0})

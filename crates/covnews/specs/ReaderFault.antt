@@ -1,4 +1,4 @@
--- The numbers of a reader's faults, which stay the same in all versions.
+-- The numbers of the reasons why no reader is made. They stay the same in all versions.
 use Rattle.std.specs.Prelude.{ℕ}
 use Rattle.covnews.specs.declared.fault.ReaderFault.{ReaderFault}
 use Rattle.covnews.specs.declared.fault.ReaderFault.TheVariants.{NoPlace, Memory}

@@ -7,7 +7,7 @@ use thiserror::Error;
 /// Why no reader is made.
 #[derive(Clone, Copy, Debug, PartialEq, Eq, Error)]
 pub enum ReaderFault {
-    /// As many readers were made as there can be. It may also come earlier, if no free place is found.
+    /// All places for readers are taken. It may also be returned earlier, if no free place is found.
     #[error("NoPlace")]
     NoPlace = 1,
     /// Memory was refused. No call returns it today, as a reader takes no memory.

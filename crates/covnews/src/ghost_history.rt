@@ -1,18 +1,18 @@
-//! The noted history. Its entries exist in proofs alone; in memory there is only the word of its length. A token is a
-//! prefix of it that was seen.
+//! The noted history. Its entries exist only in proofs; the memory holds only a `logbook::Word` with its length. A token says
+//! that a prefix of the noted history was seen.
 
 use crate::noted::NotedEntry;
 use covbook::Entry;
 use logbook::{Gain, Plain, Play, Rule, Seen, Word};
 use std::alloc::Allocator;
 
-/// The word that holds the length of a noted history.
+/// The number in memory that is the length of a noted history.
 pub(crate) type Length = Word<NotedEntry, u64, Legality>;
 
-/// A prefix of a noted history that was seen. It takes no bytes.
+/// The token of a prefix of a noted history that was seen. It has no bytes.
 pub(crate) type SeenHistory = Seen<NotedEntry, u64, Legality>;
 
-/// The rule of a noted history: it is legal, at every length.
+/// The rule of a noted history: at all times it is legal, and its word holds its length.
 pub struct Legality;
 
 impl Rule<NotedEntry, u64> for Legality {
@@ -42,7 +42,7 @@ impl Gain<NotedEntry, u64> for NoGain {
     ghost after = { λ _ _ _. ftrue };
 }
 
-/// The step that appends an entry.
+/// The update that appends an entry to the noted history.
 pub struct Append;
 
 impl Play<NotedEntry, u64> for Append {

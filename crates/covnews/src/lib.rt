@@ -1,16 +1,17 @@
 //! What a shared book publishes to readers that wait for nobody.
 //!
-//! Whoever holds the book's lock has its `Publisher`. It notes each new entry (`Publisher::note`) and then shows readers how
-//! many entries there are and the totals after them (`Publisher::publish`). A reader (`Live`) asks for these totals at any
-//! time, with no lock and no wait: `left_right` keeps two copies of what is shown.
+//! Whoever holds the book's lock has its `Publisher`. For each new entry, the publisher first notes it (`Publisher::note`). Then
+//! it shows readers how many entries there are and the totals after them (`Publisher::publish`). A reader (`Live`) asks for these
+//! totals at any time, without a lock or a wait: `left_right` keeps two copies of what is shown.
 //!
-//! `News` name a noted history; those of `note` are handed out after `publish`. A reader that learns news never reports fewer
-//! entries again, even if it wasn't shown them itself, and even after the book is closed.
+//! `News` have the length of a noted history and the totals after it. `note` returns news, which are handed out after `publish`.
+//! A reader that learns news never again reports fewer entries than they have, even if it wasn't shown these entries, and even
+//! after the book is closed.
 //!
-//! What is published is a legal history (covbook's `IsLegal`) that only grows at its end, so any two of its states are
-//! prefixes of one history. In memory there is only its length, its last totals and a token without bytes; the entries
-//! themselves stay in the book. The contracts of `Publisher`, `News` and `Live` speak of the list of entries that they stand
-//! for. The types say which book a publisher, a reader or news are of, by the book's name `L: Name`.
+//! What is published is a legal history (covbook's `IsLegal`) that only grows at its end. So of any two histories that were
+//! published, one is a prefix of the other. The memory holds only the history's length, its last totals and a token without
+//! bytes; the entries themselves stay in the book. The contracts of `Publisher`, `News` and `Live` see the list of the entries.
+//! The types say which book a publisher, a reader or news belong to, by the book's name `L: Name`.
 //!
 //! A sketch, which no test runs:
 //!

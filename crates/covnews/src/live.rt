@@ -9,8 +9,8 @@ use std::alloc::{Allocator, Global};
 use std::marker::Model;
 use std::thread;
 
-/// A reader of what is published, which waits for nobody. Contracts see the longest history that it saw or learned, at first the
-/// one that was published when it was made.
+/// A reader of the published totals, which waits for nobody. Contracts see the longest history that it saw or learned. At first
+/// this is the history that was published when the reader was made.
 #[derive(Drop)]
 pub struct Live<L: Name, A: Allocator = Global> {
     longest: News<L>,
@@ -26,7 +26,7 @@ impl<L: Name, A: Allocator> Model for Live<L, A> {
     ghost view = { λ live. live.longest };
 }
 
-/// News of what is published, if the reader is given a view.
+/// News of the published history; `None` if the reader is given no view.
 fn look<L: Name, A: Allocator>(
     reader: SnapshotReader<L, A>,
 ) -> (SnapshotReader<L, A>, Option<News<L>>) {
@@ -63,9 +63,9 @@ impl<L: Name, A: Allocator> Live<L, A> {
         self.longest = self.longest.longer(news);
     }
 
-    /// The totals of what is published. If this reader saw or learned a longer history, or is given no view, as after
-    /// the publisher was closed, they are those of the longest history that it saw or learned. Takes no memory, and
-    /// waits for nobody.
+    /// The totals of the published history, or of the longest history that this reader saw or learned, whichever is longer. If
+    /// the reader is given no view, the totals are those of the longest history that it saw or learned. This is so after the
+    /// publisher was closed. Takes no memory, and waits for nobody.
     pub fn totals(&mut self) -> Reading
         ensures own { IsPrefix self.old self.new }
         ensures legal { IsLegal self.new }
@@ -77,7 +77,7 @@ impl<L: Name, A: Allocator> Live<L, A> {
         self.longest.reading()
     }
 
-    /// News of what is published; of what this reader saw or learned, if it is given no view.
+    /// News of the published history. If the reader is given no view, news of the longest history that it saw or learned.
     fn published(&mut self) -> News<L>
         ensures { self.new ≡ self.old }
     {

@@ -10,8 +10,8 @@ use logbook::Offer;
 use std::alloc::Allocator;
 use std::marker::{Model, PhantomData};
 
-/// How many entries the noted history had when the news were made, and the totals after the last of them. Contracts see the
-/// entries, which are legal. Hand news out only after their history is published.
+/// How many entries the noted history had at one time, and the totals after the last of them. Contracts see these entries, which
+/// are a legal history. Hand news out only after their history is published.
 #[derive(Drop)]
 pub struct News<L: Name> {
     snapshot: Snapshot,
@@ -74,7 +74,7 @@ impl<L: Name> News<L> {
         }
     }
 
-    /// News of the history that a snapshot is of.
+    /// News of the snapshot's history.
     pub(crate) fn of(snapshot: &Snapshot) -> News<L>
         requires { snapshot.now.seen.book ≡ L.book }
         ensures { result ≡ snapshot.now.seen.log }
@@ -95,7 +95,8 @@ impl<L: Name> News<L> {
         &self.snapshot
     }
 
-    /// The longer of two histories' news. Both are prefixes of the longer, since both are of one book.
+    /// The news with the longer history, or `self` if both are as long. Since both are of one book, each history is a prefix of
+    /// the longer one.
     pub(crate) fn longer(&self, other: &News<L>) -> News<L>
         ensures one { (result ≡ self.now) ⊎ (result ≡ other.now) }
         ensures this { IsPrefix self.now result }
@@ -110,8 +111,8 @@ impl<L: Name> News<L> {
         }
     }
 
-    /// Appends the next entry to the noted history. `None` if that history has other entries already, which doesn't happen
-    /// to the only holder of its word.
+    /// Appends the next entry to the noted history, and returns news of the history with this entry. `None` if the noted history
+    /// has more entries than these news; nothing is appended then. It isn't returned if nobody else has the history's word.
     pub(crate) fn appended<A: Allocator>(
         &self,
         history: &Length,

@@ -1,9 +1,9 @@
-//! An entry as the noted history holds it.
+//! The type of a noted history's entries.
 
 use covbook::Entry;
 use std::marker::Model;
 
-/// An entry of the noted history, which exists in proofs alone: no value of this type is made.
+/// An entry of the noted history. It exists only in proofs: no value of this type is made.
 #[derive(Drop)]
 pub struct NotedEntry {
     entry: Entry,

@@ -12,11 +12,11 @@ use std::alloc::{Allocator, Global};
 use std::marker::Model;
 use std::sync::Wait;
 
-/// The publisher of a book's history. Contracts see the history that is noted, the one that is published, and for how many more
-/// readers there are places.
+/// The publisher of a book's history. Contracts see the noted history, the published history, and for how many more readers there
+/// are places.
 ///
-/// A publisher that is dropped without being closed frees nothing of what it shares with its readers (some 17 KB for 64
-/// readers): they go on with what was published last.
+/// A publisher that is dropped without being closed never frees the memory that it shares with its readers (some 17 KB for 64
+/// readers). The readers go on with what was published last.
 #[derive(Drop)]
 pub struct Publisher<L: Name, A: Allocator = Global> {
     history: Length,
@@ -40,8 +40,8 @@ impl<L: Name, A: Allocator> Model for Publisher<L, A> {
 impl<L: Name, A: Allocator + Copy> Publisher<L, A> {
     ghost use Rattle.std.specs.Prelude.{◌≡◌, ◌<◌, [], IfOk};
 
-    /// Publishes the history without an entry, for at most `readers` readers. Allocates all that publishing needs later, so
-    /// nothing is refused then.
+    /// A publisher that publishes the history without entries, with places for `readers` readers. Allocates all the memory that
+    /// it will need, so nothing is refused later for lack of memory.
     pub fn new(alloc: A, seed: HistorySeed, readers: u32) -> Result<Publisher<L, A>, Memory>
         requires book { seed.book ≡ L.book }
         requires readers { 0 < readers }
@@ -67,9 +67,9 @@ impl<L: Name, A: Allocator> Publisher<L, A> {
     ghost use Rattle.covbook.specs.Step.{ComesNext, max_entries};
     ghost use Rattle.covnews.specs.declared.fault.ReaderFault.TheVariants as faults;
 
-    /// Notes the next entry of the history; `publish` then publishes it. The news are of the history with this entry, so hand
-    /// them out after that. `None` leaves all as it was. It doesn't happen if one publisher alone has the history, which the
-    /// types ensure, though no contract says so. Takes no memory.
+    /// Notes the next entry of the history, which `publish` then publishes. Returns news of the history with this entry: hand
+    /// them out only after `publish`. On `None` nothing has changed. `None` isn't returned if no other publisher has this
+    /// history; the types ensure this, but no contract says so. Takes no memory.
     pub fn note(&mut self, entry: &Entry<A>) -> Option<News<L>>
         requires few { length self.old.noted < max_entries }
         requires next { ComesNext self.old.noted (entry_data entry.now) }
@@ -82,16 +82,17 @@ impl<L: Name, A: Allocator> Publisher<L, A> {
         Some(news)
     }
 
-    /// Publishes what is noted. Nothing is refused. Waits for readers that are still inside a read of what was shown
-    /// before the last `publish`.
+    /// Publishes the noted history. Nothing is refused. Waits for readers that are still inside a read of what was shown before
+    /// the last `publish`.
     pub fn publish<R: Wait>(&mut self, rt: &R)
         ensures { self.new ≡ record self.old { published = self.old.noted } }
     {
         self.snapshot_cell.show(rt, &self.noted);
     }
 
-    /// Makes one more reader, which begins with what is published. `NoPlace` if all places that there were at first are
-    /// taken: a dropped reader doesn't give its place back. Takes no memory, so `Memory` isn't returned.
+    /// Makes one more reader, which begins with the published history. `NoPlace` if no place is left: each reader takes one, and
+    /// doesn't give it back when it is dropped. It may also be returned if no free place is found. Takes no memory, so `Memory`
+    /// isn't returned.
     pub fn reader(&mut self) -> Result<Live<L, A>, ReaderFault>
         ensures live { IfOk result (λ live. live ≡ self.old.published) }
         ensures place { OnOk result (self.new ≡ record self.old { places = self.old.places - 1 }) }
@@ -109,8 +110,8 @@ impl<L: Name, A: Allocator> Publisher<L, A> {
         Ok(Live::new(self.snapshot_cell.news(), reader))
     }
 
-    /// Ends the publishing, and returns news of what is published. Readers then report the longest history that they saw or
-    /// learned. Waits for readers that are inside a read.
+    /// Ends the publishing, and returns news of the published history. From then on, each reader reports the longest history that
+    /// it saw or learned. Waits for readers that are inside a read.
     pub fn close<R: Wait>(self, rt: &R) -> News<L>
         ensures { result ≡ self.published }
     {

@@ -1,4 +1,4 @@
-//! What readers are shown.
+//! The snapshots that readers are shown.
 ghost use Rattle.std.specs.Prelude.{◌≡◌};
 ghost use Rattle.covnews.specs.Snapshot.{Describes};
 
@@ -12,8 +12,8 @@ use left_right::writer::Writer;
 use std::alloc::AllocError;
 use std::marker::PhantomData;
 
-/// How many entries a noted history has, and the totals after the last of them. The token says which history: contracts
-/// see its entries as `seen.log`.
+/// How many entries a noted history has, and the totals after the last of them. The token `seen` says which history this is:
+/// contracts see the history's entries as `seen.log`.
 #[derive(Drop)]
 pub struct Snapshot {
     pub upto: u64,

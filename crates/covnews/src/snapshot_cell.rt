@@ -1,4 +1,4 @@
-//! What shows snapshots to readers.
+//! A cell with the snapshot that readers are shown.
 ghost use Rattle.std.specs.Prelude.{◌≡◌, ◌++◌, ◌∷◌, [], drop};
 
 use crate::name::Name;
@@ -9,7 +9,7 @@ use std::alloc::{AllocError, Allocator};
 use std::marker::Model;
 use std::sync::{Wait, WaitMethods};
 
-/// What shows readers one noted history. Contracts see the history that is shown.
+/// A cell with the snapshot that readers are shown. Contracts see the history of this snapshot.
 pub(crate) struct SnapshotCell<L: Name, A: Allocator> {
     writer: SnapshotWriter<L, A>,
 }
@@ -25,8 +25,8 @@ impl<L: Name, A: Allocator> Model for SnapshotCell<L, A> {
     ghost invariant = { λ snapshot_cell. snapshot_cell.writer.desk.shown.value.seen.book ≡ L.book };
 }
 
-/// The memory of a writer that isn't closed is never freed, some 17 KB for 64 readers: to free it the writer would have to wait
-/// for readers to leave, and a drop has no runtime to wait with. The readers go on with what was shown last.
+/// If a cell is dropped without being closed, its memory is never freed, some 17 KB for 64 readers. To free it, the drop would
+/// have to wait for readers to leave, and a drop has no runtime to wait with. The readers go on with what was shown last.
 impl<L: Name, A: Allocator> Drop for SnapshotCell<L, A> {
     fn drop(self) {
         let SnapshotCell { writer } = self;
@@ -35,9 +35,8 @@ impl<L: Name, A: Allocator> Drop for SnapshotCell<L, A> {
     }
 }
 
-/// Appends a snapshot to those that are to be shown. There is room for it since the book was opened, so the first try
-/// succeeds. No contract of `left_right` says so, hence the loop: should a try be refused, it tries again until there is
-/// memory.
+/// Appends a snapshot to those that are to be shown. The room for it was made when the book was opened, so the first try
+/// succeeds. No contract of `left_right` says so, so this is a loop: after a refused try, it tries again until there is memory.
 fn append<L: Name, A: Allocator, R: Wait>(
     rt: &R,
     writer: &mut SnapshotWriter<L, A>,
@@ -57,7 +56,7 @@ fn append<L: Name, A: Allocator, R: Wait>(
 impl<L: Name, A: Allocator + Copy> SnapshotCell<L, A> {
     ghost use Rattle.std.specs.Prelude.{◌≡◌, ◌<◌, IfOk};
 
-    /// Shows the history that the news are of, to at most `readers` readers at once.
+    /// A cell that shows the history of the news, with places for `readers` readers.
     pub(crate) fn new(
         alloc: A,
         news: &News<L>,
@@ -74,8 +73,8 @@ impl<L: Name, A: Allocator + Copy> SnapshotCell<L, A> {
             readers as usize,
         )?;
         let mut snapshot_cell = SnapshotCell { writer };
-        // The first snapshot that is appended makes room for four, and there are never more than three: those that were shown
-        // the last time, two of them at first, and the next one.
+        // This first append makes room for four snapshots. There are never more than three: the next one, and those that the
+        // last `show` published. The first `show` publishes two, since this one is still waiting; any later one publishes one.
         snapshot_cell
             .writer
             .append(snapshot.copy())
@@ -87,7 +86,7 @@ impl<L: Name, A: Allocator + Copy> SnapshotCell<L, A> {
 impl<L: Name, A: Allocator> SnapshotCell<L, A> {
     ghost use Rattle.std.specs.Prelude.{◌≡◌};
 
-    /// Makes one more reader: it is given a free place, or refused.
+    /// Makes one more reader. It takes a free place, and is refused if none is found.
     pub(crate) fn reader(&self) -> Result<SnapshotReader<L, A>, AllocError> {
         self.writer.factory().reader()
     }
@@ -99,7 +98,8 @@ impl<L: Name, A: Allocator> SnapshotCell<L, A> {
         News::of(self.writer.published())
     }
 
-    /// Shows what the news are of, in place of what is shown now. Waits for readers that still read the snapshot before that.
+    /// Shows the history of the news, in place of the one that is shown now. Waits for readers that still read the snapshot that
+    /// was shown before the present one.
     pub(crate) fn show<R: Wait>(&mut self, rt: &R, news: &News<L>)
         ensures { self.new ≡ news.now }
     {
@@ -109,7 +109,7 @@ impl<L: Name, A: Allocator> SnapshotCell<L, A> {
         });
     }
 
-    /// Closes the writer. Waits for readers to leave; those that come later are given no view.
+    /// Closes the cell. Waits for readers that are inside a read. Readers that look later are given no view.
     pub(crate) fn close<R: Wait>(self, rt: &R) {
         let SnapshotCell { writer } = self;
         writer.take(rt);

@@ -1,4 +1,4 @@
-//! Readers of what is published, beside a book of the crate below.
+//! Tests of a publisher and its readers. The entries are those of a `covbook::Book`.
 
 ghost use Rattle.std.specs.Prelude.{◌≡◌, ◌<◌, []};
 
@@ -37,7 +37,7 @@ fn reader<L: Name, A: Allocator>(rt: &impl Abort, publisher: &mut Publisher<L, A
     }
 }
 
-/// One step of the book, noted and published.
+/// Takes one step of the book, notes its entry and publishes it.
 fn step<L: Name, R: Wait + Abort>(
     rt: &R,
     alloc: Global,
@@ -58,12 +58,12 @@ fn step<L: Name, R: Wait + Abort>(
     news
 }
 
-/// Checks how many entries are published.
+/// Checks how many entries the reader reports.
 fn check_upto<L: Name, A: Allocator>(rt: &impl Abort, live: &mut Live<L, A>, upto: u64) {
     assert_eq!(rt; live.totals().upto, upto);
 }
 
-/// Checks that no reader is made.
+/// Checks that one more reader is refused with `NoPlace`.
 fn check_no_place<L: Name, A: Allocator>(rt: &impl Abort, publisher: &mut Publisher<L, A>)
     ensures { publisher.new.noted ≡ publisher.old.noted }
 {
@@ -73,7 +73,8 @@ fn check_no_place<L: Name, A: Allocator>(rt: &impl Abort, publisher: &mut Publis
     }
 }
 
-/// A reader sees what it didn't learn, another one begins with it, and what is learned after the end counts.
+/// A reader reports published entries without learning news. A reader that is made later begins with them. After the end, a
+/// reader that never looked reports no entries until it learns news.
 fn follow<L: Name, R: Wait + Abort>(rt: &R, alloc: Global, seed: HistorySeed)
     requires { seed.book ≡ L.book }
 {
@@ -101,7 +102,7 @@ fn readers_follow(rt: HostRuntime) -> Result<(), Fail> {
     Ok(())
 }
 
-/// Fills the heap, and returns what fills it.
+/// Fills the heap, and returns the blocks that fill it.
 fn fill<A: Allocator + Copy, R: Abort + AllocGlobal>(rt: &R, alloc: A) -> Vec<Vec<u8, A>> {
     let mut blocks = Vec::new(rt.alloc());
     for _ in 0..10_000 {
@@ -115,7 +116,7 @@ fn fill<A: Allocator + Copy, R: Abort + AllocGlobal>(rt: &R, alloc: A) -> Vec<Ve
     panic!(rt; "the heap has room left")
 }
 
-/// With no room left the publisher goes on. It is dropped, and its reader still sees what was published.
+/// The publisher publishes even if no memory is left. After the publisher is dropped, its reader still sees what was published.
 fn publish_without_room<L: Name, A: Allocator + Copy, R: Wait + Abort + AllocGlobal>(
     rt: &R,
     alloc: A,
@@ -141,7 +142,7 @@ fn publishing_takes_no_memory(rt: HostRuntime) -> Result<(), Fail> {
     Ok(())
 }
 
-/// A hundred steps.
+/// Takes a hundred steps of a new book, publishes each, and closes the publisher.
 fn step_often<L: Name, R: Wait + Abort>(
     rt: &R,
     alloc: Global,
@@ -156,7 +157,7 @@ fn step_often<L: Name, R: Wait + Abort>(
     publisher.close(rt)
 }
 
-/// Readings never have fewer entries than those before.
+/// Reads a thousand times, and checks that no reading has fewer entries than the one before.
 fn read_often<L: Name>(rt: &impl Abort, mut live: Live<L>) -> Live<L> {
     let mut seen = 0;
     for _ in 0..1000 {
@@ -167,7 +168,7 @@ fn read_often<L: Name>(rt: &impl Abort, mut live: Live<L>) -> Live<L> {
     live
 }
 
-/// One thread publishes, another reads.
+/// One thread publishes while another reads.
 fn read_meanwhile<L: Name + Send + Sync, R: Threads + Wait + Abort + Sync>(
     rt: &R,
     alloc: Global,

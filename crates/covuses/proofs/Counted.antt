@@ -8,22 +8,23 @@ use Rattle.covline.specs.Spells.{LineData, Spells, line_data}
 use Rattle.covread.specs.Reads.{AllSpell}
 use Rattle.covuses.specs.Counted.{if_counted, AreCounted}
 
--- whatever the lines that are left say: with what is printed of them, the text has all counted lines
+-- the text so far is right: whatever records the lines that are left say, the text and what is printed for these records are
+-- together the counted lines of all lines
 abbrev pub ArePrinted : (lines : List (List ℕ)) (text : List ℕ) (left : List (List ℕ)) → Type 0
 ArePrinted lines text left = (records : List LineData) → AllSpell left records → AreCounted lines (text ++ flat_map if_counted records)
 
--- one line more
+-- the text is still right after what one more line says is printed
 pub one_more : (lines : List (List ℕ)) (text after line : List ℕ) (left : List (List ℕ)) (says : LineData) → Spells line says → after ≡ text ++ if_counted says
     → ArePrinted lines text (line ∷ left) → ArePrinted lines after left
 one_more lines text after line left says spelled printed so_far records spell =
     let more = flat_map if_counted records in
     subst (AreCounted lines) (sym (ap (λ (t : List ℕ). t ++ more) printed ∙ append_assoc text (if_counted says) more)) (so_far (says ∷ records) (spelled, spell))
 
--- no line is left
+-- if no line is left, the text has the counted lines of all lines
 pub no_more : (lines : List (List ℕ)) (text : List ℕ) (left : List (List ℕ)) → left ≡ [] → ArePrinted lines text left → AreCounted lines text
 no_more lines text left none so_far = subst (AreCounted lines) (append-nil text) (subst (ArePrinted lines text) none so_far [] tt)
 
--- of a record other than a count nothing is printed
+-- nothing is printed for a record that doesn't count a line
 pub none_printed : (says : TraceLine) → ((line count : ℕ) (checksum : Option (Bor (List ℕ))) → says ≢ lines.Line line count checksum) → if_counted (line_data says) ≡ []
 none_printed (lines.Line line count checksum) other = absurd (other line count checksum refl)
 none_printed (lines.Test name) other = refl

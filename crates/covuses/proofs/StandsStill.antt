@@ -1,4 +1,4 @@
--- A store stands for what it stood for before, if only what is staged differs.
+-- If only staged values differ, a store still represents the table that it represented before.
 use Rattle.std.proofs.Common.{◌∙◌}
 use Rattle.covstore.specs.Store.{StoreData, SameContent, StandsFor}
 use Rattle.covstore.specs.Table.{Table}

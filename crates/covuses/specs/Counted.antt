@@ -5,7 +5,7 @@ use Rattle.covline.specs.Spells.{LineData, Test, Path, FuncStart, FuncCount, Bra
 use Rattle.covline.specs.Printed.{printed}
 use Rattle.covread.specs.Reads.{AllSpell}
 
--- what is printed of a record: the line of a count, and nothing of any other
+-- what is printed for a record: its line if it counts a line (`DA:`), and else nothing
 abbrev pub if_counted : LineData → List ℕ
 if_counted (Line number count checksum) = printed (Line number count checksum)
 if_counted (Test name) = []
@@ -17,6 +17,6 @@ if_counted (Total kind value) = []
 if_counted End = []
 if_counted Skip = []
 
--- each line says a record, and the text has what is printed of these
+-- each line says a record, and the text is what is printed for these records, in order
 abbrev pub AreCounted : List (List ℕ) → List ℕ → Type 0
 AreCounted lines text = (records : List LineData) × AllSpell lines records × (text ≡ flat_map if_counted records)

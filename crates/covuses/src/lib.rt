@@ -1,4 +1,4 @@
-//! Uses of this repository's crates, as a caller writes them: the examples of their pages. Each is proved, and run by a test.
+//! The examples of this repository's crate pages. They use the crates as a caller does. Each is proved, and run by a test.
 #![tactic(auto)]
 
 pub mod books;

@@ -1,5 +1,5 @@
-//! Each use with a small text. What is wanted was worked out by hand from the formats (geninfo(1), section FILES; lcov(1),
-//! `--summary`; gcov(1)), never taken from an output.
+//! Runs each example with a small text. The wanted results were worked out by hand from the formats (geninfo(1), section FILES;
+//! lcov(1), `--summary`; gcov(1)). None was taken from an output.
 
 use crate::books::answers;
 use crate::counts::add_counts;
@@ -85,7 +85,7 @@ fn added_counts(rt: HostRuntime) -> Result<(), Fail> {
     Ok(())
 }
 
-/// The store of both tracefiles.
+/// A store with the tracefiles `FIRST` and `SECOND`.
 fn store_of(rt: &(impl Abort + AllocGlobal)) -> Result<Store, Fail> {
     let first = read_trace(rt.alloc(), FIRST)?;
     let second = read_trace(rt.alloc(), SECOND)?;
@@ -104,7 +104,7 @@ fn merged_reports(rt: HostRuntime) -> Result<(), Fail> {
     Ok(())
 }
 
-/// The text of an answer.
+/// The text of an answer; empty if the answer isn't a text.
 fn text_of(answer: &Answer) -> &[u8] {
     match answer {
         Answer::Text(text) => text.get().get(),

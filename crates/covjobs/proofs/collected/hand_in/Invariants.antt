@@ -2,7 +2,7 @@ use Rattle.std.specs.Prelude.{◌≡◌, ◌++◌}
 use Rattle.covjobs.specs.Work.{seats_in, logs_in, refused_in}
 use Rattle.covjobs.proofs.collected.hand_in.Given as goal
 
--- what is handed in, and what is left, come together
+-- what the workers so far have handed in, followed by what the workers left hand in, is what all hand in
 abbrev pub invariant-loop-worker : goal.invariant-loop-worker
 invariant-loop-worker g l =
     (l.seats ++ seats_in l.worker-iterator.rest.items ≡ seats_in l.fn.workers.items)

@@ -3,7 +3,7 @@ use Rattle.covjobs.specs.Collect.{HasRead, HasTaken}
 use Rattle.covjobs.specs.InputView.{input_data}
 use Rattle.covjobs.proofs.worker.work.Given as goal
 
--- the job's inputs so far are taken, and if it has a reader there is a reading after each that was submitted
+-- the job's inputs so far are taken. If the job has a reader, it has one reading after each submit
 abbrev pub invariant-loop-index : goal.invariant-loop-index
 invariant-loop-index g l =
     (l.worker.seat.job ≡ l.job)

@@ -5,7 +5,7 @@ use Rattle.covjobs.proofs.Ended.{End, not_all_well}
 use Rattle.covjobs.proofs.workers.end_all.Goals.{then-not-all_started+in_ok-push, else-not-all_started}
 use Rattle.covjobs.proofs.workers.end_all.Goals as goal
 
--- if not all were started, the last end is a fault
+-- if not all workers were started, the last end is a fault, so not all ended well
 pub returns-clause-short : goal.returns-clause-short
 returns-clause-short g c = elim c.if-not-all_started.branch [
   | then-not-all_started+in_ok-push w ↦ λ short workers is.
@@ -14,7 +14,7 @@ returns-clause-short g c = elim c.if-not-all_started.branch [
   | else-not-all_started w ↦ λ short workers is. search rules
 ]
 
--- and it is that of the job that wasn't started
+-- this fault is `Memory`, for the job that wasn't started
 pub returns-clause-untold : goal.returns-clause-untold
 returns-clause-untold g c = elim c.if-not-all_started.branch [
   | then-not-all_started+in_ok-push w ↦ λ short.

@@ -3,7 +3,7 @@ use Rattle.std.proofs.lemmas.List.{nil_from_length}
 use Rattle.covjobs.proofs.Ended.{done_at_end}
 use Rattle.covjobs.proofs.workers.join_all.Goals as goal
 
--- no handle is left
+-- after the loop no handle is left, so the ends so far are those of all workers
 pub returns : goal.returns
 returns g c =
     let rest = c.loop-handle.handle-iterator.rest in

@@ -5,7 +5,7 @@ use Rattle.covjobs.specs.declared.refused.RefusedInput.{RefusedInput}
 use Rattle.covjobs.proofs.Written.{all_written}
 use Rattle.covjobs.proofs.refused.Refused.sort.Goals as goal
 
--- the places ascend as the sort says, in the whole list
+-- the sort's contract is about the slice of all inputs, so the places ascend in the whole list
 pub returns-clause-ascending : goal.returns-clause-ascending
 returns-clause-ascending g c =
     let new = c.sort_unstable_by_key.new.self in

@@ -10,7 +10,7 @@ returns-clause-read g c =
     submitted_read c.args.self.now c.ask-kept.new.self c.read-2.new.self c.in_ok-kept.ensures.asked c.in_ok-kept.ensures.news c.ask-kept.ensures.reader c.ask-kept.ensures.readings c.in_ok-read.ensures.read
     c.read-2.ensures.reader c.read-2.ensures.receipts
 
--- what was asked is the submission, after all that was asked before
+-- the submit comes after all operations that were asked before
 pub returns-clause-asked : goal.returns-clause-asked
 returns-clause-asked g c =
     ap (λ (rs : List ReceiptData). ops_in rs) c.read-2.ensures.receipts

@@ -4,7 +4,7 @@ use Rattle.covlock.specs.Shared.{SharedData}
 use Rattle.covlock.proofs.Seated.{all_need_seats}
 use Rattle.covlock.proofs.shared.Shared.close.Goals as goal
 
--- each of the count's parts has a seat, since each job has one
+-- there are at least as many seats as the count has parts, since each job has a seat
 pub close-requires : goal.close-requires
 close-requires g c = omega (arith, c.self.invariant, all_need_seats c.self.inside.jobs c.args.seats c.in_default.ensures)
 

@@ -1,6 +1,6 @@
 use Rattle.covlock.proofs.shared.Shared.perform.Goals as goal
 
--- what the step under the lock says is what the call says
+-- the call's receipt is that of the step under the lock
 pub returns-clause-told : goal.returns-clause-told
 returns-clause-told g c = (c.deref_mut.result.now, c.in_ok-receipt.ensures.told)
 

@@ -82,7 +82,7 @@ returns-clause-full g c =
     (omega (arith, lay, same, c.in_ok-ready.ensures.ready.ready.room.few))
     (omega (arith, lay, shown, length-map c.entries.result.now (entry_data {A = g.row.A.Denot}), c.seen.ensures, c.if-entries-seen.false))
 
--- if the entry isn't noted, the history takes more
+-- if the entry isn't noted, the fault isn't `Full`, and neither is the history full
 pub returns-in_default-clause-full : goal.returns-in_default-clause-full
 returns-in_default-clause-full g c =
     let lay : length c.self.inside.book.entries ≡ length c.args.self.now = ap (λ (xs : List EntryData). length xs) c.self.view_is in
@@ -119,7 +119,7 @@ note-requires-clause-next g c =
     comes_next c.self.inside.publisher.noted c.ready.new.self.entries (entry_data c.entry.result.now) c.in_ok-ready.ready.entry
     (c.self.invariant.all_noted ∙ sym c.in_ok-ready.ensures.same.entries) c.entry.ensures c.in_ok-ready.ensures.ready.ready.next
 
--- if the entry isn't noted, the history is as it was
+-- if the entry isn't noted, the history is unchanged, and all of it is still noted and published
 pub invariant_of-self-in_default : goal.invariant_of-self-in_default
 invariant_of-self-in_default g c = record {
   legal = c.in_ok-ready.ensures.legal;

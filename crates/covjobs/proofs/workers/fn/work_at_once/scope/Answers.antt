@@ -6,7 +6,7 @@ use Rattle.covjobs.specs.Work.{WorkData, work_of}
 use Rattle.covjobs.proofs.Ended.{ends_well_if_ok}
 use Rattle.covjobs.proofs.workers.fn.work_at_once.scope.Goals as goal
 
--- no seat is left
+-- after the loop no seat is left
 pub returns : goal.returns
 returns g c =
     let work : SeatData → WorkData = work_of (map (input_data {A = Global}) c.captures.inputs.now) c.captures.jobs in

@@ -3,7 +3,7 @@ use Rattle.covjobs.specs.InputView.{input_data}
 use Rattle.covjobs.specs.Work.{work_of}
 use Rattle.covjobs.proofs.workers.fn.work_at_once.scope.Given as goal
 
--- while each worker could be started, those that are at work and the seats that are left are all
+-- as long as all workers so far could be started, they and the seats that are left have the work of all seats
 abbrev pub invariant-loop-seat : goal.invariant-loop-seat
 invariant-loop-seat g l =
     IsTrue l.all_started
