@@ -18,4 +18,4 @@ pub mod ShownRows
 pub mod ShownSizes
 pub mod ShownTotals
 pub mod ShownValues
-pub mod StandsForRows
+pub mod SameContentAsRows

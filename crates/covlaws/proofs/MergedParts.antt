@@ -33,7 +33,7 @@ use Rattle.covlaws.proofs.ReportsBack.{same_text, text_of_all, text_read}
 use Rattle.covstore.proofs.Stores.{All-joined}
 use Rattle.covstore.proofs.Members.{Contains-from, In, In-from, In-joined, In-parts}
 use Rattle.covstore.proofs.Contents.{content-append}
-use Rattle.covlaws.proofs.StandsForRows.{stands_for_rows}
+use Rattle.covlaws.proofs.SameContentAsRows.{stands_for_rows}
 
 -- ---- rows whose checksums are among those of others
 

@@ -23,13 +23,13 @@ pub(crate) struct SharedState<L: Name, A: Allocator> {
 impl<L: Name, A: Allocator> Model for SharedState<L, A> {
     ghost use Rattle.std.specs.Prelude.{List};
     ghost use Rattle.covbook.specs.Op.{EntryData};
-    ghost use Rattle.covlock.specs.SharedState.{IsLocked};
+    ghost use Rattle.covlock.specs.SharedState.{IsAtRest};
 
     ghost Value = { List EntryData };
 
     ghost view = { λ a. a.book.entries };
 
-    ghost invariant = { λ a. IsLocked a.book.entries a.publisher.noted a.publisher.published a.count.total a.rest.parts a.rest.amount };
+    ghost invariant = { λ a. IsAtRest a.book.entries a.publisher.noted a.publisher.published a.count.total a.rest.parts a.rest.amount };
 }
 
 impl<L: Name, A: Allocator + Copy> SharedState<L, A> {

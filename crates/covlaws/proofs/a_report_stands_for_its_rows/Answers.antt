@@ -1,4 +1,4 @@
-use Rattle.covlaws.proofs.StandsForRows.{stands_for_rows}
+use Rattle.covlaws.proofs.SameContentAsRows.{stands_for_rows}
 use Rattle.covlaws.proofs.a_report_stands_for_its_rows.Goals as goal
 
 pub returns : goal.returns
