@@ -15,7 +15,7 @@ mod sessions;
 mod shared;
 mod steps;
 mod stores;
-mod held_checksums;
+mod texts;
 mod values;
 mod wrappers;
 

@@ -140,6 +140,17 @@ impl<K: Key, V: Value, A: Allocator> StagedMap<K, V, A> {
         }
     }
 
+    /// The staged value of a key, and the place to look at first for the next one.
+    pub fn staged_at<Q: Query<K, A>>(&self, query: Q, guess: SlotIndex) -> (Option<V>, SlotIndex)
+        ensures value { result.0 ≡ value_of K.cmp (Q.named query) self.now.staged }
+        ensures whole { ArePairs K.cmp self.now.staged }
+    {
+        match self.slots.find(query, guess) {
+            Ok(place) => (self.staged.value_at(&self.slots, place), place),
+            Err(place) => (None, place),
+        }
+    }
+
     /// The committed value of a key.
     pub fn lookup<Q: Query<K, A>>(&mut self, query: Q) -> Option<V>
         ensures value { result ≡ value_of K.cmp (Q.named query) self.old.committed }

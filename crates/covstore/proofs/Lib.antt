@@ -10,6 +10,7 @@ pub mod TotalsKinds
 pub mod TotalsDifferent
 pub mod Clashes
 pub mod Puts
+pub mod KeptTexts
 pub mod Counts
 pub mod CountsPut
 pub mod CountsMapped

@@ -1,33 +1,16 @@
 -- The checksums' texts after one text is inserted, and the held checksums after one more test holds a line's checksum.
-use Rattle.std.proofs.Common.{◌≡◌, ℕ, Bool, true, false, cond, Option, Some, None, List, [], ◌∷◌, refl, sym, ap, ◌∙◌, subst, inl, inr, ⊎_elim}
+use Rattle.std.proofs.Common.{◌≡◌, ℕ, Bool, true, false, cond, Option, Some, None, List, refl, sym, ap, ◌∙◌, subst, inl, inr, ⊎_elim}
 use Rattle.std.specs.Prelude.{◌⊎◌, Result, Ok, Err, OnOk}
-use Rattle.std.specs.BTreeMap.{insert_entry}
 use Rattle.std.specs.declared.cmp.Ordering.{Ordering}
 use Rattle.std.specs.declared.cmp.Ordering.TheVariants.{Less, Equal, Greater}
 use Rattle.std.specs.Option.{is_some}
 use Rattle.std.specs.Result.{is_err}
-use Rattle.std.specs.Ordering.{is_eq, match_ordering, nat_cmp, ordering_reverse}
+use Rattle.std.specs.Ordering.{is_eq, nat_cmp}
 use Rattle.std.proofs.lemmas.Bool.{false≢true}
 use Rattle.covstore.specs.Checksums.{AreAmong, HaveTexts, KeepsTexts, StayTexts}
 use Rattle.covmap.specs.Puts.{put, value_of}
-use Rattle.covstore.proofs.Ascend.{IsExactOrder}
 use Rattle.covstore.proofs.Orders.{lines_order}
 use Rattle.covstore.proofs.Puts.{value_of-put, value_of-put_any, value_of-put_other}
-
--- inserting an entry into a map gives what `put` gives
-module _ {K V : Type 0} {cmp : K → K → Ordering} (o : IsExactOrder cmp) (key : K) (value : V) where
-  insert_at : (pair : K × V) (pairs rest : List (K × V)) (order : Ordering) → cmp pair.0 key ≡ order → rest ≡ put cmp key value pairs
-      → match_ordering (ordering_reverse order) ((key, value) ∷ pair ∷ pairs) ((pair.0, value) ∷ pairs) (pair ∷ rest)
-      ≡ match_ordering order (pair ∷ put cmp key value pairs) ((key, value) ∷ pairs) ((key, value) ∷ pair ∷ pairs)
-  insert_at pair pairs rest Less e same = ap (λ (others : List (K × V)). pair ∷ others) same
-  insert_at pair pairs rest Equal e same = ap (λ (k : K). (k, value) ∷ pairs) (o.exact pair.0 key e)
-  insert_at pair pairs rest Greater e same = refl
-
-  pub insert_is_put : (pairs : List (K × V)) → insert_entry cmp pairs key value ≡ put cmp key value pairs
-  insert_is_put [] = refl
-  insert_is_put (pair ∷ pairs) =
-      ap (λ (order : Ordering). match_ordering order ((key, value) ∷ pair ∷ pairs) ((pair.0, value) ∷ pairs) (pair ∷ insert_entry cmp pairs key value)) (o.total.antisymm key pair.0)
-      ∙ insert_at pair pairs (insert_entry cmp pairs key value) (cmp pair.0 key) refl (insert_is_put pairs)
 
 -- ---- what is there
 
@@ -40,11 +23,8 @@ pub some_after : {V : Type 0} (line other : ℕ) (value : V) (pairs : List (ℕ 
 some_after line other value pairs e =
     ap is_some (value_of-put_any lines_order line other value pairs) ∙ some_if (is_eq (nat_cmp line other)) value (value_of nat_cmp other pairs) e
 
-module _ (line : ℕ) (text : List ℕ) (holders : List (ℕ × ℕ)) (texts more : List (ℕ × List ℕ)) (comes : more ≡ insert_entry nat_cmp texts line text) where
-  is_put : more ≡ put nat_cmp line text texts
-  is_put = comes ∙ insert_is_put lines_order line text texts
-
-  -- the inserted text is there
+module _ (line : ℕ) (text : List ℕ) (holders : List (ℕ × ℕ)) (texts more : List (ℕ × List ℕ)) (is_put : more ≡ put nat_cmp line text texts) where
+  -- the text is there
   pub inserted_is : value_of nat_cmp line more ≡ Some text
   inserted_is = ap (value_of nat_cmp line) is_put ∙ value_of-put lines_order line text texts
 
@@ -95,6 +75,11 @@ module _ (line tests : ℕ) (holders others : List (ℕ × ℕ)) (puts : others 
     committed = λ other e. ap (λ (pairs : List (ℕ × ℕ)). is_some (value_of nat_cmp other pairs)) puts ∙ some_after line other tests holders e;
     texts_stay = λ other e. refl;
   }
+
+-- two facts of a success
+pub on_ok_both : {T E P Q R : Type 0} (r : Result T E) → (P → Q → R) → OnOk r P → OnOk r Q → OnOk r R
+on_ok_both (Ok x) f p q = f p q
+on_ok_both (Err e) f p q = tt
 
 -- if the result isn't an error, what `OnOk` says is true
 pub ok_unless : {T E P : Type 0} (r : Result T E) {b : Bool} → b ≡ is_err r → b ≡ false → OnOk r P → P

@@ -4,7 +4,9 @@ use Rattle.std.specs.Option.{is_some}
 use Rattle.std.specs.Ordering.{nat_cmp}
 use Rattle.covstore.specs.declared.stage_fault.StageFault.{StageFault}
 use Rattle.covstore.specs.declared.stage_fault.StageFault.TheVariants.{Clash, Memory}
+use Rattle.covmap.specs.MapData.{MapData}
 use Rattle.covmap.specs.Puts.{put, value_of}
+use Rattle.covstore.specs.KeptTexts.{KeptTextsData}
 
 -- for each line, how many tests hold a checksum of it, committed and staged; and the checksums' texts
 pub record ChecksumsData : Type 0 where
@@ -19,6 +21,13 @@ HaveTexts holders texts = (line : ℕ) → is_some (value_of nat_cmp line holder
 -- each line with a committed checksum has a staged one
 abbrev pub AreAmong : List (ℕ × ℕ) → List (ℕ × ℕ) → Type 0
 AreAmong committed staged = (line : ℕ) → is_some (value_of nat_cmp line committed) ≡ true → is_some (value_of nat_cmp line staged) ≡ true
+
+-- the held checksums have texts: the committed ones also if only the committed texts are left
+pub record AreTexts (holders : MapData ℕ ℕ) (texts : KeptTextsData) : Type 0 where
+  pub committed : HaveTexts holders.committed texts.committed
+  pub staged : HaveTexts holders.staged texts.staged
+  pub committed_staged : HaveTexts holders.committed texts.staged
+  pub among : AreAmong holders.committed holders.staged
 
 -- each line with a held checksum keeps its text
 abbrev pub StayTexts : List (ℕ × ℕ) → List (ℕ × List ℕ) → List (ℕ × List ℕ) → Type 0

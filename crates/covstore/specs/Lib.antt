@@ -20,6 +20,7 @@ pub mod FileIndex
 pub mod State
 pub mod TestView
 pub mod PointIndex
+pub mod KeptTexts
 pub mod Checksums
 pub mod FileIndexView
 pub mod Items

@@ -1,17 +1,17 @@
 //! The checksums of a file's lines. A line has one, however many tests hold it.
 
-ghost use Rattle.std.specs.Prelude.{◌≡◌, ◌≤◌, ◌^◌, [], true, Some, is_some, option_map, IfErr, IfSome, OnOk};
+ghost use Rattle.std.specs.Prelude.{◌≡◌, ◌≤◌, ◌^◌, [], true, Some, None, is_some, option_map, IfErr, IfSome, OnOk};
 ghost use Rattle.covstore.specs.Checksums.{IsReportedClash, IsHeldToo, KeepsTexts, StayTexts, held_more};
 ghost use Rattle.covstore.specs.PointIndexDrops.{held_less, one_less};
 ghost use Rattle.covmap.specs.Puts.{put, value_of};
 ghost use Rattle.covstore.specs.declared.stage_fault.StageFault.TheVariants as stops;
 ghost use Rattle.std.specs.Ordering.{nat_cmp};
 
+use crate::kept_texts::KeptTexts;
 use crate::stage_fault::StageFault;
 use covline::Bytes;
-use covmap::StagedMap;
+use covmap::{SlotIndex, StagedMap};
 use std::alloc::Allocator;
-use std::collections::BTreeMap;
 use std::marker::Model;
 
 /// For each line, how many tests hold a checksum of it, committed and staged; and the checksums. A checksum may be kept after the
@@ -19,17 +19,17 @@ use std::marker::Model;
 #[derive(Drop)]
 pub(crate) struct Checksums<A: Allocator> {
     holders: StagedMap<u64, u64, A>,
-    texts: BTreeMap<u64, Bytes<A>, A>,
+    texts: KeptTexts<A>,
 }
 
 impl<A: Allocator> Model for Checksums<A> {
-    ghost use Rattle.covstore.specs.Checksums.{AreAmong, ChecksumsData, HaveTexts};
+    ghost use Rattle.covstore.specs.Checksums.{AreTexts, ChecksumsData};
 
     ghost Value = { ChecksumsData };
 
-    ghost view = { λ c. record { committed = c.holders.committed; staged = c.holders.staged; texts = c.texts.entries } };
+    ghost view = { λ c. record { committed = c.holders.committed; staged = c.holders.staged; texts = c.texts.staged } };
 
-    ghost invariant = { λ c. HaveTexts c.holders.committed c.texts.entries × HaveTexts c.holders.staged c.texts.entries × AreAmong c.holders.committed c.holders.staged };
+    ghost invariant = { λ c. AreTexts c.holders c.texts };
 }
 
 impl<A: Allocator + Copy> Checksums<A> {
@@ -41,7 +41,7 @@ impl<A: Allocator + Copy> Checksums<A> {
     {
         Checksums {
             holders: StagedMap::new(alloc),
-            texts: BTreeMap::new(alloc),
+            texts: KeptTexts::new(alloc),
         }
     }
 
@@ -64,14 +64,31 @@ impl<A: Allocator + Copy> Checksums<A> {
         ensures clash { IfErr result (IsReportedClash self.old line text.now) }
     {
         let Some(tests) = self.holders.lookup_staged(line) else {
-            self.texts.insert(line, Bytes::of(alloc, text)?)?;
-            return self.count(alloc, line, 1);
+            return self.hold_first(alloc, line, text);
         };
         self.agrees(alloc, line, text)?;
         if is_held {
             return Ok(());
         }
         self.count(alloc, line, tests + 1)
+    }
+
+    /// Stages the first test that holds a checksum of a line, which is this text from then on. If memory is refused, forgets what
+    /// is staged.
+    fn hold_first(&mut self, alloc: A, line: u64, text: &[u8]) -> Result<(), StageFault<A>>
+        requires { value_of nat_cmp line self.old.staged ≡ None }
+        ensures committed { self.new.committed ≡ self.old.committed }
+        ensures ok { OnOk result (self.new.staged ≡ put nat_cmp line 1 self.old.staged) }
+        ensures text { OnOk result (self.new.texts ≡ put nat_cmp line text.now self.old.texts) }
+        ensures stay { StayTexts self.old.committed self.old.texts self.new.texts }
+        ensures err { IfErr result (λ stop. stop ≡ stops.Memory) }
+    {
+        let kept = Bytes::of(alloc, text)?;
+        if self.texts.set(alloc, line, kept).is_err() {
+            self.holders.rollback();
+            return Err(StageFault::Memory);
+        }
+        self.count(alloc, line, 1)
     }
 
     /// Stages how many tests hold the checksum of a line, which has a text. If memory is refused, forgets what is staged.
@@ -116,6 +133,7 @@ impl<A: Allocator + Copy> Checksums<A> {
         ensures texts { self.new.texts ≡ self.old.texts }
     {
         self.holders.commit();
+        self.texts.commit();
     }
 
     /// Forgets what is staged. Takes no memory.
@@ -125,6 +143,7 @@ impl<A: Allocator + Copy> Checksums<A> {
         ensures texts { self.new.texts ≡ self.old.texts }
     {
         self.holders.rollback();
+        self.texts.commit();
     }
 }
 
@@ -145,10 +164,15 @@ impl<A: Allocator> Checksums<A> {
     pub(crate) fn text(&self, line: u64) -> Option<&[u8]>
         ensures { option_map (λ text. text.now) result ≡ value_of nat_cmp line self.now.texts }
     {
-        match self.texts.get(&line) {
-            Some(text) => Some(text.get()),
-            None => None,
-        }
+        // Both maps got their lines together. So a line that was just looked up among the holders needs no search here.
+        self.text_at(line, self.holders.cursor()).0
+    }
+
+    /// The checksum of a line, where one is kept, and the place to look at first for that of the next line.
+    pub(crate) fn text_at(&self, line: u64, guess: SlotIndex) -> (Option<&[u8]>, SlotIndex)
+        ensures { option_map (λ text. text.now) result.0 ≡ value_of nat_cmp line self.now.texts }
+    {
+        self.texts.text_at(line, guess)
     }
 }
 

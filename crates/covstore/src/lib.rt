@@ -34,6 +34,7 @@ mod file;
 mod held_checksums;
 mod index;
 mod items;
+mod kept_texts;
 mod keys;
 pub mod laws;
 mod order;

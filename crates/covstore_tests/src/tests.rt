@@ -11,7 +11,7 @@ mod plans;
 mod renames;
 mod runs;
 mod shuffled;
-mod held_checksums;
+mod texts;
 mod wrappers;
 
 /// Checks that the bytes are as wanted. The tests compare here, since each comparison in a test's own body is proved

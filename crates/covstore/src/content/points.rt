@@ -4,7 +4,7 @@ use crate::checksums::Checksums;
 use crate::keys::{Branch, FunctionName};
 use crate::sums::{BranchSum, FunctionSum, LineSum};
 use crate::values::{BranchValue, FunctionValue, LineValue};
-use covmap::Entries;
+use covmap::{Entries, SlotIndex};
 use std::alloc::{Allocator, Global};
 use std::marker::Model;
 
@@ -111,6 +111,8 @@ impl<'a, A: Allocator> Iterator for Branches<'a, A> {
 pub struct Lines<'a, A: Allocator = Global> {
     rest: Entries<'a, u64, LineSum, A>,
     checksums: &'a Checksums<A>,
+    /// Where the next checksum is looked for first.
+    guess: SlotIndex,
 }
 
 impl<'a, A: Allocator> Model for Lines<'a, A> {
@@ -134,7 +136,11 @@ impl<'a, A: Allocator> Lines<'a, A> {
     ) -> Lines<'a, A>
         ensures { result ≡ map (line_seen checksums.now.texts) rest.entry }
     {
-        Lines { rest, checksums }
+        Lines {
+            rest,
+            checksums,
+            guess: SlotIndex::first(),
+        }
     }
 }
 
@@ -150,11 +156,12 @@ impl<'a, A: Allocator> Iterator for Lines<'a, A> {
 
     fn next(&mut self) -> Option<LineValue<'a>> {
         let (line, sum) = self.rest.next()?;
-        let checksum = if sum.has_checksum {
-            self.checksums.text(*line)
-        } else {
-            None
-        };
+        let mut checksum = None;
+        if sum.has_checksum {
+            let (text, next) = self.checksums.text_at(*line, self.guess);
+            checksum = text;
+            self.guess = next;
+        }
         Some(LineValue {
             line: *line,
             count: sum.count.get(),

@@ -16,8 +16,11 @@ invariant_of-self g c =
     let moved : fewer ≡ assigned nat_cmp c.args.line value holders = c.replace.ensures.committed ∙ ap (λ (points : MapData ℕ ℕ). assigned nat_cmp c.args.line value points.committed) c.lookup.ensures.same in
     let there : is_some (value_of nat_cmp c.args.line holders) ≡ true = ap is_some (sym c.lookup.ensures.value ∙ c.in-Some.is) in
     let staged = c.replace.ensures.staged in
-    let have : HaveTexts fewer c.self.inside.texts.entries = λ line e. c.self.invariant.0 line (some_before c.args.line value holders fewer moved there line e) in (
-      have,
-      λ line e. have line (ap (λ (points : List (ℕ × ℕ)). is_some (value_of nat_cmp line points)) (sym staged) ∙ e),
-      λ line e. ap (λ (points : List (ℕ × ℕ)). is_some (value_of nat_cmp line points)) staged ∙ e,
-    )
+    let before = some_before c.args.line value holders fewer moved there in
+    let have : HaveTexts fewer c.self.inside.texts.staged = λ line e. c.self.invariant.committed_staged line (before line e) in
+    record {
+      committed = λ line e. c.self.invariant.committed line (before line e);
+      staged = λ line e. have line (ap (λ (points : List (ℕ × ℕ)). is_some (value_of nat_cmp line points)) (sym staged) ∙ e);
+      committed_staged = have;
+      among = λ line e. ap (λ (points : List (ℕ × ℕ)). is_some (value_of nat_cmp line points)) staged ∙ e;
+    }

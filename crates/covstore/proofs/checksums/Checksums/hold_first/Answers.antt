@@ -1,0 +1,36 @@
+use Rattle.std.proofs.Common.{◌≡◌, ◌∙◌, None, ap, sym, subst}
+use Rattle.std.specs.Option.{is_some}
+use Rattle.std.specs.Ordering.{nat_cmp}
+use Rattle.covmap.specs.Puts.{value_of}
+use Rattle.covstore.specs.Checksums.{ChecksumsData, StayTexts}
+use Rattle.covstore.proofs.StepsTexts.{have_inserted, inserted_is, ok_unless, stay_inserted}
+use Rattle.covstore.proofs.checksums.Checksums.hold_first.Goals as goal
+
+pub invariant_of-self-else-is_err : goal.invariant_of-self-else-is_err
+invariant_of-self-else-is_err g c =
+    let holders = c.self.inside.holders in
+    let texts = c.self.inside.texts.staged in
+    let more = c.set.new.self.staged in
+    let puts = ok_unless c.set.result c.is_err.ensures.value c.if-is_err.false c.set.ensures.ok in
+    let have = c.self.invariant in
+    record {
+      committed = λ line e. c.set.ensures.committed line (have.committed line e);
+      staged = have_inserted c.args.line c.in_ok-kept.kept holders.staged texts more puts have.staged;
+      committed_staged = have_inserted c.args.line c.in_ok-kept.kept holders.committed texts more puts have.committed_staged;
+      among = have.among;
+    }
+
+pub count-requires : goal.count-requires
+count-requires g c =
+    let puts = ok_unless c.set.result c.is_err.ensures.value c.if-is_err.false c.set.ensures.ok in
+    ap is_some (inserted_is c.args.line c.in_ok-kept.kept c.self.inside.holders.staged c.self.inside.texts.staged c.set.new.self.staged puts)
+
+pub returns-clause-stay : goal.returns-clause-stay
+returns-clause-stay g c =
+    let holders = c.self.inside.holders in
+    let texts = c.self.inside.texts.staged in
+    let puts = ok_unless c.set.result c.is_err.ensures.value c.if-is_err.false c.set.ensures.ok in
+    let none : value_of nat_cmp c.args.line holders.staged ≡ None = ap (λ (before : ChecksumsData). value_of nat_cmp c.args.line before.staged) c.self.view_is ∙ c.requires in
+    subst (λ (before : ChecksumsData). StayTexts before.committed before.texts c.count.new.self.texts) c.self.view_is
+    (subst (StayTexts holders.committed texts) (sym c.count.ensures.texts)
+    (stay_inserted c.args.line c.in_ok-kept.kept holders.staged texts c.set.new.self.staged puts holders.committed c.self.invariant.among none))

@@ -1,0 +1,46 @@
+use Rattle.std.proofs.Common.{◌∙◌, ap, sym, subst, ℕ, arith, length}
+use Rattle.std.specs.Prelude.{slice_set}
+use Rattle.std.specs.Ordering.{nat_cmp}
+use Rattle.covmap.specs.MapData.{MapData}
+use Rattle.covmap.specs.Puts.{put, value_of}
+use Rattle.covstore.specs.KeptTexts.{AreCommitted, KeptTextsData, StillHave, texts_at}
+use Rattle.covstore.proofs.KeptTexts.{are_committed, below_found, no_text, replaced, still_have}
+use Rattle.covstore.proofs.kept_texts.KeptTexts.set.Goals as goal
+
+pub index_mut-requires : goal.index_mut-requires
+index_mut-requires g c =
+    let inside = c.self.inside in
+    let found = sym c.lookup_staged.ensures.value ∙ c.in-Some.is in
+    let below = below_found (length inside.texts.items) c.args.line c.in-Some.place inside.places.staged c.self.invariant.staged_below found in
+    omega (arith, below, inside.texts.ok.0)
+
+-- no line's place is lost, and the line had none
+pub add-requires : goal.add-requires
+add-requires g c =
+    let inside = c.self.inside in
+    let none = sym c.lookup_staged.ensures.value ∙ c.in-None.is in
+    ap (λ (places : MapData ℕ ℕ). value_of nat_cmp c.args.line (texts_at inside.texts.items places.staged)) c.lookup_staged.ensures.same
+    ∙ no_text c.args.line inside.texts.items inside.places.staged none
+
+pub returns-in-Some-clause-committed : goal.returns-in-Some-clause-committed
+returns-in-Some-clause-committed g c =
+    let inside = c.self.inside in
+    let more = slice_set inside.texts.items c.in-Some.place c.args.text in
+    subst (λ (before : KeptTextsData). StillHave before.committed (texts_at more c.lookup_staged.new.self.committed)) c.self.view_is
+    (subst (λ (places : MapData ℕ ℕ). StillHave (texts_at inside.texts.items inside.places.committed) (texts_at more places.committed)) (sym c.lookup_staged.ensures.same)
+    (still_have inside.texts.items more inside.places.committed))
+
+pub returns-in-Some-clause-ok : goal.returns-in-Some-clause-ok
+returns-in-Some-clause-ok g c =
+    let inside = c.self.inside in
+    let found = sym c.lookup_staged.ensures.value ∙ c.in-Some.is in
+    let more = slice_set inside.texts.items c.in-Some.place c.args.text in
+    ap (λ (places : MapData ℕ ℕ). texts_at more places.staged) c.lookup_staged.ensures.same
+    ∙ replaced c.args.line c.in-Some.place c.args.text inside.places inside.texts.items inside.committed c.self.invariant found c.lookup_staged.ensures.staged
+    ∙ ap (λ (before : KeptTextsData). put nat_cmp c.args.line c.args.text before.staged) c.self.view_is
+
+pub returns-in-Some-clause-same : goal.returns-in-Some-clause-same
+returns-in-Some-clause-same g c = subst AreCommitted c.self.view_is (are_committed c.self.inside.places c.self.inside.texts.items c.self.invariant.stay)
+
+pub returns-in-None-clause-same : goal.returns-in-None-clause-same
+returns-in-None-clause-same g c = subst AreCommitted c.self.view_is (are_committed c.self.inside.places c.self.inside.texts.items c.self.invariant.stay)
