@@ -1,5 +1,5 @@
-//! Tests in which memory runs out: each growth of a call is refused in turn. This crate has nothing but its tests, so that no crate
-//! with functions is proved twice.
+//! Tests in which memory runs out: each growth of a call is refused in turn. This crate has nothing but its tests: a crate with
+//! functions would be proved a second time for tests of its own.
 #![tactic(auto)]
 
 #[cfg(test)]

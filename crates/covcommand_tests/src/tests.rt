@@ -1,5 +1,5 @@
-//! Calls of the program, as their words. What is wanted was worked out by hand from what a call means; the words of a refusal
-//! are clap's.
+//! Calls of the program, given as their words. What is wanted was worked out by hand from what a call means. The words of a
+//! refusal are clap's.
 //!
 //! Examples are text, so that they cost the proof of these tests nothing: a line has a call and, after ` => `, its answer.
 
@@ -12,7 +12,8 @@ mod command_lines;
 mod help;
 mod words;
 
-/// What the words ask for, without its contracts: a test looks at what it does, and its proof is quicker that way.
+/// What the words ask for. This function has no contract: a test looks at what `command` returns, and is proved more quickly
+/// this way.
 fn asked(alloc: Global, words: &[String]) -> Result<Command, CommandFault> {
     command(alloc, words)
 }
@@ -26,7 +27,7 @@ fn words_of(alloc: Global, call: &str) -> Result<Vec<String>, Fail> {
     Ok(words)
 }
 
-/// What is said of a call: its command, or its refusal.
+/// The command that a call asks for, or its refusal, in words.
 fn answer(alloc: Global, call: &str) -> Result<String, Fail> {
     let words = words_of(alloc, call)?;
     match asked(alloc, words.as_slice()) {
@@ -77,7 +78,7 @@ fn with_names(mut text: String, names: &Names) -> Result<String, Fail> {
     Ok(text)
 }
 
-/// Each line's call has the line's answer.
+/// Checks that each line's call has the line's answer.
 fn check_all(rt: &(impl Abort + AllocGlobal), examples: &str) -> Result<(), Fail> {
     for line in examples.lines() {
         if let Some((call, wanted)) = line.split_once(" => ") {
@@ -87,7 +88,7 @@ fn check_all(rt: &(impl Abort + AllocGlobal), examples: &str) -> Result<(), Fail
     Ok(())
 }
 
-/// The call has this answer.
+/// Checks that the call has this answer.
 fn check(rt: &(impl Abort + AllocGlobal), call: &str, wanted: &str) -> Result<(), Fail> {
     let given = answer(rt.alloc(), call)?;
     assert!(rt; given.as_str() == wanted, "{call} => {given}");

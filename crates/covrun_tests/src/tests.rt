@@ -22,7 +22,8 @@ mod files;
 mod folders;
 mod limits;
 
-/// What a call does, without its contracts: a test looks at what it does, and its proof is quicker that way.
+/// Makes a call, and returns its exit status. This function promises nothing: a test looks at what a call does, and is proved
+/// more quickly this way.
 fn called<R: Files + AllocGlobal + Threads + Wait + Sync, I: Source, O: Sink, E: Sink>(
     rt: &R,
     words: &[String],
@@ -38,7 +39,7 @@ fn called<R: Files + AllocGlobal + Threads + Wait + Sync, I: Source, O: Sink, E:
     run(rt, &FromFiles::new(rt), words, input, output, faults)
 }
 
-/// How a call ended, and what it left on its streams.
+/// The exit status of a call, and what it wrote to its output and to the stream for faults.
 #[derive(Drop)]
 struct Told {
     status: u8,
@@ -46,7 +47,7 @@ struct Told {
     faults: Vec<u8>,
 }
 
-/// A call of these words, with this input.
+/// Makes a call of these words, with this input.
 fn call<R: Files + AllocGlobal + Threads + Wait + Sync>(
     rt: &R,
     words: &[String],
@@ -67,7 +68,7 @@ fn call<R: Files + AllocGlobal + Threads + Wait + Sync>(
     }
 }
 
-/// What a script has said since its last call: a text, and what the next call is to leave on its streams.
+/// What a script has said since its last call: a text, and what the next call has to write to its two streams.
 #[derive(Drop)]
 struct Said {
     text: Vec<u8>,
@@ -77,11 +78,11 @@ struct Said {
 
 /// Plays a script in a folder of its own, line by line.
 ///
-/// A line `@ NAME` makes a file of the text before it. A line `$ STATUS WORDS` is a call, with the text before it as
-/// its input: it has to end with this status, and to leave the lines after `> ` on its output and those after `! ` on
-/// the stream for faults; if the last of these is `...`, what follows there doesn't matter. A line `% HEX` gives these
-/// bytes of a text, with no line feed after them. Every other line is a line of a text. In words, outputs and faults
-/// `~` is the folder.
+/// A line `@ NAME` makes a file of the text before it. A line `$ STATUS WORDS` makes a call, with the text before it as input.
+/// The call has to end with this status. Lines before it that begin with `> ` are what it has to write to its output, and lines
+/// that begin with `! ` are what it has to write to the stream for faults. If the last of these lines ends in `...`, only what
+/// is before the `...` has to be there. A line `% HEX` appends these bytes to the text, without a line feed. Every other line is
+/// appended to the text. In words, outputs and faults `~` is the folder.
 fn play<R: Files + AllocGlobal + Threads + Wait + Abort + Sync>(
     rt: &R,
     process: u32,
@@ -138,7 +139,7 @@ fn make_file<R: Files + AllocGlobal>(
     Ok(())
 }
 
-/// Makes a call, and looks at what it left.
+/// Makes a call, and checks its status and what it wrote.
 fn make_call<R: Files + AllocGlobal + Threads + Wait + Abort + Sync>(
     rt: &R,
     folder: &str,
@@ -187,7 +188,7 @@ fn push_line(text: &mut String, line: &str) -> Result<(), Fail> {
     Ok(())
 }
 
-/// Appends a line of a text.
+/// Appends a line to a text of bytes.
 fn push_text(text: &mut Vec<u8>, line: &str) -> Result<(), Fail> {
     text.extend_from_slice(line.as_bytes())?;
     text.push(b'\n')?;

@@ -1,6 +1,7 @@
-//! Tests of sessions, bytes in and bytes out. Whole calls are covrun_tests'. What no session reaches is tested by
-//! covread_tests, covstore_tests, covbook_tests and covjobs_tests, with the public calls of the crates below. What is wanted was worked out by hand from the formats (geninfo(1),
-//! section FILES; gcov(1)), never taken from an output.
+//! Tests of sessions: the bytes that a session reads, and those that it has to write. Whole calls of the program are tested by
+//! covrun_tests. What no session reaches is tested by covread_tests, covstore_tests, covbook_tests and covjobs_tests, with the
+//! public calls of the crates below. What is wanted was worked out by hand from the formats (geninfo(1), section FILES; gcov(1)),
+//! and never taken from an output.
 //!
 //! Examples are text, so that they cost the proof of these tests nothing. `check_all` says how they are written.
 
@@ -26,7 +27,8 @@ mod streams;
 mod summaries;
 mod texts;
 
-/// How a session ends, without its contracts: a test looks at what it does, and its proof is quicker that way.
+/// How a session ends. This function promises nothing of that: a test looks at what a session does, and is proved more quickly
+/// this way.
 fn session_end<I: Source, O: Sink>(
     alloc: Global,
     source: &mut I,
@@ -50,7 +52,7 @@ fn run(alloc: Global, input: &[u8]) -> (Result<(), SessionFault>, Vec<u8>) {
     (ended, output)
 }
 
-/// Checks that a session on these bytes ends well, and writes just what is wanted.
+/// Checks that a session on these bytes ends without a fault, and writes exactly what is wanted.
 fn check(rt: &(impl Abort + AllocGlobal), name: &[u8], input: &[u8], wanted: &[u8]) {
     let (ended, output) = run(rt.alloc(), input);
     if ended.is_err() || output.as_slice() != wanted {
@@ -66,7 +68,7 @@ fn check_all(rt: &(impl Abort + AllocGlobal), examples: &[u8]) -> Result<(), Fai
     check_around(rt, b"", examples, b"")
 }
 
-/// Checks sessions whose input comes between these lines.
+/// Checks sessions like `check_all`. Each session's input begins with `before` and ends with `after`.
 fn check_around(
     rt: &(impl Abort + AllocGlobal),
     before: &[u8],

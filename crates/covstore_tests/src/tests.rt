@@ -14,8 +14,8 @@ mod shuffled;
 mod texts;
 mod wrappers;
 
-/// Checks that the bytes are as wanted. The tests compare here, since each comparison in a test's own body is proved
-/// there.
+/// Checks that the bytes are as wanted. The tests call this, since a comparison in a test's own body would be a part of that
+/// test's proof.
 fn check_bytes(rt: &impl Abort, given: &[u8], wanted: &[u8]) {
     assert_eq!(rt; given, wanted);
 }

@@ -59,7 +59,7 @@ fn texts_and_lists(rt: HostRuntime) {
     check_rising(&rt, |heap, room| copies_submission(&rt, heap, room));
 }
 
-/// The operation that these words ask for.
+/// Copies the operation that these words ask for.
 fn copies_op(rt: &impl Abort, heap: &Bump, room: usize, words: &[u8]) -> bool {
     let op = op_of(rt, heap, words);
     narrow(rt, heap, room);
@@ -90,7 +90,7 @@ fn operations(rt: HostRuntime) {
     check_none(&rt, |heap, room| copies_op(&rt, heap, room, b"summary"));
 }
 
-/// The answer of a clash has texts of its own.
+/// Copies the answer of a clash. The copy has a path and checksums of its own, which take memory.
 fn copies_clash(rt: &(impl Abort + AllocGlobal), heap: &Bump, room: usize) -> bool {
     let answer = Answer::Clash {
         file: made(rt, bytes(heap, b"/a.c")),
@@ -109,7 +109,7 @@ fn copies_clash(rt: &(impl Abort + AllocGlobal), heap: &Bump, room: usize) -> bo
     is_refused
 }
 
-/// The answer that is a text shares it, and so do copies of what is shared.
+/// Copies a shared text, and the answer that is this text. Both copies share the text's bytes, so they take no memory.
 fn copies_shared(rt: &(impl Abort + AllocGlobal), heap: &Bump, room: usize) -> bool {
     let text = made(rt, bytes(heap, b"two\nlines\n"));
     let text = made(rt, shared_text(heap, text));

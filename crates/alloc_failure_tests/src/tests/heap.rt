@@ -7,11 +7,11 @@ use std::alloc::AllocError;
 use std::process::Abort;
 use std::test::*;
 
-/// How much room a heap has beside what a call is known to ask for at first.
+/// How many bytes of room a heap has, in addition to the first room that a call is tried with.
 const AMPLE: usize = 60_000;
 
-/// A heap that has at least this much room. It has several blocks, so it never uses again what is given back to it: each growth
-/// needs room of its own, and none can use what was there for another.
+/// A heap that has at least this much room. It has several blocks, so it never uses memory again that is given back to it: each
+/// growth needs room of its own.
 fn new_heap(rt: &(impl Abort + AllocGlobal), room: usize) -> Bump {
     let heap = Bump::new(rt.alloc());
     take(rt, &heap, 1);
@@ -20,7 +20,7 @@ fn new_heap(rt: &(impl Abort + AllocGlobal), room: usize) -> Bump {
     heap
 }
 
-/// Takes `bytes` bytes for good.
+/// Takes `bytes` bytes of the heap's room. They don't come back.
 fn take(rt: &impl Abort, heap: &Bump, bytes: usize) {
     let taken: Result<Vec<u8, &Bump>, AllocError> = Vec::with_capacity(heap, bytes);
     if taken.is_err() {
@@ -28,7 +28,7 @@ fn take(rt: &impl Abort, heap: &Bump, bytes: usize) {
     }
 }
 
-/// Leaves just this much room.
+/// Leaves the heap exactly this much room: takes what is more, and forbids further blocks.
 pub(super) fn narrow(rt: &impl Abort, heap: &Bump, room: usize) {
     let left = heap.chunk_capacity();
     assert!(rt; room <= left, "a heap is too small");
@@ -37,13 +37,13 @@ pub(super) fn narrow(rt: &impl Abort, heap: &Bump, room: usize) {
     assert_eq!(rt; heap.chunk_capacity(), room);
 }
 
-/// Gives ample room again.
+/// Allows further blocks again, so that the heap has ample room.
 pub(super) fn widen(heap: &Bump) {
     heap.set_allocation_limit(None);
 }
 
-/// Tries a call in one heap after another, each with one more byte of room, until it meets no refusal. The call returns whether
-/// it met one. Without room it meets one.
+/// Tries a call in one heap after another, each with one byte more of room, until the call isn't refused. `is_refused` makes the
+/// call, and returns whether it was refused. In a heap without room it has to be refused.
 pub(super) fn check_rising<R: Abort + AllocGlobal, F: Fn(&Bump, usize) -> bool>(
     rt: &R,
     is_refused: F,
@@ -53,8 +53,8 @@ pub(super) fn check_rising<R: Abort + AllocGlobal, F: Fn(&Bump, usize) -> bool>(
     check_rising_by(rt, 1, 1, is_refused);
 }
 
-/// The same, with `more` bytes more of room each time, for a call that takes many. Its first growth is known to be refused
-/// below the first room.
+/// The same for a call that takes much memory: after the heap without room, the rooms begin at `first` and rise by `more` bytes.
+/// With less room than `first`, the call's first growth is known to be refused.
 pub(super) fn check_rising_by<R: Abort + AllocGlobal, F: Fn(&Bump, usize) -> bool>(
     rt: &R,
     first: usize,
@@ -77,7 +77,7 @@ pub(super) fn check_rising_by<R: Abort + AllocGlobal, F: Fn(&Bump, usize) -> boo
     panic!(rt; "refused in each heap");
 }
 
-/// Tries a call that takes no memory.
+/// Checks that a call isn't refused in a heap without room, so that it takes no memory.
 pub(super) fn check_none<R: Abort + AllocGlobal, F: Fn(&Bump, usize) -> bool>(rt: &R, is_refused: F)
     requires { F.IsAlwaysCallable is_refused }
 {

@@ -1,4 +1,4 @@
-//! Lists that get members at their end. On a refusal the member is dropped, and the list stays as it was.
+//! Lists to which elements are appended. A refusal drops the element, and the list stays as it was.
 
 use super::heap::{check_rising, narrow, widen};
 use super::made;
@@ -12,18 +12,18 @@ use std::alloc::Allocator;
 use std::process::Abort;
 use std::test::*;
 
-/// A list whose members are numbers, in some form that takes no memory.
+/// A list whose elements are made of numbers. An element takes no memory of its own.
 trait List<A: Allocator + Copy>: Drop {
     /// The empty list.
     fn none(alloc: A) -> Self;
 
-    /// Appends a number.
+    /// Appends the element of this number.
     fn put(&mut self, alloc: A, number: u32) -> Result<(), Memory>;
 
-    /// How many members there are.
+    /// How many elements there are.
     fn count(&self) -> usize;
 
-    /// The number at this place.
+    /// The number of the element at this index.
     fn number_at(&self, at: usize) -> Option<u64>;
 }
 
@@ -53,7 +53,7 @@ impl<A: Allocator + Copy> List<A> for Items<A> {
     }
 }
 
-/// Sections, which have no number but their place.
+/// Sections keep no number, so the number of a section is its index.
 impl<A: Allocator + Copy> List<A> for Sects<A> {
     fn none(alloc: A) -> Sects<A> {
         Sects::new(alloc)
@@ -186,7 +186,7 @@ impl<A: Allocator + Copy> List<A> for Refused<A> {
     }
 }
 
-/// The list has the numbers below this one, in their order.
+/// Checks that the list has the numbers below this one, in ascending order.
 fn check_list<A: Allocator + Copy, T: List<A>>(rt: &impl Abort, list: &T, numbers: u32) {
     assert_eq!(rt; list.count(), numbers as usize);
     for number in 0..numbers {
@@ -194,7 +194,7 @@ fn check_list<A: Allocator + Copy, T: List<A>>(rt: &impl Abort, list: &T, number
     }
 }
 
-/// Nine members are put into a list. One that is refused is put again.
+/// Appends nine elements to a list. If one is refused, it is appended again, with ample room.
 fn puts<'h, T: List<&'h Bump>>(rt: &impl Abort, heap: &'h Bump, room: usize) -> bool {
     let mut list = T::none(heap);
     let mut is_refused = false;

@@ -1,5 +1,5 @@
-//! A run of keys that is staged into a map. After a refusal the committed entries are as before, and once the rest is rolled
-//! back, the same run with room is staged whole.
+//! A run of items that is staged into a map. After a refusal the committed entries are as before. Once the staged values are
+//! rolled back, the whole run can be staged, with room.
 
 use super::heap::{check_rising, narrow, widen};
 use super::made;
@@ -9,7 +9,7 @@ use std::alloc::{AllocError, Allocator};
 use std::process::Abort;
 use std::test::*;
 
-/// A value that takes the place of any before it, and notes so.
+/// An addend that replaces the value of its key, and reports the new value.
 #[derive(Clone, Copy)]
 struct Newest {
     value: u64,
@@ -35,7 +35,7 @@ impl ReportingAddend<u64, u64> for Newest {
     }
 }
 
-/// Stages a run.
+/// Stages a run, and returns what its addends report.
 fn stage<A: Allocator + Copy>(
     alloc: A,
     map: &mut StagedMap<u64, u64, A>,
@@ -54,7 +54,7 @@ fn one_entry<A: Allocator + Copy>(alloc: A) -> Result<StagedMap<u64, u64, A>, Al
     Ok(map)
 }
 
-/// The committed entries, each as its key and its value.
+/// The numbers of the committed entries: each key, and its value after it.
 fn entries<A: Allocator + Copy>(
     alloc: A,
     map: &StagedMap<u64, u64, A>,
@@ -67,12 +67,12 @@ fn entries<A: Allocator + Copy>(
     Ok(numbers)
 }
 
-/// The numbers are the wanted ones.
+/// Checks that the numbers are as wanted.
 fn check_numbers(rt: &impl Abort, given: &[u64], wanted: &[u64]) {
     assert_eq!(rt; given, wanted);
 }
 
-/// A run with keys before, at and after the one that is there.
+/// Stages a run with keys before, at and after the only committed key, and commits it.
 fn a_run(rt: &impl Abort, heap: &Bump, room: usize) -> bool {
     let run = [
         (2, Newest { value: 21 }),

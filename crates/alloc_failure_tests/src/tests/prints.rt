@@ -1,4 +1,4 @@
-//! What is printed, and the patterns that choose what.
+//! Texts that are printed, and patterns that choose the files to print.
 
 ghost use Rattle.covstore.specs.Totals.{AreTotals};
 
@@ -14,7 +14,7 @@ use std::alloc::Allocator;
 use std::process::Abort;
 use std::test::*;
 
-/// A line that is printed after another. The text that is lent keeps what it has, and no more.
+/// Prints a line after another one. A refusal leaves the text as it was.
 fn puts_line(rt: &impl Abort, heap: &Bump, room: usize, line: &[u8]) -> bool {
     let mut text = made(rt, bytes(heap, b"TN:t\n"));
     let record = made(rt, read_line(line));
@@ -30,7 +30,7 @@ fn puts_line(rt: &impl Abort, heap: &Bump, room: usize, line: &[u8]) -> bool {
     is_refused
 }
 
-/// The text is the first line and then this one.
+/// Checks that the text is the line `TN:t` and then this line.
 fn check_line(rt: &impl Abort, text: &[u8], line: &[u8]) {
     let behind = text
         .strip_prefix(b"TN:t\n")
@@ -64,7 +64,7 @@ fn lines_of_all_kinds(rt: HostRuntime) {
     }
 }
 
-/// A pattern is added to a list of `held` patterns. A refusal leaves the list as it was.
+/// Adds a pattern to a list of `held` patterns. A refusal leaves the list as it was.
 fn adds_pattern(rt: &impl Abort, heap: &Bump, room: usize, held: usize) -> bool {
     let mut list = Patterns::new(heap);
     for _pattern in 0..held {
@@ -89,7 +89,7 @@ fn patterns(rt: HostRuntime) {
     }
 }
 
-/// A store prints what it holds as it was given.
+/// Prints a store that holds this text. The report has to be the same text.
 fn prints_all(rt: &impl Abort, heap: &Bump, room: usize, text: &[u8]) -> bool {
     let store = holding(rt, heap, text);
     narrow(rt, heap, room);
@@ -103,7 +103,7 @@ fn prints_all(rt: &impl Abort, heap: &Bump, room: usize, text: &[u8]) -> bool {
     is_refused
 }
 
-/// The files that match are printed.
+/// Prints the files of `SMALL` that match a pattern: it has only one file, which matches.
 fn prints_chosen(rt: &impl Abort, heap: &Bump, room: usize) -> bool {
     let store = holding(rt, heap, SMALL);
     let choice = Choice::Extract(list_of(rt, heap, b"*.c"));
@@ -132,7 +132,7 @@ Summary coverage rate:
   branches...: 66.7% (2 of 3 branches)
 ";
 
-/// The summary of what the annotated source counts.
+/// Prints the summary of `TRACED`.
 fn prints_summary(rt: &impl Abort, heap: &Bump, room: usize) -> bool {
     let totals = holding(rt, heap, TRACED).totals();
     narrow(rt, heap, room);

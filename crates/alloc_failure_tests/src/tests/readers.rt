@@ -1,4 +1,4 @@
-//! Texts that are read. What was read is printed, and so looked at whole.
+//! Texts that are read. All that was read is printed, and this is checked.
 
 use super::heap::{check_rising_by, narrow, widen};
 use super::stores::stored;
@@ -12,7 +12,7 @@ use covreport::Choice;
 use std::process::Abort;
 use std::test::*;
 
-/// Checks how many items the submission has, and what is printed of it.
+/// Checks how many items the submission has, that no line is odd, and what is printed of it.
 fn check_read<'h>(
     rt: &impl Abort,
     heap: &'h Bump,
@@ -26,7 +26,7 @@ fn check_read<'h>(
     check_bytes(rt, report.get(), wanted);
 }
 
-/// A tracefile that is printed as it is.
+/// Reads a tracefile of two items. What is printed of it has to be the same text.
 fn reads_trace(rt: &impl Abort, heap: &Bump, room: usize, text: &[u8]) -> bool {
     narrow(rt, heap, room);
     let first = read(heap, text);
@@ -53,7 +53,7 @@ fn tracefiles(rt: HostRuntime) {
     );
 }
 
-/// gcov's annotated source, as counts of a test.
+/// Reads gcov's annotated source, as counts of the test `t`.
 fn reads_annotated(rt: &impl Abort, heap: &Bump, room: usize) -> bool {
     narrow(rt, heap, room);
     let first = read_annotated(heap, b"t", ANNOTATED);

@@ -1,4 +1,4 @@
-//! What was asked, answered and counted, in bytes.
+//! Operations, answers and totals in words, as bytes.
 
 use super::{check_bytes, made};
 use covbook::{Answer, Entry, Op};
@@ -19,7 +19,7 @@ fn put_word(text: &mut Vec<u8>, word: &[u8]) -> Result<(), AllocError> {
     text.extend_from_slice(word)
 }
 
-/// Appends the numbers of an accepted submission.
+/// Appends the word `accepted` and the numbers of an accepted submission.
 fn put_accepted(text: &mut Vec<u8>, number: u64, items: u64, odd: u64) -> Result<(), AllocError> {
     put_word(text, b"accepted")?;
     put_number(text, number)?;

@@ -1,4 +1,4 @@
-//! Sessions. One that is refused memory has written a beginning of what it would have written.
+//! Sessions in which memory runs out. Such a session has written a beginning of what it would have written with ample memory.
 
 ghost use Rattle.std.specs.Prelude.{◌<◌, ◌^◌, None};
 
@@ -13,7 +13,7 @@ use std::cell::Cell;
 use std::process::Abort;
 use std::test::*;
 
-/// A reader that gives a byte at each call, so that all answers are written before the next command is read.
+/// A source that gives one byte at each read, so that each answer is written before the next command is read.
 #[derive(Drop)]
 struct Slow<'a> {
     input: &'a [u8],
@@ -44,7 +44,7 @@ impl<'a> Source for Slow<'a> {
     }
 }
 
-/// How a session ends, without its contracts.
+/// How a session ends. This function promises nothing of that.
 fn session_end<I: Source, O: Sink, A: Allocator + Copy>(
     alloc: A,
     source: &mut I,
@@ -72,7 +72,8 @@ fn run<A: Allocator + Copy>(
     (ended, output)
 }
 
-/// A session on these bytes, which writes this.
+/// Whether a session on these bytes is refused memory. If so, it has written a beginning of what is wanted, and otherwise all
+/// of it.
 fn is_refused(
     rt: &(impl Abort + AllocGlobal),
     heap: &Bump,
@@ -92,14 +93,14 @@ fn is_refused(
     false
 }
 
-/// What a session reads and writes.
+/// What a session reads, and what it has to write.
 #[derive(Drop)]
 struct Streams {
     input: Vec<u8>,
     wanted: Vec<u8>,
 }
 
-/// Cuts an example: its lines are read, but those that begin with `> ` are written.
+/// Cuts an example into its streams. What comes after `> ` has to be written, and all lines without this sign are read.
 fn cut(alloc: Global, example: &[u8]) -> Result<Streams, AllocError> {
     let mut streams = Streams {
         input: Vec::new(alloc),
@@ -122,10 +123,10 @@ fn push_line(text: &mut Vec<u8>, line: &[u8]) -> Result<(), AllocError> {
     Ok(())
 }
 
-/// What a session reads at first asks for this much room.
+/// The first growth of a session, its block for reading, asks for this much room.
 const BLOCK: usize = 65_536;
 
-/// Checks the session of this example.
+/// Checks a session on these streams, with more and more room.
 fn check(rt: &(impl Abort + AllocGlobal), streams: &Streams) {
     let input = streams.input.as_slice();
     let wanted = streams.wanted.as_slice();
@@ -134,7 +135,7 @@ fn check(rt: &(impl Abort + AllocGlobal), streams: &Streams) {
     });
 }
 
-/// Checks the session of this example.
+/// Cuts an example, and checks the session on its streams.
 fn check_example(rt: &(impl Abort + AllocGlobal), example: &[u8]) {
     check(rt, &made(rt, cut(rt.alloc(), example)));
 }
@@ -246,7 +247,7 @@ drop u
     );
 }
 
-/// A tracefile, and a summary of it.
+/// The input of a session that submits a tracefile, and asks for a summary.
 const SMALL: &[u8] = b"trace\nTN:t\nSF:/a.c\nDA:1,2\nend_of_record\n.\nsummary\n";
 
 /// The answers to `SMALL`: two, of 25 and 119 bytes.
@@ -259,8 +260,8 @@ Summary coverage rate:
 .
 ";
 
-/// Whether a session that reads all commands at once, so that all its answers wait, was refused memory. It has then
-/// written whole answers, and their number of bytes is noted.
+/// Whether a session that reads all commands at once, so that all its answers wait, is refused memory. If so, it has written no
+/// answer or the first one, and `noted` becomes the largest number of bytes that a refused session has written.
 fn is_refused_at_once(
     rt: &(impl Abort + AllocGlobal),
     heap: &Bump,

@@ -1,4 +1,4 @@
-//! A book that threads share, in one thread. A refusal leaves its history, what readers are shown, and the seat.
+//! A shared book, used by one thread. After a refusal its history, its seat and what readers see are as before.
 
 ghost use Rattle.std.specs.Prelude.{◌≡◌};
 
@@ -49,7 +49,7 @@ fn reader<L: Name, A: Allocator, R: Wait>(
     book.reader(rt)
 }
 
-/// The history of the book, whose seats are all here.
+/// Closes the book with all of its seats, and returns its history.
 fn history_of<L: Name, A: Allocator, R: Wait + Abort>(
     rt: &R,
     book: Shared<L, A>,
@@ -78,7 +78,7 @@ fn check_seat<L: Name>(rt: &impl Abort, seat: &Seat<L>, calls: u64) {
     assert_eq!(rt; (seat.calls(), seat.seen()), (calls, calls));
 }
 
-/// Whether a book is opened. It has three seats, no entry, and a reader that reports none.
+/// Whether a book is opened. Checks that an opened book has three seats, no entry, and a reader that reports none.
 fn opens<L: Name, A: Allocator + Copy, R: Wait + Abort>(rt: &R, alloc: A, start: Start<A>) -> bool
     requires name { start.name ≡ L.name }
     requires jobs { start.jobs ≡ L.parts }
@@ -94,12 +94,12 @@ fn opens<L: Name, A: Allocator + Copy, R: Wait + Abort>(rt: &R, alloc: A, start:
     true
 }
 
-/// Whether a book for three jobs is opened. What it is made of takes no memory.
+/// Whether a new book for three jobs is opened. The `Start` that it is made of takes no memory.
 fn opens_anew<A: Allocator + Copy>(rt: &(impl Wait + Abort), alloc: A) -> bool {
     opens::<Brand, A, _>(rt, alloc, made(rt, start(alloc, 3)))
 }
 
-/// A book is opened. On a refusal what it is made of is dropped.
+/// Whether no book is opened in this room. A refusal drops the book's `Start`, and a new one is tried with ample room.
 fn is_not_opened(rt: &(impl Wait + Abort), heap: &Bump, room: usize) -> bool {
     narrow(rt, heap, room);
     let is_opened = opens_anew(rt, heap);
@@ -113,7 +113,7 @@ fn books_are_opened(rt: HostRuntime) {
     check_rising_by(&rt, 1, 64, |heap, room| is_not_opened(&rt, heap, room));
 }
 
-/// What a book is made of takes no memory.
+/// Makes a `Start`, which takes no memory, and returns whether it was refused.
 fn starts(rt: &impl Abort, heap: &Bump, room: usize) -> bool {
     narrow(rt, heap, room);
     let first = start(heap, 64);
@@ -125,7 +125,7 @@ fn starts_take_no_memory(rt: HostRuntime) {
     check_none(&rt, |heap, room| starts(&rt, heap, room));
 }
 
-/// The operation in a book that holds a text and has a reader.
+/// Performs the tried operation in a book that holds a text and has a reader. Checks the history at the end.
 fn performs<L: Name, A: Allocator + Copy, R: Wait + Abort + AllocGlobal>(
     rt: &R,
     alloc: A,
@@ -149,7 +149,7 @@ fn performs<L: Name, A: Allocator + Copy, R: Wait + Abort + AllocGlobal>(
     is_refused
 }
 
-/// The heap that is made narrow for what is asked.
+/// What is tried: the operation of a row, while the heap has only this much room.
 #[derive(Clone, Copy)]
 struct Narrow<'a> {
     heap: &'a Bump,
@@ -157,7 +157,7 @@ struct Narrow<'a> {
     row: Step<'a>,
 }
 
-/// The seat submits a text, and then asks in the narrow heap.
+/// The seat submits a text, and then asks for the tried operation while the heap has only the tried room.
 fn asks<L: Name, A: Allocator + Copy, R: Wait + Abort + AllocGlobal>(
     rt: &R,
     alloc: A,
@@ -189,7 +189,7 @@ fn asks<L: Name, A: Allocator + Copy, R: Wait + Abort + AllocGlobal>(
     is_refused
 }
 
-/// Checks the words on the second call's receipt, and that its totals are published.
+/// Checks the second call's receipt, by `check_told`, and that the totals after the call are published.
 fn check_done<L: Name, A: Allocator + Copy>(
     rt: &(impl Abort + AllocGlobal),
     done: &Done<L, A>,
@@ -208,7 +208,7 @@ fn check_done<L: Name, A: Allocator + Copy>(
     check_live(rt, live, 2, reading.totals);
 }
 
-/// The operation in a book that is opened for it.
+/// The same in a new book.
 fn performs_anew<R: Wait + Abort + AllocGlobal>(
     rt: &R,
     heap: &Bump,
@@ -227,7 +227,7 @@ fn shared_steps(rt: HostRuntime) {
     }
 }
 
-/// A reader is made without room.
+/// Makes a reader while the heap has only this much room, and returns whether that was refused.
 fn reads<L: Name, A: Allocator + Copy, R: Wait + Abort>(
     rt: &R,
     alloc: A,
@@ -252,7 +252,7 @@ fn reads<L: Name, A: Allocator + Copy, R: Wait + Abort>(
     }
 }
 
-/// A reader of a book that is opened for it.
+/// The same for a reader of a new book.
 fn reads_anew(rt: &(impl Wait + Abort), heap: &Bump, room: usize) -> bool {
     reads::<Brand, &Bump, _>(rt, heap, made(rt, start(heap, 1)), heap, room)
 }
@@ -262,7 +262,7 @@ fn readers_take_no_memory(rt: HostRuntime) {
     check_none(&rt, |heap, room| reads_anew(&rt, heap, room));
 }
 
-/// The seats of nine jobs are put into a list. One that is refused is given up, and the list is left as it was.
+/// Appends the seats of nine jobs to a list. If one is refused, it is given up, and the list stays as it was.
 fn hands_in<L: Name, A: Allocator + Copy, R: Wait + Abort>(
     rt: &R,
     alloc: A,
@@ -290,7 +290,7 @@ fn hands_in<L: Name, A: Allocator + Copy, R: Wait + Abort>(
     refused.is_some()
 }
 
-/// Checks that the seats are those of nine jobs, but for the one that is given up.
+/// Checks that the seats are those of nine jobs, in ascending order, without the one that was given up.
 fn check_jobs<L: Name>(rt: &impl Abort, seats: &[Seat<L>], given_up: Option<u32>) {
     let mut jobs = (0..9u32).filter(|job| given_up != Some(*job));
     for seat in seats {
@@ -299,7 +299,7 @@ fn check_jobs<L: Name>(rt: &impl Abort, seats: &[Seat<L>], given_up: Option<u32>
     assert_eq!(rt; jobs.next(), None);
 }
 
-/// The seats of a book that is opened for it.
+/// The same for the seats of a new book.
 fn hands_in_anew(rt: &(impl Wait + Abort), heap: &Bump, room: usize) -> bool {
     hands_in::<Brand, &Bump, _>(rt, heap, made(rt, start(heap, 9)), heap, room)
 }

@@ -1,4 +1,4 @@
-//! Steps of a book. A refusal leaves its entries and totals.
+//! Steps of a book. After a refusal the book has the same entries and totals as before.
 
 use super::heap::{check_rising, narrow, widen};
 use super::made;
@@ -32,7 +32,7 @@ fn check_book<A: Allocator + Copy>(
     assert!(rt; last.is_some_and(|entry| entry.after == book.totals()));
 }
 
-/// A step by job 4, in one or in its two halves.
+/// Takes a step as job 4, in one call or in two halves.
 fn taken<A: Allocator + Copy>(
     alloc: A,
     book: &mut Book<A>,
@@ -46,7 +46,7 @@ fn taken<A: Allocator + Copy>(
     }
 }
 
-/// A step of the book that was begun.
+/// Takes the row's step in the book of `begun`, and checks it. Returns whether the step was refused in this room.
 fn takes(
     rt: &(impl Abort + AllocGlobal),
     heap: &Bump,

@@ -1,4 +1,4 @@
-//! A store that is made ready to hold a submission or to rename a test. A refusal leaves its sections and totals.
+//! A store that prepares to hold a submission or to rename a test. After a refusal it has the same sections and totals as before.
 
 ghost use Rattle.std.specs.Prelude.{◌<◌, OnErr};
 ghost use Rattle.covstore.specs.Store.{max_members};
@@ -15,7 +15,7 @@ use std::alloc::Allocator;
 use std::process::Abort;
 use std::test::*;
 
-/// Nothing is found.
+/// The totals of an empty store.
 const NONE: Totals = Totals {
     lf: 0,
     lh: 0,
@@ -25,7 +25,7 @@ const NONE: Totals = Totals {
     bh: 0,
 };
 
-/// Two lines are found, and one is hit.
+/// The totals of `SMALL`: two lines are found, and one is hit.
 const OF_SMALL: Totals = Totals {
     lf: 2,
     lh: 1,
@@ -68,7 +68,7 @@ fn check_store<A: Allocator + Copy>(
     check_bytes(rt, report.get(), text);
 }
 
-/// The submission is held too, or refused. Between the two halves nothing is refused.
+/// Makes the store hold the submission too, or returns the refusal. Only `prepare` can be refused, and not `commit`.
 fn hold<A: Allocator + Copy>(
     alloc: A,
     store: &mut Store<A>,
@@ -86,7 +86,7 @@ fn hold<A: Allocator + Copy>(
     }
 }
 
-/// The submission is held too, after which the store prints this. What a refusal has to leave is what the store printed before.
+/// Makes the store hold `SMALL` too. The store has to print the first of the texts after a refusal, and the second one at last.
 fn holds<'h>(
     rt: &impl Abort,
     room: usize,
@@ -111,14 +111,14 @@ fn holds<'h>(
     is_refused
 }
 
-/// The text is held by a store that held nothing.
+/// An empty store gets `SMALL`.
 fn first_text(rt: &impl Abort, heap: &Bump, room: usize) -> bool {
     let store = Store::new(heap);
     check_store(rt, heap, &store, b"", NONE);
     holds(rt, room, heap, store, (b"", SMALL))
 }
 
-/// A store that holds the text once.
+/// A store that holds the submission alone, as by `stored`, with the promise that it has room for another one.
 fn begun<A: Allocator + Copy>(rt: &impl Abort, alloc: A, given: &Submission<A>) -> Store<A>
     ensures { result.members < max_members }
 {
@@ -130,7 +130,7 @@ fn begun<A: Allocator + Copy>(rt: &impl Abort, alloc: A, given: &Submission<A>) 
     store
 }
 
-/// The text is held once more.
+/// A store that holds `SMALL` gets it once more.
 fn second_text(rt: &impl Abort, heap: &Bump, room: usize) -> bool {
     let store = begun(rt, heap, &made(rt, read(heap, SMALL)));
     check_store(rt, heap, &store, SMALL, OF_SMALL);
@@ -143,7 +143,7 @@ fn submissions(rt: HostRuntime) {
     check_rising(&rt, |heap, room| second_text(&rt, heap, room));
 }
 
-/// One line is found, and hit.
+/// The totals of `APART`: one line is found, and hit.
 const OF_ONE: Totals = Totals {
     lf: 1,
     lh: 1,
@@ -153,7 +153,8 @@ const OF_ONE: Totals = Totals {
     bh: 0,
 };
 
-/// Renames the test, and returns in how many sections, or the refusal. Between the two halves nothing is refused.
+/// Renames the test, and returns how many sections it was in, or the refusal. Only `prepare_rename` can be refused, and not
+/// `commit_rename`.
 fn rename<A: Allocator + Copy>(
     alloc: A,
     store: &mut Store<A>,
@@ -170,7 +171,7 @@ fn rename<A: Allocator + Copy>(
     }
 }
 
-/// The test `t` gets a new name.
+/// Renames the test `t`, as the row says, in a store that holds the text `held`.
 fn renames(rt: &impl Abort, heap: &Bump, room: usize, held: &[u8], row: Renamed<'_>) -> bool {
     let mut store = holding(rt, heap, held);
     narrow(rt, heap, room);
@@ -189,7 +190,7 @@ fn renames(rt: &impl Abort, heap: &Bump, room: usize, held: &[u8], row: Renamed<
     is_refused
 }
 
-/// The new name, what is printed then, and the totals before and after.
+/// The new name, what is printed after the rename, and the totals, which are the same before and after it.
 #[derive(Clone, Copy)]
 struct Renamed<'a> {
     new: &'a [u8],
@@ -207,7 +208,7 @@ fn a_new_name(rt: HostRuntime) {
     check_rising(&rt, |heap, room| renames(&rt, heap, room, SMALL, row));
 }
 
-/// Counts that meet are added up.
+/// If a test has the new name already, the counts of one line are added up.
 #[test]
 fn a_name_that_is_there(rt: HostRuntime) {
     let row = Renamed {

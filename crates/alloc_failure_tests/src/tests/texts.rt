@@ -1,15 +1,15 @@
 //! Texts that are read, and what is printed of them.
 
-/// Two lines of one file, one of them hit. It is printed as it is.
+/// A tracefile with two lines of one file, one of them hit. What is printed of it is the same text.
 pub(super) const SMALL: &[u8] = b"TN:t\nSF:/a.c\nDA:1,2\nDA:2,0\nLF:2\nLH:1\nend_of_record\n";
 
-/// The same twice.
+/// What is printed after `SMALL` was submitted twice.
 pub(super) const DOUBLED: &[u8] = b"TN:t\nSF:/a.c\nDA:1,4\nDA:2,0\nLF:2\nLH:1\nend_of_record\n";
 
-/// The same under another name.
+/// What is printed of `SMALL` after its test was renamed to `v`.
 pub(super) const RENAMED: &[u8] = b"TN:v\nSF:/a.c\nDA:1,2\nDA:2,0\nLF:2\nLH:1\nend_of_record\n";
 
-/// Two tests of one line.
+/// A tracefile with one line of a file, in two tests.
 pub(super) const APART: &[u8] = b"\
 TN:t
 SF:/a.c
@@ -25,13 +25,13 @@ LH:1
 end_of_record
 ";
 
-/// The two tests as one.
+/// What is printed of `APART` after `t` was renamed to `u`.
 pub(super) const JOINED: &[u8] = b"TN:u\nSF:/a.c\nDA:1,5\nLF:1\nLH:1\nend_of_record\n";
 
-/// The small tracefile with a checksum.
+/// `SMALL` with a checksum of its first line.
 pub(super) const CHECKED: &[u8] = b"TN:t\nSF:/a.c\nDA:1,2,abc\nDA:2,0\nLF:2\nLH:1\nend_of_record\n";
 
-/// Another version of its first line, by another test.
+/// The first line of `CHECKED` with another checksum, in another test.
 pub(super) const CLASHING: &[u8] = b"TN:u\nSF:/a.c\nDA:1,1,abd\nend_of_record\n";
 
 /// gcov's annotated source, with functions, branches and blocks.

@@ -1,4 +1,4 @@
-//! Values that are made of others: texts, and what is shared.
+//! Values that are made from others: texts from bytes, and shared texts and submissions from others that aren't shared.
 
 use super::heap::{check_rising, narrow, widen};
 use super::texts::SMALL;
@@ -8,7 +8,7 @@ use bumpalo::Bump;
 use std::process::Abort;
 use std::test::*;
 
-/// A text of the bytes.
+/// Makes a text of bytes.
 fn text_of(rt: &impl Abort, heap: &Bump, room: usize) -> bool {
     narrow(rt, heap, room);
     let first = bytes(heap, SMALL);
@@ -21,7 +21,7 @@ fn text_of(rt: &impl Abort, heap: &Bump, room: usize) -> bool {
     is_refused
 }
 
-/// A text that is shared. On a refusal it is dropped.
+/// Makes a text a shared one. A refusal drops the text, so another one is used for the second try.
 fn text_shared(rt: &impl Abort, heap: &Bump, room: usize) -> bool {
     let text = made(rt, bytes(heap, SMALL));
     let again = made(rt, bytes(heap, SMALL));
@@ -36,7 +36,7 @@ fn text_shared(rt: &impl Abort, heap: &Bump, room: usize) -> bool {
     is_refused
 }
 
-/// A submission that is shared. On a refusal it is dropped.
+/// Makes a submission a shared one. A refusal drops the submission, so another one is used for the second try.
 fn submission_shared(rt: &impl Abort, heap: &Bump, room: usize) -> bool {
     let given = made(rt, read(heap, SMALL));
     let again = made(rt, read(heap, SMALL));

@@ -1,5 +1,5 @@
-//! Calls of the crates below, without their contracts: a test looks at values, and its proof is quicker if it knows nothing
-//! else.
+//! Calls of the crates below, in functions without contracts. A test looks only at values, and its proof is quicker without
+//! contracts.
 
 use super::made;
 use super::texts::{CHECKED, CLASHING, SMALL};
@@ -47,7 +47,7 @@ pub(super) fn printed<A: Allocator + Copy>(
     trace_text(alloc, store, choice)
 }
 
-/// The submission, to be shared.
+/// The submission as a shared one.
 pub(super) fn shared<A: Allocator + Copy>(
     alloc: A,
     given: Submission<A>,
@@ -55,7 +55,7 @@ pub(super) fn shared<A: Allocator + Copy>(
     SubRef::of(alloc, given)
 }
 
-/// The text, to be shared.
+/// The text as a shared one.
 pub(super) fn shared_text<A: Allocator>(alloc: A, text: Bytes<A>) -> Result<TextRef<A>, Memory> {
     TextRef::of(alloc, text)
 }
@@ -110,7 +110,8 @@ fn submit<A: Allocator + Copy>(rt: &impl Abort, alloc: A, text: &[u8]) -> Op<A> 
     Op::Submit(made(rt, shared(alloc, given)))
 }
 
-/// The operation that these words ask for: its name, and then the names that it takes, with a space before each.
+/// The operation that these words ask for: its name, and then the tests' names or the patterns that it takes, with a space
+/// before each. `begin` submits `CHECKED`, and `clash` submits `CLASHING`. An unknown name is a summary.
 pub(super) fn op_of<A: Allocator + Copy>(rt: &impl Abort, alloc: A, words: &[u8]) -> Op<A> {
     let mut words = words.split(|byte| *byte == b' ');
     let Some(name) = words.next() else {

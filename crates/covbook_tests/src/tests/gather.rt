@@ -127,7 +127,7 @@ fn counted(alloc: Global, word: &str, number: u64) -> Result<String, Fail> {
     Ok(format!(in alloc; "{word} {number}")?)
 }
 
-/// A word, and the places of a log and of a receipt in it.
+/// A word, and the places of a log and of a receipt or a reading in it.
 fn placed(alloc: Global, word: &str, log: usize, index: usize) -> Result<String, Fail> {
     Ok(format!(in alloc; "{word} {log} {index}")?)
 }
@@ -165,7 +165,7 @@ fn check_told(
     Ok(())
 }
 
-/// Checks examples over these entries.
+/// Checks examples, as `check_history` does. The history has the same entries as the receipts.
 fn check_all(
     rt: &(impl Abort + AllocGlobal),
     entries: &[Entry],
@@ -174,9 +174,9 @@ fn check_all(
     check_history(rt, entries, entries, examples)
 }
 
-/// Checks examples, one after the other. Each has a line for each log; a line that begins with `> ` is what `gather` has to
-/// return for the history and these logs, and one that begins with `= ` ends the example and is its name. Receipts are those
-/// of the entries.
+/// Checks examples, one after the other. Each has a line for each log. A line that begins with `> ` is what `gather` has to
+/// return for the history and these logs. A line that begins with `= ` ends the example and is its name. The receipts are made
+/// of `entries`, which may be more than the history has.
 fn check_history(
     rt: &(impl Abort + AllocGlobal),
     entries: &[Entry],
@@ -315,7 +315,7 @@ const EXAMPLES: &[u8] = b"0 000 222 444
 > BadReading 0 0
 = a reading comes before a receipt of the next log";
 
-/// The same six calls, but that job 1 renames the test that both submit, and what `gather` returns for them.
+/// The same six calls, but job 1 renames the test that both submit, instead of dropping one that isn't there.
 const A_RENAME: &[u8] = b"0 submit DA:1,2;DA:2,0
 1 submit DA:1,2;DA:2,0
 0 summary
@@ -345,7 +345,7 @@ end_of_record
   branches...: no data found
 ; 2 1 \n";
 
-/// A rename has its entry and its receipt like any other call, and the totals stay.
+/// A rename has an entry and a receipt like any other operation, and doesn't change the totals.
 #[test]
 fn a_rename_among_six_calls(rt: HostRuntime) -> Result<(), Fail> {
     let mut book = Book::new(rt.alloc());
@@ -376,7 +376,7 @@ fn what_two_jobs_kept(rt: HostRuntime) -> Result<(), Fail> {
     check_all(&rt, &[], b"> yes\n= nothing at all\n1\n> yes\n= no calls")
 }
 
-/// A history without its last entry, whose receipt is then a stranger, and one without any.
+/// A history without its last entry, so that the receipt of this entry is a `Stranger`, and a history without entries.
 #[test]
 fn a_shorter_history(rt: HostRuntime) -> Result<(), Fail> {
     let mut book = Book::new(rt.alloc());
@@ -459,7 +459,8 @@ fn a_number_of_an_answer_differs(rt: HostRuntime) {
     assert!(rt; !is_same_answer(&renamed(0), &Answer::NoSuchTest));
 }
 
-/// Each operation is the same as another of the same words, and not as one of words with another byte.
+/// Each operation is the same as another one of the same words. It isn't the same as one that differs in a byte, a number or its
+/// kind.
 #[test]
 fn a_byte_of_an_operation_differs(rt: HostRuntime) -> Result<(), Fail> {
     let examples = b"submit DA:1,2&submit DA:1,3
@@ -481,7 +482,7 @@ remove /a|/b&remove /a|/c";
     Ok(())
 }
 
-/// Each answer is the same as another of the same text, and not as one of a text with another byte.
+/// Each answer is the same as another one of the same words, and isn't the same as one that differs in a byte.
 #[test]
 fn a_byte_of_an_answer_differs(rt: HostRuntime) -> Result<(), Fail> {
     for line in b"a&b\nclash k&clash l".split(|byte| *byte == b'\n') {

@@ -54,7 +54,8 @@ fn a_history_with_a_clash(rt: HostRuntime) -> Result<(), Fail> {
     )
 }
 
-/// A test that is dropped is gone from the totals, and its number isn't given again. One that isn't there has its entry.
+/// The counts of a dropped test are gone from the totals, and the number of its submission isn't given again. A drop of a test
+/// that isn't there has an entry too.
 #[test]
 fn a_history_with_drops(rt: HostRuntime) -> Result<(), Fail> {
     check_new(
@@ -73,7 +74,7 @@ fn a_history_with_drops(rt: HostRuntime) -> Result<(), Fail> {
     )
 }
 
-/// The answer that is this text, shared once.
+/// The answer that is this text, as a copy of a shared text.
 fn shared(alloc: Global, text: &[u8]) -> Result<Answer, Memory> {
     let text = TextRef::of(alloc, bytes_of(alloc, text)?)?;
     Ok(Answer::Text(text.copy()?))
@@ -128,7 +129,7 @@ fn a_list_of_receipts(rt: HostRuntime) -> Result<(), Fail> {
     }
 }
 
-/// Whether a book's next step has this place.
+/// Takes the book's next step, and returns whether it has this place.
 fn is_next(alloc: Global, book: &mut Book, place: u64) -> bool {
     match step(alloc, book, 0, &Op::Summary) {
         Ok(receipt) => receipt.place == place,
@@ -136,7 +137,7 @@ fn is_next(alloc: Global, book: &mut Book, place: u64) -> bool {
     }
 }
 
-/// Whether a book takes no step, since it is full.
+/// Whether the book refuses a step since its history is full.
 fn is_full(alloc: Global, book: &mut Book) -> bool {
     match step(alloc, book, 0, &Op::Summary) {
         Ok(_receipt) => false,
@@ -144,7 +145,7 @@ fn is_full(alloc: Global, book: &mut Book) -> bool {
     }
 }
 
-/// Whether the first `steps` steps have the first places.
+/// Takes the first `steps` steps of the book, and returns whether they have the first places, in order.
 fn is_filled(alloc: Global, book: &mut Book, steps: u64) -> bool {
     for place in 0..steps {
         if !is_next(alloc, book, place) {

@@ -1,4 +1,4 @@
-//! Random submissions beside a plain list of their rows.
+//! Random submissions to a book, which is compared with a plain list of their rows.
 
 use super::push_line;
 use super::script::{check_printed, receipt_of};
@@ -11,7 +11,7 @@ use std::alloc::Global;
 use std::process::Abort;
 use std::test::*;
 
-/// A section of the plain list: a file and a test of it, in the order in which they are printed.
+/// The sections of the plain list, each a test of a file, in the order in which they are printed.
 const SECTIONS: [&[u8]; 6] = [
     b"TN:a\nSF:/f\n",
     b"TN:b\nSF:/f\n",
@@ -46,7 +46,7 @@ impl Random {
     }
 }
 
-/// What is printed of a point.
+/// The records that are printed of points.
 #[derive(Clone, Copy)]
 enum Record {
     Start,
@@ -76,7 +76,7 @@ fn line_of(alloc: Global, record: Record, point: u64, count: Option<u64>) -> Res
     }
 }
 
-/// The sum of two counts, of which `None` is no number.
+/// The sum of two counts. `None` has no number, and adds nothing.
 fn both(one: Option<u64>, other: Option<u64>) -> Option<u64> {
     match one {
         Some(count) => Some(count.saturating_add(other.unwrap_or(0))),
@@ -84,7 +84,7 @@ fn both(one: Option<u64>, other: Option<u64>) -> Option<u64> {
     }
 }
 
-/// What the rows of a section count at a point together, if one of them has it.
+/// The sum of all counts that the rows of a section have for a point, or `None` if no row has this point.
 fn sum_of(rows: &[Row], section: usize, point: u64) -> Option<Option<u64>> {
     let mut sum = None;
     for row in rows {
@@ -95,7 +95,7 @@ fn sum_of(rows: &[Row], section: usize, point: u64) -> Option<Option<u64>> {
     sum
 }
 
-/// Appends the lines of a section's points, and counts these and those above 0.
+/// Appends a line for each point of this kind in a section. Returns how many points there are, and how many of them are hit.
 fn put_points(
     alloc: Global,
     rows: &[Row],
@@ -146,7 +146,7 @@ fn put_kind(
     Ok(())
 }
 
-/// Appends the lines and how many there are.
+/// Appends a section's lines, how many of them there are, and the section's end.
 fn put_lines(alloc: Global, rows: &[Row], section: usize, text: &mut Vec<u8>) -> Result<(), Fail> {
     let totals = put_points(alloc, rows, section, Record::Line, text)?;
     put_totals(alloc, "L", totals, text)?;
@@ -176,8 +176,8 @@ fn put_list(
     put_lines(alloc, rows, section, text)
 }
 
-/// How many different points of a kind the rows have in each file, over its tests, and how many of them are above 0 in
-/// one.
+/// How many points of a kind the rows have, and how many of these are hit. A point is counted once for each file that has it,
+/// and is hit if one test of this file has it above 0.
 fn tally_of(rows: &[Row], record: Record) -> (u64, u64) {
     let (first, end) = points_of(record);
     let mut found = 0u64;
@@ -199,7 +199,7 @@ fn tally_of(rows: &[Row], record: Record) -> (u64, u64) {
     (found, hit)
 }
 
-/// A random submission as text; its rows come to the list.
+/// A random submission as text. Its rows are appended to the list.
 pub(super) fn random_text(
     alloc: Global,
     random: &mut Random,
@@ -280,7 +280,7 @@ fn summary(rt: &(impl Abort + AllocGlobal), totals: &Totals) -> Result<Bytes, Me
     summary_text(rt.alloc(), totals)
 }
 
-/// The book's report is what the plain list says.
+/// Checks that the book's report is what the plain list says.
 fn check_report(
     rt: &(impl Abort + AllocGlobal),
     book: &mut Book,
@@ -290,14 +290,14 @@ fn check_report(
     check_printed(rt, book, b"0 report", &wanted)
 }
 
-/// The book prints what the plain list says, and its totals.
+/// Checks that the book's report and its summary are what the plain list says.
 fn check_list(rt: &(impl Abort + AllocGlobal), book: &mut Book, rows: &[Row]) -> Result<(), Fail> {
     check_report(rt, book, rows)?;
     let summary = summary(rt, &totals_of(rows))?;
     check_printed(rt, book, b"0 summary", summary.get())
 }
 
-/// The rows that aren't of a test, which is every third section's.
+/// The rows of all other tests. A test's sections are those at the places `test` and `test + 3`.
 fn without(alloc: Global, rows: &[Row], test: usize) -> Result<Vec<Row>, Fail> {
     let mut others = Vec::new(alloc);
     for row in rows {
@@ -324,7 +324,7 @@ fn dropping(test: usize) -> &'static [u8] {
     }
 }
 
-/// How many sections a dropped test had, and more than any if the answer is another.
+/// How many sections a dropped test had, 0 if it isn't there, and the largest number for an answer of another kind.
 fn dropped(answer: &Answer) -> u64 {
     match answer {
         Answer::Dropped { sections } => *sections,
@@ -333,7 +333,7 @@ fn dropped(answer: &Answer) -> u64 {
     }
 }
 
-/// Drops a test of the book, which had it in as many sections as the list.
+/// Drops a test of the book. Checks that it had as many sections as in the list.
 fn drop_random(
     rt: &(impl Abort + AllocGlobal),
     book: &mut Book,
@@ -345,7 +345,7 @@ fn drop_random(
     Ok(())
 }
 
-/// Hands a random submission in, which is made ready and dropped before; its rows come to the list.
+/// Submits a random text, after its step was made ready once and dropped. Appends the text's rows to the list.
 fn take_random(
     alloc: Global,
     random: &mut Random,
@@ -357,7 +357,7 @@ fn take_random(
     hand_in(alloc, book, &text)
 }
 
-/// Hands in a random submission, after which the book says what the list does.
+/// Submits a random text. Checks that the book then prints what the list says.
 fn check_random(
     rt: &(impl Abort + AllocGlobal),
     random: &mut Random,
@@ -368,7 +368,7 @@ fn check_random(
     check_list(rt, book, rows)
 }
 
-/// Drops a test of the book and of the list, which then say the same.
+/// Drops a test of the book and of the list. Checks that the book then prints what the list says.
 fn check_drop(
     rt: &(impl Abort + AllocGlobal),
     book: &mut Book,
@@ -380,8 +380,8 @@ fn check_drop(
     check_list(rt, book, rows)
 }
 
-/// After each of many random submissions, and of some tests that are dropped, the book says what a list of all rows says,
-/// passed over for each point.
+/// After each of many random submissions, and after each drop of a test, the book prints what a plain list of all rows says. The
+/// whole list is passed over for each point.
 #[test]
 fn random_submissions(rt: HostRuntime) -> Result<(), Fail> {
     let mut random = Random { state: 20_261_123 };

@@ -8,7 +8,8 @@ use std::alloc::Global;
 use std::process::Abort;
 use std::test::*;
 
-/// Hands the texts in, from one on in strides.
+/// Submits the texts, as many as there are: first the one at `first`, and after each one the one `stride` places on. After the
+/// end of the list it goes on at the beginning.
 fn hand_in_all(
     alloc: Global,
     book: &mut Book,
@@ -29,7 +30,7 @@ fn hand_in_all(
     Ok(())
 }
 
-/// Both books print the same for the step that a line asks, and something.
+/// Checks that both books print the same for the step that a line asks, and that this isn't empty.
 fn check_alike(
     rt: &(impl Abort + AllocGlobal),
     one: &mut Book,
@@ -41,7 +42,7 @@ fn check_alike(
     check_printed(rt, other, line, &text)
 }
 
-/// Both books print the same report and summary, the same of a file, and of all but that file.
+/// Checks that both books print the same report and summary, the same of one file, and the same of all other files.
 fn check_books(
     rt: &(impl Abort + AllocGlobal),
     one: &mut Book,
@@ -54,14 +55,14 @@ fn check_books(
     Ok(())
 }
 
-/// A book of the texts, handed in from one on in strides.
+/// A book to which the texts are submitted in the order of `hand_in_all`.
 fn book_of(alloc: Global, texts: &[Vec<u8>], first: usize, stride: usize) -> Result<Book, Fail> {
     let mut book = Book::new(alloc);
     hand_in_all(alloc, &mut book, texts, first, stride)?;
     Ok(book)
 }
 
-/// Books of the texts in two orders print the same.
+/// Checks that a book of the texts in their own order and a book of the texts in this order print the same.
 fn check_order(
     rt: &(impl Abort + AllocGlobal),
     texts: &[Vec<u8>],

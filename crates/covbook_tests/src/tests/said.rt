@@ -1,4 +1,4 @@
-//! What is asked and answered, in bytes.
+//! Operations and answers in words, as bytes.
 
 use covbook::{Answer, Op};
 use covline::Bytes;
@@ -52,7 +52,7 @@ fn put_renamed(text: &mut Vec<u8>, old: &Bytes, new: &Bytes) -> Result<(), Alloc
     put_word(text, new.get())
 }
 
-/// Appends the numbers of an accepted submission.
+/// Appends the word `accepted` and the numbers of an accepted submission.
 fn put_accepted(
     alloc: Global,
     text: &mut Vec<u8>,
@@ -101,7 +101,7 @@ pub(super) fn put_answer(
     }
 }
 
-/// What is asked and answered.
+/// The words on an operation and its answer: the operation, `> `, and the answer.
 pub(super) fn words_of(alloc: Global, op: &Op, answer: &Answer) -> Result<Vec<u8>, AllocError> {
     let mut text = Vec::new(alloc);
     put_op(alloc, &mut text, op)?;

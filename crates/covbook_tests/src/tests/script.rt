@@ -1,4 +1,4 @@
-//! Histories as text: what each job asks, a line each, and the words on each step.
+//! Histories as text. Each line that is asked is a job and what it asks for, and each step is told in words.
 
 use super::push_line;
 use super::said::{put_answer, put_number, words_of};
@@ -9,8 +9,8 @@ use std::alloc::Global;
 use std::process::Abort;
 use std::test::*;
 
-/// The operation that these words ask for: a submission has the lines of a section of `/a.c`, where a semicolon ends
-/// each.
+/// The operation that these words ask for. A submission is written as the lines of a section of `/a.c`, with semicolons between
+/// them.
 pub(super) fn op_of(rt: &(impl Abort + AllocGlobal), words: &[u8]) -> Result<Op, Fail> {
     if let Some(lines) = words.strip_prefix(b"submit ") {
         submit_lines(rt.alloc(), lines)
@@ -39,7 +39,7 @@ fn rename_op(rt: &(impl Abort + AllocGlobal), names: &[u8]) -> Result<Op, Fail> 
     })
 }
 
-/// The operation of this name, which takes nothing.
+/// The operation of this name: a report or a summary.
 fn plain_op(rt: &impl Abort, name: &[u8]) -> Op {
     if name.strip_prefix(b"report").is_some() {
         Op::Report
@@ -55,7 +55,7 @@ fn submit_lines(alloc: Global, lines: &[u8]) -> Result<Op, Fail> {
     submit(alloc, &text)
 }
 
-/// A section of `/a.c` with these lines, where a semicolon ends each.
+/// A section of `/a.c` with these lines, which have semicolons between them.
 fn section_of(alloc: Global, lines: &[u8]) -> Result<Vec<u8>, Fail> {
     let mut text = Vec::from_slice(alloc, b"TN:t\nSF:/a.c\n")?;
     for line in lines.split(|byte| *byte == b';') {
@@ -65,7 +65,7 @@ fn section_of(alloc: Global, lines: &[u8]) -> Result<Vec<u8>, Fail> {
     Ok(text)
 }
 
-/// The job that asks a line, below 10.
+/// The job that asks what a line says: the digit at the line's beginning.
 fn job_of(line: &[u8]) -> u32 {
     match line.first() {
         Some(job) => u32::from(job.wrapping_sub(b'0')),
@@ -91,7 +91,7 @@ pub(super) fn receipt_of(
     Ok(take(rt.alloc(), book, job_of(line), &op)?)
 }
 
-/// The text that the answer is.
+/// The text of an answer that has to be a text.
 fn text_of(rt: &(impl Abort + AllocGlobal), answer: &Answer) -> Result<Vec<u8>, Fail> {
     assert!(rt; matches!(answer, Answer::Text(_)));
     let mut text = Vec::new(rt.alloc());
@@ -109,7 +109,7 @@ pub(super) fn printed(
     text_of(rt, &receipt.answer)
 }
 
-/// The book prints this text for the step that a line asks.
+/// Checks that the book prints this text for the step that a line asks.
 pub(super) fn check_printed(
     rt: &(impl Abort + AllocGlobal),
     book: &mut Book,
@@ -121,7 +121,7 @@ pub(super) fn check_printed(
     Ok(())
 }
 
-/// Checks the words on what is asked and answered.
+/// Checks that `words_of` gives the wanted words of this operation and answer.
 pub(super) fn check_words(
     rt: &(impl Abort + AllocGlobal),
     op: &Op,
@@ -133,7 +133,7 @@ pub(super) fn check_words(
     Ok(())
 }
 
-/// Checks that copies of what the receipt holds have the same words.
+/// Checks that copies of the receipt's operation and answer have these words.
 fn check_copies(
     rt: &(impl Abort + AllocGlobal),
     receipt: &Receipt,
@@ -144,7 +144,7 @@ fn check_copies(
     check_words(rt, &op, &answer, words)
 }
 
-/// Checks that the last entry is this one, by this job, and has the same words as its receipt.
+/// Checks that the last entry has this place, this job and these words.
 fn check_entry(
     rt: &(impl Abort + AllocGlobal),
     entries: &[Entry],
@@ -159,7 +159,7 @@ fn check_entry(
     check_words(rt, &entry.op, &entry.answer, words)
 }
 
-/// Whether the totals after the last entry are these.
+/// Whether the totals after the last entry are these, or there is no entry.
 fn is_last(entries: &[Entry], totals: &Totals) -> bool {
     match entries.last() {
         Some(entry) => entry.after == *totals,
@@ -172,7 +172,7 @@ pub(super) fn check_lines(rt: &impl Abort, totals: &Totals, found: u64, hit: u64
     assert!(rt; totals.lf == found && totals.lh == hit);
 }
 
-/// Checks that the receipt's copy and the last entry, by this job, have these words too.
+/// Checks that a copy of the receipt and the last entry have these words too, and that this entry is the job's.
 fn check_kept(
     rt: &(impl Abort + AllocGlobal),
     entries: &[Entry],
@@ -184,7 +184,7 @@ fn check_kept(
     check_entry(rt, entries, receipt.place, job, words)
 }
 
-/// Appends the words on the step that this job took last.
+/// Appends the words on the step that this job took last. Checks the copy of its receipt, and its entry.
 fn put_receipt(
     rt: &(impl Abort + AllocGlobal),
     book: &Book,
@@ -208,8 +208,8 @@ fn take_step(
     put_receipt(rt, book, job_of(line), &receipt, text)
 }
 
-/// Appends a step's place, what is asked and answered, and how many lines are found and hit after it, by its entry and by the
-/// book alike.
+/// Appends a step's place, its words, and how many lines are found and hit after it. Checks that its entry has the same totals
+/// as the book.
 fn put_step(
     rt: &(impl Abort + AllocGlobal),
     book: &Book,
@@ -231,7 +231,7 @@ fn put_lines(alloc: Global, totals: &Totals, text: &mut Vec<u8>) -> Result<(), F
     Ok(())
 }
 
-/// The words on the steps that the lines ask of the book.
+/// Takes the steps that the lines ask of the book, and returns the words on them.
 pub(super) fn run(
     rt: &(impl Abort + AllocGlobal),
     book: &mut Book,

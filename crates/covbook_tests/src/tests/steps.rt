@@ -8,7 +8,7 @@ use std::alloc::Global;
 use std::process::Abort;
 use std::test::*;
 
-/// Checks how many lines are found and hit after the text's submission, which is made ready and dropped.
+/// Checks how many lines would be found and hit after the text's submission. Its step is made ready and dropped.
 fn check_dropped(
     rt: &(impl Abort + AllocGlobal),
     book: &mut Book,
@@ -21,7 +21,7 @@ fn check_dropped(
     Ok(())
 }
 
-/// A step is its two halves, and one whose second half never comes isn't taken.
+/// A step can be taken in two halves. If its second half never comes, it isn't taken.
 #[test]
 fn halves_of_a_step(rt: HostRuntime) -> Result<(), Fail> {
     let mut book = Book::new(rt.alloc());
@@ -49,7 +49,7 @@ fn the_entry_of_a_step(rt: HostRuntime) -> Result<(), Fail> {
     Ok(())
 }
 
-/// A submission of one of three tests, in one of five files: a line, a function and a branch, all with one count.
+/// A tracefile of one of three tests, in one of five files: a line, a function and a branch, all with the same count.
 fn text_of_one(alloc: Global, k: u64) -> Result<String, Fail> {
     let (test, file, place) = (k % 3, k % 5, k % 7);
     let count = place % (test + 2);
@@ -60,7 +60,7 @@ fn text_of_one(alloc: Global, k: u64) -> Result<String, Fail> {
     )?)
 }
 
-/// 105 submissions, one for each test, file and place from 0 to 6.
+/// Makes 105 submissions, one for each test, each file and each place from 0 to 6.
 fn hand_in_105(alloc: Global, book: &mut Book) -> Result<(), Fail> {
     for k in 0..105u64 {
         let text = text_of_one(alloc, k)?;

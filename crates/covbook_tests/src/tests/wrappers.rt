@@ -1,5 +1,5 @@
-//! Calls of the crates below, without their contracts: a test looks at values, and its proof is quicker if it knows nothing
-//! else.
+//! Calls of the crates below, in functions without contracts. A test looks only at values, and its proof is quicker without
+//! contracts.
 
 use covbook::{Answer, Book, BookFault, Entry, GatherFault, JobLog, Op, Receipt, SubRef};
 use covline::{Bytes, Memory};
@@ -28,7 +28,7 @@ fn step_in_halves(alloc: Global, book: &mut Book, job: u32, op: &Op) -> Result<R
     Ok(book.finish(ready))
 }
 
-/// A step, which the jobs 8 and 9 take in its two halves.
+/// Takes a step. The jobs from 8 on take it in two halves.
 pub(super) fn take(
     alloc: Global,
     book: &mut Book,
@@ -42,13 +42,13 @@ pub(super) fn take(
     }
 }
 
-/// The totals after a step that is made ready and dropped.
+/// The totals that a step would have after it. The step is made ready and dropped.
 fn after_ready(alloc: Global, book: &mut Book, op: &Op) -> Result<Totals, BookFault> {
     let ready = book.ready(alloc, 0, op)?;
     Ok(ready.after())
 }
 
-/// The job and the totals of the entry of a step that is made ready and dropped.
+/// The job and the totals of the entry that a step would have. The step is made ready and dropped.
 pub(super) fn entry_ready(
     alloc: Global,
     book: &mut Book,
@@ -103,7 +103,7 @@ pub(super) fn submit(alloc: Global, text: &[u8]) -> Result<Op, Fail> {
     Ok(Op::Submit(shared.copy()?))
 }
 
-/// The totals after the text's submission, which is made ready and dropped.
+/// The totals that the text's submission would have after it. Its step is made ready and dropped.
 pub(super) fn after_dropped(alloc: Global, book: &mut Book, text: &[u8]) -> Result<Totals, Fail> {
     let op = submit(alloc, text)?;
     Ok(after_ready(alloc, book, &op)?)

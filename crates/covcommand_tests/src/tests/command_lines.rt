@@ -5,7 +5,7 @@ use std::alloc::Global;
 use std::process::Abort;
 use std::test::*;
 
-/// No words but the program's name, and no words at all.
+/// Calls with the program's name alone, with `--` after it, and without any words.
 #[test]
 fn without_a_subcommand(rt: HostRuntime) -> Result<(), Fail> {
     check_all(
@@ -65,7 +65,7 @@ covcollect summary --jobs 2 a.info => 2 2 error: unexpected argument '--jobs' fo
     )
 }
 
-/// Words that are missing, and words that nothing takes.
+/// Words that are missing, that come twice, and that nothing takes.
 #[test]
 fn refusals(rt: HostRuntime) -> Result<(), Fail> {
     check_all(
@@ -117,7 +117,7 @@ fn names_as_they_are(rt: HostRuntime) -> Result<(), Fail> {
     )
 }
 
-/// The words have this answer.
+/// Checks that the words have this answer.
 fn check_words(
     rt: &(impl Abort + AllocGlobal),
     words: &[String],
@@ -128,7 +128,7 @@ fn check_words(
     Ok(())
 }
 
-/// The command of the words, in words.
+/// What the words ask for, or the text of their refusal.
 fn told_of(alloc: Global, words: &[String]) -> Result<String, Fail> {
     match asked(alloc, words) {
         Ok(command) => told(alloc, &command),

@@ -6,7 +6,7 @@ use std::alloc::Global;
 use std::process::Abort;
 use std::test::*;
 
-/// Help is no failure, whatever else the call has.
+/// A call that asks for help ends with status 0, whatever else it asks for.
 #[test]
 fn help_at_both_levels(rt: HostRuntime) -> Result<(), Fail> {
     check_all(
@@ -28,7 +28,7 @@ covcollect check --gcov main.c.gcov --help => 1 0 Tells what is read of each fil
     )
 }
 
-/// A request for the version is no failure, whatever else the call has.
+/// A call that asks for the version ends with status 0, whatever else it asks for.
 #[test]
 fn version(rt: HostRuntime) -> Result<(), Fail> {
     let wanted = format!(in rt.alloc(); "4 0 covcollect {VERSION}")?;
@@ -37,7 +37,7 @@ fn version(rt: HostRuntime) -> Result<(), Fail> {
     check(&rt, "covcollect --version merge", wanted.as_str())
 }
 
-/// The version that a call asks for.
+/// The text of the version if a call asks for it, and otherwise no text.
 fn version_of(alloc: Global, call: &str) -> Result<String, Fail> {
     let words = words_of(alloc, call)?;
     match asked(alloc, words.as_slice()) {
@@ -54,7 +54,7 @@ fn the_whole_version(rt: HostRuntime) -> Result<(), Fail> {
     check_text(&rt, text.as_str(), wanted.as_str())
 }
 
-/// The help that a call asks for.
+/// The text of the help if a call asks for one, and otherwise no text.
 fn help_of(alloc: Global, call: &str) -> Result<String, Fail> {
     let words = words_of(alloc, call)?;
     match asked(alloc, words.as_slice()) {
@@ -63,7 +63,7 @@ fn help_of(alloc: Global, call: &str) -> Result<String, Fail> {
     }
 }
 
-/// The program's help is just this.
+/// The program's help is exactly this.
 #[test]
 fn the_whole_help(rt: HostRuntime) -> Result<(), Fail> {
     let help = help_of(rt.alloc(), "covcollect --help")?;
@@ -110,7 +110,7 @@ Exit status:
     )
 }
 
-/// The help of a subcommand is just this.
+/// The help of a subcommand is exactly this.
 #[test]
 fn the_whole_help_of_gcov(rt: HostRuntime) -> Result<(), Fail> {
     let help = help_of(rt.alloc(), "covcollect gcov --help")?;
@@ -137,7 +137,7 @@ it without options, or by -b -c with functions and branches:
     )
 }
 
-/// The help of a subcommand with a flag is just this.
+/// The help of a subcommand with a flag is exactly this.
 #[test]
 fn the_whole_help_of_check(rt: HostRuntime) -> Result<(), Fail> {
     let help = help_of(rt.alloc(), "covcollect check --help")?;
@@ -172,7 +172,8 @@ fn check_text(rt: &impl Abort, given: &str, wanted: &str) -> Result<(), Fail> {
     Ok(())
 }
 
-/// Each call of the program in a help's examples is one that it takes, with the subcommand that is named there.
+/// The examples in the helps have calls of the program. Each is a call that the program takes, with the subcommand that is named
+/// there.
 #[test]
 fn examples_are_taken(rt: HostRuntime) -> Result<(), Fail> {
     check_examples(&rt, "covcollect --help", 4)?;
@@ -198,8 +199,8 @@ fn check_examples(rt: &(impl Abort + AllocGlobal), call: &str, wanted: usize) ->
     Ok(())
 }
 
-/// The call of the program that a line has as an example, without where its output goes: it is indented, or beside a call
-/// of lcov.
+/// The call of the program that a line of a help has as an example, without the program's name and without ` > ` and what comes
+/// after it. Such a line is indented, and nothing but a call of lcov may come before the call.
 fn example_in(line: &str) -> Option<&str> {
     let (before, call) = line.strip_prefix("  ")?.split_once("covcollect ")?;
     if !before.is_empty() && !before.starts_with("lcov ") {

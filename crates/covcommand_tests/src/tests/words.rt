@@ -6,7 +6,8 @@ use std::alloc::Global;
 use std::process::Abort;
 use std::test::*;
 
-/// A word that is UTF-8 is taken as it is, another one is reported with its place and its printable bytes.
+/// A word that is UTF-8 is taken as it is. Any other word is reported with its place and its bytes, of which those that can't be
+/// printed are a `?`.
 #[test]
 fn words_as_text(rt: HostRuntime) -> Result<(), Fail> {
     check_word(&rt, 2, b"my files/a.info", "my files/a.info")?;
@@ -26,7 +27,7 @@ fn words_as_text(rt: HostRuntime) -> Result<(), Fail> {
     )
 }
 
-/// The word at this place has this answer.
+/// Checks that the word at this place is taken as `wanted`, or refused in these words.
 fn check_word(
     rt: &(impl Abort + AllocGlobal),
     place: usize,
@@ -38,7 +39,7 @@ fn check_word(
     Ok(())
 }
 
-/// The word as text, without its contracts.
+/// The word as text, or its refusal. This function has no contract.
 fn taken(alloc: Global, place: usize, word: &[u8]) -> Result<String, CommandFault> {
     word_at(alloc, place, word)
 }

@@ -1,5 +1,5 @@
-//! A shared book from its opening to its history. A refusal here ends the test at once: a function of the tests that may
-//! return early drops its book and its seats on each way out, and each of these ways is proved.
+//! A shared book from its opening to its history. These functions panic at a refusal. A function that returned early would have
+//! to drop its book and its seats on each way out, and each of these ways would have to be proved.
 
 ghost use Rattle.std.specs.Prelude.{◌≡◌};
 
@@ -27,7 +27,7 @@ pub(super) fn opened<L: Name, A: Allocator + Copy>(
     }
 }
 
-/// The history of the book, whose seats are all here, and news of it.
+/// Closes the book with all of its seats, and returns its history, and news of it.
 pub(super) fn closed<L: Name, A: Allocator, R: Wait + Abort>(
     rt: &R,
     book: Shared<L, A>,
@@ -39,7 +39,7 @@ pub(super) fn closed<L: Name, A: Allocator, R: Wait + Abort>(
     }
 }
 
-/// The history of the book, whose seats are all here.
+/// Closes the book with all of its seats, and returns its history.
 pub(super) fn history_of<L: Name, A: Allocator, R: Wait + Abort>(
     rt: &R,
     book: Shared<L, A>,
@@ -48,7 +48,8 @@ pub(super) fn history_of<L: Name, A: Allocator, R: Wait + Abort>(
     closed(rt, book, seats).0
 }
 
-/// The operation of this name; a submission is of the small tracefile.
+/// The operation of this name, if there is one. `submit` submits the small tracefile, `drop` drops the test `x`, and `rename`
+/// renames the test `t` to `v`.
 fn made(alloc: Global, name: &[u8]) -> Option<Op> {
     match name {
         b"submit" => submit(alloc, SMALL),
@@ -60,7 +61,7 @@ fn made(alloc: Global, name: &[u8]) -> Option<Op> {
     }
 }
 
-/// The operation of this name.
+/// The operation of this name, as by `made`. Panics if there is none.
 pub(super) fn op_of(rt: &impl Abort, alloc: Global, name: &[u8]) -> Op {
     match made(alloc, name) {
         Some(op) => op,
@@ -68,7 +69,7 @@ pub(super) fn op_of(rt: &impl Abort, alloc: Global, name: &[u8]) -> Op {
     }
 }
 
-/// The seat's call succeeds, with this receipt and these news.
+/// The receipt and the news of the seat's call. Panics if the call is refused.
 pub(super) fn done_of<L: Name, R: Wait + Abort>(
     rt: &R,
     alloc: Global,
@@ -82,7 +83,7 @@ pub(super) fn done_of<L: Name, R: Wait + Abort>(
     }
 }
 
-/// The seat's call succeeds, with this receipt.
+/// The receipt of the seat's call. Panics if the call is refused.
 pub(super) fn receipt_of<L: Name, R: Wait + Abort>(
     rt: &R,
     alloc: Global,
@@ -93,7 +94,7 @@ pub(super) fn receipt_of<L: Name, R: Wait + Abort>(
     done_of(rt, alloc, book, seat, op).receipt
 }
 
-/// The log takes the receipt.
+/// Appends the receipt to the log.
 pub(super) fn keep(rt: &impl Abort, log: &mut JobLog, receipt: Receipt) {
     if log.receipts.push(receipt).is_err() {
         panic!(rt; "out of memory");

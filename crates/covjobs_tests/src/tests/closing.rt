@@ -1,4 +1,4 @@
-//! Books that are closed with a seat missing.
+//! A book isn't closed while one of its seats is missing.
 
 ghost use Rattle.std.specs.Prelude.{◌≡◌};
 
@@ -11,7 +11,7 @@ use std::process::Abort;
 use std::sync::Wait;
 use std::test::*;
 
-/// Job 0's submission and its summary, asked before and after the first refusal.
+/// The wanted entries: job 0 submits before the first refusal, and asks for a summary after it.
 const ENTRIES: &[u8] = b"\
 0 submit: accepted 1 2 0 
 0 summary: Summary coverage rate:
@@ -37,7 +37,8 @@ fn close_without<L: Name, R: Wait + Abort>(
     }
 }
 
-/// Checks that the first of the seats is job 0's and asks this, which is the job's call number `calls`.
+/// Asks for the operation of this name by the first seat. Checks that this seat is job 0's, and that `calls` of its calls have
+/// now succeeded.
 fn check_usable<L: Name, R: Wait + Abort + AllocGlobal>(
     rt: &R,
     book: &Shared<L>,
@@ -83,8 +84,8 @@ fn refused_once<L: Name, R: Wait + Abort + AllocGlobal>(
     (book, seats)
 }
 
-/// Of two seats the second is kept back, then both are, and then both are handed in: what was asked before a refusal and
-/// after it is in the history.
+/// Tries to close a book of two seats without the second one, then without both, and at last closes it with both. What was
+/// asked before and after a refusal is in the history.
 fn kept_back<L: Name, R: Wait + Abort + AllocGlobal>(rt: &R, start: Start)
     requires name { start.name ≡ L.name }
     requires jobs { start.jobs ≡ L.parts }

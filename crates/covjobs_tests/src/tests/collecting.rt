@@ -39,7 +39,7 @@ pub(super) fn traces(alloc: Global, texts: &[&[u8]]) -> Result<Vec<Input>, Fail>
     Ok(inputs)
 }
 
-/// What `jobs` jobs collect of the inputs, with this last operation.
+/// What `jobs` jobs collect of the inputs, with this last operation, or the fault.
 fn answered<R: Threads + Wait + Sync + AllocGlobal, G: Gate + Sync>(
     rt: &R,
     inputs: &[Input],
@@ -50,7 +50,7 @@ fn answered<R: Threads + Wait + Sync + AllocGlobal, G: Gate + Sync>(
     collect(rt, rt.alloc(), inputs, last, jobs, gate)
 }
 
-/// What `jobs` jobs do collect of the inputs, with this last operation.
+/// What `jobs` jobs collect of the inputs, with this last operation. Panics at a fault.
 fn collected_after<R: Threads + Wait + Sync + AllocGlobal + Abort, G: Gate + Sync>(
     rt: &R,
     inputs: &[Input],
@@ -64,7 +64,7 @@ fn collected_after<R: Threads + Wait + Sync + AllocGlobal + Abort, G: Gate + Syn
     }
 }
 
-/// What `jobs` jobs do collect of the inputs, with the report as the last operation.
+/// What `jobs` jobs collect of the inputs, with the report as the last operation. Panics at a fault.
 pub(super) fn collected_of<R: Threads + Wait + Sync + AllocGlobal + Abort, G: Gate + Sync>(
     rt: &R,
     inputs: &[Input],
@@ -74,7 +74,7 @@ pub(super) fn collected_of<R: Threads + Wait + Sync + AllocGlobal + Abort, G: Ga
     collected_after(rt, inputs, &Op::Report, jobs, gate)
 }
 
-/// The last operation may rename what the inputs brought.
+/// The last operation renames the test of the only input.
 fn rename_at_the_end<R: Threads + Wait + Sync + AllocGlobal + Abort>(rt: &R) -> Result<(), Fail> {
     let inputs = traces(rt.alloc(), &[SMALL])?;
     let last = op_of(rt, rt.alloc(), b"rename");
@@ -89,7 +89,7 @@ fn a_rename_at_the_end(rt: HostRuntime) -> Result<(), Fail> {
     rename_at_the_end(&rt)
 }
 
-/// Whether these alone are refused: one input at this place, outside a section at its first line.
+/// Whether the only refused input is the one at this place, since its first line is a record outside of any section.
 fn is_outside(refused: &[RefusedInput], index: usize) -> bool {
     match refused.split_first() {
         Some((first, [])) => {
@@ -99,7 +99,7 @@ fn is_outside(refused: &[RefusedInput], index: usize) -> bool {
     }
 }
 
-/// The second of three inputs can't be read, and it is all that job 1 has.
+/// The second of three inputs can't be read. Job 1 has no other input.
 fn one_refused<R: Threads + Wait + Sync + AllocGlobal + Abort>(rt: &R) -> Result<(), Fail> {
     let inputs = traces(rt.alloc(), &[SMALL, b"DA:1,1", SMALL])?;
     let collected = collected_of(rt, inputs.as_slice(), 2, &NoGate);
@@ -125,7 +125,7 @@ fn check_log(rt: &impl Abort, log: Option<&JobLog>, receipts: usize, readings: u
     }
 }
 
-/// Job 0 submits two of three inputs and asks for the report, job 1 submits one.
+/// Job 0 submits two of three inputs, and asks for the report. Job 1 submits the other input.
 fn read_by_two<R: Threads + Wait + Sync + AllocGlobal + Abort>(rt: &R) -> Result<(), Fail> {
     let inputs = traces(rt.alloc(), &[SMALL, SMALL, SMALL])?;
     let collected = collected_of(rt, inputs.as_slice(), 2, &NoGate);

@@ -1,4 +1,4 @@
-//! Workers run at once: each waits for what only another one does.
+//! Workers run at the same time: in a gate, one waits for what only another one does.
 
 use super::collecting::{collected_of, trace, traces};
 use super::turns::SMALL;
@@ -13,7 +13,7 @@ use std::thread::Threads;
 /// How often a flag is looked at until a worker gives up.
 const MAX_TURNS: u64 = 1_000_000_000;
 
-/// A flag that goes up once.
+/// A flag that is down at first. Once it is raised, it stays up.
 #[derive(Drop)]
 struct Flag {
     up: AtomicU64,
@@ -34,7 +34,7 @@ impl Flag {
         self.up.load(Ordering::SeqCst) == 1
     }
 
-    /// Turns until the flag is up, or gives up.
+    /// Looks at the flag again and again until it is up. Returns `false` if it gives up.
     fn is_seen(&self) -> bool {
         for _turn in 0..MAX_TURNS {
             if self.is_up() {
@@ -126,7 +126,7 @@ impl Gate for Order {
     }
 }
 
-/// Job 1 waits before its first submit until job 0's first one is over. Job 0 goes on from there when job 1 comes to its second.
+/// Job 1 waits before its first submit until job 0's first one is over. Then job 0 waits until job 1 comes to its second submit.
 #[derive(Drop)]
 struct Between {
     over: Flag,
@@ -155,7 +155,7 @@ impl Gate for Between {
     }
 }
 
-/// The calls around one job's submits, counted in their order.
+/// Counts the calls of the gate around job 0's submits, and checks their order.
 #[derive(Drop)]
 struct Steps {
     taken: AtomicU64,
@@ -163,7 +163,7 @@ struct Steps {
 }
 
 impl Steps {
-    /// This is job 0's, and the next one.
+    /// Counts the call of this number. Raises `wrong` unless the call is job 0's and its number comes next.
     fn take(&self, job: u32, step: u64) {
         let taken = self.taken.load(Ordering::SeqCst);
         if job != 0 || step != taken {
@@ -183,7 +183,7 @@ impl Gate for Steps {
     }
 }
 
-/// Two jobs take an input each, with this gate.
+/// Two jobs submit an input each, with this gate. The third entry is the report.
 fn two_jobs<R: Threads + Wait + Sync + AllocGlobal + Abort, G: Gate + Sync>(
     rt: &R,
     gate: &G,
@@ -204,7 +204,7 @@ fn both_at_once(rt: HostRuntime) -> Result<(), Fail> {
     Ok(())
 }
 
-/// Checks that the log has one reading, and after how many entries.
+/// Checks that the log has one reading, and that this is of `upto` entries.
 fn check_reading(rt: &impl Abort, log: &JobLog, upto: u64) {
     match log.readings.get().split_first() {
         Some((reading, [])) => assert_eq!(rt; reading.upto, upto),
@@ -212,7 +212,7 @@ fn check_reading(rt: &impl Abort, log: &JobLog, upto: u64) {
     }
 }
 
-/// Two jobs submit an input each, and read when both are done.
+/// Two jobs submit an input each, and read the totals after both submits.
 fn read_when_both_are_done<R: Threads + Wait + Sync + AllocGlobal + Abort>(
     rt: &R,
 ) -> Result<(), Fail> {
@@ -228,13 +228,14 @@ fn read_when_both_are_done<R: Threads + Wait + Sync + AllocGlobal + Abort>(
     Ok(())
 }
 
-/// A job reads what is published after its submit, not what its own call was told, and before the last operation.
+/// A job's reading has all that is published when it reads, and not only what its own submit returned. It comes before the last
+/// operation.
 #[test]
 fn a_reading_sees_other_jobs(rt: HostRuntime) -> Result<(), Fail> {
     read_when_both_are_done(&rt)
 }
 
-/// The job submits after the other one.
+/// Two jobs submit an input each, and this job does so after the other one.
 fn is_second<R: Threads + Wait + Sync + AllocGlobal + Abort>(rt: &R, job: u32) -> Result<(), Fail> {
     let gate = Order {
         second: job,
@@ -256,7 +257,7 @@ fn second_job_waits(rt: HostRuntime) -> Result<(), Fail> {
     is_second(&rt, 1)
 }
 
-/// The first entry is this job's.
+/// Checks that the first entry is this job's.
 fn check_first(rt: &impl Abort, entries: &[Entry], job: u32) {
     match entries.first() {
         Some(entry) => assert_eq!(rt; entry.job, job),
@@ -278,13 +279,14 @@ fn first_is_held<R: Threads + Wait + Sync + AllocGlobal + Abort>(rt: &R) -> Resu
     Ok(())
 }
 
-/// A gate's `after` is called after the submit: job 1 begins when job 0 is there, and still job 0's entry is the first one.
+/// A gate's `after` is called after the submit. In it, job 0 lets job 1 begin, and waits until job 1 has submitted. Since job 0's
+/// own submit is over by then, its entry is the first one.
 #[test]
 fn after_is_after_the_submit(rt: HostRuntime) -> Result<(), Fail> {
     first_is_held(&rt)
 }
 
-/// One job takes two inputs and one that can't be read, with this gate.
+/// One job collects three inputs, one of which can't be read, with this gate.
 fn one_job<R: Threads + Wait + Sync + AllocGlobal + Abort, G: Gate + Sync>(
     rt: &R,
     gate: &G,
@@ -295,8 +297,8 @@ fn one_job<R: Threads + Wait + Sync + AllocGlobal + Abort, G: Gate + Sync>(
     Ok(())
 }
 
-/// Each submit has a call before it and one after it, with its number. A text that isn't read has none, and nor has the
-/// last operation.
+/// The gate is called before each submit and after it, with the submit's number. It isn't called for a text that can't be read,
+/// nor for the last operation.
 #[test]
 fn around_each_submit(rt: HostRuntime) -> Result<(), Fail> {
     let gate = Steps {

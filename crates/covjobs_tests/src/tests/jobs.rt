@@ -1,4 +1,4 @@
-//! How many jobs share a book.
+//! How many jobs may share a book, and the numbers of the faults.
 
 use super::wrappers::start;
 use covjobs::{CloseFault, OpenFault};

@@ -1,5 +1,6 @@
-//! What the jobs of a shared book kept, gathered with its history. These tests refuse what no contract of a call can: an answer
-//! from an old copy of the book, a closed history that is another legal one, and steps that are all refused.
+//! What the jobs of a shared book kept, gathered with its history. `gather` finds what no contract of a single call excludes: an
+//! answer from an old copy of the book, and a closed history that is another legal one. A book that refuses all steps, which the
+//! contracts allow, fails these tests.
 
 ghost use Rattle.std.specs.Prelude.{◌≡◌};
 
@@ -15,7 +16,7 @@ use std::process::Abort;
 use std::sync::Wait;
 use std::test::*;
 
-/// Two jobs ask in turn what the lines name, and keep what they are answered.
+/// Two jobs take turns to ask for the operations that the lines name. Each keeps its receipts in its log.
 fn keep_turns<L: Name, R: Wait + Abort>(
     rt: &R,
     alloc: Global,
@@ -55,7 +56,8 @@ fn in_turn<L: Name, R: Wait + Abort + AllocGlobal>(
     (history_of(rt, book, seats), logs)
 }
 
-/// The history of a book that two jobs share, who ask in turn what the lines name, and what each of them kept.
+/// Two jobs share a book, and take turns to ask for the operations that the lines name. Returns the book's history, and the log
+/// of each job.
 fn history<R: Wait + Abort + AllocGlobal>(
     rt: &R,
     lines: &[u8],
@@ -117,7 +119,7 @@ end_of_record
 
 ";
 
-/// A rename is a call like others: it has its entry, and its receipt is gathered.
+/// A rename has an entry like any other operation, and its receipt is gathered too.
 #[test]
 fn a_rename_among_six_calls(rt: HostRuntime) -> Result<(), Fail> {
     let (entries, logs) = history(&rt, b"submit\nsubmit\nsummary\nrename\nreport\nsummary")?;
@@ -126,13 +128,13 @@ fn a_rename_among_six_calls(rt: HostRuntime) -> Result<(), Fail> {
     Ok(())
 }
 
-/// The first log differs from the history in its first receipt.
+/// Checks that `gather` refuses the logs since the first receipt of the first log differs from its entry.
 fn check_differs(rt: &impl Abort, entries: &Entries, logs: &[JobLog]) {
     let told = gathered(entries.get(), logs);
     assert!(rt; told == Err(GatherFault::Differs { log: 0, index: 0 }));
 }
 
-/// The log of a report at place 4 that has this answer.
+/// A log of job 0 with one receipt: of a report at place 4, with this answer.
 fn report_log(rt: &impl Abort, alloc: Global, answer: Answer) -> JobLog {
     let mut log = JobLog {
         job: 0,
@@ -148,14 +150,14 @@ fn report_log(rt: &impl Abort, alloc: Global, answer: Answer) -> JobLog {
     log
 }
 
-/// The first log is this one.
+/// Replaces the first log by this one.
 fn put_first(logs: &mut [JobLog], first: JobLog) {
     if let Some(log) = logs.first_mut() {
         *log = first;
     }
 }
 
-/// The report after two submissions is answered as if only the first had come.
+/// `gather` refuses a report after two submissions whose answer has only the first submission.
 #[test]
 fn answer_from_an_old_copy(rt: HostRuntime) -> Result<(), Fail> {
     let first = report_log(&rt, rt.alloc(), old_report(&rt)?);
@@ -165,7 +167,7 @@ fn answer_from_an_old_copy(rt: HostRuntime) -> Result<(), Fail> {
     Ok(())
 }
 
-/// The history of another book, as long and legal too, isn't the one that the logs are of.
+/// `gather` refuses the history of another book, although it is legal, and as long as the history that the logs are of.
 #[test]
 fn another_history(rt: HostRuntime) -> Result<(), Fail> {
     let (_entries, logs) = history(&rt, ASKED)?;
@@ -174,7 +176,7 @@ fn another_history(rt: HostRuntime) -> Result<(), Fail> {
     Ok(())
 }
 
-/// The first log gets this reading.
+/// Appends this reading to the first log.
 fn read_in_first(rt: &impl Abort, logs: &mut [JobLog], reading: Reading) {
     if let Some(log) = logs.first_mut() {
         if log.readings.push(reading).is_err() {
@@ -183,7 +185,7 @@ fn read_in_first(rt: &impl Abort, logs: &mut [JobLog], reading: Reading) {
     }
 }
 
-/// After two submissions the totals aren't zeros.
+/// `gather` refuses a reading of zeros after two submissions.
 #[test]
 fn a_bad_reading(rt: HostRuntime) -> Result<(), Fail> {
     let (entries, mut logs) = history(&rt, ASKED)?;

@@ -21,7 +21,7 @@ fn reader_of<L: Name, R: Wait + Abort>(rt: &R, book: &Shared<L>) -> Live<L> {
     }
 }
 
-/// Checks how many entries the reading is of, and how many lines it finds and hits; nothing else is found.
+/// Checks how many entries the reading is of, and how many lines are found and hit after them. Nothing else is found.
 fn check_reading(rt: &impl Abort, reading: Reading, upto: u64, found: u64, hit: u64) {
     let totals = reading.totals;
     assert_eq!(rt; reading.upto, upto);
@@ -58,7 +58,7 @@ fn submitted<L: Name, R: Wait + Abort>(
     }
 }
 
-/// Two readers are made before a submit. One learns its news, the other only looks.
+/// Two readers are made before a submit. One learns the news of the submit, and the other doesn't. Both report the submit.
 fn read_by_two<L: Name, R: Wait + Abort + AllocGlobal>(rt: &R, start: Start)
     requires name { start.name ≡ L.name }
     requires jobs { start.jobs ≡ L.parts }
@@ -81,8 +81,8 @@ fn a_submit_is_read(rt: HostRuntime) -> Result<(), Fail> {
     Ok(())
 }
 
-/// One reader has read the last entry; one was made after it and one before the first, and these two were never asked. Then the
-/// book is closed.
+/// Three readers of a book that is closed after its only entry. One has read this entry. One was made before the entry and one
+/// after it, and neither of these two has read. Of these, the early one reports no entries until it learns the news.
 fn kept_over_close<L: Name, R: Wait + Abort + AllocGlobal>(rt: &R, start: Start)
     requires name { start.name ≡ L.name }
     requires jobs { start.jobs ≡ L.parts }
@@ -108,7 +108,7 @@ fn readers_of_a_closed_book(rt: HostRuntime) -> Result<(), Fail> {
     Ok(())
 }
 
-/// Readers of the book, of this number.
+/// Makes `count` readers of the book.
 fn readers_of<L: Name, R: Wait + Abort>(
     rt: &R,
     alloc: Global,
@@ -132,7 +132,7 @@ fn has_no_place<L: Name, R: Wait>(rt: &R, book: &Shared<L>) -> bool {
     }
 }
 
-/// There are places for 64 readers, also after a call, and they are dropped before the book is closed.
+/// After a call there are places for 64 readers, and for no more. The readers are dropped before the book is closed.
 fn all_places<L: Name, R: Wait + Abort + AllocGlobal>(rt: &R, start: Start)
     requires name { start.name ≡ L.name }
     requires jobs { start.jobs ≡ L.parts }
@@ -158,10 +158,10 @@ fn numbers_of_reader_faults(rt: HostRuntime) {
     assert_eq!(rt; ReaderFault::Memory.number(), 2);
 }
 
-/// How often the small tracefile is submitted, and the totals are read, at once.
+/// How often the small tracefile is submitted, and how often the totals are read at the same time.
 const TIMES: u64 = 1000;
 
-/// What a job kept of its submits, its seat among the seats, and the news of the last one.
+/// What many submits leave: the seats, the job's log, and the news of the last submit.
 #[derive(Drop)]
 struct Told<L: Name> {
     seats: Vec<Seat<L>>,
@@ -169,7 +169,7 @@ struct Told<L: Name> {
     last: Option<News<L>>,
 }
 
-/// Job 0 submits the small tracefile many times.
+/// Job 0 submits the small tracefile `TIMES` times.
 fn submit_often<L: Name, R: Wait + Abort>(
     rt: &R,
     alloc: Global,
@@ -187,7 +187,7 @@ fn submit_often<L: Name, R: Wait + Abort>(
     Told { seats, log, last }
 }
 
-/// The log of job 0, with nothing in it.
+/// A log of job 0 without receipts and readings.
 fn empty_log(alloc: Global) -> JobLog {
     JobLog {
         job: 0,
@@ -196,7 +196,7 @@ fn empty_log(alloc: Global) -> JobLog {
     }
 }
 
-/// Submits, keeps the receipt, and gives the news.
+/// Submits, keeps the receipt in the log, and returns the news.
 fn submit_once<L: Name, R: Wait + Abort>(
     rt: &R,
     alloc: Global,
@@ -210,14 +210,14 @@ fn submit_once<L: Name, R: Wait + Abort>(
     done.news
 }
 
-/// What a reader read, and the reader.
+/// A reader, and the readings that it made.
 #[derive(Drop)]
 struct Watched<L: Name> {
     live: Live<L>,
     readings: Readings,
 }
 
-/// Reads the totals as often as they are submitted. The number of entries never falls.
+/// Reads the totals `TIMES` times. Checks that the number of entries never falls.
 fn watch<L: Name>(rt: &impl Abort, alloc: Global, mut live: Live<L>) -> Watched<L> {
     let mut readings = Readings::new(alloc);
     let mut seen = 0;
@@ -230,7 +230,7 @@ fn watch<L: Name>(rt: &impl Abort, alloc: Global, mut live: Live<L>) -> Watched<
     Watched { live, readings }
 }
 
-/// The reading has no fewer entries than were seen, at most as many as are submitted, and their totals.
+/// Checks that the reading has at least `seen` entries and at most `TIMES`, and the totals after them.
 fn check_rises(rt: &impl Abort, reading: Reading, seen: u64) {
     assert!(rt; seen <= reading.upto);
     assert!(rt; reading.upto <= TIMES);
@@ -247,7 +247,7 @@ fn keep_reading(rt: &impl Abort, readings: &mut Readings, reading: Reading) {
     }
 }
 
-/// The reader learns the last news, and reads once more.
+/// The reader learns the last news, and reads once more. Returns all of its readings.
 fn read_last<L: Name>(rt: &impl Abort, watched: Watched<L>, last: Option<News<L>>) -> Readings {
     let Watched {
         mut live,
@@ -263,7 +263,7 @@ fn read_last<L: Name>(rt: &impl Abort, watched: Watched<L>, last: Option<News<L>
     readings
 }
 
-/// The closed book has an entry for each submit, and is gathered with what was kept and read.
+/// Closes the book. Checks that it has an entry for each submit, and that `gather` accepts its history with the log.
 fn check_closed<L: Name, R: Wait + Abort>(
     rt: &R,
     book: Shared<L>,

@@ -1,4 +1,4 @@
-//! Steps that are refused: because memory ran out, and because the history is full.
+//! Steps that are refused because memory ran out, or because the history is full.
 
 ghost use Rattle.std.specs.Prelude.{◌≡◌};
 
@@ -13,7 +13,7 @@ use std::process::Abort;
 use std::sync::Wait;
 use std::test::*;
 
-/// How many summaries the seat gets before one is refused, at most `most`, and the fault.
+/// Asks for summaries until one is refused, at most `most` times. Returns how many were answered, and the fault if there was one.
 fn summaries<L: Name, A: Allocator + Copy, R: Wait>(
     rt: &R,
     alloc: A,
@@ -34,8 +34,8 @@ fn check_seat<L: Name>(rt: &impl Abort, seat: &Seat<L>, calls: u64) {
     assert_eq!(rt; (seat.calls(), seat.seen()), (calls, calls));
 }
 
-/// The seat asks until the heap has no more room but for what is kept back here, and how often that succeeded: then the seat is
-/// as it was.
+/// Asks for summaries until the heap has no more room, and returns how many were answered. Meanwhile a part of the heap is kept
+/// back here, so that there is room again later. The refused call leaves the seat as it was.
 fn fill_heap<L: Name, A: Allocator + Copy, R: Wait + Abort>(
     rt: &R,
     alloc: A,
@@ -68,7 +68,7 @@ fn check_refusal<L: Name, A: Allocator + Copy, R: Wait + Abort>(
     check_seat(rt, seat, succeeded.wrapping_add(1));
 }
 
-/// The only seat fills the heap, and goes on.
+/// The only seat fills the heap, and can still be used when there is room again.
 fn no_room<L: Name, A: Allocator + Copy, R: Wait + Abort>(rt: &R, alloc: A, start: Start<A>)
     requires name { start.name ≡ L.name }
     requires jobs { start.jobs ≡ L.parts }
@@ -81,7 +81,7 @@ fn no_room<L: Name, A: Allocator + Copy, R: Wait + Abort>(rt: &R, alloc: A, star
     check_length(rt, book, seats);
 }
 
-/// The closed history has as many entries as the only seat counts calls.
+/// Closes the book, and checks that its history has as many entries as the only seat counts calls.
 fn check_length<L: Name, A: Allocator, R: Wait + Abort>(
     rt: &R,
     book: Shared<L, A>,

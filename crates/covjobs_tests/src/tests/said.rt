@@ -1,4 +1,4 @@
-//! What was answered, in bytes.
+//! Receipts and entries in words, as bytes.
 
 use covbook::{Answer, Entry, Op, Receipt};
 use std::alloc::AllocError;
@@ -9,7 +9,7 @@ fn put_number(text: &mut Vec<u8>, number: u64) -> Result<(), AllocError> {
     text.extend_from_slice(decimal.as_bytes())
 }
 
-/// Appends the numbers of an accepted submission.
+/// Appends the word `accepted` and the numbers of an accepted submission.
 fn put_accepted(text: &mut Vec<u8>, number: u64, items: u64, odd: u64) -> Result<(), AllocError> {
     text.extend_from_slice(b"accepted ")?;
     put_number(text, number)?;
@@ -31,7 +31,7 @@ fn put_op(text: &mut Vec<u8>, op: &Op) -> Result<(), AllocError> {
     text.extend_from_slice(word)
 }
 
-/// Appends an answer, with its numbers or its text.
+/// Appends an answer with its numbers or its text, and a line feed. Of a clash only the word is appended.
 fn put_answer(text: &mut Vec<u8>, answer: &Answer) -> Result<(), AllocError> {
     match answer {
         Answer::Accepted { number, items, odd } => put_accepted(text, *number, *items, *odd)?,

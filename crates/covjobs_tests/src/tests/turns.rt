@@ -64,10 +64,10 @@ end_of_record
 
 ";
 
-/// What the two jobs ask in turn, a line each.
+/// The operations that the two jobs ask for in turn, one on each line.
 pub(super) const ASKED: &[u8] = b"submit\nsubmit\nsummary\ndrop\nreport\nsummary";
 
-/// Two jobs ask in turn what the lines name, and are answered this.
+/// Two jobs take turns to ask for the operations of `ASKED`. Checks the words of all receipts.
 fn check_answers<L: Name, R: Wait + Abort>(
     rt: &R,
     alloc: Global,
@@ -92,7 +92,7 @@ fn put(rt: &impl Abort, text: &mut Vec<u8>, receipt: &Receipt) {
     }
 }
 
-/// Checks what the entries say.
+/// Checks the words of all entries, as by `put_entries`.
 pub(super) fn check_entries(rt: &(impl Abort + AllocGlobal), entries: &[Entry], wanted: &[u8]) {
     let mut text = Vec::new(rt.alloc());
     if put_entries(&mut text, entries).is_err() {
@@ -111,7 +111,7 @@ fn put_seats<L: Name>(numbers: &mut Vec<u64>, seats: &[Seat<L>]) -> Result<(), A
     Ok(())
 }
 
-/// Checks what the seats show.
+/// Checks the numbers of the seats, as by `put_seats`.
 fn check_seats<L: Name>(rt: &(impl Abort + AllocGlobal), seats: &[Seat<L>], wanted: &[u64]) {
     let mut numbers = Vec::new(rt.alloc());
     if put_seats(&mut numbers, seats).is_err() {

@@ -1,4 +1,4 @@
-//! Calls without their contracts: a test looks at values, and its proof is quicker if it knows nothing else.
+//! Calls in functions without contracts. A test looks only at values, and its proof is quicker without contracts.
 
 ghost use Rattle.std.specs.Prelude.{◌≡◌};
 
@@ -92,7 +92,7 @@ pub(super) fn submit(alloc: Global, text: &[u8]) -> Option<Op> {
     Some(Op::Submit(SubRef::of(alloc, trace).ok()?))
 }
 
-/// The operation that renames the one test to the other name.
+/// The operation that renames the test `old` to `new`.
 pub(super) fn rename_of(alloc: Global, old: &[u8], new: &[u8]) -> Option<Op> {
     Some(Op::Rename {
         old: Bytes::of(alloc, old).ok()?,

@@ -33,7 +33,7 @@ fn check_counted(
     Ok(())
 }
 
-/// What the first lines of one text give, for each line that they may end with.
+/// What beginnings of one text give. After `> ` is what all the lines above it give together.
 #[test]
 fn first_lines(rt: HostRuntime) -> Result<(), Fail> {
     let lines = b"> sections 0 items 0
@@ -75,7 +75,7 @@ branch  0 never executed
     Ok(())
 }
 
-/// No session gives such a name to the reader.
+/// Names of tests that no tracefile can hold are refused. No session gives the reader such a name.
 #[test]
 fn unlawful_names(rt: HostRuntime) -> Result<(), Fail> {
     for name in b"a\nb|\n|a\r|\r".split(|byte| *byte == b'|') {
@@ -92,7 +92,7 @@ fn longest_text(rt: HostRuntime) -> Result<(), Fail> {
     check_counted(&rt, b"t", &text[1..], b"sections 0 items 0")
 }
 
-/// A text of line feeds alone has as many blank lines.
+/// The same for a text of line feeds alone, all of whose lines are blank.
 #[test]
 fn most_line_feeds(rt: HostRuntime) -> Result<(), Fail> {
     let text = vec![in rt.alloc(); b'\n'; 67_108_865]?;

@@ -46,7 +46,8 @@ fn check_told(
     Ok(())
 }
 
-/// Texts are lines of one literal; after each comes what is reported of it.
+/// Checks texts, one after the other. A line that begins with `> ` ends a text, and is what has to be reported of it. The other
+/// lines are the text.
 fn check_all(rt: &(impl Abort + AllocGlobal), kind: Kind, lines: &[u8]) -> Result<(), Fail> {
     let mut text: Vec<u8> = Vec::new(rt.alloc());
     for line in lines.split(|byte| *byte == b'\n') {
@@ -61,9 +62,10 @@ fn check_all(rt: &(impl Abort + AllocGlobal), kind: Kind, lines: &[u8]) -> Resul
     Ok(())
 }
 
-/// The second text has an empty line, the fifth begins with a line of spaces and a tab, and the seventh with a byte order mark.
-/// A beginning ends at a colon, a space or a tab, and neither at a comma nor at `<`. Bytes from 33 to 126 are shown. A record
-/// without the colon of its key isn't read.
+/// The second text has an empty line, and the third is empty. The fifth begins with a line of a tab and spaces, and the seventh
+/// with a byte order mark. Of the first skipped line at most 16 bytes are reported: the colons, spaces and tabs at its front, and
+/// what follows them up to the next colon, space or tab. A comma or a `<` doesn't end this. Bytes from 33 to 126 are shown, and
+/// each other byte is a `?`. A record without the colon of its key isn't read.
 #[test]
 fn checked_tracefiles(rt: HostRuntime) -> Result<(), Fail> {
     check_all(
@@ -151,7 +153,7 @@ call    2 returned 3
     )
 }
 
-/// Whether a tracefile has an item.
+/// Checks whether a tracefile has an item.
 fn check_has_item(rt: &(impl Abort + AllocGlobal), text: &[u8], wanted: bool) -> Result<(), Fail> {
     let has_item = match checked(rt.alloc(), text) {
         Ok(summary) => summary.has_item(),
@@ -168,7 +170,7 @@ fn texts_with_and_without_items(rt: HostRuntime) -> Result<(), Fail> {
     check_has_item(&rt, b"<html>\n", false)
 }
 
-/// Of a line of each shape, and of blank lines and lines of no shape.
+/// A line of each shape fits a shape. A blank line fits none, and neither do some others.
 #[test]
 fn lines_of_no_shape(rt: HostRuntime) {
     for line in b"------|function f called 1|branch 0 never executed|branch 0 taken 1|1: 2-block 3|1: 2:x".split(

@@ -20,7 +20,7 @@ fn counted(alloc: Global, text: &[u8]) -> Result<String, Fail> {
     })
 }
 
-/// What the first `n` bytes of the text below give.
+/// What the first `n` bytes of the text in `first_bytes` give.
 fn wanted_of(n: usize) -> &'static [u8] {
     match n {
         0..=7 => b"items 0 odd 0",
@@ -51,7 +51,7 @@ fn million(alloc: Global, digit: u8) -> Result<Vec<u8>, Fail> {
     Ok(vec![in alloc; digit; 1_000_000]?)
 }
 
-/// The text with a million zeros in the place of each star, and a million nines in that of each plus.
+/// The text with a million zeros in place of each `*`, and a million nines in place of each `+`.
 fn filled(alloc: Global, text: &[u8]) -> Result<Vec<u8>, Fail> {
     let mut filled = Vec::new(alloc);
     for byte in text {
@@ -80,7 +80,7 @@ fn told(alloc: Global, given: Result<Submission, ReadFault>) -> Result<Vec<u8>, 
     Ok(told)
 }
 
-/// Checks what is read of the text of this name, both filled.
+/// Checks what is read of a text. Both the text and what is wanted are filled first, by `filled`.
 fn check_filled(
     rt: &(impl Abort + AllocGlobal),
     name: &[u8],
@@ -114,7 +114,7 @@ fn check_all(rt: &(impl Abort + AllocGlobal), examples: &[u8]) -> Result<(), Fai
     Ok(())
 }
 
-/// Leading zeros say nothing, and neither do the digits of a count below 0.
+/// Leading zeros of a number don't matter, and the digits of a count below 0 don't either.
 #[test]
 fn long_numbers(rt: HostRuntime) -> Result<(), Fail> {
     check_all(
@@ -157,7 +157,7 @@ end_of_record
     )
 }
 
-/// Only LF ends a line, only CRs before it are dropped, and every other byte is one like others.
+/// Only an LF ends a line, and only CRs right before it are dropped. Every other byte can be a part of a name.
 #[test]
 fn bytes_of_names(rt: HostRuntime) -> Result<(), Fail> {
     check_all(
@@ -194,7 +194,7 @@ end_of_record\x00
     )
 }
 
-/// So are the names in annotated source.
+/// The same for the names in annotated source.
 #[test]
 fn bytes_of_annotated_names(rt: HostRuntime) -> Result<(), Fail> {
     let text = b"-:0:Source:\xff\r\x00\r\r\r\nfunction \x00\r\xff called 2\n1:3:\x00\xff\n";

@@ -1,4 +1,4 @@
-//! Limits, and what is large.
+//! The longest texts, and a long section.
 
 use super::wrappers::read;
 use covread::ReadFault;
@@ -30,7 +30,7 @@ fn longest_text(rt: HostRuntime) -> Result<(), Fail> {
     Ok(())
 }
 
-/// A text of line feeds alone has as many blank lines.
+/// The same for a text of line feeds alone, all of whose lines are blank.
 #[test]
 fn most_line_feeds(rt: HostRuntime) -> Result<(), Fail> {
     let text = vec![in rt.alloc(); b'\n'; 67_108_865]?;
@@ -39,7 +39,7 @@ fn most_line_feeds(rt: HostRuntime) -> Result<(), Fail> {
     Ok(())
 }
 
-/// Appends the records of a line, a function and a branch with this number, which is also their count.
+/// Appends the records of a line, a function and a branch of this number. The number is also their count.
 fn push_point(alloc: Global, n: u64, text: &mut Vec<u8>) -> Result<(), Fail> {
     let function: String = format!(in alloc; "FNDA:{n},f{n}\nFN:{n},f{n}\n")?;
     let others: String = format!(in alloc; "BRDA:{n},0,0,{n}\nDA:{n},{n}\n")?;
@@ -48,8 +48,8 @@ fn push_point(alloc: Global, n: u64, text: &mut Vec<u8>) -> Result<(), Fail> {
     Ok(())
 }
 
-/// 300,000 lines, functions and branches each that don't ascend. A reader that passes over all of them for each wouldn't
-/// end in time.
+/// A section of 300,000 lines, 300,000 functions and 300,000 branches that don't ascend. A reader that passes over all of them
+/// for each one wouldn't end in time.
 #[test]
 fn long_section(rt: HostRuntime) -> Result<(), Fail> {
     let mut text = Vec::from_slice(rt.alloc(), b"SF:a\n")?;

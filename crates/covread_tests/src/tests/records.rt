@@ -14,7 +14,7 @@ use std::alloc::Global;
 use std::process::Abort;
 use std::test::*;
 
-/// A text, and a copy of it before its last two growths.
+/// A text, and a copy of it that was made before the last two appends.
 fn text_and_copy(alloc: Global) -> Result<(Bytes, Bytes), Memory> {
     let mut text = bytes_of(alloc, b"ab")?;
     append(&mut text, b"cd")?;
@@ -34,7 +34,7 @@ fn bytes(rt: HostRuntime) -> Result<(), Fail> {
     Ok(())
 }
 
-/// Records are printed after what is there, with larger numbers than are read.
+/// Records are printed after what is there, with the largest numbers. A skipped line isn't printed.
 #[test]
 fn printed_records(rt: HostRuntime) -> Result<(), Fail> {
     let records = [
@@ -60,22 +60,24 @@ fn printed_records(rt: HostRuntime) -> Result<(), Fail> {
     Ok(())
 }
 
-/// Checks what the first line of a text counts, with its checksum.
+/// Checks what `counted_first` gives of a text: what its first line counts, or `None` if that isn't read before it is cut.
 fn check_first(rt: &impl Abort, text: &[u8], wanted: Option<(u64, u64, &[u8], usize)>) {
     assert_eq!(rt; counted_first(text), wanted);
 }
 
-/// Checks what the first line of a text says of a branch, if it says how often it was taken.
+/// Checks what `branch_first` gives of a text: what its first line says of a branch, or `None` if that isn't read before it is
+/// cut.
 fn check_branch(rt: &impl Abort, text: &[u8], wanted: Option<(BranchPoint, Option<u64>, usize)>) {
     assert_eq!(rt; branch_first(text), wanted);
 }
 
-/// Checks how the first line of a text is cut.
+/// Checks how long the first line of a text is, and how many bytes follow it.
 fn check_cut(rt: &impl Abort, text: &[u8], wanted: (usize, usize)) {
     assert_eq!(rt; cut_first(text), wanted);
 }
 
-/// A first line that counts is read before it is cut, with its checksum; another one is cut.
+/// A first line that counts is read before it is cut, with or without a checksum. It isn't if its checksum is empty or has a
+/// comma, if it has no line feed, or if its count isn't below 2^64.
 #[test]
 fn checksums_before_a_cut(rt: HostRuntime) {
     check_first(
@@ -90,7 +92,8 @@ fn checksums_before_a_cut(rt: HostRuntime) {
     check_first(&rt, b"DA:7,18446744073709551616,a\n", None);
 }
 
-/// A first line that counts without a checksum is read before it is cut; another one is cut.
+/// A first line that counts without a checksum is read before it is cut, if it has a line feed and its count is below 2^64. Other
+/// lines are cut first.
 #[test]
 fn counts_before_a_cut(rt: HostRuntime) {
     check_first(&rt, b"DA:7,12", None);
@@ -104,7 +107,7 @@ fn counts_before_a_cut(rt: HostRuntime) {
     check_cut(&rt, b"rest", (4, 0));
 }
 
-/// So is a first line that says how often a branch was taken.
+/// A first line of a branch is read before it is cut, with a count below 2^64 or a dash, if a line feed comes right after that.
 #[test]
 fn branch_before_a_cut(rt: HostRuntime) {
     let point = BranchPoint {
@@ -120,7 +123,7 @@ fn branch_before_a_cut(rt: HostRuntime) {
     check_branch(&rt, b"BRDA:7,0,2,12\r\n", None);
 }
 
-/// What is read of each line, as it is printed.
+/// The record of each line, printed again. A skipped line is `skipped`, and a line with a fault is `faulty`.
 fn read_and_printed(alloc: Global, text: &[u8]) -> Result<Bytes, Memory> {
     let mut printed = Bytes::new(alloc);
     for line in text.split(|byte| *byte == b'\n') {
@@ -202,7 +205,7 @@ LH:6
     Ok(())
 }
 
-/// Appends the lines of a text, with a bar after each.
+/// Appends the lines of a text, with a bar after each, and then a semicolon.
 fn put_lines(text: &[u8], joined: &mut Bytes) -> Result<(), Memory> {
     for line in lines(text) {
         append(joined, line)?;
@@ -334,14 +337,14 @@ fn two_sects(alloc: Global) -> Result<Sects, Memory> {
     Ok(sects)
 }
 
-/// Checks that the sections are those of a text.
+/// Checks that the sections are this text, as `text_of` writes them.
 fn check_sects(rt: &(impl Abort + AllocGlobal), sects: &[Sect], wanted: &[u8]) -> Result<(), Fail> {
     let text = text_of(rt.alloc(), sects)?;
     check_bytes(rt, text.get(), wanted);
     Ok(())
 }
 
-/// Each section's items are copied, and are three.
+/// Copies the items of each section, and checks that they are three.
 fn check_copied_items(rt: &(impl Abort + AllocGlobal), sects: &[Sect]) -> Result<(), Fail> {
     for sect in sects {
         let items = copied_items(rt.alloc(), &sect.items)?;
@@ -382,7 +385,8 @@ fn lawful_submissions(rt: HostRuntime) -> Result<(), Fail> {
     check_two(&rt, &copy)
 }
 
-/// The sections that are handed back, and in which section a text is unlawful.
+/// The sections that are handed back since a text in them is unlawful, and the index of the section with this text. `None` if
+/// they aren't refused for that.
 fn handed_back(sects: Sects) -> Option<(Sects, usize)> {
     match submission_of(sects, 0) {
         Ok(_submission) => None,
@@ -393,7 +397,7 @@ fn handed_back(sects: Sects) -> Option<(Sects, usize)> {
     }
 }
 
-/// A refusal hands the sections back.
+/// A section with an empty path is refused. The refusal hands the sections back.
 #[test]
 fn an_empty_file(rt: HostRuntime) -> Result<(), Fail> {
     let mut sects = Sects::new(rt.alloc());
@@ -421,8 +425,8 @@ fn push_row(alloc: Global, sects: &mut Sects, row: &[u8]) -> Result<(), Memory> 
     push_names(alloc, sects, test, file, function, checksum)
 }
 
-/// How many sections are handed back, and in which a text is unlawful. The third of four is that of the row, and the fourth
-/// one is unlawful.
+/// How many of four sections are handed back, and the index of the one that is refused. The third section is that of the row.
+/// The fourth has unlawful texts too.
 fn told(alloc: Global, row: &[u8]) -> Result<(usize, usize), Memory> {
     let mut sects = two_sects(alloc)?;
     push_row(alloc, &mut sects, row)?;
@@ -485,7 +489,8 @@ fn check_read(rt: &(impl Abort + AllocGlobal), text: &[u8], wanted: &[u8]) -> Re
     check_sects(rt, submission.sects(), wanted)
 }
 
-/// Items come in the order of their lines; a function's start line is the least of its name in the section.
+/// Items come in the order of their lines. A start line is an item with the count 0, and a count of a function is an item with
+/// the least start line of that name in the section.
 #[test]
 fn items_of_texts(rt: HostRuntime) -> Result<(), Fail> {
     check_read(

@@ -1,5 +1,5 @@
-//! Calls of the crates below, without their contracts: a test looks at values, and its proof is quicker if it knows nothing
-//! else.
+//! Calls of the crates below, in functions without contracts. A test looks only at values, and its proof is quicker without
+//! contracts.
 
 use covcheck::{TextSummary, check_gcov, check_trace, summary_line};
 use covline::{
@@ -74,7 +74,7 @@ pub(super) fn annotated(alloc: Global, test: &[u8], text: &[u8]) -> Result<Submi
     read_gcov(alloc, test, text)
 }
 
-/// Appends the line of an item; of a function its start line and its count.
+/// Appends the record of an item. A function has two: its start line and its count.
 fn put_item(item: &Item, text: &mut Bytes) -> Result<(), Memory> {
     match item {
         Item::Line {

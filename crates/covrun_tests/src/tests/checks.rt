@@ -4,7 +4,7 @@ use super::play;
 use std::process;
 use std::test::*;
 
-/// Tracefiles that are in order, two of them with records that LCOV 2 writes of functions.
+/// Tracefiles that all have items, so that the status is 0. Two of them have function records as LCOV 2 writes them.
 #[test]
 fn tracefiles(rt: HostRuntime) -> Result<(), Fail> {
     play(
@@ -64,7 +64,7 @@ $ 0 covcollect check ~/unit.info ~/two.info ~/end.info ~/unit.info
     )
 }
 
-/// Files that other programs wrote, or that were packed: no line of them is read, so they have no item.
+/// An empty file, files of other programs, and packed files. No line of them is a record, so they have no item.
 #[test]
 fn files_of_other_kinds(rt: HostRuntime) -> Result<(), Fail> {
     play(
@@ -107,8 +107,8 @@ $ 5 covcollect check ~/empty ~/page.info ~/error.json ~/unit.gz ~/unit.xz
     )
 }
 
-/// Tracefiles whose lines were changed on their way: UTF-16, indented, with a CR alone at each end, with the time in front of each
-/// line, and with a byte order mark before the first.
+/// Tracefiles that another program changed: to UTF-16, by an indent, with only a CR at the end of each line, with the time before
+/// each line, and with a byte order mark before the first line.
 #[test]
 fn tracefiles_that_were_changed(rt: HostRuntime) -> Result<(), Fail> {
     play(
@@ -192,8 +192,8 @@ $ 4 covcollect check --gcov ~/percent.gcov
     )
 }
 
-/// The status is that of the worst file: one that can't be read, then one that is refused, then one without items. The others are
-/// looked at all the same.
+/// The status is that of the worst file. A file that can't be read is worse than a refused one, and a refused one is worse than
+/// one without items. All files are checked, whatever the others are.
 #[test]
 fn the_worst_file(rt: HostRuntime) -> Result<(), Fail> {
     play(

@@ -4,7 +4,7 @@ use super::play;
 use std::process;
 use std::test::*;
 
-/// Files that are merged, the same one twice too, by any number of jobs.
+/// Merges of files by several numbers of jobs. The same file may come twice.
 #[test]
 fn merges(rt: HostRuntime) -> Result<(), Fail> {
     play(
@@ -104,7 +104,7 @@ $ 0 covcollect summary ~/a.info ~/b.info
     )
 }
 
-/// The files that are chosen, and those that are left.
+/// The source files that `extract` chooses, and those that `remove` leaves.
 #[test]
 fn chooses(rt: HostRuntime) -> Result<(), Fail> {
     play(
@@ -144,7 +144,7 @@ $ 0 covcollect remove ~/a.info *.x *.c *.h
     )
 }
 
-/// What gcov wrote, as the counts of a test.
+/// gcov's output is printed as a tracefile of one test. If one of the files is refused, nothing is printed.
 #[test]
 fn reads_gcov(rt: HostRuntime) -> Result<(), Fail> {
     play(
@@ -204,7 +204,7 @@ $ 0 covcollect gcov --test= ~/g3.txt ~/g3.txt
     )
 }
 
-/// Without a subcommand a session is answered; help and the version are printed if they are asked for.
+/// Without a subcommand a session is answered. Help and the version are printed if they are asked for.
 #[test]
 fn session_help_and_version(rt: HostRuntime) -> Result<(), Fail> {
     play(

@@ -1,4 +1,4 @@
-//! Calls that fail: in which order things are tested, and that nothing is printed then.
+//! Calls that fail: which fault is reported if there are several, and what is printed. Only a check prints anything.
 
 ghost use Rattle.std.specs.Prelude.{None};
 
@@ -38,7 +38,7 @@ $ 2 covcollect bogus
     )
 }
 
-/// A file that isn't there, and a folder: the first is reported, before any text is looked into.
+/// A file that isn't there can't be read, and neither can a folder. Only the first such file is reported, and no faulty text is.
 #[test]
 fn files_that_cannot_be_read(rt: HostRuntime) -> Result<(), Fail> {
     play(
@@ -107,7 +107,7 @@ $ 4 covcollect extract ~/b.info *
     )
 }
 
-/// An output that takes no byte, or takes all and can't send them on.
+/// An output that takes no byte, or that takes all bytes and can't send them on.
 #[derive(Drop)]
 struct Closed {
     takes: bool,
@@ -135,7 +135,7 @@ impl Sink for Closed {
     }
 }
 
-/// The exit status of a call whose output is closed so, and what it says.
+/// The exit status of a call with such an output, and what the call writes to the stream for faults.
 fn call_closed<R: Files + AllocGlobal + Threads + Wait + Sync>(
     rt: &R,
     asked: &str,
@@ -159,7 +159,7 @@ fn call_closed<R: Files + AllocGlobal + Threads + Wait + Sync>(
     Ok((status, faults))
 }
 
-/// Checks that a call whose output is closed so reports that a write failed, after what it complains of.
+/// Checks that a call with such an output ends with status 1, and writes `told` to the stream for faults.
 fn check_closed<R: Files + AllocGlobal + Threads + Wait + Abort + Sync>(
     rt: &R,
     asked: &str,
@@ -187,7 +187,8 @@ fn a_closed_output(rt: HostRuntime) -> Result<(), Fail> {
     )
 }
 
-/// A check whose line can't be written reports what it complains of up to this file, and looks at none after it.
+/// If the line of a file can't be written, a check reports its complaints about this file and those before it, and checks no file
+/// after it.
 #[test]
 fn a_check_with_a_closed_output(rt: HostRuntime) -> Result<(), Fail> {
     for takes in [false, true] {
@@ -201,7 +202,7 @@ fn a_check_with_a_closed_output(rt: HostRuntime) -> Result<(), Fail> {
     Ok(())
 }
 
-/// An output that takes a number of writes, each whole, and fails after them. It has the bytes that it took.
+/// An output that takes as many whole writes as are `left`, and fails after them. It keeps the bytes that it took.
 #[derive(Drop)]
 struct Closing {
     left: u64,
@@ -230,7 +231,8 @@ impl Sink for Closing {
     }
 }
 
-/// An output that takes one line and then fails: a check of two files leaves the first one's line, whole, and no byte of the second's.
+/// The output takes one line and then fails. A check of three files has written the whole line of the first one and no byte of
+/// the second one's, and doesn't look at the third.
 #[test]
 fn a_check_whose_output_takes_one_line(rt: HostRuntime) -> Result<(), Fail> {
     let words = words_of(
@@ -283,7 +285,7 @@ impl Source for Broken {
     }
 }
 
-/// The exit status of a call whose input is broken, and how often it was read.
+/// The exit status of a call with such an input, and how often the input was read.
 fn call_broken<R: Files + AllocGlobal + Threads + Wait + Sync>(
     rt: &R,
     asked: &str,
@@ -306,7 +308,7 @@ fn call_broken<R: Files + AllocGlobal + Threads + Wait + Sync>(
     Ok((status, source.reads))
 }
 
-/// Checks how a call whose input is broken ends, and how often it has read it.
+/// Checks the exit status of a call with such an input, and how often the input was read.
 fn check_broken<R: Files + AllocGlobal + Threads + Wait + Abort + Sync>(
     rt: &R,
     asked: &str,
@@ -319,7 +321,7 @@ fn check_broken<R: Files + AllocGlobal + Threads + Wait + Abort + Sync>(
     Ok(())
 }
 
-/// A session alone reads the input.
+/// Only a session reads the input.
 #[test]
 fn a_broken_input(rt: HostRuntime) -> Result<(), Fail> {
     check_broken(&rt, "covcollect", 1, 1)?;

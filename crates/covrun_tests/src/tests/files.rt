@@ -1,4 +1,4 @@
-//! Many files, and large ones.
+//! Many files, large ones, and files of other kinds.
 
 use super::{Told, call, check_text, play};
 use std::alloc::Global;
@@ -52,7 +52,7 @@ fn check_told(
     Ok(())
 }
 
-/// More files than a process may have open at once.
+/// A call may name more files than a process may have open at once, here the same file 2,000 times.
 #[test]
 fn two_thousand_files(rt: HostRuntime) -> Result<(), Fail> {
     let path = format!(in rt.alloc(); "/tmp/covrun_tests-{}.info", process::id(rt.process()))?;
@@ -69,7 +69,7 @@ fn two_thousand_files(rt: HostRuntime) -> Result<(), Fail> {
     )
 }
 
-/// A line of a comment: one sign, doubled `times` times.
+/// A line that is a comment: a `#` that is doubled `times` times, without a line feed.
 fn long_comment(alloc: Global, times: usize) -> Result<Vec<u8>, Fail> {
     let mut text = Vec::from_slice(alloc, b"#")?;
     for _time in 0..times {
@@ -79,7 +79,7 @@ fn long_comment(alloc: Global, times: usize) -> Result<Vec<u8>, Fail> {
     Ok(text)
 }
 
-/// A text has at most 67,108,864 bytes; of a longer one, only as much is read as shows that.
+/// A text of 67,108,864 bytes is read, and one with one more byte is refused.
 #[test]
 fn the_largest_text(rt: HostRuntime) -> Result<(), Fail> {
     let path = format!(in rt.alloc(); "/tmp/covrun_tests-{}.info", process::id(rt.process()))?;
@@ -96,7 +96,7 @@ fn the_largest_text(rt: HostRuntime) -> Result<(), Fail> {
     )
 }
 
-/// A file that doesn't end, and has no size, is read as far as shows that it is too long.
+/// A file that doesn't end, and has no length, is refused as too long.
 #[test]
 fn a_file_without_end(rt: HostRuntime) -> Result<(), Fail> {
     play(
@@ -109,8 +109,8 @@ $ 4 covcollect merge /dev/zero
     )
 }
 
-/// Makes `times` files in a folder, the first of which counts 0 for a line, the next 1, and so on, and returns the words of a
-/// call that merges them.
+/// Makes `times` files in a folder, and returns the words of a call that merges them. They have the same line: the first file
+/// counts it 0 times, the next one once, and so on.
 fn make_files<R: Files + AllocGlobal>(
     rt: &R,
     folder: &str,
@@ -126,7 +126,7 @@ fn make_files<R: Files + AllocGlobal>(
     Ok(words)
 }
 
-/// A thousand files, of which each has another count: 0 + 1 + .. + 999 is 499,500.
+/// A thousand files with the counts 0 to 999. The sum 0 + 1 + .. + 999 is 499,500.
 #[test]
 fn a_thousand_files(rt: HostRuntime) -> Result<(), Fail> {
     let folder = format!(in rt.alloc(); "/tmp/covrun_tests-{}-many", process::id(rt.process()))?;
@@ -146,7 +146,7 @@ fn a_thousand_files(rt: HostRuntime) -> Result<(), Fail> {
     )
 }
 
-/// A pipe can be read as a file: all that is written to it until its writer's end.
+/// A pipe can be read as a file. Its text is all that was written to it until its writer was dropped.
 #[test]
 fn a_pipe(rt: HostRuntime) -> Result<(), Fail> {
     let (reader, mut writer) = io::pipe(&rt)?;

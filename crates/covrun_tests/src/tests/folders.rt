@@ -1,4 +1,5 @@
-//! Calls that read folders in memory: one that tells what it holds, and one whose files fail while they are read.
+//! Calls that read from folders in memory. The contract of one folder says what it holds. The files of the other fail while they
+//! are read.
 
 ghost use Rattle.std.specs.Prelude.{◌≢◌, None, Some};
 
@@ -10,7 +11,7 @@ use std::sync::Wait;
 use std::test::*;
 use std::thread::Threads;
 
-/// A call of these words over this folder.
+/// Makes a call of these words, with this folder.
 fn call_over<R: AllocGlobal + Threads + Wait + Sync, F: Folder>(
     rt: &R,
     folder: &F,
@@ -32,7 +33,7 @@ fn call_over<R: AllocGlobal + Threads + Wait + Sync, F: Folder>(
     }
 }
 
-/// A call over this folder ends with status 1, and leaves this on its streams.
+/// Checks that a call with this folder ends with status 1, and writes `output` and `faults`.
 fn check_over<R: AllocGlobal + Threads + Wait + Abort + Sync, F: Folder>(
     rt: &R,
     folder: &F,
@@ -48,7 +49,7 @@ fn check_over<R: AllocGlobal + Threads + Wait + Abort + Sync, F: Folder>(
     Ok(())
 }
 
-/// A folder of one file, which tells its bytes.
+/// A folder of one file. Its contract says the file's bytes.
 #[derive(Clone, Copy)]
 struct OneFile<'a> {
     name: &'a str,
@@ -73,7 +74,7 @@ impl<'a> Folder for OneFile<'a> {
     }
 }
 
-/// A file that is there, and one that isn't.
+/// A check of a file that isn't there, and of one that is.
 #[test]
 fn a_folder_of_one_file(rt: HostRuntime) -> Result<(), Fail> {
     let folder = OneFile {
@@ -140,7 +141,7 @@ impl Folder for TornFiles {
     }
 }
 
-/// What was read of a file before a read failed is no text of it.
+/// If a read of a file fails, what was read of the file before isn't taken as its text.
 #[test]
 fn a_read_fails_within_a_file(rt: HostRuntime) -> Result<(), Fail> {
     for asked in [

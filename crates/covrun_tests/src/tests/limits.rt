@@ -1,4 +1,4 @@
-//! What the words may hold: patterns and a test's name, which are looked at before any file is opened.
+//! Limits of patterns and of a test's name in the words of a call. They are checked before any file is opened.
 
 use super::{call, check_text};
 use std::alloc::Global;
@@ -20,7 +20,7 @@ fn long_word(alloc: Global, bytes: usize) -> Result<String, Fail> {
     Ok(word)
 }
 
-/// The words of a call that chooses from the missing file, by `patterns` patterns of `bytes` bytes.
+/// The words of a call that extracts from the missing file, with `patterns` patterns of `bytes` bytes.
 fn chosen_by(alloc: Global, patterns: usize, bytes: usize) -> Result<Vec<String>, Fail> {
     let mut words = Vec::new(alloc);
     words.push(String::from_str(alloc, "covcollect")?)?;
@@ -32,7 +32,7 @@ fn chosen_by(alloc: Global, patterns: usize, bytes: usize) -> Result<Vec<String>
     Ok(words)
 }
 
-/// Checks how a call of these words ends; it prints nothing.
+/// Checks that a call of these words ends with this status and these faults, and has no output.
 fn check<R: Files + AllocGlobal + Threads + Wait + Abort + Sync>(
     rt: &R,
     words: &[String],
@@ -46,7 +46,7 @@ fn check<R: Files + AllocGlobal + Threads + Wait + Abort + Sync>(
     Ok(())
 }
 
-/// At most 64 patterns of at most 1,024 bytes: the first that isn't taken gives the fault.
+/// A call takes at most 64 patterns of at most 1,024 bytes. The first pattern that isn't taken decides the fault.
 #[test]
 fn patterns(rt: HostRuntime) -> Result<(), Fail> {
     let alloc = rt.alloc();
@@ -65,7 +65,7 @@ fn patterns(rt: HostRuntime) -> Result<(), Fail> {
     check(&rt, words.as_slice(), 2, "TooMany\n")
 }
 
-/// The words of a call over gcov's text that is missing, for this test.
+/// The words of a call that reads the missing file as gcov's output, for this test.
 fn counted_for(alloc: Global, test: &str) -> Result<Vec<String>, Fail> {
     let mut words = Vec::new(alloc);
     words.push(String::from_str(alloc, "covcollect")?)?;
@@ -76,7 +76,7 @@ fn counted_for(alloc: Global, test: &str) -> Result<Vec<String>, Fail> {
     Ok(words)
 }
 
-/// A test's name that no tracefile can hold.
+/// A test's name that no tracefile can hold is refused.
 #[test]
 fn names_of_tests(rt: HostRuntime) -> Result<(), Fail> {
     let alloc = rt.alloc();

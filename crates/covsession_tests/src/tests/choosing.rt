@@ -4,7 +4,7 @@ use super::{check, check_all, check_around};
 use std::process::Abort;
 use std::test::*;
 
-/// Sessions that choose of `/a.c` and `/a.h`.
+/// Sessions that hold the files `/a.c` and `/a.h`, and choose from them.
 #[test]
 fn chosen_files(rt: HostRuntime) -> Result<(), Fail> {
     check_around(
@@ -204,8 +204,8 @@ report
     )
 }
 
-/// Each line has a pattern, a space and a path. A session that extracts by the pattern prints a section of the path if
-/// `is_taken`, and otherwise nothing.
+/// Checks a session for each line, which has a pattern, a space and a path. The session holds a section of the path, and
+/// extracts by the pattern. It prints the section if `is_taken`, and otherwise nothing.
 fn check_patterns(
     rt: &(impl Abort + AllocGlobal),
     lines: &[u8],

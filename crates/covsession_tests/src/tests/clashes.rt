@@ -112,7 +112,7 @@ end_of_record
     )
 }
 
-/// The first clashing line of a text is reported; its earlier lines count as held.
+/// The first line of a text that clashes is reported. It may clash with what is held, or with an earlier line of the text.
 #[test]
 fn the_clash_that_is_told(rt: HostRuntime) -> Result<(), Fail> {
     check_all(

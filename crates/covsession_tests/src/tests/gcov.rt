@@ -446,7 +446,7 @@ remove a*
     )
 }
 
-/// Neither what is held nor the next text's number changes.
+/// A refused text changes neither what is held nor the number of the next text.
 #[test]
 fn refused_texts_leave_nothing(rt: HostRuntime) -> Result<(), Fail> {
     check_all(

@@ -1,4 +1,4 @@
-//! What single lines say, by what a session answers to a section of them and prints of it.
+//! What single lines say. A session shows it by what it answers to a section of such lines, and by what it prints of the section.
 
 use super::{check, check_around};
 use std::process::Abort;
@@ -381,7 +381,8 @@ FN:03,f
     )
 }
 
-/// A session writes the same for each of these lines, be it inside of a section, where it is line 2, or outside.
+/// Checks two sessions for each of these lines. It writes `inside` if the line is in a section, as line 2 of its text, and
+/// `outside` if the line is line 3 of a text without sections.
 fn check_each(
     rt: &(impl Abort + AllocGlobal),
     lines: &[u8],

@@ -322,7 +322,7 @@ fn an_end_before_the_names(rt: HostRuntime) {
     );
 }
 
-/// The other tests and the other files stay as they are, and the test goes from name to name.
+/// Tests that are renamed more than once. The other tests and the other files stay as they are.
 #[test]
 fn again_and_again(rt: HostRuntime) -> Result<(), Fail> {
     check_all(

@@ -284,7 +284,8 @@ LF:2
     )
 }
 
-/// Two functions, three branches and four lines: of each kind one is hit. Some come twice, and they don't ascend.
+/// Totals that come after two functions, three branches and four lines. Of each kind one point is hit. Some points come twice,
+/// and they don't ascend.
 #[test]
 fn totals_late(rt: HostRuntime) -> Result<(), Fail> {
     check_around(
@@ -320,7 +321,7 @@ LH:2
     )
 }
 
-/// The same lines.
+/// Totals that come before the same records.
 #[test]
 fn totals_before(rt: HostRuntime) -> Result<(), Fail> {
     check_around(

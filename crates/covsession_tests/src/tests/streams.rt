@@ -1,4 +1,4 @@
-//! Readers and writers that are slow, narrow, failing, holding back or endless.
+//! Sources and sinks that are slow or narrow, that fail, that hold bytes back, or that give or take very many bytes.
 
 ghost use Rattle.std.specs.Prelude.{None, length, ◌-◌};
 
@@ -53,7 +53,7 @@ Summary coverage rate:
 .
 ";
 
-/// A reader that gives one byte at each call. After `good_reads` good calls one fails, and the later ones don't.
+/// A source that gives one byte at each read. The read after `good_reads` good ones fails, and the later ones don't.
 #[derive(Drop)]
 struct Slow<'a> {
     input: &'a [u8],
@@ -91,8 +91,8 @@ impl<'a> Source for Slow<'a> {
     }
 }
 
-/// A writer that takes `width` bytes at each call, or all that there are. After its good calls one fails, and the later
-/// ones don't.
+/// A sink that takes at most `width` bytes at each write. The write after `good_writes` good ones fails, and the later ones
+/// don't.
 #[derive(Drop)]
 struct Narrow {
     output: Vec<u8>,
@@ -130,8 +130,9 @@ impl Sink for Narrow {
     }
 }
 
-/// How a session that is given a byte at each read ends, after `good_reads` good reads and `good_writes` good writes of at
-/// most `width` bytes, and how much it wrote of its answer.
+/// How a session on `INPUT` ends that gets one byte at each read, how many bytes it wrote, and whether these are a beginning of
+/// `ANSWER`. The read after `good_reads` good ones fails, and so does the write after `good_writes` good ones. A write takes at
+/// most `width` bytes.
 fn by_pieces(
     alloc: Global,
     good_reads: usize,
@@ -164,7 +165,7 @@ fn one_byte_at_a_time(rt: HostRuntime) {
     }
 }
 
-/// How many bytes are answered to the input's first `bytes` bytes before the next read.
+/// How many bytes are written before the next read, once the first `bytes` bytes of `INPUT` are read.
 fn answered_to(bytes: usize) -> usize {
     match bytes {
         0..=58 => 0,
@@ -175,7 +176,8 @@ fn answered_to(bytes: usize) -> usize {
     }
 }
 
-/// Each read in turn fails, that at the end of the input too: the session ends there, and has answered what it read.
+/// Each read in turn fails, and the one at the end of the input too. The session ends there, and has answered all commands that
+/// it has wholly read.
 #[test]
 fn each_read_fails(rt: HostRuntime) {
     for good_reads in 0..=133 {
@@ -186,7 +188,7 @@ fn each_read_fails(rt: HostRuntime) {
     assert_eq!(rt; by_pieces(rt.alloc(), 134, 1, 1_000), (Ok(()), 222, true));
 }
 
-/// Each write of a byte in turn fails: the session ends there, and has written those before it.
+/// Each write of a byte in turn fails. The session ends there, and has written the bytes before this one.
 #[test]
 fn each_write_fails(rt: HostRuntime) {
     for good_writes in 0..222 {
@@ -197,7 +199,7 @@ fn each_write_fails(rt: HostRuntime) {
     assert_eq!(rt; by_pieces(rt.alloc(), 1_000, 1, 222), (Ok(()), 222, true));
 }
 
-/// So does each write of a whole answer, since all is written before the next read.
+/// Each write of a whole answer in turn fails. Each answer is one write, since all that waits is written before the next read.
 #[test]
 fn each_answer_fails(rt: HostRuntime) {
     let mut good_writes = 0;
@@ -213,7 +215,7 @@ fn each_answer_fails(rt: HostRuntime) {
     );
 }
 
-/// A writer that holds all bytes back until they are sent on.
+/// A sink that holds all bytes back until they are sent on.
 #[derive(Drop)]
 struct Holding {
     held: Vec<u8>,
@@ -252,7 +254,7 @@ impl Sink for Holding {
     }
 }
 
-/// How a session on the small text ends over a writer that holds back, and whether its answer was sent on.
+/// How a session on `INPUT` ends with a sink that holds back, and whether all of `ANSWER` was sent on.
 fn by_flushes(alloc: Global, can_send: bool) -> (Result<(), SessionFault>, bool) {
     let mut source = FromRead::new(INPUT);
     let mut sink = Holding {
@@ -275,15 +277,16 @@ fn a_writer_that_holds_back(rt: HostRuntime) {
     );
 }
 
-/// What two ends of a wire see of each other: how many bytes are written and not yet sent on, and how often they were sent on.
+/// What the source and the sink of a session share: how many bytes are written and not yet sent on, and how often bytes were
+/// sent on.
 #[derive(Drop)]
 struct Wire {
     unsent: Cell<usize>,
     flushes: Cell<usize>,
 }
 
-/// A reader that gives one byte at each call, and looks whether all that was written is sent on: one who waits for it would wait
-/// for ever.
+/// A source that gives one byte at each read, and notes whether a read comes before all that was written is sent on. Someone who
+/// sends the next command only after the answer to the last one would then wait for ever.
 #[derive(Drop)]
 struct Waiting<'a> {
     input: &'a [u8],
@@ -316,7 +319,7 @@ impl<'a> Source for Waiting<'a> {
     }
 }
 
-/// A writer that holds all bytes back until they are sent on. After its good flushes one fails, and the later ones
+/// A sink that holds all bytes back until they are sent on. The flush after `good_flushes` good ones fails, and the later ones
 /// don't.
 #[derive(Drop)]
 struct Buffered<'a> {
@@ -381,15 +384,15 @@ fn over_a_wire(
     (ended, sink.written, wire.flushes.get(), source.starved)
 }
 
-/// Each answer is sent on before the next read: five flushes, one before the first read and one after each of four answers, and
-/// none if nothing was written.
+/// Each answer is sent on before the next read. There are five flushes: one before the first read, and one after each of the four
+/// answers. Before each other read nothing new was written, so there is no flush.
 #[test]
 fn answers_are_sent_on_before_a_read(rt: HostRuntime) {
     let ended = over_a_wire(rt.alloc(), 1_000);
     assert_eq!(rt; ended, (Ok(()), 222, 5, false));
 }
 
-/// Each flush in turn fails: the session ends there, and answers no more.
+/// Each flush in turn fails. The session ends there, and answers nothing more.
 #[test]
 fn each_flush_fails(rt: HostRuntime) {
     let mut good_flushes = 0;
@@ -425,7 +428,7 @@ fn a_writer_that_cannot_send_on(rt: HostRuntime) {
     );
 }
 
-/// A reader and writer of std whose first call fails, unless one failed before.
+/// A reader and writer of std. Its first call fails if `failed` isn't set yet, and no other call does.
 #[derive(Drop)]
 struct FailsOnce {
     failed: bool,
@@ -513,8 +516,8 @@ impl<'a> Source for Long<'a> {
     }
 }
 
-/// How a session ends on the bytes `before`, then `bytes` others in the same line, and `after`; and whether it wrote just what
-/// is wanted.
+/// How a session ends on the bytes `before`, then `bytes` times `x` in the same line, and then `after`. Also whether it wrote
+/// exactly what is wanted.
 fn long_line(
     alloc: Global,
     before: &[u8],
@@ -590,8 +593,8 @@ fn long_lines(rt: HostRuntime) {
     }
 }
 
-/// How a session ends over a writer of std with room for `bytes` bytes, and whether it wrote the answer's first bytes into
-/// all of it.
+/// How a session on `INPUT` ends with a writer of std that has room for `bytes` bytes, and whether all of this room has the first
+/// bytes of `ANSWER`.
 fn into_room(alloc: Global, bytes: usize) -> Result<(Result<(), SessionFault>, bool), Fail> {
     let mut room = vec![in alloc; b'?'; bytes]?;
     let ended = {
@@ -602,7 +605,7 @@ fn into_room(alloc: Global, bytes: usize) -> Result<(Result<(), SessionFault>, b
     Ok((ended, ANSWER.starts_with(room.as_slice())))
 }
 
-/// A writer that takes 0 bytes at its first call, or at a later one.
+/// A writer of std that is full takes 0 bytes: at its first call if it has no room, and otherwise at a later one.
 #[test]
 fn a_writer_that_is_full(rt: HostRuntime) -> Result<(), Fail> {
     for bytes in 0..222 {
@@ -617,7 +620,7 @@ fn a_writer_that_is_full(rt: HostRuntime) -> Result<(), Fail> {
     Ok(())
 }
 
-/// A reader of the same command over and over, made as it is read.
+/// A source that gives the command `summary` at each of its first `commands` reads.
 #[derive(Drop)]
 struct Repeated {
     commands: u64,
@@ -644,7 +647,7 @@ impl Source for Repeated {
     }
 }
 
-/// A writer that counts bytes.
+/// A sink that only counts bytes.
 #[derive(Drop)]
 struct Counting {
     bytes: u64,
@@ -667,7 +670,7 @@ impl Sink for Counting {
     }
 }
 
-/// The exit status of a session of `commands` summaries of nothing, how many bytes it writes, and how many on its
+/// The exit status of a session of `commands` summaries of nothing, how many bytes it writes as answers, and how many about its
 /// fault.
 fn summaries(alloc: Global, commands: u64) -> (u8, u64, u64) {
     let mut source = Repeated { commands, reads: 0 };
@@ -677,8 +680,8 @@ fn summaries(alloc: Global, commands: u64) -> (u8, u64, u64) {
     (status, sink.bytes, faults.bytes)
 }
 
-/// A session fills its book with 1,048,576 entries. Each summary of nothing has 112 bytes with the dot after it; `book
-/// full` is a line of 10 bytes.
+/// A session's history takes 1,048,576 entries and no more. Each summary of nothing has 112 bytes with the dot after it, and
+/// `book full` is a line of 10 bytes.
 #[test]
 fn a_full_book(rt: HostRuntime) {
     let most = 1_048_576;
@@ -687,7 +690,7 @@ fn a_full_book(rt: HostRuntime) {
     assert_eq!(rt; summaries(rt.alloc(), most + 1), (3, bytes, 10));
 }
 
-/// A reader of the same 24 commands over and over.
+/// A source that gives the same 24 commands at each of its first `blocks` reads.
 #[derive(Drop)]
 struct Blocks {
     blocks: u64,
@@ -715,8 +718,9 @@ impl Source for Blocks {
     }
 }
 
-/// A session whose history is full has written the answers to all commands before: a book without tests answers 1,048,576 drops
-/// by a line of 13 bytes each. The last 16 of them are to commands of the block that it ends in, the 43,691st.
+/// A session that ends since its history is full has written the answers to all commands before: to 1,048,576 drops in a book
+/// without tests, with a line of 13 bytes each. The last 16 of these commands are in the block where the session ends, the
+/// 43,691st.
 #[test]
 fn a_full_book_loses_no_answer(rt: HostRuntime) {
     let mut source = Blocks {
@@ -730,8 +734,8 @@ fn a_full_book_loses_no_answer(rt: HostRuntime) {
     assert_eq!(rt; source.reads, 43_691);
 }
 
-/// The exit status of the program after these numbers of good reads and writes, and whether it says these words of its
-/// fault.
+/// The exit status of a session whose reads and writes fail as in `by_pieces`, and whether what it writes about its fault is
+/// `words`.
 fn end_of(alloc: Global, good_reads: usize, good_writes: usize, words: &[u8]) -> (u8, bool) {
     let mut source = Slow {
         input: INPUT,

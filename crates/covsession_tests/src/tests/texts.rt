@@ -1,4 +1,4 @@
-//! Whole tracefiles, and those that are refused.
+//! Whole tracefiles: some are accepted, and others are refused.
 
 use super::{check, check_around};
 use std::test::*;
@@ -209,7 +209,7 @@ DA:x
     )
 }
 
-/// A text that is cut off after each of its bytes.
+/// A text that is cut off, once after each of its bytes.
 #[test]
 fn cut_texts(rt: HostRuntime) -> Result<(), Fail> {
     let text = b"TN:t\nSF:/a.c\nDA:1,2\nDA:2,0\nLF:2\nLH:1\nend_of_record\n";

@@ -6,23 +6,23 @@ use super::wrappers::read;
 use covstore::{Store, Totals};
 use std::test::*;
 
-/// Two tests of a file that share a line and a checksum, and one of them in another file.
+/// Two tests that have the same points and the same checksum in one file. One of the tests has another file too.
 const SHARED: &[u8] =
     b"TN:t\nSF:/a.c\nFN:3,f\nFNDA:2,f\nBRDA:1,0,0,4\nDA:1,2,k\nDA:2,1\nend_of_record\n\
     SF:/b.c\nDA:1,1\nend_of_record\n\
     TN:u\nSF:/a.c\nFN:3,f\nFNDA:0,f\nBRDA:1,0,0,-\nDA:1,1,k\nDA:2,0\nend_of_record\n";
 
-/// What dropping a test would leave.
+/// In how many sections a test is, and the totals that a drop of it would leave.
 fn after(store: &Store, test: &[u8]) -> (u64, Totals) {
     store.after_drop(test)
 }
 
-/// Drops a test.
+/// Drops a test, and returns in how many sections it was.
 fn dropped(store: &mut Store, test: &[u8]) -> u64 {
     store.drop_test(test)
 }
 
-/// Hits that another test has stay, and so do points that it has without a hit.
+/// What another test has stays: a point that it hits stays hit, and a point that it has but doesn't hit stays found.
 #[test]
 fn a_test_is_dropped(rt: HostRuntime) -> Result<(), Fail> {
     let mut store = store_of(&rt, SHARED)?;

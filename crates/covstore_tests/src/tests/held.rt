@@ -52,7 +52,7 @@ fn has_test(store: &Store, test: &[u8]) -> bool {
     store.has_test(test)
 }
 
-/// A store that holds nothing, after its plan to hold the submission.
+/// An empty store, after its `prepare` for the submission, and the result of this: the plan or the refusal.
 fn prepared(rt: &(impl Abort + AllocGlobal), given: &Submission) -> (Store, Result<Plan, Refuse>) {
     let mut store = Store::new(rt.alloc());
     check_totals(rt, totals_of(&store), NOTHING);
@@ -188,7 +188,7 @@ fn put_refusal(alloc: Global, refuse: &Refuse, text: &mut Vec<u8>) -> Result<(),
     }
 }
 
-/// What a store that holds nothing says to the submission: a refusal, and whether the store is still empty.
+/// What an empty store returns for the submission, in words: `a plan` or the refusal. Then `empty`, if the store still is.
 pub(super) fn refused(
     rt: &(impl Abort + AllocGlobal),
     given: &Submission,
@@ -205,7 +205,7 @@ pub(super) fn refused(
     Ok(text)
 }
 
-/// A clash is reported as it is, and never as out of memory.
+/// A clash is reported with its file, its line and both checksums, and never as memory that ran out.
 #[test]
 fn a_clash(rt: HostRuntime) -> Result<(), Fail> {
     let given = read(

@@ -7,7 +7,7 @@ use covmap::{Addend, StagedMap};
 use std::alloc::Global;
 use std::test::*;
 
-/// A value that takes the place of any before it.
+/// An addend that replaces the value of its key.
 #[derive(Clone, Copy)]
 struct Newest {
     value: u64,
@@ -35,7 +35,7 @@ fn printed(alloc: Global, map: &StagedMap<u64, u64, Global>) -> Result<Vec<u8>, 
     Ok(text)
 }
 
-/// Staged values are seen by those who ask for them, and count after a commit alone.
+/// Only `lookup_staged` sees staged values. They become committed by a commit, and are gone after a rollback.
 #[test]
 fn staged_values(rt: HostRuntime) -> Result<(), Fail> {
     let mut map = StagedMap::new(rt.alloc());
@@ -53,7 +53,7 @@ fn staged_values(rt: HostRuntime) -> Result<(), Fail> {
     Ok(())
 }
 
-/// A sum is staged at its key's place, a committed value is replaced or removed at once.
+/// A sum is staged, and its place is the guess for the next one. A committed value is replaced or removed without a commit.
 #[test]
 fn sums_and_replaced_values(rt: HostRuntime) -> Result<(), Fail> {
     let mut map = StagedMap::new(rt.alloc());

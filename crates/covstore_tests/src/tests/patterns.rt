@@ -6,7 +6,7 @@ use std::alloc::Global;
 use std::process::Abort;
 use std::test::*;
 
-/// A session's files have at least one byte.
+/// What patterns match the empty path. No session tests this, since the paths of its files aren't empty.
 #[test]
 fn empty_paths(rt: HostRuntime) {
     for pattern in b"|*|**".split(|byte| *byte == b'|') {
@@ -64,7 +64,7 @@ fn full_list(alloc: Global, pattern: &[u8]) -> Result<Patterns, PatternFault> {
     Ok(patterns)
 }
 
-/// A list takes 64 patterns of 1,024 bytes; that it is full is reported before that a pattern is too long.
+/// A list takes 64 patterns of 1,024 bytes. If it is full, this is reported even of a pattern that is too long.
 #[test]
 fn a_full_list(rt: HostRuntime) -> Result<(), Fail> {
     let most = repeated(rt.alloc(), b"a", 1_024)?;
@@ -84,7 +84,7 @@ fn numbers_of_pattern_faults(rt: HostRuntime) {
     assert_eq!(rt; PatternFault::Memory.number(), 3);
 }
 
-/// These patterns get their answers in time: a matcher that tries every split wouldn't end.
+/// Patterns with many stars are matched in time. A matcher that tries each way to divide the path among the stars wouldn't end.
 #[test]
 fn many_stars(rt: HostRuntime) -> Result<(), Fail> {
     let stars = repeated(rt.alloc(), b"*", 1_024)?;

@@ -8,7 +8,7 @@ use std::test::*;
 
 const SMALL: &[u8] = b"TN:t\nSF:/a.c\nDA:1,2\nDA:2,0\nend_of_record\n";
 
-/// Nobody sees what a dropped plan leaves, and the submission can be planned again.
+/// What a dropped plan leaves in the store isn't seen, and the same submission can be prepared again.
 #[test]
 fn a_plan_that_is_made_again(rt: HostRuntime) -> Result<(), Fail> {
     let given = read(rt.alloc(), SMALL)?;
@@ -30,7 +30,7 @@ fn a_plan_that_is_made_again(rt: HostRuntime) -> Result<(), Fail> {
     Ok(())
 }
 
-/// A million lines of one section. Totals that pass over all lines for each line would not end.
+/// A section of a million lines. If all lines were passed over for each line to get the totals, this wouldn't end in time.
 #[test]
 fn a_million_lines(rt: HostRuntime) -> Result<(), Fail> {
     let mut text = Vec::from_slice(rt.alloc(), b"SF:/m\n")?;

@@ -8,7 +8,7 @@ use std::alloc::Global;
 use std::process::Abort;
 use std::test::*;
 
-/// Two tests of a file that share points of each kind, and one of them in another file.
+/// Two tests that share points of each kind in one file. One of the tests has another file too.
 const SHARED: &[u8] =
     b"TN:t\nSF:/a.c\nFN:5,f\nFNDA:2,f\nBRDA:1,0,0,-\nDA:1,2,k\nDA:2,1\nend_of_record\n\
     SF:/b.c\nDA:1,1\nend_of_record\n\
@@ -23,7 +23,7 @@ const OF_SHARED: Totals = Totals {
     bh: 1,
 };
 
-/// What the store has once `t` is `u` too.
+/// What the store holds after `t` was renamed to `u`.
 const JOINED: &[u8] =
     b"TN:u\nSF:/a.c\nFN:3,f\nFNDA:2,f\nBRDA:1,0,0,4\nDA:1,3,k\nDA:2,1\nDA:3,0\nTN:u\nSF:/b.c\nDA:1,1\n";
 
@@ -32,7 +32,7 @@ fn prepared(alloc: Global, store: &mut Store, old: &[u8], new: &[u8]) -> Result<
     store.prepare_rename(alloc, old, new)
 }
 
-/// Renames a test, and checks in how many sections it is.
+/// Renames a test, and checks in how many sections it was.
 fn rename(
     rt: &(impl Abort + AllocGlobal),
     store: &mut Store,
@@ -49,7 +49,7 @@ fn rename(
     }
 }
 
-/// The store has this.
+/// Checks what the store holds, as text.
 fn check_held(rt: &(impl Abort + AllocGlobal), store: &Store, wanted: &[u8]) -> Result<(), Fail> {
     let text = held(rt.alloc(), store)?;
     check_bytes(rt, text.get(), wanted);
@@ -69,7 +69,7 @@ fn a_test_is_renamed(rt: HostRuntime) -> Result<(), Fail> {
     check_held(&rt, &store, JOINED)
 }
 
-/// Nobody sees what is made ready and dropped, and another rename isn't disturbed by it.
+/// A rename that is made ready and dropped isn't seen, and doesn't disturb the next rename.
 #[test]
 fn a_rename_that_is_dropped(rt: HostRuntime) -> Result<(), Fail> {
     let mut store = store_of(&rt, SHARED)?;
@@ -84,7 +84,7 @@ fn a_rename_that_is_dropped(rt: HostRuntime) -> Result<(), Fail> {
     check_held(&rt, &store, wanted)
 }
 
-/// A test of 10,000 files, of which every second has the new test too.
+/// A test of 10,000 files is renamed. 5,000 of these files have a test of the new name already. Then it is renamed back.
 #[test]
 fn ten_thousand_files(rt: HostRuntime) -> Result<(), Fail> {
     let mut text = Vec::new(rt.alloc());

@@ -1,11 +1,11 @@
-//! Runs of keys with addends, staged at once into a map.
+//! Runs of items, each a key and its addend, that are staged at once into a map.
 
 use super::{check_bytes, push_line};
 use covmap::{Addend, ReportingAddend, StagedMap};
 use std::alloc::{AllocError, Global};
 use std::test::*;
 
-/// Flags that are set among those of a key.
+/// An addend that sets flags in the value of its key.
 #[derive(Clone, Copy)]
 struct Flags {
     bits: u64,
@@ -28,7 +28,7 @@ impl Addend<u64> for Flags {
     }
 }
 
-/// A key that had no flags notes those that it has now.
+/// Reports the new value of a key that had no value before, and nothing otherwise.
 impl ReportingAddend<u64, u64> for Flags {
     ghost use Rattle.std.specs.Prelude.{is_some, if◌then◌else◌, Some, None};
 
@@ -42,7 +42,7 @@ impl ReportingAddend<u64, u64> for Flags {
     }
 }
 
-/// Stages a run.
+/// Stages a run, and appends its reports to `told`.
 fn stage(
     alloc: Global,
     map: &mut StagedMap<u64, u64, Global>,
@@ -52,7 +52,7 @@ fn stage(
     map.stage_run(alloc, run, told)
 }
 
-/// A run of `count` keys, each `step` above the one before, with the same flags.
+/// A run of `count` keys with the same flags. The first key is 0, and each other one is `step` above the one before.
 fn run_of(
     alloc: Global,
     count: u64,
@@ -88,7 +88,8 @@ fn committed(
     Ok(pairs)
 }
 
-/// A run that falls and repeats a key: sums are staged beside what is committed, and notes come after those before.
+/// A run whose keys don't ascend, and which has one key twice. Committed values don't change until the commit, and reports are
+/// appended to those that are there.
 #[test]
 fn a_run_in_any_order(rt: HostRuntime) -> Result<(), Fail> {
     let alloc = rt.alloc();
@@ -135,8 +136,8 @@ fn alternate(map: &StagedMap<u64, u64, Global>, count: u64, even: u64, odd: u64)
     next == count
 }
 
-/// Runs of more keys than fit on a page: new ones after all others, new ones between those that are there, and keys that
-/// are all there.
+/// Runs of more keys than fit on a page. All keys of the first run are new. In the second, new keys come between keys that are
+/// there, and after all of them. All keys of the last two runs are there.
 #[test]
 fn runs_over_pages(rt: HostRuntime) -> Result<(), Fail> {
     let alloc = rt.alloc();

@@ -1,11 +1,11 @@
-//! A long section whose lines don't ascend.
+//! Long sections whose lines don't ascend.
 
 use super::check_bytes;
 use super::held::{held, refused, store_of};
 use super::wrappers::read;
 use std::test::*;
 
-/// How many lines the section has. It is a prime, so the multiples of 1,000 have each remainder once.
+/// How many lines the section has. It is a prime, so its remainders of the first 2,003 multiples of 1,000 are all different.
 const LINES: u64 = 2003;
 
 /// Appends a branch of a line, and the line.
@@ -29,7 +29,7 @@ fn given(rt: &impl AllocGlobal) -> Result<Vec<u8>, Fail> {
     Ok(text)
 }
 
-/// Each branch and each line, ascending, with twice its number.
+/// Each branch and each line, ascending. Their counts are twice the line number.
 fn wanted(rt: &impl AllocGlobal) -> Result<Vec<u8>, Fail> {
     let mut text = Vec::from_slice(rt.alloc(), b"TN:t\nSF:/m\n")?;
     for line in 1..LINES + 1 {
@@ -45,7 +45,7 @@ fn wanted(rt: &impl AllocGlobal) -> Result<Vec<u8>, Fail> {
     Ok(text)
 }
 
-/// The items are sorted by their lines, and each of them is counted once.
+/// The items of each section are staged in the order of their lines, and each item is counted once.
 #[test]
 fn a_shuffled_section(rt: HostRuntime) -> Result<(), Fail> {
     let store = store_of(&rt, &given(&rt)?)?;
@@ -64,7 +64,7 @@ fn clashing(rt: &impl AllocGlobal) -> Result<Vec<u8>, Fail> {
     Ok(text)
 }
 
-/// If checksums clash, the items aren't sorted: the first clash of the text is reported.
+/// Items of a section with checksums aren't sorted, so the first clash of the text is reported.
 #[test]
 fn a_clash_in_a_shuffled_section(rt: HostRuntime) -> Result<(), Fail> {
     let given = read(rt.alloc(), &clashing(&rt)?)?;

@@ -1,4 +1,4 @@
-//! What is printed of a store, and rates.
+//! What is printed of a store, and the rates in a summary.
 
 ghost use Rattle.covstore.specs.Totals.{AreTotals};
 
@@ -11,7 +11,7 @@ use covstore::{Store, Totals};
 use std::process::Abort;
 use std::test::*;
 
-/// What the chosen part of the store prints.
+/// Checks what is printed of the chosen files of the store.
 fn check_text(
     rt: &(impl Abort + AllocGlobal),
     store: &Store,
@@ -23,7 +23,7 @@ fn check_text(
     Ok(())
 }
 
-/// What the files that match the patterns print.
+/// Checks what is printed of the files that match one of the patterns.
 fn check_extract(
     rt: &(impl Abort + AllocGlobal),
     store: &Store,
@@ -34,7 +34,7 @@ fn check_extract(
     check_text(rt, store, &extract, wanted)
 }
 
-/// What the other files print.
+/// Checks what is printed of the files that match none of the patterns.
 fn check_remove(
     rt: &(impl Abort + AllocGlobal),
     store: &Store,
@@ -63,7 +63,7 @@ fn choices(rt: HostRuntime) -> Result<(), Fail> {
     Ok(())
 }
 
-/// The rate of `hit` points of `found`, if there can be one.
+/// The rate of `hit` points of `found`, in tenths of a percent. Panics if there is none.
 fn rate(rt: &impl Abort, hit: u64, found: u64) -> u32 {
     assert!(rt; found > 0);
     assert!(rt; hit <= found);
@@ -76,7 +76,7 @@ fn rates(rt: HostRuntime) {
     assert_eq!(rt; rate(&rt, u64::MAX, u64::MAX), 1_000);
 }
 
-/// The summary of `hit` lines hit of those found, and of no functions and branches.
+/// The summary of `found` lines, of which `hit` are hit, and of no functions and branches.
 fn summary(rt: &(impl Abort + AllocGlobal), hit: u64, found: u64) -> Result<Bytes, Memory> {
     assert!(rt; hit <= found);
     let totals = Totals {

@@ -1,5 +1,5 @@
-//! Calls of the crates below, without their contracts: a test looks at values, and its proof is quicker if it knows nothing
-//! else.
+//! Calls of the crates below, in functions without contracts. A test looks only at values, and its proof is quicker without
+//! contracts.
 
 use covline::{Bytes, Memory, Submission, TraceLine};
 use covread::{ReadFault, read_trace};

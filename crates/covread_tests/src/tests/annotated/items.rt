@@ -134,7 +134,7 @@ branch  0 never executed
     )
 }
 
-/// Items come in the order of their lines, and functions at the line that they begin at.
+/// Items come in the order of their lines. A function comes right before the next source line, where it starts.
 #[test]
 fn orders(rt: HostRuntime) -> Result<(), Fail> {
     check_all(

@@ -1,10 +1,10 @@
-//! Texts as gcov 12 wrote them, byte by byte, of four small programs. What is wanted was worked out by hand from each text,
-//! line by line. The programs were compiled with `--coverage` and run once; their sources are in the texts.
+//! Texts of four small programs, exactly as gcov 12 wrote them. What is wanted was worked out by hand from each text, line by
+//! line. The programs were compiled with `--coverage` and run once. Their sources are in the texts.
 
 use super::items::check_all;
 use std::test::*;
 
-/// Each example ends in a line with the command that wrote it.
+/// The line that ends each example has the command that wrote its text.
 #[test]
 fn texts_of_gcov(rt: HostRuntime) -> Result<(), Fail> {
     check_all(

@@ -160,7 +160,7 @@ function f called 2
     )
 }
 
-/// A name ends before the last ` called `, the one that begins last.
+/// A name ends before the last ` called ` of its line. If two of these share a space, the last is the one that begins later.
 #[test]
 fn names(rt: HostRuntime) -> Result<(), Fail> {
     check_around(

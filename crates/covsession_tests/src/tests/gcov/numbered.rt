@@ -1,10 +1,9 @@
-//! Lines of gcov's text that have a mark and a number: those of the preamble and those of the source. Lines without any
-//! shape.
+//! Lines of gcov's text that have a mark and a number: lines of the preamble, and source lines. Also lines that fit no shape.
 
 use crate::tests::check_around;
 use std::test::*;
 
-/// Each line names a path.
+/// In each of these texts a line names a path.
 #[test]
 fn paths(rt: HostRuntime) -> Result<(), Fail> {
     check_around(
@@ -70,7 +69,7 @@ x:00:Source:a.c
     )
 }
 
-/// No line names a path.
+/// In each of these texts the last line before `1:1:x` looks as if it named a path, but names none.
 #[test]
 fn no_paths(rt: HostRuntime) -> Result<(), Fail> {
     check_around(
@@ -316,7 +315,7 @@ x:2:y
     )
 }
 
-/// None of them says anything, but for one that has a number.
+/// None of these lines says anything, but `call:2:x` is refused: it has a mark and a number.
 #[test]
 fn other_lines(rt: HostRuntime) -> Result<(), Fail> {
     check_around(

@@ -1,4 +1,4 @@
-//! What comes above a line of gcov's text: the faults of places, and which of several faults is reported.
+//! What has to come above a line of gcov's text, the faults if it isn't there, and which of several faults is reported.
 
 use crate::tests::check_around;
 use std::test::*;
