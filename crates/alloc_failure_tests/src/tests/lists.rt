@@ -218,7 +218,7 @@ fn items_and_sections(rt: HostRuntime) {
 }
 
 #[test]
-fn entries_and_logs(rt: HostRuntime) {
+fn lists_of_books_and_jobs(rt: HostRuntime) {
     check_rising(&rt, |heap, room| puts::<Entries<&Bump>>(&rt, heap, room));
     check_rising(&rt, |heap, room| puts::<Receipts<&Bump>>(&rt, heap, room));
     check_rising(&rt, |heap, room| puts::<Readings<&Bump>>(&rt, heap, room));

@@ -334,7 +334,7 @@ fn dropped(answer: &Answer) -> u64 {
 }
 
 /// Drops a test of the book. Checks that it had as many sections as in the list.
-fn drop_random(
+fn drop_checked(
     rt: &(impl Abort + AllocGlobal),
     book: &mut Book,
     test: usize,
@@ -375,7 +375,7 @@ fn check_drop(
     test: usize,
     rows: &mut Vec<Row>,
 ) -> Result<(), Fail> {
-    drop_random(rt, book, test, rows)?;
+    drop_checked(rt, book, test, rows)?;
     *rows = without(rt.alloc(), rows, test)?;
     check_list(rt, book, rows)
 }

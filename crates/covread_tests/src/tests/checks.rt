@@ -172,7 +172,7 @@ fn texts_with_and_without_items(rt: HostRuntime) -> Result<(), Fail> {
 
 /// A line of each shape fits a shape. A blank line fits none, and neither do some others.
 #[test]
-fn lines_of_no_shape(rt: HostRuntime) {
+fn lines_with_and_without_a_shape(rt: HostRuntime) {
     for line in b"------|function f called 1|branch 0 never executed|branch 0 taken 1|1: 2-block 3|1: 2:x".split(
         |byte| *byte == b'|',
     ) {

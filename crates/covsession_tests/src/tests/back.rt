@@ -75,7 +75,7 @@ end_of_record
 > LH:0
 > end_of_record
 > .
-= branches that weren't executed
+= branches with and without a number
 TN:t
 SF:/a.c
 FN:10,f
@@ -96,7 +96,7 @@ end_of_record
 > LH:0
 > end_of_record
 > .
-= a function with two start lines
+= a function
 TN:t
 SF:tmp.c
 FN:2,main

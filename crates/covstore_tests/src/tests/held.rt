@@ -222,7 +222,7 @@ fn a_clash(rt: HostRuntime) -> Result<(), Fail> {
 }
 
 #[test]
-fn a_refused_growth(rt: HostRuntime) {
+fn number_of_a_refusal(rt: HostRuntime) {
     let memory: Refuse = Refuse::from(Memory);
     assert_eq!(rt; memory.number(), 2);
 }

@@ -47,7 +47,7 @@ fn wanted(rt: &impl AllocGlobal) -> Result<Vec<u8>, Fail> {
 
 /// The items of each section are staged in the order of their lines, and each item is counted once.
 #[test]
-fn a_shuffled_section(rt: HostRuntime) -> Result<(), Fail> {
+fn shuffled_sections(rt: HostRuntime) -> Result<(), Fail> {
     let store = store_of(&rt, &given(&rt)?)?;
     let text = held(rt.alloc(), &store)?;
     check_bytes(&rt, text.get(), &wanted(&rt)?);
