@@ -34,16 +34,16 @@ comes_first x xs = elim (eqb_tells x x) [
 ]
 
 -- two such lists are equal if each number is in both equally often
-pub one_order : (xs ys : List ℕ) → Up xs → Up ys → ((k : ℕ) → times k xs ≡ times k ys) → xs ≡ ys
-one_order [] [] up ups same = refl
-one_order [] (y ∷ ys) up ups same = absurd (omega (arith, same y, comes_first y ys))
-one_order (x ∷ xs) [] up ups same = absurd (omega (arith, same x, comes_first x xs))
-one_order (x ∷ xs) (y ∷ ys) up ups same =
+pub same_if_as_often : (xs ys : List ℕ) → Up xs → Up ys → ((k : ℕ) → times k xs ≡ times k ys) → xs ≡ ys
+same_if_as_often [] [] up ups same = refl
+same_if_as_often [] (y ∷ ys) up ups same = absurd (omega (arith, same y, comes_first y ys))
+same_if_as_often (x ∷ xs) [] up ups same = absurd (omega (arith, same x, comes_first x xs))
+same_if_as_often (x ∷ xs) (y ∷ ys) up ups same =
     let low : y ≤ x = least_comes x y ys ups.0 (omega (arith, same x, comes_first x xs)) in
     let high : x ≤ y = least_comes y x xs up.0 (omega (arith, same y, comes_first y ys)) in
     let is : x ≡ y = omega (arith, low, high) in
     let rest : (k : ℕ) → times k xs ≡ times k ys = λ k. (let whole = same k in let head : cond (eqb k x) 1 0 ≡ cond (eqb k y) 1 0 = ap (λ (n : ℕ). cond {A = ℕ} (eqb k n) 1 0) is in omega (arith, whole, head)) in
-    ap (λ (n : ℕ). n ∷ xs) is ∙ ap (λ (zs : List ℕ). y ∷ zs) (one_order xs ys up.1 ups.1 rest)
+    ap (λ (n : ℕ). n ∷ xs) is ∙ ap (λ (zs : List ℕ). y ∷ zs) (same_if_as_often xs ys up.1 ups.1 rest)
 
 abbrev pub places_of : List RefusedInput → List ℕ
 places_of inputs = map (λ (r : RefusedInput). r.index) inputs

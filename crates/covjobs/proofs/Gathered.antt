@@ -13,11 +13,11 @@ use Rattle.covline.specs.Row.{SubmissionData}
 use Rattle.covjobs.specs.declared.refused.RefusedInput.{RefusedInput}
 use Rattle.covjobs.specs.Collect.{submitted, refusal, brought, all_places, places_of_job, submissions_of, refusals_of}
 use Rattle.covjobs.specs.Work.{WorkerData, refused_in}
-use Rattle.covjobs.proofs.Ascending.{Up, places_of, IsRefusal, one_order, one_refused, up_from_sorted, up_after}
+use Rattle.covjobs.proofs.Ascending.{Up, places_of, IsRefusal, same_if_as_often, one_refused, up_from_sorted, up_after}
 use Rattle.covjobs.proofs.Places.{times}
 use Rattle.covjobs.proofs.Taken.{Outcome}
 use Rattle.covjobs.proofs.Together.{all_together}
-use Rattle.covjobs.proofs.Whole.{HasTold, HaveTold}
+use Rattle.covjobs.proofs.Whole.{FollowsOutcomes, AllFollowOutcomes}
 
 -- a range with one more number is the shorter range followed by this number
 range_after : (from count : ℕ) → range_with_len from (suc count) ≡ range_with_len from count ++ (from + count) ∷ []
@@ -43,14 +43,14 @@ brought_by_range {X} f (suc count) =
     none_before count = omega arith
 
 -- what all workers refused is what the outcomes say for each job, one job after another
-refused_by_jobs : (jobs count : ℕ) (outcome : ℕ → Outcome) (workers : List WorkerData) → AllByRecursion (HasTold jobs count outcome) workers
+refused_by_jobs : (jobs count : ℕ) (outcome : ℕ → Outcome) (workers : List WorkerData) → AllByRecursion (FollowsOutcomes jobs count outcome) workers
     → refused_in workers ≡ flat_map (λ job. refusals_of (places_of_job jobs job) outcome count) (map (λ (w : WorkerData). w.seat.job) workers)
 refused_by_jobs jobs count outcome [] told = refl
 refused_by_jobs jobs count outcome (worker ∷ workers) told =
     ap (λ (rs : List RefusedInput). rs ++ refused_in workers) told.0.are_refused
     ∙ ap (λ (rs : List RefusedInput). refusals_of (places_of_job jobs worker.seat.job) outcome count ++ rs) (refused_by_jobs jobs count outcome workers told.1)
 
-all_refused : (jobs count : ℕ) (outcome : ℕ → Outcome) (workers : List WorkerData) → 0 < jobs → HaveTold jobs 0 jobs count outcome workers → IsPermutation (refused_in workers) (refusals_of all_places outcome count)
+all_refused : (jobs count : ℕ) (outcome : ℕ → Outcome) (workers : List WorkerData) → 0 < jobs → AllFollowOutcomes jobs 0 jobs count outcome workers → IsPermutation (refused_in workers) (refusals_of all_places outcome count)
 all_refused jobs count outcome workers some told =
     let by_job : ℕ → List RefusedInput = λ job. refusals_of (places_of_job jobs job) outcome count in
     subst (λ (rs : List RefusedInput). IsPermutation rs (refusals_of all_places outcome count))
@@ -101,7 +101,7 @@ times_by_sum k (r ∷ inputs) =
     ap (λ (n : ℕ). cond (eqb k r.index) 1 0 + n) (times_by_sum k inputs) ∙ sym (sum_by-cons (λ (r : RefusedInput). cond (eqb k r.index) 1 0) r inputs)
 
 -- all that the workers refused, sorted by place, is what the outcomes of all inputs refuse
-pub refused_is : (jobs count : ℕ) (outcome : ℕ → Outcome) (workers : List WorkerData) (refused : List RefusedInput) → 0 < jobs → HaveTold jobs 0 jobs count outcome workers
+pub refused_is : (jobs count : ℕ) (outcome : ℕ → Outcome) (workers : List WorkerData) (refused : List RefusedInput) → 0 < jobs → AllFollowOutcomes jobs 0 jobs count outcome workers
     → IsPermutation (refused_in workers) refused → IsNonDecreasingBy (λ (r : RefusedInput). r.index) refused → refused ≡ refusals_of all_places outcome count
 refused_is jobs count outcome workers refused some told same sorted =
     let all = refusals_of all_places outcome count in
@@ -109,7 +109,7 @@ refused_is jobs count outcome workers refused some told same sorted =
     one_refused outcome refused all
     (recursion_from_All (IsRefusal outcome) refused (All-permutation (IsRefusal outcome) all refused moved (All-from_recursion (IsRefusal outcome) all (refusals_are outcome count))))
     (refusals_are outcome count)
-    (one_order (places_of refused) (places_of all) (up_from_sorted refused sorted) (refusals_rise outcome count).up
+    (same_if_as_often (places_of refused) (places_of all) (up_from_sorted refused sorted) (refusals_rise outcome count).up
     (λ k. times_by_sum k refused ∙ sum_by-IsPermutation (λ (r : RefusedInput). cond (eqb k r.index) 1 0) all refused moved ∙ sym (times_by_sum k all)))
 
 -- the submissions of all jobs, one job after another, are those of all inputs in another order

@@ -2,6 +2,7 @@ pub mod AllSeated
 pub mod Ascending
 pub mod AskedLast
 pub mod EachOnce
+pub mod Dealt
 pub mod Ended
 pub mod Everything
 pub mod Outcomes
@@ -9,6 +10,7 @@ pub mod Gathered
 pub mod Histories
 pub mod LastEntry
 pub mod Places
+pub mod Underway
 pub mod ReadAfter
 pub mod Submitted
 pub mod Taken

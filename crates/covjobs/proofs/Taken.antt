@@ -73,11 +73,11 @@ by_place : (inputs : List InputData) (meant : ℕ → Bool) (count : ℕ) (input
     → (index : ℕ) → index < count + 1 → IsTrue (meant index)
     → ((eqb index count ≡ true) × (index ≡ count)) ⊎ ((eqb index count ≡ false) × (index ≡ count → ⊥))
     → IsSomeAnd (slice_get inputs index) (λ input. IsOutcomeOf input (put count new old index))
-by_place inputs meant count input new old before is is_fate index less own (inl (_, same)) =
+by_place inputs meant count input new old before is is_outcome index less own (inl (_, same)) =
     subst (λ (i : ℕ). IsSomeAnd (slice_get inputs i) (λ input. IsOutcomeOf input (put count new old i))) (sym same)
     (subst (λ (f : Outcome). IsSomeAnd (slice_get inputs count) (λ input. IsOutcomeOf input f)) (sym (put_here count new old))
-    (subst (λ (found : Option InputData). IsSomeAnd found (λ input. IsOutcomeOf input new)) (sym is) is_fate))
-by_place inputs meant count input new old before is is_fate index less own (inr (_, differs)) =
+    (subst (λ (found : Option InputData). IsSomeAnd found (λ input. IsOutcomeOf input new)) (sym is) is_outcome))
+by_place inputs meant count input new old before is is_outcome index less own (inr (_, differs)) =
     subst (λ (f : Outcome). IsSomeAnd (slice_get inputs index) (λ input. IsOutcomeOf input f)) (sym (put_apart count new old index differs))
     (before index (is_below index count less differs) own)
 
@@ -85,8 +85,8 @@ fates_put : (inputs : List InputData) (meant : ℕ → Bool) (count : ℕ) (inpu
     → ((index : ℕ) → index < count → IsTrue (meant index) → IsSomeAnd (slice_get inputs index) (λ input. IsOutcomeOf input (old index)))
     → slice_get inputs count ≡ Some input → IsOutcomeOf input new
     → (index : ℕ) → index < count + 1 → IsTrue (meant index) → IsSomeAnd (slice_get inputs index) (λ input. IsOutcomeOf input (put count new old index))
-fates_put inputs meant count input new old before is is_fate index less own =
-    by_place inputs meant count input new old before is is_fate index less own (eqb_tells index count)
+fates_put inputs meant count input new old before is is_outcome index less own =
+    by_place inputs meant count input new old before is is_outcome index less own (eqb_tells index count)
 
 pub step_taken : (inputs : List InputData) (jobs job count : ℕ) (receipts after : List ReceiptData) (refused refuses : List RefusedInput) (input : InputData)
     → HasTaken inputs jobs job count receipts refused → places_of_job jobs job count ≡ true → slice_get inputs count ≡ Some input
@@ -98,7 +98,7 @@ step_taken inputs jobs job count receipts after refused refuses input so_far own
     let here : new count ≡ takes.outcome = put_here count takes.outcome old in
     record {
       outcome = new;
-      outcomes = fates_put inputs meant count input takes.outcome old so_far.outcomes is takes.is_fate;
+      outcomes = fates_put inputs meant count input takes.outcome old so_far.outcomes is takes.is_outcome;
       asked = takes.submits
           ∙ ap (λ (ops : List OpData). ops ++ map SubmitOp (submitted takes.outcome)) so_far.asked
           ∙ sym (map_after SubmitOp (submissions_of meant old count) (submitted takes.outcome))

@@ -20,22 +20,22 @@ abbrev pub works_from : List InputData → (jobs from count : ℕ) → List Work
 works_from inputs jobs from count = map (work_of inputs jobs) (map fresh_seat (range_with_len from count))
 
 -- the outcomes of the inputs by the k-th worker's own account, which is right for the inputs of its job
-abbrev fates_at : (works : List WorkData) (workers : List WorkerData) → HaveDone works workers → ℕ → ℕ → Outcome
-fates_at [] [] done k = λ index. Err faults.Memory
-fates_at [] (worker ∷ workers) done k = absurd done
-fates_at (work ∷ works) [] done k = absurd done
-fates_at (work ∷ works) (worker ∷ workers) done zero = done.0.taken.outcome
-fates_at (work ∷ works) (worker ∷ workers) done (suc k) = fates_at works workers done.1 k
+abbrev outcomes_at : (works : List WorkData) (workers : List WorkerData) → HaveDone works workers → ℕ → ℕ → Outcome
+outcomes_at [] [] done k = λ index. Err faults.Memory
+outcomes_at [] (worker ∷ workers) done k = absurd done
+outcomes_at (work ∷ works) [] done k = absurd done
+outcomes_at (work ∷ works) (worker ∷ workers) done zero = done.0.taken.outcome
+outcomes_at (work ∷ works) (worker ∷ workers) done (suc k) = outcomes_at works workers done.1 k
 
 -- a worker has submitted and refused what the outcomes say for its job's inputs. If it has a reader, it has read after each
 -- submit
-pub record HasTold (jobs count : ℕ) (outcome : ℕ → Outcome) (worker : WorkerData) : Type 0 where
+pub record FollowsOutcomes (jobs count : ℕ) (outcome : ℕ → Outcome) (worker : WorkerData) : Type 0 where
   pub asked : ops_in worker.receipts ≡ map SubmitOp (submissions_of (places_of_job jobs worker.seat.job) outcome count)
   pub are_refused : worker.refused ≡ refusals_of (places_of_job jobs worker.seat.job) outcome count
   pub read : HasRead worker.has_reader worker.receipts worker.readings
 
 told : (inputs : List InputData) (jobs job : ℕ) (worker : WorkerData) (done : HasDone (record { inputs = inputs; jobs = jobs; job = job }) worker) (whole : ℕ → Outcome)
-    → ((index : ℕ) → index % jobs ≡ job → whole index ≡ done.taken.outcome index) → HasTold jobs (length inputs) whole worker
+    → ((index : ℕ) → index % jobs ≡ job → whole index ≡ done.taken.outcome index) → FollowsOutcomes jobs (length inputs) whole worker
 told inputs jobs job worker done whole same =
     let own = done.taken.outcome in
     let agree : (index : ℕ) → index < length inputs → places_of_job jobs job index ≡ true → whole index ≡ own index = λ index less meant. same index (is_own jobs job index meant) in
@@ -56,12 +56,12 @@ told inputs jobs job worker done whole same =
     ]
 
 -- this holds of each worker, and the workers are those of `some` jobs from the job `from` on, in order
-pub record HaveTold (jobs from some count : ℕ) (outcome : ℕ → Outcome) (workers : List WorkerData) : Type 0 where
+pub record AllFollowOutcomes (jobs from some count : ℕ) (outcome : ℕ → Outcome) (workers : List WorkerData) : Type 0 where
   pub are : map (λ (w : WorkerData). w.seat.job) workers ≡ range_with_len from some
-  pub each : AllByRecursion (HasTold jobs count outcome) workers
+  pub each : AllByRecursion (FollowsOutcomes jobs count outcome) workers
 
 have_told : (inputs : List InputData) (jobs from some : ℕ) (workers : List WorkerData) (done : HaveDone (works_from inputs jobs from some) workers) (whole : ℕ → Outcome)
-    → ((k index : ℕ) → index % jobs ≡ from + k → whole index ≡ fates_at (works_from inputs jobs from some) workers done k index) → HaveTold jobs from some (length inputs) whole workers
+    → ((k index : ℕ) → index % jobs ≡ from + k → whole index ≡ outcomes_at (works_from inputs jobs from some) workers done k index) → AllFollowOutcomes jobs from some (length inputs) whole workers
 have_told inputs jobs from zero [] done whole same = record { are = refl; each = tt }
 have_told inputs jobs from zero (worker ∷ workers) done whole same = absurd done
 have_told inputs jobs from (suc some) [] done whole same = absurd done
@@ -79,7 +79,7 @@ have_told inputs jobs from (suc some) (worker ∷ workers) done whole same =
     none_more from = omega arith
 
 holds_at : (inputs : List InputData) (jobs from some : ℕ) (workers : List WorkerData) (done : HaveDone (works_from inputs jobs from some) workers) (k index : ℕ)
-    → k < some → index < length inputs → index % jobs ≡ from + k → IsSomeAnd (slice_get inputs index) (λ input. IsOutcomeOf input (fates_at (works_from inputs jobs from some) workers done k index))
+    → k < some → index < length inputs → index % jobs ≡ from + k → IsSomeAnd (slice_get inputs index) (λ input. IsOutcomeOf input (outcomes_at (works_from inputs jobs from some) workers done k index))
 holds_at inputs jobs from zero workers done k index below less is = absurd (omega (arith, below))
 holds_at inputs jobs from (suc some) [] done k index below less is = absurd done
 holds_at inputs jobs from (suc some) (worker ∷ workers) done zero index below less is = done.0.taken.outcomes index less (true_is (eq-eqb (index % jobs) from (is ∙ none_more from)))
@@ -98,11 +98,11 @@ holds_at inputs jobs from (suc some) (worker ∷ workers) done (suc k) index bel
 pub record IsWhole (inputs : List InputData) (jobs : ℕ) (workers : List WorkerData) : Type 0 where
   pub outcome : ℕ → Outcome
   pub outcomes : AreOutcomes inputs outcome
-  pub tell : HaveTold jobs 0 jobs (length inputs) outcome workers
+  pub tell : AllFollowOutcomes jobs 0 jobs (length inputs) outcome workers
 
 pub whole_of : (inputs : List InputData) (jobs : ℕ) (workers : List WorkerData) → 0 < jobs → HaveDone (works_from inputs jobs 0 jobs) workers → IsWhole inputs jobs workers
 whole_of inputs jobs workers some done =
-    let at = fates_at (works_from inputs jobs 0 jobs) workers done in
+    let at = outcomes_at (works_from inputs jobs 0 jobs) workers done in
     let whole : ℕ → Outcome = λ index. at (index % jobs) index in
     record {
       outcome = whole;

@@ -8,4 +8,5 @@ pub use Rattle.covlock.specs.CloseFault
 pub mod CollectFault
 pub mod Collect
 pub mod InputView
+pub mod Shares
 pub mod Work

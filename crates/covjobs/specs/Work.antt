@@ -14,7 +14,7 @@ use Rattle.covlock.specs.Seat.{SeatData}
 -- an input is taken: what becomes of it comes after what was submitted and what was refused before
 pub record Takes (input : InputData) (index : ℕ) (asked asks : List OpData) (refused refuses : List RefusedInput) : Type 0 where
   pub outcome : Result SubmissionData ReadFault
-  pub is_fate : IsOutcomeOf input outcome
+  pub is_outcome : IsOutcomeOf input outcome
   pub submits : asks ≡ asked ++ map SubmitOp (submitted outcome)
   pub tells : refuses ≡ refused ++ refusal index outcome
 

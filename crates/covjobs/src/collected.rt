@@ -2,8 +2,9 @@
 
 use crate::collect_fault::CollectFault;
 use crate::gate::Gate;
-use crate::input::Input;
+use crate::input::{Input, Text};
 use crate::refused::Refused;
+use crate::shares::{Dealt, deal};
 use crate::worker::Worker;
 use crate::workers::work_at_once;
 use covbook::laws::{a_run_goes_on, order_does_not_matter};
@@ -52,14 +53,47 @@ pub fn collect<R: Threads + Wait + Sync, G: Gate + Sync>(
     ensures bad { (result ≡ Err faults.BadJobs) ↔ (AreJobs jobs → ⊥) }
 {
     let start = Start::new(alloc, jobs)?;
-    collect_named::<R, G, Brand>(rt, alloc, inputs, last, jobs, gate, start)
+    let inputs = lent(alloc, inputs)?;
+    collect_named::<R, G, Brand, &Input>(rt, alloc, inputs, last, jobs, gate, start)
 }
 
-/// As `collect`, in the book that the start is made for.
-fn collect_named<R: Threads + Wait + Sync, G: Gate + Sync, L: Name + Send + Sync>(
+/// As `collect`, for inputs that nobody needs any more: each text is freed once it is read, before what was read is submitted.
+pub fn collect_owned<R: Threads + Wait + Sync, G: Gate + Sync>(
     rt: &R,
     alloc: Global,
-    inputs: &[Input],
+    inputs: Vec<Input>,
+    last: &Op,
+    jobs: u32,
+    gate: &G,
+) -> Result<Collected, CollectFault>
+    ensures collected { IfOk result (λ c. IsCollected (map input_data inputs.items) jobs (op_data last.now) c.entries c.logs c.refused) }
+    ensures bad { (result ≡ Err faults.BadJobs) ↔ (AreJobs jobs → ⊥) }
+{
+    let start = Start::new(alloc, jobs)?;
+    collect_named::<R, G, Brand, Input>(rt, alloc, inputs, last, jobs, gate, start)
+}
+
+/// The inputs, lent one by one.
+fn lent(alloc: Global, inputs: &[Input]) -> Result<Vec<&Input>, Memory>
+    ensures { IfOk result (λ lent. map (λ input. input_data input.now) lent.items ≡ map input_data inputs.now) }
+{
+    let mut lent = Vec::with_capacity(alloc, inputs.len())?;
+    for input in inputs {
+        lent.push(input)?;
+    }
+    Ok(lent)
+}
+
+/// As `collect_owned`, in the book that the start is made for.
+fn collect_named<
+    R: Threads + Wait + Sync,
+    G: Gate + Sync,
+    L: Name + Send + Sync,
+    T: Text<Global> + Send,
+>(
+    rt: &R,
+    alloc: Global,
+    inputs: Vec<T>,
     last: &Op,
     jobs: u32,
     gate: &G,
@@ -70,13 +104,15 @@ fn collect_named<R: Threads + Wait + Sync, G: Gate + Sync, L: Name + Send + Sync
     requires book { start.book ≡ L.book }
     requires jobs { start.jobs ≡ jobs }
     requires some { 0 < jobs }
-    ensures collected { IfOk result (λ c. IsCollected (map input_data inputs.now) jobs (op_data last.now) c.entries c.logs c.refused) }
+    ensures collected { IfOk result (λ c. IsCollected (map T.says inputs.items) jobs (op_data last.now) c.entries c.logs c.refused) }
     ensures jobs_are_good { result ≡ Err faults.BadJobs → ⊥ }
 {
     let (book, seats) = open_book::<L, Global>(alloc, start)?;
+    let dealt = deal(alloc, inputs, jobs)?;
+    let Dealt { inputs, shares } = dealt;
     let mut workers = all_well(
         alloc,
-        work_at_once(rt, alloc, &book, gate, seats, jobs, inputs)?,
+        work_at_once(rt, alloc, &book, gate, seats, jobs, &inputs, shares)?,
     )?;
     let end = ask_last(rt, alloc, &book, &mut workers, last)?;
     let (seats, logs, refused) = hand_in(alloc, workers)?;

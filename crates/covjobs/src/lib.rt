@@ -9,7 +9,7 @@
 //!
 //! `collect` does all of this for texts that are already in memory. It opens a book, and starts a thread for each job, which
 //! reads its share of the inputs and submits them. Then it performs a last operation, closes the book, and gathers the history
-//! from the jobs' logs.
+//! from the jobs' logs. `collect_owned` does the same, and frees each text once it is read.
 //!
 //! This crate also re-exports what a thread asks (`Op`) and what it keeps (`Receipt` and `Reading`, in a `JobLog`), and `gather`,
 //! which checks that the logs fit the closed history (`Entries`). All of this is covbook's. So a user needs only this crate.
@@ -39,11 +39,12 @@ mod collected;
 mod gate;
 mod input;
 mod refused;
+mod shares;
 mod worker;
 mod workers;
 
 pub use collect_fault::CollectFault;
-pub use collected::{Collected, collect};
+pub use collected::{Collected, collect, collect_owned};
 // `gather` can also check the readings of a reader that isn't a job. They are given as a log without receipts, with a job number
 // that no seat has.
 pub use covbook::{BookFault, Entries, JobLog, Op, Reading, Receipt, gather};

@@ -1,13 +1,15 @@
 //! One job's worker.
 
 use crate::gate::Gate;
-use crate::input::Input;
+use crate::input::Text;
 use crate::refused::{Refused, RefusedInput};
+use crate::shares::Placed;
 use covbook::{BookFault, JobLog, Op, Readings, Receipts, SubRef};
 use covline::Memory;
 use covlock::{Live, Name, News, ReaderFault, Seat, Shared};
 use std::alloc::{Allocator, Global};
 use std::marker::Model;
+use std::snapshot::Snapshot;
 use std::sync::Wait;
 
 /// A job at work: its seat, what it keeps of its calls, what it read of the totals, and which of its inputs are refused. Contracts
@@ -34,7 +36,6 @@ impl<L: Name, A: Allocator + Copy> Worker<L, A> {
     ghost use Rattle.std.specs.Prelude.{◌≡◌, ◌++◌, [], ◌∷◌, IfOk, is_some, length};
     ghost use Rattle.covbook.specs.Op.{SubmitOp};
     ghost use Rattle.covbook.specs.View.{op_data};
-    ghost use Rattle.covjobs.specs.InputView.{input_data};
     ghost use Rattle.covjobs.specs.Collect.{ops_in, HasRead};
     ghost use Rattle.covjobs.specs.Work.{Takes, Asks, ReadsOn};
 
@@ -55,22 +56,22 @@ impl<L: Name, A: Allocator + Copy> Worker<L, A> {
         }
     }
 
-    /// Takes the input at this place: submits what it is read as, or refuses it if it isn't read.
-    fn take<R: Wait, G: Gate>(
+    /// Takes the input: submits what it is read as, or refuses it if it isn't read. It is used up before anything is submitted.
+    fn take<R: Wait, G: Gate, T: Text<A>>(
         &mut self,
         rt: &R,
         alloc: A,
         book: &Shared<L, A>,
         gate: &G,
-        index: usize,
-        input: &Input<A>,
+        placed: Placed<T>,
     ) -> Result<(), BookFault>
         ensures job { self.new.seat.job ≡ self.old.seat.job }
-        ensures taken { IfOk result (λ _. Takes (input_data input.now) index (ops_in self.old.receipts) (ops_in self.new.receipts) self.old.refused self.new.refused) }
+        ensures taken { IfOk result (λ _. Takes (T.says placed.input) placed.index (ops_in self.old.receipts) (ops_in self.new.receipts) self.old.refused self.new.refused) }
         ensures read { IfOk result (λ _. HasRead self.old.has_reader self.old.receipts self.old.readings → HasRead self.new.has_reader self.new.receipts self.new.readings) }
         ensures reader { self.new.has_reader ≡ self.old.has_reader }
     {
-        match input.read(alloc) {
+        let Placed { index, input } = placed;
+        match input.read_once(alloc) {
             Ok(submission) => self.submit(rt, alloc, book, gate, submission),
             Err(fault) => Ok(self.refused.push(RefusedInput { index, fault })?),
         }
@@ -171,33 +172,31 @@ impl<L: Name, A: Allocator> Worker<L, A> {
     }
 }
 
-ghost use Rattle.std.specs.Prelude.{◌≡◌, ◌<◌, IfOk, length, map};
-ghost use Rattle.covjobs.specs.Collect.{HasRead, HasTaken, places_of_job};
-ghost use Rattle.covjobs.specs.InputView.{input_data};
+ghost use Rattle.std.specs.Prelude.{◌≡◌, IfOk, length, map};
+ghost use Rattle.covjobs.specs.Collect.{HasRead, HasTaken};
+ghost use Rattle.covjobs.specs.Shares.{share_of};
 
-/// Does the work of one of `jobs` jobs: takes its inputs in order. Ends at the first fault. If there is no place for one more
-/// reader, the job has no readings.
-pub(crate) fn work<R: Wait, G: Gate, L: Name, A: Allocator + Copy>(
+/// Does the work of one of `jobs` jobs: takes its share of the inputs, in order. Ends at the first fault. If there is no place
+/// for one more reader, the job has no readings.
+pub(crate) fn work<R: Wait, G: Gate, L: Name, A: Allocator + Copy, T: Text<A>>(
     rt: &R,
     alloc: A,
     book: &Shared<L, A>,
     gate: &G,
     seat: Seat<L>,
     jobs: u32,
-    inputs: &[Input<A>],
+    inputs: &Snapshot<Vec<T>>,
+    share: Vec<Placed<T>>,
 ) -> Result<Worker<L, A>, BookFault>
-    requires { 0 < jobs }
+    requires { share.items ≡ share_of inputs.now.value.items jobs seat.job }
     ensures job { IfOk result (λ w. w.seat.job ≡ seat.job) }
-    ensures taken { IfOk result (λ w. HasTaken (map input_data inputs.now) jobs seat.job (length inputs.now) w.receipts w.refused) }
+    ensures taken { IfOk result (λ w. HasTaken (map T.says inputs.now.value.items) jobs seat.job (length inputs.now.value.items) w.receipts w.refused) }
     ensures read { IfOk result (λ w. HasRead w.has_reader w.receipts w.readings) }
 {
-    let job = seat.job();
     let live = reader_of(rt, book)?;
     let mut worker = Worker::new(alloc, seat, live);
-    for (index, input) in inputs.iter().enumerate() {
-        if is_of_job(index, jobs, job) {
-            worker.take(rt, alloc, book, gate, index, input)?;
-        }
+    for placed in share {
+        worker.take(rt, alloc, book, gate, placed)?;
     }
     Ok(worker)
 }
@@ -213,12 +212,4 @@ fn reader_of<R: Wait, L: Name, A: Allocator>(
         // A reader takes no memory, so this doesn't happen.
         Err(ReaderFault::Memory) => Err(BookFault::Memory),
     }
-}
-
-/// Whether the input at this place belongs to this job of `jobs` jobs.
-fn is_of_job(index: usize, jobs: u32, job: u32) -> bool
-    requires { 0 < jobs }
-    ensures { result ≡ places_of_job jobs job index }
-{
-    index % jobs as usize == job as usize
 }

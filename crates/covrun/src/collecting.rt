@@ -18,14 +18,14 @@ use crate::folder::Folder;
 use crate::inputs::read_files;
 use crate::work::Work;
 use covbook::{Answer, Entry, TextRef};
-use covjobs::{Collected, NoGate, RefusedInput, collect};
+use covjobs::{Collected, NoGate, RefusedInput, collect_owned};
 use covline::Bytes;
 use covsession::{SessionFault, clash_line, refused_line};
 use std::alloc::Global;
 use std::sync::Wait;
 use std::thread::Threads;
 
-/// Does the work, and returns the call's ending. The texts are freed once they are collected.
+/// Does the work, and returns the call's ending. Each text is freed once it is read.
 pub(crate) fn ending_of<'a, R: Threads + Wait + Sync, F: Folder>(
     rt: &R,
     folder: &F,
@@ -40,7 +40,7 @@ pub(crate) fn ending_of<'a, R: Threads + Wait + Sync, F: Folder>(
         Err(FileFault::Unreadable(name)) => return Ending::Unreadable(name),
         Err(FileFault::Memory) => return Ending::Stopped(SessionFault::Memory),
     };
-    match collect(rt, alloc, inputs.as_slice(), &work.last, work.jobs, &NoGate) {
+    match collect_owned(rt, alloc, inputs, &work.last, work.jobs, &NoGate) {
         Ok(collected) => match ending_of_collected(alloc, files, &collected) {
             Ok(ending) => ending,
             Err(fault) => Ending::Stopped(fault),

@@ -1,9 +1,10 @@
 //! Inputs that jobs collect.
 
 use super::books::op_of;
+use super::check_bytes;
 use super::turns::{SMALL, check_entries};
-use covbook::{GatherFault, JobLog, Op};
-use covjobs::{CollectFault, Collected, Gate, Input, NoGate, RefusedInput, collect};
+use covbook::{Answer, Entry, GatherFault, JobLog, Op};
+use covjobs::{CollectFault, Collected, Gate, Input, NoGate, RefusedInput, collect, collect_owned};
 use covline::{Bytes, Memory};
 use covread::ReadFault;
 use std::alloc::Global;
@@ -114,6 +115,75 @@ fn a_refused_input(rt: HostRuntime) -> Result<(), Fail> {
     one_refused(&rt)
 }
 
+/// What `jobs` jobs collect of inputs that they may use up, with the report as the last operation.
+fn answered_by_owned<R: Threads + Wait + Sync + AllocGlobal>(
+    rt: &R,
+    inputs: Vec<Input>,
+    jobs: u32,
+) -> Result<Collected, CollectFault> {
+    collect_owned(rt, rt.alloc(), inputs, &Op::Report, jobs, &NoGate)
+}
+
+/// Checks the text of the last entry.
+fn check_last(rt: &impl Abort, entries: &[Entry], wanted: &[u8]) {
+    match entries.last() {
+        Some(entry) => match &entry.answer {
+            Answer::Text(text) => check_bytes(rt, text.get().get(), wanted),
+            _ => panic!(rt; "the last answer is no text"),
+        },
+        None => panic!(rt; "no entry"),
+    }
+}
+
+/// A line that SMALL has too, one that it doesn't have, and another test.
+const OTHERS: &[u8] = b"\
+TN:t
+SF:/a.c
+DA:1,3
+DA:4,1
+end_of_record
+TN:u
+SF:/a.c
+DA:2,5
+end_of_record
+";
+
+/// SMALL twice and OTHERS, added up: 2 + 3 + 2 of line 1.
+const ADDED_UP: &[u8] = b"\
+TN:t
+SF:/a.c
+DA:1,7
+DA:2,0
+DA:4,1
+LF:3
+LH:2
+end_of_record
+TN:u
+SF:/a.c
+DA:2,5
+LF:1
+LH:1
+end_of_record
+";
+
+/// The second of four inputs can't be read. Job 0 has two of the others.
+fn owned_by_three<R: Threads + Wait + Sync + AllocGlobal + Abort>(rt: &R) -> Result<(), Fail> {
+    let inputs = traces(rt.alloc(), &[SMALL, b"DA:1,1", OTHERS, SMALL])?;
+    match answered_by_owned(rt, inputs, 3) {
+        Ok(collected) => {
+            assert!(rt; is_outside(collected.refused.get(), 1));
+            check_last(rt, collected.entries.get(), ADDED_UP);
+        },
+        Err(_fault) => panic!(rt; "nothing is collected"),
+    }
+    Ok(())
+}
+
+#[test]
+fn owned_inputs(rt: HostRuntime) -> Result<(), Fail> {
+    owned_by_three(&rt)
+}
+
 /// Checks how many receipts and readings the log has.
 fn check_log(rt: &impl Abort, log: Option<&JobLog>, receipts: usize, readings: usize) {
     match log {
@@ -140,6 +210,21 @@ fn read_by_two<R: Threads + Wait + Sync + AllocGlobal + Abort>(rt: &R) -> Result
 #[test]
 fn a_reading_for_each_submit(rt: HostRuntime) -> Result<(), Fail> {
     read_by_two(&rt)
+}
+
+/// Whether nothing is collected of inputs that may be used up, since this number of jobs isn't allowed.
+fn are_bad_for_owned<R: Threads + Wait + Sync + AllocGlobal>(rt: &R, jobs: u32) -> bool {
+    match answered_by_owned(rt, Vec::new(rt.alloc()), jobs) {
+        Ok(_collected) => false,
+        Err(fault) => fault == CollectFault::BadJobs,
+    }
+}
+
+#[test]
+fn jobs_to_collect_owned(rt: HostRuntime) {
+    assert!(rt; are_bad_for_owned(&rt, 0));
+    assert!(rt; !are_bad_for_owned(&rt, 1));
+    assert!(rt; are_bad_for_owned(&rt, 65));
 }
 
 /// Whether nothing is collected, since this number of jobs isn't allowed.

@@ -1,51 +1,39 @@
-use Rattle.std.proofs.Common.{◌≡◌, ◌∙◌, ℕ, Option, length, map, option_map, refl, sym, ap, subst, arith}
-use Rattle.std.proofs.lemmas.Option.{slice_get-map, slice_get_read}
-use Rattle.covjobs.specs.Collect.{HasTaken}
-use Rattle.covjobs.specs.InputView.{input_data}
+use Rattle.std.proofs.Common.{rules, ◌≡◌, ◌∙◌, ◌∷◌, List, ap, subst, arith}
+use Rattle.std.proofs.lemmas.List.{nil_from_length}
 use Rattle.covlock.specs.Seat.{SeatData}
-use Rattle.covjobs.specs.declared.input.Input.{Input}
+use Rattle.covjobs.specs.declared.shares.Placed.{Placed}
 use Rattle.covjobs.proofs.ReadAfter.{none_read}
-use Rattle.covjobs.proofs.Taken.{none_taken, step_taken, step_past}
-use Rattle.covjobs.proofs.worker.work.Goals.{then-is_of_job+in_ok-take, else-is_of_job}
+use Rattle.covjobs.proofs.Underway.{IsUnderway, none_underway, one_taken, all_taken}
 use Rattle.covjobs.proofs.worker.work.Goals as goal
 
-pub loop-index-init : goal.loop-index-init
-loop-index-init g c = (
-  ap (λ (s : SeatData). s.job) c.new-worker.ensures.seat ∙ sym c.job-job.ensures,
-  none_taken (map (input_data {A = g.row.A.Denot}) c.args.inputs.now) c.args.jobs c.job-job.result c.new-worker.result.receipts c.new-worker.result.refused c.new-worker.ensures.receipts c.new-worker.ensures.refused,
+pub loop-placed-init : goal.loop-placed-init
+loop-placed-init g c = (
+  ap (λ (s : SeatData). s.job) c.new-worker.ensures.seat,
+  none_underway g.T.Text.says c.args.inputs.now.value.items c.args.jobs c.args.seat.job c.into_iter-placed-iterator.result.rest.items c.new-worker.result.receipts c.new-worker.result.refused
+      (c.into_iter-placed-iterator.ensures.into_iter_gives.0 ∙ c.requires) c.new-worker.ensures.receipts c.new-worker.ensures.refused,
   none_read c.new-worker.result.has_reader c.new-worker.result.receipts c.new-worker.result.readings c.new-worker.ensures.receipts c.new-worker.ensures.readings,
 )
 
-pub loop-index-preserved : goal.loop-index-preserved
-loop-index-preserved g c =
-    let inputs = map (input_data {A = g.row.A.Denot}) c.args.inputs.now in
-    let i = c.loop-index.index in
-    let old = c.loop-index.worker in
-    elim c.if-is_of_job.branch [
-      | then-is_of_job+in_ok-take w ↦
-          rw w.worker-is (
-            w.take.ensures.job ∙ c.loop-index.invariant.0,
-            step_taken inputs c.args.jobs c.job-job.result i old.receipts w.take.new.self.receipts old.refused w.take.new.self.refused (input_data c.index-inputs-index.result)
-                c.loop-index.invariant.1 (sym c.is_of_job.ensures ∙ w.if-is_of_job.true)
-                (slice_get-map (input_data {A = g.row.A.Denot}) c.args.inputs.now i ∙ ap (λ (found : Option (Input g.row.A.Denot)). option_map (input_data {A = g.row.A.Denot}) found) (slice_get_read c.args.inputs.now (length c.args.inputs.now) i c.index-inputs-index.result refl c.loop-index-test.true c.index-inputs-index.is))
-                w.in_ok-take.ensures.taken,
-            w.in_ok-take.ensures.read c.loop-index.invariant.2,
-          )
-      | else-is_of_job w ↦
-          rw w.worker-is (
-            c.loop-index.invariant.0,
-            step_past inputs c.args.jobs c.job-job.result i old.receipts old.refused c.loop-index.invariant.1 (sym c.is_of_job.ensures ∙ w.if-is_of_job.false),
-            c.loop-index.invariant.2,
-          )
-    ]
+pub loop-placed-preserved : goal.loop-placed-preserved
+loop-placed-preserved g c =
+    let inputs = c.args.inputs.now.value.items in
+    let old = c.loop-placed.worker in
+    let new = c.take.new.self in
+    let rest = c.next.new.self.rest.items in
+    let left : c.loop-placed.placed-iterator.rest.items ≡ c.in-Some.placed ∷ rest = search rules in (
+      c.take.ensures.job ∙ c.loop-placed.invariant.0,
+      one_taken g.T.Text.says inputs c.args.jobs c.args.seat.job c.in-Some.placed rest old.receipts new.receipts old.refused new.refused
+          (subst (λ (share : List (Placed g.row.T.Denot)). IsUnderway g.T.Text.says inputs c.args.jobs c.args.seat.job share old.receipts old.refused) left c.loop-placed.invariant.1) c.in_ok-take.ensures.taken,
+      c.in_ok-take.ensures.read c.loop-placed.invariant.2,
+    )
 
+-- no input of the share is left
 pub returns-clause-taken : goal.returns-clause-taken
 returns-clause-taken g c =
-    let inputs = map (input_data {A = g.row.A.Denot}) c.args.inputs.now in
-    let worker = c.loop-index.worker in
-    let all : c.loop-index.index ≡ length c.args.inputs.now = omega (arith, c.loop-index-test.false, c.loop-index.auto.index-end) in
-    subst (λ (n : ℕ). HasTaken inputs c.args.jobs c.args.seat.job n worker.receipts worker.refused) all
-    (subst (λ (job : ℕ). HasTaken inputs c.args.jobs job c.loop-index.index worker.receipts worker.refused) c.job-job.ensures c.loop-index.invariant.1)
+    let worker = c.loop-placed.worker in
+    let rest = c.loop-placed.placed-iterator.rest in
+    all_taken g.T.Text.says c.args.inputs.now.value.items c.args.jobs c.args.seat.job rest.items worker.receipts worker.refused c.loop-placed.invariant.1
+    (nil_from_length rest.items (omega (arith, c.in-None.ensures.steps.0, rest.ok.0)))
 
 pub returns-clause-read : goal.returns-clause-read
-returns-clause-read g c = c.loop-index.invariant.2
+returns-clause-read g c = c.loop-placed.invariant.2

@@ -1,6 +1,5 @@
-use Rattle.std.proofs.Common.{◌≡◌, ◌∙◌, ◌++◌, IsTrue, List, [], Global, map, ap, arith}
+use Rattle.std.proofs.Common.{◌≡◌, ◌∙◌, ◌++◌, IsTrue, List, [], map, ap, arith}
 use Rattle.std.proofs.lemmas.List.{nil_from_length}
-use Rattle.covjobs.specs.InputView.{input_data}
 use Rattle.covlock.specs.Seat.{SeatData}
 use Rattle.covjobs.specs.Work.{WorkData, work_of}
 use Rattle.covjobs.proofs.Ended.{ends_well_if_ok}
@@ -9,10 +8,10 @@ use Rattle.covjobs.proofs.workers.fn.work_at_once.scope.Goals as goal
 -- after the loop no seat is left
 pub returns : goal.returns
 returns g c =
-    let work : SeatData → WorkData = work_of (map (input_data {A = Global}) c.captures.inputs.now) c.captures.jobs in
+    let work : SeatData → WorkData = work_of (map g.T.Text.says c.captures.inputs.now.value.items) c.captures.jobs in
     let rest = c.loop-seat.seat-iterator.rest in
     let handled : List WorkData = map (λ h. h.promise) c.loop-seat.handles.items in
     let all : IsTrue c.loop-seat.all_started → handled ++ map work rest.items ≡ map work c.captures.seats =
-    λ started. c.loop-seat.invariant started ∙ ap (λ (seats : List SeatData). map work seats) (c.into_iter-seat-iterator.ensures.into_iter_gives.0 ∙ c.into_vec-seats.ensures) in
+    λ started. c.loop-seat.invariant.0 started ∙ ap (λ (seats : List SeatData). map work seats) (c.into_iter-seat-iterator.ensures.into_iter_gives.0 ∙ c.into_vec-seats.ensures) in
     let none : map work rest.items ≡ [] = ap (λ (seats : List SeatData). map work seats) (nil_from_length rest.items (omega (arith, c.in-None.ensures.steps.0, rest.ok.0))) in
     ends_well_if_ok (λ v. v.items) c.end_all.result (map work c.captures.seats) handled (map work rest.items) c.loop-seat.all_started all none c.end_all.ensures.done c.end_all.ensures.short

@@ -1,0 +1,170 @@
+-- A worker's share is taken, one input after another.
+use Rattle.std.proofs.Common.{◌≡◌, ◌∙◌, ℕ, zero, suc, ◌+◌, Bool, true, false, if◌then◌else◌, List, [], ◌∷◌, ◌++◌, length, map, Option, None, Some, option_map, slice_get, get_or, ap, sym, refl, subst, arith}
+use Rattle.std.proofs.lemmas.List.{append_assoc}
+use Rattle.std.proofs.lemmas.Option.{slice_get-map, slice_get-get_or, none-some}
+use Rattle.covbook.specs.Op.{ReceiptData}
+use Rattle.covjobs.specs.declared.refused.RefusedInput.{RefusedInput}
+use Rattle.covjobs.specs.declared.shares.Placed.{Placed}
+use Rattle.covjobs.specs.Collect.{InputData, HasTaken, brought, places_of_job, ops_in}
+use Rattle.covjobs.specs.Shares.{placed_at, share_of}
+use Rattle.covjobs.specs.Work.{Takes}
+use Rattle.covjobs.proofs.Taken.{none_taken, step_taken, step_past}
+
+-- what the meant ones among `more` places bring, from a place on
+abbrev pub brought_from : {X : Type 0} → (meant : ℕ → Bool) → (bring : ℕ → List X) → (from more : ℕ) → List X
+brought_from meant bring from zero = []
+brought_from meant bring from (suc more) = (if meant from then bring from else []) ++ brought_from meant bring (from + 1) more
+
+one_later : (from more : ℕ) → from + suc more ≡ from + 1 + more
+one_later from more = omega arith
+
+one_behind : (from : ℕ) → from + 1 ≡ suc from
+one_behind from = omega arith
+
+none_before : (n : ℕ) → 0 + n ≡ n
+none_before n = omega arith
+
+-- the first places, and those after them
+brought_both : {X : Type 0} (meant : ℕ → Bool) (bring : ℕ → List X) (from more : ℕ) → brought meant bring (from + more) ≡ brought meant bring from ++ brought_from meant bring from more
+brought_both {X} meant bring from zero = ap (λ (n : ℕ). brought meant bring n) (none_after from) ∙ sym (append_nothing (brought meant bring from))
+  where
+    none_after : (from : ℕ) → from + 0 ≡ from
+    none_after from = omega arith
+
+    append_nothing : {X : Type 0} (xs : List X) → xs ++ [] ≡ xs
+    append_nothing [] = refl
+    append_nothing {X} (x ∷ xs) = ap (λ (rest : List X). x ∷ rest) (append_nothing xs)
+brought_both {X} meant bring from (suc more) =
+    let here : List X = if meant from then bring from else [] in
+    ap (λ (n : ℕ). brought meant bring n) (one_later from more)
+    ∙ brought_both meant bring (from + 1) more
+    ∙ ap (λ (n : ℕ). brought meant bring n ++ brought_from meant bring (from + 1) more) (one_behind from)
+    ∙ append_assoc (brought meant bring from) here (brought_from meant bring (from + 1) more)
+
+-- where a worker is in its share: it has taken what it is to take of the first `count` inputs, and the rest of its share is what
+-- it is to take of the others
+pub record IsUnderway {X : Type 0} (says : X → InputData) (inputs : List X) (jobs job : ℕ) (rest : List (Placed X)) (receipts : List ReceiptData) (refused : List RefusedInput) : Type 0 where
+  pub count : ℕ
+  pub more : ℕ
+  pub all : count + more ≡ length inputs
+  pub left : rest ≡ brought_from (places_of_job jobs job) (λ index. placed_at index (slice_get inputs index)) count more
+  pub taken : HasTaken (map says inputs) jobs job count receipts refused
+
+pub none_underway : {X : Type 0} (says : X → InputData) (inputs : List X) (jobs job : ℕ) (share : List (Placed X)) (receipts : List ReceiptData) (refused : List RefusedInput)
+    → share ≡ share_of inputs jobs job → receipts ≡ [] → refused ≡ [] → IsUnderway says inputs jobs job share receipts refused
+none_underway {X} says inputs jobs job share receipts refused is no_receipts none_refused =
+    let meant = places_of_job jobs job in
+    let bring : ℕ → List (Placed X) = λ index. placed_at index (slice_get inputs index) in
+    record {
+      count = 0;
+      more = length inputs;
+      all = none_before (length inputs);
+      left = is ∙ sym (ap (λ (n : ℕ). brought meant bring n) (none_before (length inputs))) ∙ brought_both meant bring 0 (length inputs);
+      taken = none_taken (map says inputs) jobs job receipts refused no_receipts none_refused;
+    }
+
+-- the head and the tail of a list
+abbrev head_or : {X : Type 0} → X → List X → X
+head_or d [] = d
+head_or d (x ∷ xs) = x
+
+abbrev tail_of : {X : Type 0} → List X → List X
+tail_of [] = []
+tail_of (x ∷ xs) = xs
+
+head_is : {X : Type 0} (x y : X) (xs ys : List X) → x ∷ xs ≡ y ∷ ys → x ≡ y
+head_is {X} x y xs ys same = ap (λ (zs : List X). head_or x zs) same
+
+tail_is : {X : Type 0} (x y : X) (xs ys : List X) → x ∷ xs ≡ y ∷ ys → xs ≡ ys
+tail_is {X} x y xs ys same = ap (λ (zs : List X). tail_of zs) same
+
+abbrev HasMember : {X : Type 0} → List X → Type 0
+HasMember [] = ⊥
+HasMember (x ∷ xs) = Unit {0}
+
+no_member : {X : Type 0} (x : X) (xs : List X) → x ∷ xs ≡ [] → ⊥
+no_member {X} x xs same = subst (λ (zs : List X). HasMember zs) same tt
+
+-- a place below the number of inputs has an input
+is_there : {X : Type 0} (inputs : List X) (count more : ℕ) → count + suc more ≡ length inputs → slice_get inputs count ≡ None → ⊥
+is_there [] count more all none = omega (arith, all)
+is_there {X} (x ∷ xs) count more all none = none-some (get_or (x ∷ xs) count x) (sym none ∙ slice_get-get_or (x ∷ xs) count x (omega (arith, all)))
+
+-- one place on: the place is the next of the share, or isn't of the job
+next_place : {X : Type 0} (says : X → InputData) (inputs : List X) (jobs job count more : ℕ) (placed : Placed X) (rest : List (Placed X)) (receipts after : List ReceiptData) (refused refuses : List RefusedInput)
+    → (own : Bool) → places_of_job jobs job count ≡ own → (found : Option X) → slice_get inputs count ≡ found
+    → count + suc more ≡ length inputs
+    → placed ∷ rest ≡ (if own then placed_at count found else []) ++ brought_from (places_of_job jobs job) (λ index. placed_at index (slice_get inputs index)) (count + 1) more
+    → HasTaken (map says inputs) jobs job count receipts refused
+    → Takes (says placed.input) placed.index (ops_in receipts) (ops_in after) refused refuses
+    → (HasTaken (map says inputs) jobs job (count + 1) receipts refused → placed ∷ rest ≡ brought_from (places_of_job jobs job) (λ index. placed_at index (slice_get inputs index)) (count + 1) more → IsUnderway says inputs jobs job rest after refuses)
+    → IsUnderway says inputs jobs job rest after refuses
+next_place says inputs jobs job count more placed rest receipts after refused refuses true is_own None none all left taken takes later = absurd (is_there inputs count more all none)
+next_place {X} says inputs jobs job count more placed rest receipts after refused refuses true is_own (Some input) is all left taken takes later =
+    let here : Placed X = record { index = count; input = input } in
+    let others : List (Placed X) = brought_from (places_of_job jobs job) (λ index. placed_at index (slice_get inputs index)) (count + 1) more in
+    let same : placed ≡ here = head_is placed here rest others left in
+    record {
+      count = count + 1;
+      more = more;
+      all = sym (one_later count more) ∙ all;
+      left = tail_is placed here rest others left;
+      taken = step_taken (map says inputs) jobs job count receipts after refused refuses (says input) taken is_own
+          (slice_get-map says inputs count ∙ ap (λ (o : Option X). option_map says o) is)
+          (subst (λ (p : Placed X). Takes (says p.input) p.index (ops_in receipts) (ops_in after) refused refuses) same takes);
+    }
+next_place says inputs jobs job count more placed rest receipts after refused refuses false apart found is all left taken takes later =
+    later (step_past (map says inputs) jobs job count receipts refused taken apart) left
+
+taken_from : {X : Type 0} (says : X → InputData) (inputs : List X) (jobs job count more : ℕ) (placed : Placed X) (rest : List (Placed X)) (receipts after : List ReceiptData) (refused refuses : List RefusedInput)
+    → count + more ≡ length inputs
+    → placed ∷ rest ≡ brought_from (places_of_job jobs job) (λ index. placed_at index (slice_get inputs index)) count more
+    → HasTaken (map says inputs) jobs job count receipts refused
+    → Takes (says placed.input) placed.index (ops_in receipts) (ops_in after) refused refuses
+    → IsUnderway says inputs jobs job rest after refuses
+taken_from says inputs jobs job count zero placed rest receipts after refused refuses all left taken takes = absurd (no_member placed rest left)
+taken_from says inputs jobs job count (suc more) placed rest receipts after refused refuses all left taken takes =
+    next_place says inputs jobs job count more placed rest receipts after refused refuses (places_of_job jobs job count) refl (slice_get inputs count) refl all left taken takes
+    (λ past left_past. taken_from says inputs jobs job (count + 1) more placed rest receipts after refused refuses (sym (one_later count more) ∙ all) left_past past takes)
+
+-- the next input of the share is taken
+pub one_taken : {X : Type 0} (says : X → InputData) (inputs : List X) (jobs job : ℕ) (placed : Placed X) (rest : List (Placed X)) (receipts after : List ReceiptData) (refused refuses : List RefusedInput)
+    → IsUnderway says inputs jobs job (placed ∷ rest) receipts refused
+    → Takes (says placed.input) placed.index (ops_in receipts) (ops_in after) refused refuses
+    → IsUnderway says inputs jobs job rest after refuses
+one_taken says inputs jobs job placed rest receipts after refused refuses so_far takes =
+    taken_from says inputs jobs job so_far.count so_far.more placed rest receipts after refused refuses so_far.all so_far.left so_far.taken takes
+
+-- the places that are left aren't of the job
+past_place : {X : Type 0} (says : X → InputData) (inputs : List X) (jobs job count more : ℕ) (receipts : List ReceiptData) (refused : List RefusedInput)
+    → (own : Bool) → places_of_job jobs job count ≡ own → (found : Option X) → slice_get inputs count ≡ found
+    → count + suc more ≡ length inputs
+    → [] ≡ (if own then placed_at count found else []) ++ brought_from (places_of_job jobs job) (λ index. placed_at index (slice_get inputs index)) (count + 1) more
+    → HasTaken (map says inputs) jobs job count receipts refused
+    → (HasTaken (map says inputs) jobs job (count + 1) receipts refused → [] ≡ brought_from (places_of_job jobs job) (λ index. placed_at index (slice_get inputs index)) (count + 1) more → HasTaken (map says inputs) jobs job (length inputs) receipts refused)
+    → HasTaken (map says inputs) jobs job (length inputs) receipts refused
+past_place says inputs jobs job count more receipts refused true is_own None none all left taken later = absurd (is_there inputs count more all none)
+past_place {X} says inputs jobs job count more receipts refused true is_own (Some input) is all left taken later =
+    absurd (no_member (record { index = count; input = input }) (brought_from (places_of_job jobs job) (λ index. placed_at index (slice_get inputs index)) (count + 1) more) (sym left))
+past_place says inputs jobs job count more receipts refused false apart found is all left taken later =
+    later (step_past (map says inputs) jobs job count receipts refused taken apart) left
+
+past_from : {X : Type 0} (says : X → InputData) (inputs : List X) (jobs job count more : ℕ) (receipts : List ReceiptData) (refused : List RefusedInput)
+    → count + more ≡ length inputs
+    → [] ≡ brought_from (places_of_job jobs job) (λ index. placed_at index (slice_get inputs index)) count more
+    → HasTaken (map says inputs) jobs job count receipts refused
+    → HasTaken (map says inputs) jobs job (length inputs) receipts refused
+past_from says inputs jobs job count zero receipts refused all left taken =
+    subst (λ (n : ℕ). HasTaken (map says inputs) jobs job n receipts refused) (none_after count ∙ all) taken
+  where
+    none_after : (count : ℕ) → count ≡ count + 0
+    none_after count = omega arith
+past_from says inputs jobs job count (suc more) receipts refused all left taken =
+    past_place says inputs jobs job count more receipts refused (places_of_job jobs job count) refl (slice_get inputs count) refl all left taken
+    (λ past left_past. past_from says inputs jobs job (count + 1) more receipts refused (sym (one_later count more) ∙ all) left_past past)
+
+-- nothing of the share is left, so all of it is taken
+pub all_taken : {X : Type 0} (says : X → InputData) (inputs : List X) (jobs job : ℕ) (rest : List (Placed X)) (receipts : List ReceiptData) (refused : List RefusedInput)
+    → IsUnderway says inputs jobs job rest receipts refused → rest ≡ [] → HasTaken (map says inputs) jobs job (length inputs) receipts refused
+all_taken says inputs jobs job rest receipts refused so_far none =
+    past_from says inputs jobs job so_far.count so_far.more receipts refused so_far.all (sym none ∙ so_far.left) so_far.taken
