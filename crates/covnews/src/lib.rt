@@ -33,7 +33,7 @@
 //!     live.learn(&publisher.close(rt));
 //!     Ok(())
 //! }
-//! run::<Brand>(&rt, alloc, Opening::new(), Book::new(alloc))
+//! run::<Brand>(&rt, alloc, HistorySeed::new(), Book::new(alloc))
 //! ```
 #![tactic(auto)]
 
