@@ -28,7 +28,7 @@ impl Addend<u64> for Newest {
 impl ReportingAddend<u64, u64> for Newest {
     ghost use Rattle.std.specs.Prelude.{Some};
 
-    ghost told = { λ newest before after. Some after };
+    ghost reports = { λ newest before after. Some after };
 
     fn report(self, _before: &Option<u64>, after: &u64) -> Option<u64> {
         Some(*after)

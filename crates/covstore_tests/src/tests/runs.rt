@@ -32,7 +32,7 @@ impl Addend<u64> for Flags {
 impl ReportingAddend<u64, u64> for Flags {
     ghost use Rattle.std.specs.Prelude.{is_some, if◌then◌else◌, Some, None};
 
-    ghost told = { λ more before after. if is_some before then None else Some after };
+    ghost reports = { λ more before after. if is_some before then None else Some after };
 
     fn report(self, before: &Option<u64>, after: &u64) -> Option<u64> {
         match before {
