@@ -3,14 +3,15 @@
 //! `word_at` makes a `String` of a word of a call, if it is UTF-8. `described` describes the command line to clap. `command`
 //! finds what the words ask for. `help` has the texts for the user.
 //!
-//! A sketch: what some words ask for. Summary, extract, remove and gcov have variants of their own too.
+//! An example, proved and run in `covuses`: a function that finds what a call merges, if it is a merge. The other commands are
+//! variants of [`Command`] too.
 //!
 //! ```text
-//! match command(alloc, words)? {
-//!     Command::Session => ..,
-//!     Command::Merge { jobs, names } => ..,
-//!     Command::Check { format, names } => ..,
-//!     ..
+//! pub fn merge_of(alloc: Global, words: &[String]) -> Result<Option<(u32, Names)>, CommandFault> {
+//!     match command(alloc, words)? {
+//!         Command::Merge { jobs, names } => Ok(Some((jobs, names))),
+//!         _ => Ok(None),
+//!     }
 //! }
 //! ```
 #![tactic(auto)]

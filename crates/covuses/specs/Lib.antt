@@ -1,2 +1,3 @@
+pub mod Merge
 pub mod Counted
 pub mod Added

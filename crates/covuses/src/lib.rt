@@ -2,6 +2,7 @@
 #![tactic(auto)]
 
 pub mod books;
+pub mod calls;
 pub mod counts;
 pub mod reading;
 pub mod records;

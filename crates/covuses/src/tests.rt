@@ -2,6 +2,7 @@
 //! lcov(1), `--summary`; gcov(1)). None was taken from an output.
 
 use crate::books::answers;
+use crate::calls::merge_of;
 use crate::counts::add_counts;
 use crate::reading::{check_line, read_either};
 use crate::records::{PrintFault, counted_lines};
@@ -9,6 +10,7 @@ use crate::reports::reports;
 use crate::sessions::answers_to;
 use crate::stores::merged;
 use covbook::Answer;
+use covcommand::Names;
 use covline::{LineFault, Submission};
 use covmap::StagedMap;
 use covread::read_trace;
@@ -142,5 +144,46 @@ fn answers_of_a_session(rt: HostRuntime) -> Result<(), Fail> {
         answers.as_slice(),
         b"accepted 1 items 1 odd 0\n.\nunknown\n",
     );
+    Ok(())
+}
+
+/// The words of a call.
+fn words_of(alloc: Global, call: &str) -> Result<Vec<String>, Fail> {
+    let mut words = Vec::new(alloc);
+    for word in call.split_whitespace() {
+        words.push(String::from_str(alloc, word)?)?;
+    }
+    Ok(words)
+}
+
+/// Whether the call merges `a.info` and `b.info` by this number of jobs.
+fn merges_both(alloc: Global, call: &str, wanted: u32) -> Result<bool, Fail> {
+    let words = words_of(alloc, call)?;
+    match merge_of(alloc, words.as_slice()) {
+        Ok(Some((jobs, names))) => Ok(jobs == wanted && are_both(&names)),
+        _ => Ok(false),
+    }
+}
+
+/// Whether the names are `a.info` and `b.info`.
+fn are_both(names: &Names) -> bool {
+    match names.get() {
+        [first, second] => first.as_str() == "a.info" && second.as_str() == "b.info",
+        _ => false,
+    }
+}
+
+/// Whether the call is taken, and asks for no merge.
+fn merges_nothing(alloc: Global, call: &str) -> Result<bool, Fail> {
+    let words = words_of(alloc, call)?;
+    Ok(matches!(merge_of(alloc, words.as_slice()), Ok(None)))
+}
+
+#[test]
+fn merges_by_their_words(rt: HostRuntime) -> Result<(), Fail> {
+    let alloc = rt.alloc();
+    assert!(rt; merges_both(alloc, "covcollect merge --jobs 2 a.info b.info", 2)?);
+    assert!(rt; merges_both(alloc, "covcollect merge a.info b.info", 1)?);
+    assert!(rt; merges_nothing(alloc, "covcollect summary a.info b.info")?);
     Ok(())
 }

@@ -1,0 +1,22 @@
+//! A use of covcommand.
+
+ghost use Rattle.std.specs.Prelude.{IfOk, IfErr, map};
+ghost use Rattle.std.specs.String.{string_bytes};
+ghost use Rattle.clap.specs.Words.{subcommand_of, fault_of};
+ghost use Rattle.covcommand.specs.CommandLine.{covcollect};
+ghost use Rattle.covcommand.specs.Fault.{IsFaultAmong};
+ghost use Rattle.covuses.specs.Merge.{AsksForMerge};
+
+use covcommand::{Command, CommandFault, Names, command};
+use std::alloc::Global;
+
+/// What a call asks to merge: the number of jobs and the files' names; `None` if it asks for something else.
+pub fn merge_of(alloc: Global, words: &[String]) -> Result<Option<(u32, Names)>, CommandFault>
+    ensures merge { IfOk result (AsksForMerge (subcommand_of covcollect (map string_bytes words.now))) }
+    ensures fault { IfErr result (IsFaultAmong (fault_of covcollect (map string_bytes words.now))) }
+{
+    match command(alloc, words)? {
+        Command::Merge { jobs, names } => Ok(Some((jobs, names))),
+        _ => Ok(None),
+    }
+}
