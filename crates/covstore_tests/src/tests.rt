@@ -5,7 +5,6 @@ use std::test::*;
 
 mod drops;
 mod held;
-mod images;
 mod maps;
 mod patterns;
 mod plans;
