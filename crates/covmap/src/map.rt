@@ -1,6 +1,5 @@
 //! The map.
 
-mod images;
 mod run;
 
 use crate::entries::Entries;
