@@ -1,5 +1,6 @@
 //! The map.
 
+mod images;
 mod run;
 
 use crate::entries::Entries;

@@ -13,6 +13,7 @@ ghost use Rattle.covmap.specs.Assigned.{with_slot};
 ghost use Rattle.covmap.specs.SlotPlace.{at};
 
 pub(crate) mod growth;
+pub(crate) mod images;
 pub(crate) mod page;
 pub(crate) mod run;
 pub(crate) mod staged;

@@ -50,26 +50,6 @@ test_inserted tests cmp before after key w same index written settled = record {
   points = subst (AllByRecursion (IsSettledTest tests)) (sym written) (All-inserted cmp (IsSettledTest tests) key w before.tests.entries (λ e. same) (λ other is e. same) settled.points);
 }
 
--- if the entries of the tests stay, nothing is staged but in these tests as before, even if the index changes
-pub tests_stay : {A : Type 0} (tests : List (List ℕ)) (test : List ℕ) → list_any (λ name. bytes_eq name test) tests ≡ true → (before after : File A) → after.tests.entries ≡ before.tests.entries → IsSettledBut tests before → IsSettledBut tests after
-tests_stay tests test among before after same settled = record {
-  index = λ e. absurd (false≢true (sym (ap (list_any (λ (name : List ℕ). bytes_eq name test)) e) ∙ among));
-  points = subst (AllByRecursion (IsSettledTest tests)) (sym same) settled.points;
-}
-
--- if one of these tests is inserted, nothing is staged but in these tests as before
-pub test_put_in : {A : Type 0} (tests : List (List ℕ)) (test : List ℕ) → list_any (λ name. bytes_eq name test) tests ≡ true → (before after : File A) (key : Vec ℕ A) (w : Test A) → key.items ≡ test
-    → after.tests.entries ≡ insert_entry (λ a b. slice_cmp nat_cmp a.items b.items) before.tests.entries key w → IsSettledBut tests before → IsSettledBut tests after
-test_put_in {A} tests test among before after key w named inserted settled =
-    let own : (other : Vec ℕ A) → test ≡ other.items → IsSettledTest tests (other, w) =
-    λ other same e. absurd (false≢true (sym e ∙ sym (ap (λ (own : List ℕ). list_any (λ (name : List ℕ). bytes_eq name own) tests) same) ∙ among)) in
-    record {
-      index = λ e. absurd (false≢true (sym (ap (list_any (λ (name : List ℕ). bytes_eq name test)) e) ∙ among));
-      points = subst (AllByRecursion (IsSettledTest tests)) (sym inserted)
-          (All-inserted (λ (a b : Vec ℕ A). slice_cmp nat_cmp a.items b.items) (IsSettledTest tests) key w before.tests.entries (own key (sym named))
-          (λ other same. own other (sym named ∙ names_order.exact key.items other.items same)) settled.points);
-    }
-
 -- ---- the files
 
 found_pair : {K V : Type 0} (P : K × V → Type 0) (here : K → Bool) (v : V) (pairs : List (K × V)) → lookup here pairs ≡ Some v → AllByRecursion P pairs → (k : K) × (here k ≡ true) × P (k, v)

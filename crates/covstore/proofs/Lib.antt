@@ -13,6 +13,10 @@ pub mod Puts
 pub mod KeptTexts
 pub mod Counts
 pub mod CountsPut
+pub mod FollowsSteps
+pub mod SoleCounts
+pub mod SoleSteps
+pub mod KindSteps
 pub mod CountsMapped
 pub mod CountsFound
 pub mod CountsKinds
@@ -52,7 +56,6 @@ pub mod AddsLoop
 pub mod AddsPlace
 pub mod AddsItem
 pub mod AddsMore
-pub mod AddsNew
 pub mod AddsFew
 pub mod AddsFile
 pub mod AddsRoom
@@ -84,7 +87,9 @@ pub mod FewerLoops
 pub mod FewerHolders
 pub mod SeenTests
 pub mod SeenStore
+pub mod FollowsSole
 pub mod Settled
+pub mod FollowsSettled
 pub mod HasTest
 pub mod PathOrder
 pub mod Alike

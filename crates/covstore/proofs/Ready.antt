@@ -4,20 +4,17 @@ use Rattle.std.specs.Prelude.{if◌then◌else◌}
 use Rattle.std.specs.Cmp.Lexicographic.{slice_cmp}
 use Rattle.std.specs.Option.{is_some}
 use Rattle.std.specs.Ordering.{nat_cmp}
-use Rattle.std.proofs.lemmas.Bool.{cond-false}
 use Rattle.covline.specs.Row.{ItemData, Row, rows_of_sect}
 use Rattle.covstore.specs.declared.stage_fault.StageFault.{StageFault}
 use Rattle.covstore.specs.declared.stage_fault.StageFault.TheVariants.{Clash, Memory}
-use Rattle.covstore.specs.FileIndex.{FileIndexData}
 use Rattle.covstore.specs.FileSection.{AddsItems, ClashesIn, HasFile, HasRoomIn, KeepsIn}
 use Rattle.covstore.specs.FileView.{tests_with}
 use Rattle.covmap.specs.Puts.{put, value_of}
 use Rattle.covstore.specs.Renaming.{CopiesIn, HasRoomToCopyIn, copied_rows}
 use Rattle.covstore.specs.Section.{section_of_items}
-use Rattle.covstore.specs.State.{FileData, file_with}
+use Rattle.covstore.specs.State.{FileData}
 use Rattle.covstore.specs.Sums.{TestData, test_of}
 use Rattle.covstore.proofs.AddsLists.{put_twice}
-use Rattle.covstore.proofs.KeepsMore.{test_keeps}
 use Rattle.covstore.proofs.Orders.{names_order}
 use Rattle.covstore.proofs.Puts.{value_of-put, value_of-put_other}
 
@@ -75,13 +72,3 @@ other_test test other tests apart = at (is_some (value_of (slice_cmp nat_cmp) te
     at : (b : Bool) → value_of (slice_cmp nat_cmp) other (if b then tests else put (slice_cmp nat_cmp) test (test_of []) tests) ≡ value_of (slice_cmp nat_cmp) other tests
     at true = refl
     at false = value_of-put_other names_order test other (test_of []) tests apart
-
--- a new test is inserted
-module _ (test : List ℕ) (tests : List (List ℕ × TestData)) (new : is_some (value_of (slice_cmp nat_cmp) test tests) ≡ false) where
-  abbrev pub tests_more : List (List ℕ × TestData)
-  tests_more = put (slice_cmp nat_cmp) test (test_of []) tests
-
-  pub new_keeps : (index : FileIndexData) → KeepsIn (file_with tests index) (file_with tests_more index)
-  new_keeps index =
-      subst (λ (list : List (List ℕ × TestData)). KeepsIn (file_with tests index) (file_with list index)) (cond-false (is_some (value_of (slice_cmp nat_cmp) test tests)) tests tests_more new)
-      (test_keeps test (file_with tests index))

@@ -41,7 +41,14 @@ not_among name last (test ∷ tests) apart e = not_among_at (bytes_eq test name)
 abbrev IsSettledTest : {A : Type 0} → List (List ℕ) → Vec ℕ A × Test A → Type 0
 IsSettledTest tests pair = among pair.0.items tests ≡ false → test_staged pair.1 ≡ test_committed pair.1
 
-module _ {A : Type 0} (tests : List (List ℕ)) (test : List ℕ) (before after : File A) (was : IsSettledBut (tests ++ test ∷ []) before) (index : index_staged after.index ≡ index_committed after.index) where
+-- if the test isn't among those of the file, and nothing is staged in any other, nothing is staged in the file's tests
+pub all_unfound : {A : Type 0} (tests : List (List ℕ)) (test : List ℕ) (file : File A) → IsSettledBut (tests ++ test ∷ []) file → tests ≡ []
+    → lookup (λ (k : Vec ℕ A). is_eq (slice_cmp nat_cmp test k.items)) file.tests.entries ≡ None → AllByRecursion (λ (pair : Vec ℕ A × Test A). test_staged pair.1 ≡ test_committed pair.1) file.tests.entries
+all_unfound {A} tests test file was all none =
+    All-unfound (λ (k : Vec ℕ A). k.items) test (IsSettledTest (tests ++ test ∷ [])) (λ (pair : Vec ℕ A × Test A). test_staged pair.1 ≡ test_committed pair.1) file.tests.entries none
+    (λ pair settled apart. settled (not_among pair.0.items test tests (λ same. apart (sym same)) (ap (among pair.0.items) all))) was.points
+
+module _ {A : Type 0} (tests : List (List ℕ)) (test : List ℕ) (before after : File A) (was : IsSettledBut (tests ++ test ∷ []) before) (index : tests ≡ [] → index_staged after.index ≡ index_committed after.index) where
   others_stay : (pair : Vec ℕ A × Test A) → IsSettledTest (tests ++ test ∷ []) pair → (pair.0.items ≡ test → ⊥) → IsSettledTest tests pair
   others_stay pair settled apart = λ e. settled (not_among pair.0.items test tests (λ same. apart (sym same)) e)
 
@@ -49,7 +56,7 @@ module _ {A : Type 0} (tests : List (List ℕ)) (test : List ℕ) (before after 
       → after.tests.entries ≡ set_value (λ (k : Vec ℕ A). is_eq (slice_cmp nat_cmp test k.items)) before.tests.entries w
       → lookup (λ (k : Vec ℕ A). is_eq (slice_cmp nat_cmp test k.items)) before.tests.entries ≡ Some v → test_staged w ≡ test_committed w → IsSettledBut tests after
   settled_found v w sorted written found settled = record {
-    index = λ e. index;
+    index = index;
     points = subst (AllByRecursion (IsSettledTest tests)) (sym written)
         (All-written (λ (k : Vec ℕ A). k.items) test (IsSettledTest (tests ++ test ∷ [])) (IsSettledTest tests) v w before.tests.entries sorted found
         (λ k old same. λ e. settled) others_stay was.points);
@@ -57,7 +64,7 @@ module _ {A : Type 0} (tests : List (List ℕ)) (test : List ℕ) (before after 
 
   pub settled_unfound : lookup (λ (k : Vec ℕ A). is_eq (slice_cmp nat_cmp test k.items)) before.tests.entries ≡ None → after.tests.entries ≡ before.tests.entries → IsSettledBut tests after
   settled_unfound none same = record {
-    index = λ e. index;
+    index = index;
     points = subst (AllByRecursion (IsSettledTest tests)) (sym same)
         (All-unfound (λ (k : Vec ℕ A). k.items) test (IsSettledTest (tests ++ test ∷ [])) (IsSettledTest tests) before.tests.entries none others_stay was.points);
   }

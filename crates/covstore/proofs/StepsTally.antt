@@ -38,19 +38,19 @@ module _ {K : Type 0} {cmp : K → K → Ordering} (o : IsExactOrder cmp) (key :
 
 -- ---- a run of numbers
 
-reports_new : (new hit : Bool) {Q : Type 0} (query : Q) → count_by (λ (item : Q × TestsAddend). item.1.is_new) (reports_one query (change_by new hit)) ≡ one_if new
+pub reports_new : (new hit : Bool) {Q : Type 0} (query : Q) → count_by (λ (item : Q × TestsAddend). item.1.is_new) (reports_one query (change_by new hit)) ≡ one_if new
 reports_new true hit query = refl
 reports_new false true query = refl
 reports_new false false query = refl
 
-reports_hit : (new hit : Bool) {Q : Type 0} (query : Q) → count_by (λ (item : Q × TestsAddend). item.1.is_hit) (reports_one query (change_by new hit)) ≡ one_if hit
+pub reports_hit : (new hit : Bool) {Q : Type 0} (query : Q) → count_by (λ (item : Q × TestsAddend). item.1.is_hit) (reports_one query (change_by new hit)) ≡ one_if hit
 reports_hit true true query = refl
 reports_hit true false query = refl
 reports_hit false true query = refl
 reports_hit false false query = refl
 
 -- what is above 0 stays above 0. So what is above 0 afterwards was above 0 before, or is so for the first time
-rises : (before after : Bool) → (before ≡ true → after ≡ true) → one_if after ≡ one_if before + one_if (after && not before)
+pub rises : (before after : Bool) → (before ≡ true → after ≡ true) → one_if after ≡ one_if before + one_if (after && not before)
 rises true true stays = refl
 rises true false stays = absurd (false≢true (stays refl))
 rises false true stays = refl

@@ -21,6 +21,11 @@ pub mod State
 pub mod TestView
 pub mod PointIndex
 pub mod KeptTexts
+pub mod SoleTest
+pub mod KindData
+pub mod KindIndex
+pub mod Follows
+pub mod FileParts
 pub mod Checksums
 pub mod FileIndexView
 pub mod Items

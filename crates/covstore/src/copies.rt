@@ -2,6 +2,7 @@
 
 ghost use Rattle.std.specs.Prelude.{◌≡◌, map, option_map, IfOk, OnOk};
 ghost use Rattle.covstore.specs.Section.{Adds, HasRoomFor};
+ghost use Rattle.covstore.specs.Follows.{Follows, StillFollows};
 ghost use Rattle.covstore.specs.FileIndexView.{KeepsCommitted, index_staged};
 ghost use Rattle.covstore.specs.Renaming.{HasHolders, branch_item, function_item, items_of_test, line_item};
 ghost use Rattle.covstore.specs.State.{text_at};
@@ -26,10 +27,12 @@ pub(crate) fn stage_values<A: Allocator + Copy>(
     alloc: A,
     source: &Test<A>,
 ) -> Result<(), Memory>
+    requires follows { Follows test.old index.old }
     requires room { HasRoomFor (items_of_test (index_staged index.old).texts (test_committed source.now)) (test_staged test.old) (index_staged index.old) }
     requires holders { HasHolders source.now.lines.committed (index_staged index.old) }
     ensures test_committed { test_committed test.new ≡ test_committed test.old }
     ensures index_committed { KeepsCommitted index.old index.new }
+    ensures follows { StillFollows index.old test.new index.new }
     ensures ok { OnOk result (Adds (items_of_test (index_staged index.old).texts (test_committed source.now)) (test_staged test.old) (index_staged index.old) (test_staged test.new) (index_staged index.new)) }
 {
     add_lines(test, index, alloc, &source.lines)?;
@@ -44,10 +47,12 @@ fn add_lines<A: Allocator + Copy>(
     alloc: A,
     lines: &StagedMap<u64, LineSum, A>,
 ) -> Result<(), Memory>
+    requires follows { Follows test.old index.old }
     requires room { HasRoomFor (map (line_item (index_staged index.old).texts) lines.now.committed) (test_staged test.old) (index_staged index.old) }
     requires holders { HasHolders lines.now.committed (index_staged index.old) }
     ensures test_committed { test_committed test.new ≡ test_committed test.old }
     ensures index_committed { KeepsCommitted index.old index.new }
+    ensures follows { StillFollows index.old test.new index.new }
     ensures ok { OnOk result (Adds (map (line_item (index_staged index.old).texts) lines.now.committed) (test_staged test.old) (index_staged index.old) (test_staged test.new) (index_staged index.new)) }
 {
     lines.ascends();
@@ -67,9 +72,11 @@ fn add_line_value<A: Allocator + Copy>(
     sum: &LineSum,
     text: &mut Vec<u8, A>,
 ) -> Result<(), Memory>
+    requires follows { Follows test.old index.old }
     requires room { HasRoom (test_staged test.old) (index_staged index.old) }
     ensures test_committed { test_committed test.new ≡ test_committed test.old }
     ensures index_committed { KeepsCommitted index.old index.new }
+    ensures follows { StillFollows index.old test.new index.new }
     ensures test { OnOk result (test_staged test.new ≡ with_item (line_item (index_staged index.old).texts (line, sum.now)) (test_staged test.old)) }
     ensures counts { OnOk result (KeepsCounts (test_staged test.old) (test_staged test.new) (index_staged index.old) (index_staged index.new)) }
     ensures text { OnOk result (IsTextOf (line_item (index_staged index.old).texts (line, sum.now)) (index_staged index.new)) }
@@ -110,9 +117,11 @@ fn add_functions<A: Allocator + Copy>(
     alloc: A,
     functions: &StagedMap<FunctionName<A>, FunctionSum, A>,
 ) -> Result<(), Memory>
-    requires { HasRoomFor (map function_item functions.now.committed) (test_staged test.old) (index_staged index.old) }
+    requires follows { Follows test.old index.old }
+    requires room { HasRoomFor (map function_item functions.now.committed) (test_staged test.old) (index_staged index.old) }
     ensures test_committed { test_committed test.new ≡ test_committed test.old }
     ensures index_committed { KeepsCommitted index.old index.new }
+    ensures follows { StillFollows index.old test.new index.new }
     ensures ok { OnOk result (Adds (map function_item functions.now.committed) (test_staged test.old) (index_staged index.old) (test_staged test.new) (index_staged index.new)) }
 {
     for (name, sum) in functions.entries() {
@@ -132,9 +141,11 @@ fn add_branches<A: Allocator + Copy>(
     alloc: A,
     branches: &StagedMap<Branch, BranchSum, A>,
 ) -> Result<(), Memory>
-    requires { HasRoomFor (map branch_item branches.now.committed) (test_staged test.old) (index_staged index.old) }
+    requires follows { Follows test.old index.old }
+    requires room { HasRoomFor (map branch_item branches.now.committed) (test_staged test.old) (index_staged index.old) }
     ensures test_committed { test_committed test.new ≡ test_committed test.old }
     ensures index_committed { KeepsCommitted index.old index.new }
+    ensures follows { StillFollows index.old test.new index.new }
     ensures ok { OnOk result (Adds (map branch_item branches.now.committed) (test_staged test.old) (index_staged index.old) (test_staged test.new) (index_staged index.new)) }
 {
     for (point, sum) in branches.entries() {

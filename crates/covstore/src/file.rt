@@ -14,13 +14,27 @@ use crate::totals::Totals;
 use covline::{Bytes, Item, Memory};
 use std::alloc::Allocator;
 use std::collections::BTreeMap;
+use std::marker::Model;
 use std::mem;
 
-/// The tests of a file, each with its points, and the file's index.
+/// The tests of a file, each with its points, and the file's index. As long as the file has one test, the index follows it, and
+/// keeps no counts of points. Contracts see tests and index.
 #[derive(Drop)]
 pub(crate) struct File<A: Allocator> {
     tests: BTreeMap<Vec<u8, A>, Boxed<Test<A>, A>, A>,
     index: FileIndex<A>,
+}
+
+impl<A: Allocator> Model for File<A> {
+    ghost use Rattle.covstore.specs.FileParts.{FileParts};
+
+    ghost Value = { FileParts A };
+
+    ghost use Rattle.covstore.specs.Follows.{FollowsSole};
+
+    ghost view = { λ f. record { tests = record { entries = f.tests.entries }; index = f.index } };
+
+    ghost invariant = { λ f. FollowsSole f.tests.entries f.index };
 }
 
 impl<A: Allocator> File<A> {
@@ -39,7 +53,7 @@ impl<A: Allocator> File<A> {
 }
 
 impl<A: Allocator + Copy> File<A> {
-    ghost use Rattle.std.specs.Prelude.{◌≢◌, true, false};
+    ghost use Rattle.std.specs.Prelude.{◌≢◌, true};
     ghost use Rattle.std.specs.Cmp.Lexicographic.{slice_cmp};
     ghost use Rattle.std.specs.List.{list_any};
     ghost use Rattle.std.specs.Option.{is_some};
@@ -48,6 +62,8 @@ impl<A: Allocator + Copy> File<A> {
     ghost use Rattle.covline.specs.Row.{item_data};
     ghost use Rattle.covstore.specs.FileDrops.{IsWithoutTest};
     ghost use Rattle.covstore.specs.FileSection.{AddsItems, ClashesIn, HasRoomIn, KeepsIn};
+    ghost use Rattle.covstore.specs.FileIndexView.{index_committed, index_staged};
+    ghost use Rattle.covstore.specs.Follows.{CanFollow};
     ghost use Rattle.covstore.specs.FileView.{KeepsFile, file_staged, file_committed, no_file, with_test};
     ghost use Rattle.covstore.specs.StoreView.{IsSettledBut};
     ghost use Rattle.covmap.specs.Puts.{value_of};
@@ -76,28 +92,25 @@ impl<A: Allocator + Copy> File<A> {
         ensures clash { IfErr result (ClashesIn (map item_data items.now) test.now (file_staged self.old)) }
         ensures settled { (tests : List (List ℕ)) → list_any (λ name. bytes_eq name test.now) tests ≡ true → IsSettledBut tests self.old → IsSettledBut tests self.new }
     {
-        // The contract of this call says that a map has fewer than 2^63 entries.
-        self.tests.len();
-        if let Some(points) = self.tests.get_mut(test) {
-            return stage_items(points.get_mut(), &mut self.index, alloc, items);
-        }
-        self.stage_new(alloc, test, items)
+        self.open(alloc, test)?;
+        self.stage_in(alloc, test, items)
     }
 
-    /// The same for a test that the file doesn't have.
-    fn stage_new(&mut self, alloc: A, test: &[u8], items: &[Item<A>]) -> Result<(), StageFault<A>>
+    /// The same for a test that the file has.
+    fn stage_in(&mut self, alloc: A, test: &[u8], items: &[Item<A>]) -> Result<(), StageFault<A>>
         requires room { HasRoomIn (map item_data items.now) (file_staged self.old) }
-        requires new { is_some (value_of (slice_cmp nat_cmp) test.now (file_staged self.old).tests) ≡ false }
+        requires there { is_some (value_of (slice_cmp nat_cmp) test.now (file_staged self.old).tests) ≡ true }
         ensures committed { KeepsIn (file_committed self.old) (file_committed self.new) }
         ensures ok { OnOk result (AddsItems (map item_data items.now) test.now (file_staged self.old) (file_staged self.new)) }
         ensures clash { IfErr result (ClashesIn (map item_data items.now) test.now (file_staged self.old)) }
         ensures settled { (tests : List (List ℕ)) → list_any (λ name. bytes_eq name test.now) tests ≡ true → IsSettledBut tests self.old → IsSettledBut tests self.new }
     {
+        // The contract of this call says that a map has fewer than 2^63 entries.
         self.tests.len();
-        let mut points = Boxed::new(alloc, Test::new(alloc))?;
-        stage_items(points.get_mut(), &mut self.index, alloc, items)?;
-        self.tests.insert(Vec::from_slice(alloc, test)?, points)?;
-        Ok(())
+        let Some(points) = self.tests.get_mut(test) else {
+            unreachable!();
+        };
+        stage_items(points.get_mut(), &mut self.index, alloc, items)
     }
 
     /// Stages the items of a test, and returns the file's staged totals before and after. `file` is the file's name.
@@ -141,7 +154,8 @@ impl<A: Allocator + Copy> File<A> {
         self.copy_points(alloc, old, new)
     }
 
-    /// Adds an empty test of this name, unless there is one.
+    /// Adds an empty test of this name, unless there is one. The points of the tests before it are counted first: if the new test
+    /// is the second one, the index can't follow the first any more.
     fn open(&mut self, alloc: A, test: &[u8]) -> Result<(), Memory>
         ensures committed { OnOk result (file_committed self.new ≡ with_test test.now (file_committed self.old)) }
         ensures staged { OnOk result (file_staged self.new ≡ with_test test.now (file_staged self.old)) }
@@ -154,7 +168,21 @@ impl<A: Allocator + Copy> File<A> {
         }
         let name = Vec::from_slice(alloc, test)?;
         let points = Boxed::new(alloc, Test::new(alloc))?;
+        self.count(alloc)?;
         self.tests.insert(name, points)?;
+        Ok(())
+    }
+
+    /// Counts the points of the file's tests, unless it has none. Then a test can be added.
+    fn count(&mut self, alloc: A) -> Result<(), Memory>
+        ensures same { self.new.tests ≡ self.old.tests }
+        ensures committed { index_committed self.new.index ≡ index_committed self.old.index }
+        ensures staged { index_staged self.new.index ≡ index_staged self.old.index }
+        ensures ok { OnOk result (CanFollow self.new.tests.entries self.new.index) }
+    {
+        if let Some((_, points)) = self.tests.iter().next() {
+            self.index.count(alloc, points.get())?;
+        }
         Ok(())
     }
 
@@ -192,10 +220,13 @@ impl<A: Allocator + Copy> File<A> {
         ensures staged { file_staged self.new ≡ file_staged self.old }
         ensures settled { (tests : List (List ℕ)) → IsSettledBut (tests ++ test.now ∷ []) self.old → IsSettledBut tests self.new }
     {
-        if let Some(points) = self.tests.get_mut(test) {
-            points.get_mut().commit();
-        }
-        self.index.commit();
+        let Some(points) = self.tests.get_mut(test) else {
+            self.index.commit_counts();
+            return;
+        };
+        let points = points.get_mut();
+        points.commit();
+        self.index.commit(points);
     }
 
     /// Forgets what is staged in a test and in the file's index.
@@ -203,10 +234,13 @@ impl<A: Allocator + Copy> File<A> {
         ensures committed { file_committed self.new ≡ file_committed self.old }
         ensures settled { (tests : List (List ℕ)) → IsSettledBut (tests ++ test.now ∷ []) self.old → IsSettledBut tests self.new }
     {
-        if let Some(points) = self.tests.get_mut(test) {
-            points.get_mut().rollback();
-        }
-        self.index.rollback();
+        let Some(points) = self.tests.get_mut(test) else {
+            self.index.rollback_counts();
+            return;
+        };
+        let points = points.get_mut();
+        points.rollback();
+        self.index.rollback(points);
     }
 
     /// The staged totals of the file.

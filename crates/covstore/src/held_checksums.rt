@@ -4,6 +4,7 @@ ghost use Rattle.std.specs.Prelude.{◌≡◌, List, ◌++◌, ◌∷◌, map, I
 ghost use Rattle.std.specs.List.Sorted.{IsStrictlySortedBy};
 ghost use Rattle.std.specs.Ordering.{nat_cmp};
 ghost use Rattle.covline.specs.Row.{item_data};
+ghost use Rattle.covstore.specs.Follows.{Follows, StillFollows};
 ghost use Rattle.covstore.specs.FileIndexView.{KeepsCommitted, index_staged};
 ghost use Rattle.covstore.specs.Items.{HasRoom, IsClashOf};
 ghost use Rattle.covstore.specs.Section.{Clashes};
@@ -64,10 +65,12 @@ pub(crate) fn hold_checksums<A: Allocator + Copy>(
     alloc: A,
     items: &[Item<A>],
 ) -> Result<(), StageFault<A>>
+    requires follows { Follows test.old index.old }
     requires room { HasRoom (test_staged test.old) (index_staged index.old) }
     requires ascend { IsStrictlySortedBy nat_cmp (checked_lines (map item_data items.now)) }
     ensures test { test.new ≡ test.old }
     ensures index_committed { KeepsCommitted index.old index.new }
+    ensures follows { StillFollows index.old test.new index.new }
     ensures ok { OnOk result (HoldsTexts (map item_data items.now) (test_staged test.old) (index_staged index.old) (index_staged index.new)) }
     ensures clash { IfErr result (Clashes (map item_data items.now) (test_staged test.old) (index_staged index.old)) }
 {
@@ -84,9 +87,11 @@ fn hold_checksum<A: Allocator + Copy>(
     alloc: A,
     item: &Item<A>,
 ) -> Result<(), StageFault<A>>
+    requires follows { Follows test.old index.old }
     requires room { HasRoomToHold (item_data item.now) (test_staged test.old) (index_staged index.old) }
     ensures test { test.new ≡ test.old }
     ensures index_committed { KeepsCommitted index.old index.new }
+    ensures follows { StillFollows index.old test.new index.new }
     ensures ok { OnOk result (HoldsText (item_data item.now) (test_staged test.old) (index_staged index.old) (index_staged index.new)) }
     ensures clash { IfErr result (IsClashOf (item_data item.now) (index_staged index.old)) }
 {

@@ -1,6 +1,6 @@
 //! The index of a file: how many of its tests have each point, and the checksums of its lines.
 
-ghost use Rattle.std.specs.Prelude.{◌≡◌};
+ghost use Rattle.std.specs.Prelude.{◌≡◌, OnOk};
 ghost use Rattle.covstore.specs.PointIndexDrops.{totals_by};
 
 mod drops;
@@ -8,17 +8,20 @@ mod drops;
 use crate::checksums::Checksums;
 use crate::index::drops::{drop_checksums, drop_kind, tally_without};
 use crate::keys::{Branch, FunctionName};
-use crate::point_index::{KindTally, PointIndex};
+use crate::kind_index::KindIndex;
+use crate::point_index::KindTally;
+use crate::sums::{BranchSum, FunctionSum, LineSum};
 use crate::test::Test;
 use crate::totals::Totals;
-use std::alloc::Allocator;
+use std::alloc::{AllocError, Allocator};
 
-/// For each point of a file, how many tests have it, and how many have it above 0; and the checksums of the file's lines.
+/// For each point of a file, how many tests have it, and how many have it above 0; and the checksums of the file's lines. As long
+/// as the file has at most one test, the index follows that test.
 #[derive(Drop)]
 pub(crate) struct FileIndex<A: Allocator> {
-    pub lines: PointIndex<u64, A>,
-    pub functions: PointIndex<FunctionName<A>, A>,
-    pub branches: PointIndex<Branch, A>,
+    pub lines: KindIndex<u64, LineSum, A>,
+    pub functions: KindIndex<FunctionName<A>, FunctionSum, A>,
+    pub branches: KindIndex<Branch, BranchSum, A>,
     pub checksums: Checksums<A>,
 }
 
@@ -29,39 +32,86 @@ impl<A: Allocator + Copy> FileIndex<A> {
     ghost use Rattle.covstore.specs.FileIndex.{FileIndexData, index_totals};
     ghost use Rattle.covstore.specs.Sums.{TestData};
     ghost use Rattle.covstore.specs.TestView.{test_committed};
+    ghost use Rattle.covstore.specs.Follows.{CountsAll, Follows, FollowsCommitted, FollowsRolledBack, FollowsSettled, FollowsTheSame, StillFollows, no_test};
 
     /// The index of a file without tests.
     pub(crate) fn new(alloc: A) -> FileIndex<A>
         ensures committed { index_committed result ≡ empty_index }
         ensures staged { index_staged result ≡ empty_index }
+        ensures follows { Follows no_test result }
     {
         FileIndex {
-            lines: PointIndex::new(alloc),
-            functions: PointIndex::new(alloc),
-            branches: PointIndex::new(alloc),
+            lines: KindIndex::new(),
+            functions: KindIndex::new(),
+            branches: KindIndex::new(),
             checksums: Checksums::new(alloc),
         }
     }
 
-    /// Commits what is staged.
-    pub(crate) fn commit(&mut self)
+    /// Counts the points of the test that the index follows, if it follows one.
+    ///
+    /// # Errors
+    ///
+    /// `AllocError` if memory was refused.
+    pub(crate) fn count(&mut self, alloc: A, test: &Test<A>) -> Result<(), AllocError>
+        requires { Follows test.now self.old }
+        ensures committed { index_committed self.new ≡ index_committed self.old }
+        ensures staged { index_staged self.new ≡ index_staged self.old }
+        ensures follows { StillFollows self.old test.now self.new }
+        ensures ok { OnOk result (CountsAll self.new) }
+    {
+        self.lines.count(alloc, &test.lines)?;
+        self.functions.count(alloc, &test.functions)?;
+        self.branches.count(alloc, &test.branches)
+    }
+
+    /// Commits what is staged. If the index follows a test, it is this one, which has committed already.
+    pub(crate) fn commit(&mut self, test: &Test<A>)
+        requires { FollowsCommitted test.now self.old }
         ensures committed { index_committed self.new ≡ index_staged self.old }
         ensures staged { index_staged self.new ≡ index_staged self.old }
+        ensures follows { StillFollows self.old test.now self.new }
     {
-        self.lines.commit();
-        self.functions.commit();
-        self.branches.commit();
+        self.lines.commit(&test.lines);
+        self.functions.commit(&test.functions);
+        self.branches.commit(&test.branches);
         self.checksums.commit();
     }
 
-    /// Forgets what is staged.
-    pub(crate) fn rollback(&mut self)
+    /// Forgets what is staged. If the index follows a test, it is this one, which has rolled back already.
+    pub(crate) fn rollback(&mut self, test: &Test<A>)
+        requires { FollowsRolledBack test.now self.old }
         ensures committed { index_committed self.new ≡ index_committed self.old }
         ensures staged { index_staged self.new ≡ index_committed self.old }
+        ensures follows { StillFollows self.old test.now self.new }
     {
-        self.lines.rollback();
-        self.functions.rollback();
-        self.branches.rollback();
+        self.lines.rollback(&test.lines);
+        self.functions.rollback(&test.functions);
+        self.branches.rollback(&test.branches);
+        self.checksums.rollback();
+    }
+
+    /// Commits what is staged, but for points of a test that the index follows.
+    pub(crate) fn commit_counts(&mut self)
+        ensures staged { index_staged self.new ≡ index_staged self.old }
+        ensures same { FollowsTheSame self.old self.new }
+        ensures settled { FollowsSettled self.old → index_staged self.new ≡ index_committed self.new }
+    {
+        self.lines.commit_counts();
+        self.functions.commit_counts();
+        self.branches.commit_counts();
+        self.checksums.commit();
+    }
+
+    /// Forgets what is staged, but for points of a test that the index follows.
+    pub(crate) fn rollback_counts(&mut self)
+        ensures committed { index_committed self.new ≡ index_committed self.old }
+        ensures same { FollowsTheSame self.old self.new }
+        ensures settled { FollowsSettled self.old → index_staged self.new ≡ index_committed self.new }
+    {
+        self.lines.rollback_counts();
+        self.functions.rollback_counts();
+        self.branches.rollback_counts();
         self.checksums.rollback();
     }
 
@@ -76,12 +126,14 @@ impl<A: Allocator + Copy> FileIndex<A> {
         )
     }
 
-    /// Stops counting a test that has these points. Nothing is staged afterwards.
+    /// Stops counting a test that has these points. Nothing is staged afterwards. If the index follows a test, it is this one.
     pub(crate) fn drop_points(&mut self, points: &Test<A>)
-        requires { (others : List TestData) × IsIndexOf (test_committed points.now ∷ others) (index_committed self.old) }
+        requires follows { Follows points.now self.old }
+        requires counted { (others : List TestData) × IsIndexOf (test_committed points.now ∷ others) (index_committed self.old) }
         ensures committed { (others : List TestData) → IsIndexOf (test_committed points.now ∷ others) (index_committed self.old) → IsIndexOf others (index_committed self.new) }
         ensures texts { (index_committed self.new).texts ≡ (index_committed self.old).texts }
         ensures staged { index_staged self.new ≡ index_committed self.new }
+        ensures follows { StillFollows self.old no_test self.new }
     {
         drop_kind(&mut self.lines, &points.lines);
         drop_kind(&mut self.functions, &points.functions);
@@ -100,9 +152,10 @@ impl<A: Allocator + Copy> FileIndex<A> {
         )
     }
 
-    /// The file's committed totals without a test that has these points.
+    /// The file's committed totals without a test that has these points. If the index follows a test, it is this one.
     pub(crate) fn totals_without(&self, points: &Test<A>) -> Totals
-        requires { (others : List TestData) × IsIndexOf (test_committed points.now ∷ others) (index_committed self.now) }
+        requires follows { Follows points.now self.now }
+        requires counted { (others : List TestData) × IsIndexOf (test_committed points.now ∷ others) (index_committed self.now) }
         ensures { (others : List TestData) (rest : FileIndexData) → IsIndexOf (test_committed points.now ∷ others) (index_committed self.now) → IsIndexOf others rest → result ≡ index_totals rest }
     {
         totals_of(

@@ -1,6 +1,6 @@
 //! Stages one item, in its test and in the file's index.
 
-ghost use Rattle.std.specs.Prelude.{◌≡◌, ◌+◌, ◌≤◌, length, option_map, IfErr, IfOk, OnOk};
+ghost use Rattle.std.specs.Prelude.{◌≡◌, ◌+◌, ◌≤◌, None, length, option_map, IfErr, IfOk, IfSome, OnOk};
 ghost use Rattle.covmap.specs.Puts.{put, value_of};
 ghost use Rattle.covline.specs.Row.{LineItem, FuncItem, BranchItem, item_data};
 ghost use Rattle.covstore.specs.FileIndexView.{index_staged, index_committed};
@@ -8,11 +8,14 @@ ghost use Rattle.covstore.specs.TestView.{test_staged, test_committed};
 ghost use Rattle.covstore.specs.Sums.{with_item};
 ghost use Rattle.covstore.specs.Items.{HasRoom, HasRoomOfKind, IsClashOf, IsTextOf, KeepsCounts, KeepsCountsOfKind, KeepsTextsOf};
 ghost use Rattle.covstore.specs.FileIndexView.{KeepsCommitted};
+ghost use Rattle.covstore.specs.Follows.{Follows, StillFollows};
 ghost use Rattle.covstore.specs.declared.stage_fault.StageFault.TheVariants as stops;
 
 use crate::index::FileIndex;
-use crate::point_index::PointIndex;
+use crate::kind_index::{Counts, KindIndex};
+use crate::stage_counted::stage_counted_addend;
 use crate::stage_fault::StageFault;
+use crate::stage_sole::stage_sole_addend;
 use crate::sums::{BranchAddend, FunctionAddend, LineAddend, LineSum, PointAddend, PointSum};
 use crate::test::Test;
 use covline::{BranchPoint, Item};
@@ -27,9 +30,11 @@ pub(crate) fn stage_item<A: Allocator + Copy>(
     alloc: A,
     item: &Item<A>,
 ) -> Result<(), StageFault<A>>
+    requires follows { Follows test.old index.old }
     requires room { HasRoom (test_staged test.old) (index_staged index.old) }
     ensures test_committed { test_committed test.new ≡ test_committed test.old }
     ensures index_committed { KeepsCommitted index.old index.new }
+    ensures follows { StillFollows index.old test.new index.new }
     ensures test { OnOk result (test_staged test.new ≡ with_item (item_data item.now) (test_staged test.old)) }
     ensures counts { OnOk result (KeepsCounts (test_staged test.old) (test_staged test.new) (index_staged index.old) (index_staged index.new)) }
     ensures text { OnOk result (IsTextOf (item_data item.now) (index_staged index.new)) }
@@ -76,9 +81,11 @@ pub(crate) fn stage_line<A: Allocator + Copy>(
     count: u128,
     checksum: Option<&[u8]>,
 ) -> Result<(), StageFault<A>>
+    requires follows { Follows test.old index.old }
     requires room { HasRoom (test_staged test.old) (index_staged index.old) }
     ensures test_committed { test_committed test.new ≡ test_committed test.old }
     ensures index_committed { KeepsCommitted index.old index.new }
+    ensures follows { StillFollows index.old test.new index.new }
     ensures test { OnOk result (test_staged test.new ≡ with_item (LineItem line count (option_map (λ c. c.now) checksum.entry)) (test_staged test.old)) }
     ensures counts { OnOk result (KeepsCounts (test_staged test.old) (test_staged test.new) (index_staged index.old) (index_staged index.new)) }
     ensures text { OnOk result (IsTextOf (LineItem line count (option_map (λ c. c.now) checksum.entry)) (index_staged index.new)) }
@@ -106,9 +113,11 @@ pub(crate) fn stage_function<A: Allocator + Copy>(
     line: u64,
     count: u128,
 ) -> Result<(), StageFault<A>>
+    requires follows { Follows test.old index.old }
     requires room { HasRoom (test_staged test.old) (index_staged index.old) }
     ensures test_committed { test_committed test.new ≡ test_committed test.old }
     ensures index_committed { KeepsCommitted index.old index.new }
+    ensures follows { StillFollows index.old test.new index.new }
     ensures test { OnOk result (test_staged test.new ≡ with_item (FuncItem name.now line count) (test_staged test.old)) }
     ensures counts { OnOk result (KeepsCounts (test_staged test.old) (test_staged test.new) (index_staged index.old) (index_staged index.new)) }
     ensures others { OnOk result (KeepsTextsOf (index_staged index.old) (index_staged index.new)) }
@@ -133,9 +142,11 @@ pub(crate) fn stage_branch<A: Allocator + Copy>(
     point: BranchPoint,
     taken: Option<u128>,
 ) -> Result<(), StageFault<A>>
+    requires follows { Follows test.old index.old }
     requires room { HasRoom (test_staged test.old) (index_staged index.old) }
     ensures test_committed { test_committed test.new ≡ test_committed test.old }
     ensures index_committed { KeepsCommitted index.old index.new }
+    ensures follows { StillFollows index.old test.new index.new }
     ensures test { OnOk result (test_staged test.new ≡ with_item (BranchItem point.line point.block point.branch taken) (test_staged test.old)) }
     ensures counts { OnOk result (KeepsCounts (test_staged test.old) (test_staged test.new) (index_staged index.old) (index_staged index.new)) }
     ensures others { OnOk result (KeepsTextsOf (index_staged index.old) (index_staged index.new)) }
@@ -161,21 +172,24 @@ pub(crate) fn stage_addend<
     M: PointAddend<S>,
 >(
     points: &mut StagedMap<K, S, A>,
-    kept: &mut PointIndex<K, A>,
+    kept: &mut KindIndex<K, S, A>,
     alloc: A,
     query: Q,
     addend: M,
 ) -> Result<Option<S>, AllocError>
-    requires { HasRoomOfKind K.cmp S.above points.old.staged kept.old.staged }
+    requires follows { IfSome kept.old.follows (λ seen. seen ≡ points.old) }
+    requires room { HasRoomOfKind K.cmp S.above points.old.staged kept.old.staged }
     ensures test_committed { points.new.committed ≡ points.old.committed }
     ensures index_committed { kept.new.committed ≡ kept.old.committed }
+    ensures follows { IfSome kept.new.follows (λ seen. seen ≡ points.new) }
+    ensures counted { kept.old.follows ≡ None → kept.new.follows ≡ None }
     ensures before { IfOk result (λ before. before ≡ value_of K.cmp (Q.named query) points.old.staged) }
     ensures test { OnOk result (points.new.staged ≡ put K.cmp (Q.named query) (M.sum addend (value_of K.cmp (Q.named query) points.old.staged)) points.old.staged) }
     ensures counts { OnOk result (KeepsCountsOfKind K.cmp S.above points.old.staged points.new.staged kept.old.staged kept.new.staged) }
     ensures few { OnOk result (length kept.new.staged ≤ length kept.old.staged + 1) }
 {
-    let added = points.stage_sum(alloc, query, addend, points.cursor())?;
-    let change = addend.report(&added.before, &added.after);
-    kept.add(alloc, query, change, added.place)?;
-    Ok(added.before)
+    match &mut kept.counts {
+        Counts::OfOneTest(sole) => stage_sole_addend(points, sole, alloc, query, addend),
+        Counts::OfTests(counts) => stage_counted_addend(points, counts, alloc, query, addend),
+    }
 }

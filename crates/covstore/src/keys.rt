@@ -10,7 +10,7 @@ ghost use Rattle.covstore.specs.Value.{branch_cmp};
 ghost use Rattle.covline.specs.PointView.{branch_point_data};
 
 use covline::{BranchPoint, Bytes};
-use covmap::{Key, Query};
+use covmap::{CopyKey, Key, Query};
 use std::alloc::{AllocError, Allocator};
 use std::cmp::Ordering;
 use std::marker::Model;
@@ -62,6 +62,12 @@ impl<A: Allocator> Key for FunctionName<A> {
     ghost total = { nat_list_cmp_total };
 
     ghost exact = { exact_bytes };
+}
+
+impl<A: Allocator> CopyKey<A> for FunctionName<A> {
+    fn copy_key(&self, alloc: A) -> Result<FunctionName<A>, AllocError> {
+        self.get().key(alloc)
+    }
 }
 
 impl<'a, A: Allocator> PointKey<'a, A> for FunctionName<A> {
@@ -124,6 +130,12 @@ impl Key for Branch {
     ghost total = { branch_key_total };
 
     ghost exact = { branch_key_exact };
+}
+
+impl<A: Allocator> CopyKey<A> for Branch {
+    fn copy_key(&self, _alloc: A) -> Result<Branch, AllocError> {
+        Ok(Branch { point: self.point })
+    }
 }
 
 impl<'a, A: Allocator> PointKey<'a, A> for Branch {

@@ -6,8 +6,8 @@
 //! refused. A test is renamed in two such steps, `prepare_rename` and `commit_rename`. It is dropped in one step, which needs no
 //! memory.
 //!
-//! A store is nested ordered maps: for each file its tests, for each test its points, and for each point of a file how many tests
-//! have it and how many have it above 0. Totals are kept alongside. `prepare` stages values beside the committed ones, at the
+//! A store is nested ordered maps: for each file its tests, for each test its points, and for each point of a file with several
+//! tests how many of them have it and how many have it above 0. Totals are kept alongside. `prepare` stages values beside the committed ones, at the
 //! same places, and `commit` exchanges them.
 //!
 //! An example, proved and run in `covuses`: the store of two submissions, or a `Refuse::Clash` if they have two checksums
@@ -36,6 +36,7 @@ mod index;
 mod items;
 mod kept_texts;
 mod keys;
+mod kind_index;
 pub mod laws;
 mod order;
 mod packed_taken;
@@ -47,9 +48,12 @@ mod point_index;
 mod refuse;
 mod renaming;
 mod runs;
+mod sole_test;
+mod stage_counted;
 mod stage_fault;
 mod stage_items;
 mod stage_points;
+mod stage_sole;
 mod store;
 mod sums;
 mod test;

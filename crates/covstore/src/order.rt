@@ -6,6 +6,7 @@ ghost use Rattle.std.specs.List.{All};
 ghost use Rattle.covline.specs.Row.{item_data};
 ghost use Rattle.covstore.specs.Order.{AreSpotsOf, HasNoChecksum, picked};
 ghost use Rattle.covstore.specs.Section.{Adds, HasRoomFor};
+ghost use Rattle.covstore.specs.Follows.{Follows, StillFollows};
 ghost use Rattle.covstore.specs.FileIndexView.{KeepsCommitted, index_staged};
 ghost use Rattle.covstore.specs.TestView.{test_staged, test_committed};
 ghost use Rattle.covstore.specs.Runs.{runs_of};
@@ -41,10 +42,12 @@ pub(crate) fn stage_without_checksums<A: Allocator + Copy>(
     alloc: A,
     items: &[Item<A>],
 ) -> Result<(), AllocError>
+    requires follows { Follows test.old index.old }
     requires room { HasRoomFor (map item_data items.now) (test_staged test.old) (index_staged index.old) }
     requires plain { All (λ item. HasNoChecksum (item_data item)) items.now }
     ensures test_committed { test_committed test.new ≡ test_committed test.old }
     ensures index_committed { KeepsCommitted index.old index.new }
+    ensures follows { StillFollows index.old test.new index.new }
     ensures ok { OnOk result (Adds (map item_data items.now) (test_staged test.old) (index_staged index.old) (test_staged test.new) (index_staged index.new)) }
 {
     if items.len() >= MIN_SORTED && falls_often(items) {
@@ -104,10 +107,12 @@ fn stage_in_order<A: Allocator + Copy>(
     alloc: A,
     items: &[Item<A>],
 ) -> Result<(), AllocError>
+    requires follows { Follows test.old index.old }
     requires room { HasRoomFor (map item_data items.now) (test_staged test.old) (index_staged index.old) }
     requires plain { All (λ item. HasNoChecksum (item_data item)) items.now }
     ensures test_committed { test_committed test.new ≡ test_committed test.old }
     ensures index_committed { KeepsCommitted index.old index.new }
+    ensures follows { StillFollows index.old test.new index.new }
     ensures ok { OnOk result (Adds (map item_data items.now) (test_staged test.old) (index_staged index.old) (test_staged test.new) (index_staged index.new)) }
 {
     let spots = sorted_spots(alloc, items)?;
@@ -123,10 +128,12 @@ fn stage_at<A: Allocator + Copy>(
     items: &[Item<A>],
     spots: &[Spot],
 ) -> Result<(), AllocError>
+    requires follows { Follows test.old index.old }
     requires room { HasRoomFor (map item_data (picked items.now spots.now)) (test_staged test.old) (index_staged index.old) }
     requires plain { All (λ item. HasNoChecksum (item_data item)) items.now }
     ensures test_committed { test_committed test.new ≡ test_committed test.old }
     ensures index_committed { KeepsCommitted index.old index.new }
+    ensures follows { StillFollows index.old test.new index.new }
     ensures ok { OnOk result (Adds (map item_data (picked items.now spots.now)) (test_staged test.old) (index_staged index.old) (test_staged test.new) (index_staged index.new)) }
 {
     for some in spots.chunks(MAX_STAGED_AT_ONCE) {

@@ -1,6 +1,6 @@
 //! For each point of a kind, how many tests of a file have it, and how many have it above 0; and the tally of all these points.
 
-ghost use Rattle.std.specs.Prelude.{◌≡◌, ◌+◌, ◌<◌, ◌≤◌, ◌^◌, [], IfSome, OnOk, length};
+ghost use Rattle.std.specs.Prelude.{◌≡◌, ◌+◌, ◌<◌, ◌≤◌, ◌^◌, IfSome, OnOk, length};
 ghost use Rattle.covstore.specs.PointIndex.{changed};
 ghost use Rattle.covstore.specs.PointIndexCounts.{found_of, hit_of, tests_fit, tests_with};
 ghost use Rattle.covmap.specs.Puts.{ArePairs, value_of};
@@ -22,6 +22,7 @@ impl KindTally {
     ghost use Rattle.std.specs.Prelude.{nat_lt, count_by};
     ghost use Rattle.covstore.specs.PointIndexCounts.{is_above_at, is_new, one_if};
     ghost use Rattle.covstore.specs.PointIndexDrops.{CanBeLess, IsLess};
+    ghost use Rattle.covstore.specs.SoleTest.{found_by, hit_by};
 
     /// The tally after a point's numbers grow. The point is newly found if it had no numbers, and newly hit if it wasn't hit
     /// before.
@@ -40,8 +41,24 @@ impl KindTally {
         }
     }
 
+    /// The tally after a point is newly found, newly hit, or both.
+    pub(crate) fn with_change(self, change: Option<TestsAddend>) -> KindTally
+        requires found { self.found < 2 ^ 63 }
+        requires hit { self.hit < 2 ^ 63 }
+        ensures found { result.found ≡ self.found + found_by change }
+        ensures hit { result.hit ≡ self.hit + hit_by change }
+    {
+        match change {
+            Some(more) => KindTally {
+                found: self.found + u64::from(more.is_new),
+                hit: self.hit + u64::from(more.is_hit),
+            },
+            None => self,
+        }
+    }
+
     /// The tally after the numbers of a run of points grow. `reports` lists the points that are newly found, newly hit, or both.
-    fn with_reports<Q>(self, reports: &[(Q, TestsAddend)]) -> KindTally
+    pub(crate) fn with_reports<Q>(self, reports: &[(Q, TestsAddend)]) -> KindTally
         requires found { self.found + length reports.now ≤ 2 ^ 63 }
         requires hit { self.hit + length reports.now ≤ 2 ^ 63 }
         ensures found { result.found ≡ self.found + count_by (λ item. item.1.is_new) reports.now }
@@ -101,16 +118,22 @@ impl<K: Key, A: Allocator> Model for PointIndex<K, A> {
 }
 
 impl<K: Key + Drop, A: Allocator + Copy> PointIndex<K, A> {
-    /// An index without points.
-    pub(crate) fn new(alloc: A) -> PointIndex<K, A>
-        ensures committed { result.committed ≡ [] }
-        ensures staged { result.staged ≡ [] }
+    ghost use Rattle.covstore.specs.PointIndex.{IsTallyOf};
+
+    /// An index of these counts, with these tallies of the committed and of the staged ones.
+    pub(crate) fn of(
+        counts: StagedMap<K, TestCounts, A>,
+        totals: KindTally,
+        staged_totals: KindTally,
+    ) -> PointIndex<K, A>
+        requires committed { IsTallyOf counts.committed totals }
+        requires staged { IsTallyOf counts.staged staged_totals }
+        ensures { result ≡ counts }
     {
-        let none = KindTally { found: 0, hit: 0 };
         PointIndex {
-            counts: StagedMap::new(alloc),
-            totals: none,
-            staged_totals: none,
+            counts,
+            totals,
+            staged_totals,
         }
     }
 

@@ -7,6 +7,7 @@ ghost use Rattle.covstore.specs.Order.{HasNoChecksum};
 ghost use Rattle.covstore.specs.Runs.{HasRoomForRuns, KeepsCountsOfKinds, KeepsHeld, runs_of, runs_with, with_runs};
 ghost use Rattle.covstore.specs.RunsView.{runs_seen};
 ghost use Rattle.covstore.specs.Section.{Adds, HasRoomFor};
+ghost use Rattle.covstore.specs.Follows.{Follows, StillFollows};
 ghost use Rattle.covstore.specs.FileIndexView.{KeepsCommitted, index_staged};
 ghost use Rattle.covstore.specs.TestView.{test_staged, test_committed};
 
@@ -102,9 +103,11 @@ pub(crate) fn stage_runs<'a, A: Allocator + Copy>(
     alloc: A,
     runs: &Runs<'a, A>,
 ) -> Result<(), AllocError>
+    requires follows { Follows test.old index.old }
     requires room { HasRoomForRuns (runs_seen runs.now) (test_staged test.old) (index_staged index.old) }
     ensures test_committed { test_committed test.new ≡ test_committed test.old }
     ensures index_committed { KeepsCommitted index.old index.new }
+    ensures follows { StillFollows index.old test.new index.new }
     ensures test { OnOk result (test_staged test.new ≡ with_runs (runs_seen runs.now) (test_staged test.old)) }
     ensures counts { OnOk result (KeepsCountsOfKinds (test_staged test.old) (test_staged test.new) (index_staged index.old) (index_staged index.new)) }
     ensures held { OnOk result (KeepsHeld (index_staged index.old) (index_staged index.new)) }
@@ -133,10 +136,12 @@ pub(crate) fn stage_as_they_are<A: Allocator + Copy>(
     alloc: A,
     items: &[Item<A>],
 ) -> Result<(), AllocError>
+    requires follows { Follows test.old index.old }
     requires room { HasRoomFor (map item_data items.now) (test_staged test.old) (index_staged index.old) }
     requires plain { All (λ item. HasNoChecksum (item_data item)) items.now }
     ensures test_committed { test_committed test.new ≡ test_committed test.old }
     ensures index_committed { KeepsCommitted index.old index.new }
+    ensures follows { StillFollows index.old test.new index.new }
     ensures ok { OnOk result (Adds (map item_data items.now) (test_staged test.old) (index_staged index.old) (test_staged test.new) (index_staged index.new)) }
 {
     for some in items.chunks(MAX_STAGED_AT_ONCE) {

@@ -5,6 +5,7 @@ ghost use Rattle.std.specs.List.Sorted.{IsStrictlySortedBy};
 ghost use Rattle.std.specs.Ordering.{nat_cmp};
 ghost use Rattle.covline.specs.Row.{item_data};
 ghost use Rattle.covstore.specs.Section.{Adds, Clashes, HasRoomFor};
+ghost use Rattle.covstore.specs.Follows.{Follows, StillFollows};
 ghost use Rattle.covstore.specs.FileIndexView.{KeepsCommitted, index_staged};
 ghost use Rattle.covstore.specs.TestView.{test_staged, test_committed};
 ghost use Rattle.covstore.specs.HeldChecksums.{checked_lines};
@@ -27,9 +28,11 @@ pub(crate) fn stage_items<A: Allocator + Copy>(
     alloc: A,
     items: &[Item<A>],
 ) -> Result<(), StageFault<A>>
+    requires follows { Follows test.old index.old }
     requires room { HasRoomFor (map item_data items.now) (test_staged test.old) (index_staged index.old) }
     ensures test_committed { test_committed test.new ≡ test_committed test.old }
     ensures index_committed { KeepsCommitted index.old index.new }
+    ensures follows { StillFollows index.old test.new index.new }
     ensures ok { OnOk result (Adds (map item_data items.now) (test_staged test.old) (index_staged index.old) (test_staged test.new) (index_staged index.new)) }
     ensures clash { IfErr result (Clashes (map item_data items.now) (test_staged test.old) (index_staged index.old)) }
 {
@@ -51,9 +54,11 @@ fn stage_some<A: Allocator + Copy>(
     alloc: A,
     items: &[Item<A>],
 ) -> Result<(), StageFault<A>>
+    requires follows { Follows test.old index.old }
     requires room { HasRoomFor (map item_data items.now) (test_staged test.old) (index_staged index.old) }
     ensures test_committed { test_committed test.new ≡ test_committed test.old }
     ensures index_committed { KeepsCommitted index.old index.new }
+    ensures follows { StillFollows index.old test.new index.new }
     ensures ok { OnOk result (Adds (map item_data items.now) (test_staged test.old) (index_staged index.old) (test_staged test.new) (index_staged index.new)) }
     ensures clash { IfErr result (Clashes (map item_data items.now) (test_staged test.old) (index_staged index.old)) }
 {
@@ -70,10 +75,12 @@ fn stage_at_once<A: Allocator + Copy>(
     alloc: A,
     items: &[Item<A>],
 ) -> Result<(), StageFault<A>>
+    requires follows { Follows test.old index.old }
     requires room { HasRoomFor (map item_data items.now) (test_staged test.old) (index_staged index.old) }
     requires ascend { IsStrictlySortedBy nat_cmp (checked_lines (map item_data items.now)) }
     ensures test_committed { test_committed test.new ≡ test_committed test.old }
     ensures index_committed { KeepsCommitted index.old index.new }
+    ensures follows { StillFollows index.old test.new index.new }
     ensures ok { OnOk result (Adds (map item_data items.now) (test_staged test.old) (index_staged index.old) (test_staged test.new) (index_staged index.new)) }
     ensures clash { IfErr result (Clashes (map item_data items.now) (test_staged test.old) (index_staged index.old)) }
 {
@@ -90,9 +97,11 @@ fn stage_each<A: Allocator + Copy>(
     alloc: A,
     items: &[Item<A>],
 ) -> Result<(), StageFault<A>>
+    requires follows { Follows test.old index.old }
     requires room { HasRoomFor (map item_data items.now) (test_staged test.old) (index_staged index.old) }
     ensures test_committed { test_committed test.new ≡ test_committed test.old }
     ensures index_committed { KeepsCommitted index.old index.new }
+    ensures follows { StillFollows index.old test.new index.new }
     ensures ok { OnOk result (Adds (map item_data items.now) (test_staged test.old) (index_staged index.old) (test_staged test.new) (index_staged index.new)) }
     ensures clash { IfErr result (Clashes (map item_data items.now) (test_staged test.old) (index_staged index.old)) }
 {

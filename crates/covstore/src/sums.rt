@@ -3,6 +3,7 @@
 ghost use Rattle.std.specs.Prelude.{◌≡◌, Bool, true, Option};
 ghost use Rattle.std.proofs.Common.{refl};
 ghost use Rattle.covstore.specs.PointIndexCounts.{change_of, is_above_at, is_hit_by_some, tests_fit, tests_with};
+ghost use Rattle.covstore.specs.SoleTest.{count_of_one};
 ghost use Rattle.covstore.specs.Kinds.{branch_above, function_above, line_above};
 ghost use Rattle.covstore.specs.State.{has_checksum};
 ghost use Rattle.covstore.specs.Stays.{branch_stays, function_stays, line_stays};
@@ -11,7 +12,7 @@ ghost use Rattle.covstore.specs.Sums.{branch_with, function_with, line_with};
 use crate::packed_taken::PackedTaken;
 use crate::packed_u64::PackedU64;
 use crate::packed_u128::PackedU128;
-use covmap::{Addend, ReportingAddend, Value};
+use covmap::{Addend, Image, ReportingAddend, Value};
 
 /// A value of a point that may be above 0: what the items of a test add up to there, or how many tests have the point (`TestCounts`).
 pub(crate) trait PointSum: Value {
@@ -323,6 +324,20 @@ impl Value for TestCounts {
         TestCounts {
             tests: self.tests.copy(),
             hit: self.hit.copy(),
+        }
+    }
+}
+
+/// The numbers of a point that one test has, with this sum.
+impl<S: PointSum> Image<S> for TestCounts {
+    ghost image = { λ sum. count_of_one S.above sum };
+
+    fn of(sum: &S) -> TestCounts
+        ensures { result ≡ count_of_one S.above sum.now }
+    {
+        TestCounts {
+            tests: PackedU64::of(1),
+            hit: PackedU64::of(u64::from(sum.is_above())),
         }
     }
 }

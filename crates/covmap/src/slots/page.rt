@@ -8,6 +8,7 @@ ghost use Rattle.std.specs.List.{insert};
 ghost use Rattle.covmap.specs.Staged.{column_of, with_column};
 ghost use Rattle.covmap.specs.Slots.{IsAscending, beside, empty, ends_before, is_before, lead, value_in};
 
+pub(crate) mod images;
 pub(crate) mod run;
 
 use crate::key::{Key, Query, Value, copy_of};

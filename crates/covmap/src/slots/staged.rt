@@ -7,6 +7,7 @@ ghost use Rattle.covmap.specs.Staged.{AreAscending, AreColumnsOf, IsSplit, IsTou
 ghost use Rattle.covmap.specs.SlotPlace.{at};
 ghost use Rattle.covmap.specs.Slots.{lead, page_at, value_at, value_in};
 
+pub(crate) mod images;
 pub(crate) mod run;
 
 use crate::key::{Addend, Key, Value, copy_of};

@@ -1,17 +1,39 @@
 //! Removes a test from a file's index: for each kind, by a walk over the test's points.
 
-ghost use Rattle.std.specs.Prelude.{◌≡◌};
+ghost use Rattle.std.specs.Prelude.{◌≡◌, None, IfSome};
+ghost use Rattle.covstore.specs.SoleTest.{no_points};
 ghost use Rattle.covstore.specs.PointIndexDrops.{AreHoldersWith, AreWith, IsTallyWithout, LosesHolders, LosesTest};
 
 use crate::checksums::Checksums;
 use crate::keys::PointKey;
+use crate::kind_index::{Counts, KindIndex};
 use crate::point_index::{KindTally, PointIndex};
+use crate::sole_test::SoleTest;
 use crate::sums::{LineSum, PointSum};
 use covmap::StagedMap;
 use std::alloc::Allocator;
 
-/// Stops counting the test that has these points of one kind. Nothing is staged afterwards.
+/// Stops counting the test that has these points of one kind. Nothing is staged afterwards. If the counts follow a test, it is
+/// this one.
 pub(super) fn drop_kind<'a, K: PointKey<'a, A> + Drop, S: PointSum, A: Allocator + Copy>(
+    kept: &mut KindIndex<K, S, A>,
+    points: &'a StagedMap<K, S, A>,
+)
+    requires follows { IfSome kept.old.follows (λ seen. seen ≡ points.now) }
+    requires counted { AreWith K.cmp S.above points.now.committed kept.old.committed }
+    ensures committed { LosesTest K.cmp S.above points.now.committed kept.old.committed kept.new.committed }
+    ensures staged { kept.new.staged ≡ kept.new.committed }
+    ensures follows { IfSome kept.new.follows (λ seen. seen ≡ no_points) }
+    ensures counts { kept.old.follows ≡ None → kept.new.follows ≡ None }
+{
+    match &mut kept.counts {
+        Counts::OfOneTest(sole) => *sole = SoleTest::none(),
+        Counts::OfTests(counts) => drop_counted(counts, points),
+    }
+}
+
+/// The same at points that are counted.
+fn drop_counted<'a, K: PointKey<'a, A> + Drop, S: PointSum, A: Allocator + Copy>(
     kept: &mut PointIndex<K, A>,
     points: &'a StagedMap<K, S, A>,
 )
@@ -45,8 +67,23 @@ pub(super) fn drop_checksums<A: Allocator + Copy>(
     }
 }
 
-/// The tally of a kind of points without the test that has these points.
+/// The tally of a kind of points without the test that has these points. If the counts follow a test, it is this one.
 pub(super) fn tally_without<'a, K: PointKey<'a, A>, S: PointSum, A: Allocator>(
+    kept: &KindIndex<K, S, A>,
+    points: &'a StagedMap<K, S, A>,
+) -> KindTally
+    requires follows { IfSome kept.now.follows (λ seen. seen ≡ points.now) }
+    requires counted { AreWith K.cmp S.above points.now.committed kept.now.committed }
+    ensures { IsTallyWithout K.cmp S.above points.now.committed kept.now.committed result }
+{
+    match &kept.counts {
+        Counts::OfOneTest(_) => KindTally { found: 0, hit: 0 },
+        Counts::OfTests(counts) => tally_without_counted(counts, points),
+    }
+}
+
+/// The same at points that are counted.
+fn tally_without_counted<'a, K: PointKey<'a, A>, S: PointSum, A: Allocator>(
     kept: &PointIndex<K, A>,
     points: &'a StagedMap<K, S, A>,
 ) -> KindTally

@@ -14,8 +14,8 @@ add_lines-requires-clause-room g c =
     let others : List ItemData = map function_item source.functions.committed ++ map branch_item source.branches.committed in
     room_front (map (line_item c.args.index.now.checksums.texts) source.lines.committed) others (test_staged c.args.test.now) (index_staged c.args.index.now) c.requires.room
 
-pub add_functions-requires : goal.add_functions-requires
-add_functions-requires g c =
+pub add_functions-requires-clause-room : goal.add_functions-requires-clause-room
+add_functions-requires-clause-room g c =
     let source = c.args.source.now in
     let branches = map branch_item source.branches.committed in
     let functions = map function_item source.functions.committed in
@@ -23,8 +23,8 @@ add_functions-requires g c =
     (room_back (map (line_item c.args.index.now.checksums.texts) source.lines.committed) (functions ++ branches) (test_staged c.args.test.now) (test_staged c.add_lines.new.test)
     (index_staged c.args.index.now) (index_staged c.add_lines.new.index) c.requires.room c.in_ok-add_lines.ensures.ok)
 
-pub add_branches-requires : goal.add_branches-requires
-add_branches-requires g c =
+pub add_branches-requires-clause-room : goal.add_branches-requires-clause-room
+add_branches-requires-clause-room g c =
     let source = c.args.source.now in
     let branches = map branch_item source.branches.committed in
     let functions = map function_item source.functions.committed in

@@ -6,8 +6,8 @@ use Rattle.covstore.proofs.EachKind.{room_in}
 use Rattle.covstore.proofs.StepsKept.{keeps_point}
 use Rattle.covstore.proofs.items.stage_function.Goals as goal
 
-pub stage_addend-requires : goal.stage_addend-requires
-stage_addend-requires g c = room_in Function _ _ c.requires.room
+pub stage_addend-requires-clause-room : goal.stage_addend-requires-clause-room
+stage_addend-requires-clause-room g c = room_in Function _ _ c.requires.room
 
 pub returns-clause-counts : goal.returns-clause-counts
 returns-clause-counts g c =

@@ -17,8 +17,8 @@ use Rattle.covstore.proofs.StepsCounts.{line_bare, line_checked}
 use Rattle.covstore.proofs.items.stage_line.Goals as goal
 use Rattle.covstore.proofs.items.stage_line.Goals.{in-Some+in_ok-hold, in_default}
 
-pub stage_addend-requires : goal.stage_addend-requires
-stage_addend-requires g c = room_in Line _ _ c.requires.room
+pub stage_addend-requires-clause-room : goal.stage_addend-requires-clause-room
+stage_addend-requires-clause-room g c = room_in Line _ _ c.requires.room
 
 pub hold-requires-clause-holds : goal.hold-requires-clause-holds
 hold-requires-clause-holds g c = λ is.

@@ -15,16 +15,16 @@ use Rattle.covstore.proofs.RunsKept.{room_as_long}
 use Rattle.covstore.proofs.RunsSums.{summed_as}
 use Rattle.covstore.proofs.runs.stage_runs.Goals as goal
 
-pub stage_whole_run-requires : goal.stage_whole_run-requires
-stage_whole_run-requires g c = room_as_long (length c.deref.result.now) (length c.args.runs.now.lines.items) (ap (λ run. length run) c.deref.ensures.value) (c.requires.room Line)
+pub stage_whole_run-requires-clause-room : goal.stage_whole_run-requires-clause-room
+stage_whole_run-requires-clause-room g c = room_as_long (length c.deref.result.now) (length c.args.runs.now.lines.items) (ap (λ run. length run) c.deref.ensures.value) (c.requires.room Line)
 
-pub stage_one_by_one-requires : goal.stage_one_by_one-requires
-stage_one_by_one-requires g c =
+pub stage_one_by_one-requires-clause-room : goal.stage_one_by_one-requires-clause-room
+stage_one_by_one-requires-clause-room g c =
     let run = c.args.runs.now.functions.items in
     room_as_long (length c.deref-2.result.now) (length (runs_seen c.args.runs.now).functions) (ap (λ run. length run) c.deref-2.ensures.value ∙ sym (length-map run (λ pair. (pair.0.now, pair.1)))) (c.requires.room Function)
 
-pub stage_whole_run-requires-2 : goal.stage_whole_run-requires-2
-stage_whole_run-requires-2 g c =
+pub stage_whole_run-requires-2-clause-room : goal.stage_whole_run-requires-2-clause-room
+stage_whole_run-requires-2-clause-room g c =
     let run = c.args.runs.now.branches.items in
     room_as_long (length c.deref-3.result.now) (length (runs_seen c.args.runs.now).branches) (ap (λ run. length run) c.deref-3.ensures.value ∙ sym (length-map run (λ pair. (branch_point_data pair.0, pair.1))))
     (c.requires.room Branch)

@@ -1,4 +1,4 @@
-use Rattle.std.proofs.Common.{◌≡◌, ◌∷◌, ◌++◌, List, ap, arith, length, sym, ◌∙◌}
+use Rattle.std.proofs.Common.{◌∷◌, List, ap, arith, sym, ◌∙◌}
 use Rattle.std.proofs.lemmas.List.{length-append}
 use Rattle.covmap.specs.Run.{summed}
 use Rattle.covstore.proofs.stage_points.stage_one_by_one.Goals as goal
@@ -25,4 +25,6 @@ loop-item-preserved g c =
         few = omega (arith, step.few, room.few, parts.1);
       },
       λ front back are. step.counts front back (kept.4 front back are),
+      c.stage_addend.ensures.follows,
+      λ none. c.stage_addend.ensures.counted (kept.6 none),
     )

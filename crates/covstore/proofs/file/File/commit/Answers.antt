@@ -1,40 +1,45 @@
-use Rattle.std.proofs.Common.{◌≡◌, ℕ, Some, sym, ap, ◌∙◌, Vec, BTreeMap}
+use Rattle.std.proofs.Common.{ℕ, Some, [], ◌∷◌, ◌++◌, sym, ap, ◌∙◌, subst, Vec, BTreeMap}
 use Rattle.covstore.specs.declared.file.File.{File}
 use Rattle.covstore.specs.declared.test.Test.{Test}
-use Rattle.covstore.specs.FileIndexView.{index_staged, index_committed}
+use Rattle.covstore.specs.StoreView.{IsSettledBut}
 use Rattle.covstore.specs.TestView.{test_staged}
-use Rattle.covstore.proofs.MapNames.{names_with}
-use Rattle.covstore.proofs.Settled.{same_file, settled_found, settled_unfound, tests_written}
+use Rattle.covstore.proofs.FollowsSole.{sole_settled, sole_written}
+use Rattle.covstore.proofs.MapNames.{has_name}
+use Rattle.covstore.proofs.Settled.{all_unfound, file_name, same_file, settled_found, settled_unfound, tests_written}
 use Rattle.covstore.proofs.file.File.commit.Goals as goal
-use Rattle.covstore.proofs.file.File.commit.Goals.{in-Some, in_default}
+
+-- the file doesn't have the test
+
+pub returns-in_default-clause-settled : goal.returns-in_default-clause-settled
+returns-in_default-clause-settled g c = λ tests was.
+    let file : File g.row.A.Denot = record { tests = record { entries = c.self.inside.tests.entries }; index = c.self.inside.index } in
+    let later : File g.row.A.Denot = record { tests = record { entries = c.get_mut.follows.lender-at-none.entries }; index = c.commit_counts.new.self } in
+    let settled = subst (λ (f : File g.row.A.Denot). IsSettledBut (tests ++ c.args.test.now ∷ []) f) (sym c.self.view_is) was in
+    let none = sym c.in_default.ensures.value in
+    settled_unfound tests c.args.test.now file later settled
+    (λ all. c.commit_counts.ensures.settled (sole_settled c.self.inside.tests.entries c.self.inside.index (all_unfound tests c.args.test.now file settled all none) c.self.invariant))
+    none (ap (λ (m : BTreeMap (Vec ℕ g.row.A.Denot) (Test g.row.A.Denot)). m.entries) c.get_mut.follows.holds-at-none)
+
+-- the file has the test
+
+pub invariant_of-self-2 : goal.invariant_of-self-2
+invariant_of-self-2 g c =
+    rw (c.get_mut.follows.holds c.commit.new.self).0
+    (sole_written (has_name file_name c.args.test.now) c.self.inside.tests.entries c.self.inside.index c.commit-2.new.self c.get_mut-points.result.now c.commit.new.self (sym c.in-Some.ensures.value ∙ ap Some (sym c.get_mut-points.ensures.value)) c.self.invariant
+    c.commit-2.ensures.follows)
 
 pub returns-clause-staged : goal.returns-clause-staged
 returns-clause-staged g c =
-    let before = c.args.self.now in
-    elim c.match-get_mut.branch [
-      | in-Some w ↦
-          let written = ap (λ (f : File g.row.A.Denot). f.tests.entries) w.self-is ∙ (c.get_mut.follows.holds w.commit.new.self).0 in
-          same_file
-          (tests_written test_staged c.args.test.now before.tests.entries c.match-get_mut.self.tests.entries w.get_mut-in-Some.result.now w.commit.new.self written (sym w.in-Some.ensures.value ∙ ap Some (sym w.get_mut-in-Some.ensures.value)) w.commit.ensures.staged)
-          (c.commit-2.ensures.staged ∙ ap (λ (f : File g.row.A.Denot). index_staged f.index) w.self-is)
-      | in_default w ↦
-          same_file
-          (ap (λ (f : File g.row.A.Denot). names_with (λ (k : Vec ℕ g.row.A.Denot). k.items) test_staged f.tests.entries) w.self-is
-          ∙ ap (λ (m : BTreeMap (Vec ℕ g.row.A.Denot) (Test g.row.A.Denot)). names_with (λ (k : Vec ℕ g.row.A.Denot). k.items) test_staged m.entries) c.get_mut.follows.holds-at-none)
-          (c.commit-2.ensures.staged ∙ ap (λ (f : File g.row.A.Denot). index_staged f.index) w.self-is)
-    ]
+    rw (← c.self.view_is)
+    (same_file
+    (tests_written test_staged c.args.test.now c.self.inside.tests.entries (c.get_mut.follows.lender c.commit.new.self).entries c.get_mut-points.result.now c.commit.new.self (c.get_mut.follows.holds c.commit.new.self).0 (sym c.in-Some.ensures.value ∙ ap Some (sym c.get_mut-points.ensures.value))
+    c.commit.ensures.staged)
+    c.commit-2.ensures.staged)
 
 pub returns-clause-settled : goal.returns-clause-settled
 returns-clause-settled g c = λ tests was.
-    let before = c.args.self.now in
-    let after : File g.row.A.Denot = record { tests = c.match-get_mut.self.tests; index = c.commit-2.new.self } in
-    let index : index_staged after.index ≡ index_committed after.index = c.commit-2.ensures.staged ∙ sym c.commit-2.ensures.committed in
-    elim c.match-get_mut.branch [
-      | in-Some w ↦
-          let written = ap (λ (f : File g.row.A.Denot). f.tests.entries) w.self-is ∙ (c.get_mut.follows.holds w.commit.new.self).0 in
-          settled_found tests c.args.test.now before after was index w.get_mut-in-Some.result.now w.commit.new.self c.get_mut.ensures.ordered written (sym w.in-Some.ensures.value ∙ ap Some (sym w.get_mut-in-Some.ensures.value)) (w.commit.ensures.staged ∙ sym w.commit.ensures.committed)
-      | in_default w ↦
-          let same = ap (λ (f : File g.row.A.Denot). f.tests.entries) w.self-is
-          ∙ ap (λ (m : BTreeMap (Vec ℕ g.row.A.Denot) (Test g.row.A.Denot)). m.entries) c.get_mut.follows.holds-at-none in
-          settled_unfound tests c.args.test.now before after was index (sym w.in_default.ensures.value) same
-    ]
+    let file : File g.row.A.Denot = record { tests = record { entries = c.self.inside.tests.entries }; index = c.self.inside.index } in
+    let later : File g.row.A.Denot = record { tests = record { entries = (c.get_mut.follows.lender c.commit.new.self).entries }; index = c.commit-2.new.self } in
+    let settled = subst (λ (f : File g.row.A.Denot). IsSettledBut (tests ++ c.args.test.now ∷ []) f) (sym c.self.view_is) was in
+    settled_found tests c.args.test.now file later settled (λ all. c.commit-2.ensures.staged ∙ sym c.commit-2.ensures.committed) c.get_mut-points.result.now c.commit.new.self c.get_mut.ensures.ordered (c.get_mut.follows.holds c.commit.new.self).0
+    (sym c.in-Some.ensures.value ∙ ap Some (sym c.get_mut-points.ensures.value)) (c.commit.ensures.staged ∙ sym c.commit.ensures.committed)

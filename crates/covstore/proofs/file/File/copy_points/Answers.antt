@@ -1,20 +1,27 @@
-use Rattle.std.proofs.Common.{ℕ, ◌≤◌, ◌^◌, Some, Vec, List, length, refl, sym, ap, ◌∙◌, subst, arith}
+use Rattle.std.specs.Cmp.Lexicographic.{slice_cmp}
+use Rattle.std.specs.Option.{is_some}
+use Rattle.std.specs.Ordering.{nat_cmp}
+use Rattle.covmap.specs.Puts.{value_of}
+use Rattle.std.proofs.Common.{◌≡◌, ℕ, true, ◌≤◌, ◌^◌, Some, Vec, List, length, refl, sym, ap, ◌∙◌, subst, arith}
 use Rattle.std.proofs.lemmas.List.{length-map}
 use Rattle.std.proofs.lemmas.Result.{on_ok_weaker}
 use Rattle.covstore.specs.declared.file.File.{File}
-use Rattle.covstore.specs.FileView.{file_staged}
+use Rattle.covstore.specs.FileView.{file_committed, file_staged}
 use Rattle.covstore.specs.FileIndexView.{index_staged}
-use Rattle.covstore.specs.Renaming.{CopiesIn}
+use Rattle.covstore.specs.Renaming.{CopiesIn, HasRoomToCopyIn}
 use Rattle.covstore.specs.State.{FileData}
+use Rattle.covstore.specs.StoreView.{IsSettledBut}
 use Rattle.covstore.specs.Sums.{TestData}
 use Rattle.covstore.specs.TestView.{test_staged, test_committed}
 use Rattle.covstore.proofs.AddsFile.{not_there, test_value}
 use Rattle.covstore.proofs.AddsSettled.{test_settled}
 use Rattle.covstore.proofs.CopiesFile.{copies_holders, copies_in, copies_room}
 use Rattle.covstore.proofs.CopiesMap.{other_found, other_there, place_there, put_back, same_back}
+use Rattle.covstore.proofs.FollowsSole.{sole_found, sole_written, written_again}
 use Rattle.covstore.proofs.MapKeys.{seen}
+use Rattle.covstore.proofs.MapNames.{has_name}
 use Rattle.covstore.proofs.Orders.{names_order}
-use Rattle.covstore.proofs.Settled.{same_file}
+use Rattle.covstore.proofs.Settled.{file_name, same_file}
 use Rattle.covstore.proofs.file.File.copy_points.Goals as goal
 
 -- the file has both tests, so the one that is taken out has a place
@@ -22,7 +29,7 @@ use Rattle.covstore.proofs.file.File.copy_points.Goals as goal
 pub unreachable-requires : goal.unreachable-requires
 unreachable-requires g c =
     let name = λ (key : Vec ℕ g.row.A.Denot). key.items in
-    not_there name test_staged c.args.new.now c.args.self.now.tests.entries (sym c.in_default.ensures.value) c.requires.there
+    not_there name test_staged c.args.new.now c.self.inside.tests.entries (sym c.in_default.ensures.value) (subst (λ (f : File g.row.A.Denot). is_some (value_of (slice_cmp nat_cmp) c.args.new.now (file_staged f).tests) ≡ true) (sym c.self.view_is) c.requires.there)
 
 pub unreachable-requires-in_default-get : goal.unreachable-requires-in_default-get
 unreachable-requires-in_default-get g c =
@@ -30,8 +37,8 @@ unreachable-requires-in_default-get g c =
     let target = c.replace-points.result in
     let empty = c.replace-points.new.dest in
     let found = sym c.in-Some.ensures.value ∙ ap Some (sym c.replace-points.ensures.value) in
-    other_there name test_staged c.args.new.now c.args.self.now.tests.entries (c.get_mut.follows.lender empty).entries target empty c.get_mut.ensures.ordered found (c.get_mut.follows.holds empty).0 c.args.old.now
-    c.requires.apart c.requires.room.source c.requires.room.its_source (sym c.in_default-get.ensures.value)
+    other_there name test_staged c.args.new.now c.self.inside.tests.entries (c.get_mut.follows.lender empty).entries target empty c.get_mut.ensures.ordered found (c.get_mut.follows.holds empty).0 c.args.old.now
+    c.requires.apart (subst (λ (f : File g.row.A.Denot). HasRoomToCopyIn c.args.old.now (file_staged f)) (sym c.self.view_is) c.requires.room).source (subst (λ (f : File g.row.A.Denot). HasRoomToCopyIn c.args.old.now (file_staged f)) (sym c.self.view_is) c.requires.room).its_source (sym c.in_default-get.ensures.value)
 
 pub unreachable-requires-in_default-get_mut : goal.unreachable-requires-in_default-get_mut
 unreachable-requires-in_default-get_mut g c =
@@ -39,7 +46,7 @@ unreachable-requires-in_default-get_mut g c =
     let target = c.replace-points.result in
     let empty = c.replace-points.new.dest in
     let found = sym c.in-Some.ensures.value ∙ ap Some (sym c.replace-points.ensures.value) in
-    place_there name test_staged c.args.new.now c.args.self.now.tests.entries (c.get_mut.follows.lender empty).entries target empty c.get_mut.ensures.ordered found (c.get_mut.follows.holds empty).0
+    place_there name test_staged c.args.new.now c.self.inside.tests.entries (c.get_mut.follows.lender empty).entries target empty c.get_mut.ensures.ordered found (c.get_mut.follows.holds empty).0
     (sym c.in_default-get_mut.ensures.value)
 
 -- the values are added
@@ -47,7 +54,7 @@ unreachable-requires-in_default-get_mut g c =
 pub stage_values-added-requires-clause-room : goal.stage_values-added-requires-clause-room
 stage_values-added-requires-clause-room g c =
     let name = λ (key : Vec ℕ g.row.A.Denot). key.items in
-    let pairs = c.args.self.now.tests.entries in
+    let pairs = c.self.inside.tests.entries in
     let tests = seen names_order name test_staged pairs in
     let old = c.args.old.now in
     let new = c.args.new.now in
@@ -55,15 +62,15 @@ stage_values-added-requires-clause-room g c =
     let empty = c.replace-points.new.dest in
     let source = c.get-2.result.now in
     let found = sym c.in-Some.ensures.value ∙ ap Some (sym c.replace-points.ensures.value) ∙ ap Some (sym c.get_mut-2.ensures.value) in
-    let its_source = c.requires.same ∙ other_found name test_committed new pairs (c.get_mut.follows.lender empty).entries target empty c.get_mut.ensures.ordered found (c.get_mut.follows.holds empty).0 old c.requires.apart source
+    let its_source = subst (λ (f : File g.row.A.Denot). value_of (slice_cmp nat_cmp) c.args.old.now (file_staged f).tests ≡ value_of (slice_cmp nat_cmp) c.args.old.now (file_committed f).tests) (sym c.self.view_is) c.requires.same ∙ other_found name test_committed new pairs (c.get_mut.follows.lender empty).entries target empty c.get_mut.ensures.ordered found (c.get_mut.follows.holds empty).0 old c.requires.apart source
     (sym c.in-Some-get.ensures.value ∙ ap Some (sym c.get-2.ensures)) in
     let few : length tests ≤ 2 ^ 63 = omega (arith, length-map {B = List ℕ × TestData} pairs (λ pair. (name pair.0, test_staged pair.1)), c.len.ensures.len, c.len.ensures.small) in
-    copies_room old new tests (index_staged c.args.self.now.index) (test_committed source) (test_staged target) its_source (test_value name test_staged new pairs target found) c.requires.room few
+    copies_room old new tests (index_staged c.self.inside.index) (test_committed source) (test_staged target) its_source (test_value name test_staged new pairs target found) (subst (λ (f : File g.row.A.Denot). HasRoomToCopyIn c.args.old.now (file_staged f)) (sym c.self.view_is) c.requires.room) few
 
 pub stage_values-added-requires-clause-holders : goal.stage_values-added-requires-clause-holders
 stage_values-added-requires-clause-holders g c =
     let name = λ (key : Vec ℕ g.row.A.Denot). key.items in
-    let pairs = c.args.self.now.tests.entries in
+    let pairs = c.self.inside.tests.entries in
     let tests = seen names_order name test_staged pairs in
     let old = c.args.old.now in
     let new = c.args.new.now in
@@ -71,11 +78,26 @@ stage_values-added-requires-clause-holders g c =
     let empty = c.replace-points.new.dest in
     let source = c.get-2.result.now in
     let found = sym c.in-Some.ensures.value ∙ ap Some (sym c.replace-points.ensures.value) ∙ ap Some (sym c.get_mut-2.ensures.value) in
-    let its_source = c.requires.same ∙ other_found name test_committed new pairs (c.get_mut.follows.lender empty).entries target empty c.get_mut.ensures.ordered found (c.get_mut.follows.holds empty).0 old c.requires.apart source
+    let its_source = subst (λ (f : File g.row.A.Denot). value_of (slice_cmp nat_cmp) c.args.old.now (file_staged f).tests ≡ value_of (slice_cmp nat_cmp) c.args.old.now (file_committed f).tests) (sym c.self.view_is) c.requires.same ∙ other_found name test_committed new pairs (c.get_mut.follows.lender empty).entries target empty c.get_mut.ensures.ordered found (c.get_mut.follows.holds empty).0 old c.requires.apart source
     (sym c.in-Some-get.ensures.value ∙ ap Some (sym c.get-2.ensures)) in
-    copies_holders old new tests (index_staged c.args.self.now.index) (test_committed source) (test_staged target) its_source (test_value name test_staged new pairs target found) c.requires.room
+    copies_holders old new tests (index_staged c.self.inside.index) (test_committed source) (test_staged target) its_source (test_value name test_staged new pairs target found) (subst (λ (f : File g.row.A.Denot). HasRoomToCopyIn c.args.old.now (file_staged f)) (sym c.self.view_is) c.requires.room)
+
+pub stage_values-added-requires-clause-follows : goal.stage_values-added-requires-clause-follows
+stage_values-added-requires-clause-follows g c =
+    sole_found (has_name file_name c.args.new.now) c.self.inside.tests.entries c.self.inside.index c.get_mut-2.result.now
+    (sym c.in-Some.ensures.value ∙ ap Some (sym c.replace-points.ensures.value) ∙ ap Some (sym c.get_mut-2.ensures.value)) c.self.invariant
 
 -- the test is put back
+
+pub invariant_of-self : goal.invariant_of-self
+invariant_of-self g c =
+    let here = has_name file_name c.args.new.now in
+    let entries = c.self.inside.tests.entries in
+    let empty = c.replace-points.new.dest in
+    let points = c.stage_values-added.new.test in
+    rw ((c.get_mut-3.follows.holds points).0, (c.get_mut.follows.holds empty).0, written_again here entries empty points)
+    (sole_written here entries c.self.inside.index c.stage_values-added.new.index c.get_mut-2.result.now points
+    (sym c.in-Some.ensures.value ∙ ap Some (sym c.replace-points.ensures.value) ∙ ap Some (sym c.get_mut-2.ensures.value)) c.self.invariant c.stage_values-added.ensures.follows)
 
 pub returns-clause-committed : goal.returns-clause-committed
 returns-clause-committed g c =
@@ -85,17 +107,18 @@ returns-clause-committed g c =
     let empty = c.replace-points.new.dest in
     let points = c.stage_values-added.new.test in
     let found = sym c.in-Some.ensures.value ∙ ap Some (sym c.replace-points.ensures.value) ∙ ap Some (sym c.get_mut-2.ensures.value) in
-    record {
-      tests = same_back name test_committed new c.args.self.now.tests.entries (c.get_mut.follows.lender empty).entries lent empty c.get_mut.ensures.ordered found (c.get_mut.follows.holds empty).0
+    rw (← c.self.view_is)
+    (record {
+      tests = same_back name test_committed new c.self.inside.tests.entries (c.get_mut.follows.lender empty).entries lent empty c.get_mut.ensures.ordered found (c.get_mut.follows.holds empty).0
           c.in-Some-get_mut.place.now points (c.get_mut-3.follows.lender points).entries c.get_mut-3.ensures.ordered (sym c.in-Some-get_mut.ensures.value) (c.get_mut-3.follows.holds points).0
           c.stage_values-added.ensures.test_committed;
       index = c.stage_values-added.ensures.index_committed;
-    }
+    })
 
 pub returns-clause-ok : goal.returns-clause-ok
 returns-clause-ok g c =
     let name = λ (key : Vec ℕ g.row.A.Denot). key.items in
-    let before = c.args.self.now in
+    let before : File g.row.A.Denot = record { tests = record { entries = c.self.inside.tests.entries }; index = c.self.inside.index } in
     let pairs = before.tests.entries in
     let tests = seen names_order name test_staged pairs in
     let old = c.args.old.now in
@@ -106,24 +129,26 @@ returns-clause-ok g c =
     let found = sym c.in-Some.ensures.value ∙ ap Some (sym c.replace-points.ensures.value) ∙ ap Some (sym c.get_mut-2.ensures.value) in
     let lifted = (c.get_mut.follows.holds empty).0 in
     let source = c.get-2.result.now in
-    let its_source = c.requires.same ∙ other_found name test_committed new pairs (c.get_mut.follows.lender empty).entries lent empty c.get_mut.ensures.ordered found lifted old c.requires.apart source
+    let its_source = subst (λ (f : File g.row.A.Denot). value_of (slice_cmp nat_cmp) c.args.old.now (file_staged f).tests ≡ value_of (slice_cmp nat_cmp) c.args.old.now (file_committed f).tests) (sym c.self.view_is) c.requires.same ∙ other_found name test_committed new pairs (c.get_mut.follows.lender empty).entries lent empty c.get_mut.ensures.ordered found lifted old c.requires.apart source
     (sym c.in-Some-get.ensures.value ∙ ap Some (sym c.get-2.ensures)) in
     let is = same_file
     (put_back name test_staged new pairs (c.get_mut.follows.lender empty).entries lent empty c.get_mut.ensures.ordered found lifted c.in-Some-get_mut.place.now points
     (c.get_mut-3.follows.lender points).entries c.get_mut-3.ensures.ordered (sym c.in-Some-get_mut.ensures.value) (c.get_mut-3.follows.holds points).0)
     refl in
-    on_ok_weaker c.stage_values-added.result
+    rw (← c.self.view_is)
+    (on_ok_weaker c.stage_values-added.result
     (λ adds. subst (λ (file : FileData). CopiesIn old new (file_staged before) file) (sym is)
     (copies_in old new tests (index_staged before.index) (test_committed source) (test_staged lent) its_source (test_value name test_staged new pairs lent found)
     (test_staged points) (index_staged c.stage_values-added.new.index) adds))
-    c.stage_values-added.ensures.ok
+    c.stage_values-added.ensures.ok)
 
 pub returns-clause-settled : goal.returns-clause-settled
 returns-clause-settled g c = λ tests among settled.
     let new = c.args.new.now in
     let empty = c.replace-points.new.dest in
     let points = c.stage_values-added.new.test in
-    let middle : File g.row.A.Denot = record { tests = c.get_mut.follows.lender empty; index = c.stage_values-added.new.index } in
-    let after : File g.row.A.Denot = record { tests = c.get_mut-3.follows.lender points; index = c.stage_values-added.new.index } in
+    let file : File g.row.A.Denot = record { tests = record { entries = c.self.inside.tests.entries }; index = c.self.inside.index } in
+    let middle : File g.row.A.Denot = record { tests = record { entries = (c.get_mut.follows.lender empty).entries }; index = c.stage_values-added.new.index } in
+    let after : File g.row.A.Denot = record { tests = record { entries = (c.get_mut-3.follows.lender points).entries }; index = c.stage_values-added.new.index } in
     test_settled tests new among middle after points (c.get_mut-3.follows.holds points).0
-    (test_settled tests new among c.args.self.now middle empty (c.get_mut.follows.holds empty).0 settled)
+    (test_settled tests new among file middle empty (c.get_mut.follows.holds empty).0 (subst (λ (f : File g.row.A.Denot). IsSettledBut tests f) (sym c.self.view_is) settled))

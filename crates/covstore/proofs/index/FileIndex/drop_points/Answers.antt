@@ -7,16 +7,16 @@ use Rattle.covstore.proofs.FewerHolders.{holders_of_lines}
 use Rattle.covstore.proofs.index.FileIndex.drop_points.Goals as goal
 
 pub drop_kind-requires : goal.drop_kind-requires
-drop_kind-requires g c = λ lifetimes. ((refl, tt), (map (at Line) c.requires.0, c.requires.1.counts Line))
+drop_kind-requires g c = λ lifetimes. ((refl, tt), (c.requires.follows.lines, (map (at Line) c.requires.counted.0, c.requires.counted.1.counts Line)))
 
 pub drop_kind-requires-2 : goal.drop_kind-requires-2
-drop_kind-requires-2 g c = λ lifetimes. ((refl, tt), (map (at Function) c.requires.0, c.requires.1.counts Function))
+drop_kind-requires-2 g c = λ lifetimes. ((refl, tt), (c.requires.follows.functions, (map (at Function) c.requires.counted.0, c.requires.counted.1.counts Function)))
 
 pub drop_kind-requires-3 : goal.drop_kind-requires-3
-drop_kind-requires-3 g c = λ lifetimes. ((refl, tt), (map (at Branch) c.requires.0, c.requires.1.counts Branch))
+drop_kind-requires-3 g c = λ lifetimes. ((refl, tt), (c.requires.follows.branches, (map (at Branch) c.requires.counted.0, c.requires.counted.1.counts Branch)))
 
 pub drop_checksums-requires : goal.drop_checksums-requires
-drop_checksums-requires g c = (c.requires.0, holders_of_lines (test_committed c.args.points.now) c.requires.0 c.args.self.now.checksums.committed c.requires.1.holders)
+drop_checksums-requires g c = (c.requires.counted.0, holders_of_lines (test_committed c.args.points.now) c.requires.counted.0 c.args.self.now.checksums.committed c.requires.counted.1.holders)
 
 pub returns-clause-committed : goal.returns-clause-committed
 returns-clause-committed g c others are =

@@ -4,13 +4,13 @@ use Rattle.covstore.proofs.EachKind.{totals_are}
 use Rattle.covstore.proofs.index.FileIndex.totals_without.Goals as goal
 
 pub tally_without-requires : goal.tally_without-requires
-tally_without-requires g c = λ lifetimes. ((refl, tt), (map (at Line) c.requires.0, c.requires.1.counts Line))
+tally_without-requires g c = λ lifetimes. ((refl, tt), (c.requires.follows.lines, (map (at Line) c.requires.counted.0, c.requires.counted.1.counts Line)))
 
 pub tally_without-requires-2 : goal.tally_without-requires-2
-tally_without-requires-2 g c = λ lifetimes. ((refl, tt), (map (at Function) c.requires.0, c.requires.1.counts Function))
+tally_without-requires-2 g c = λ lifetimes. ((refl, tt), (c.requires.follows.functions, (map (at Function) c.requires.counted.0, c.requires.counted.1.counts Function)))
 
 pub tally_without-requires-3 : goal.tally_without-requires-3
-tally_without-requires-3 g c = λ lifetimes. ((refl, tt), (map (at Branch) c.requires.0, c.requires.1.counts Branch))
+tally_without-requires-3 g c = λ lifetimes. ((refl, tt), (c.requires.follows.branches, (map (at Branch) c.requires.counted.0, c.requires.counted.1.counts Branch)))
 
 pub returns : goal.returns
 returns g c others rest are own =

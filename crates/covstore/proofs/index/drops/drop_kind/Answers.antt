@@ -1,20 +1,24 @@
-use Rattle.covstore.proofs.FewerLoops.{losing_all, losing_can, losing_more}
+use Rattle.std.proofs.Common.{List, ap, subst}
+use Rattle.covmap.specs.MapData.{MapData}
+use Rattle.covstore.specs.declared.sums.TestCounts.{TestCounts}
+use Rattle.covstore.specs.PointIndexDrops.{LosesTest}
+use Rattle.covstore.proofs.KindSteps.{counted_committed, sole_dropped}
 use Rattle.covstore.proofs.index.drops.drop_kind.Goals as goal
-
-pub remove-requires : goal.remove-requires
-remove-requires g c =
-    losing_can (record { total = g.K.Key.total; exact = g.K.Key.exact }) g.S.PointSum.above c.args.points.now.committed c.args.kept.now.committed
-    c.in-Some.key.now c.in-Some.sum.now _ c.name.ensures c.is_above.result c.is_above.ensures c.loop-key.key-iterator c.next.new.self c.in-Some.ensures.steps c.loop-key.kept.committed c.loop-key.invariant.0 c.requires
-
-pub loop-key-preserved : goal.loop-key-preserved
-loop-key-preserved g c = (
-  losing_more (record { total = g.K.Key.total; exact = g.K.Key.exact }) g.S.PointSum.above c.args.points.now.committed c.args.kept.now.committed
-      c.in-Some.key.now c.in-Some.sum.now _ c.name.ensures c.is_above.result c.is_above.ensures c.loop-key.key-iterator c.next.new.self c.in-Some.ensures.steps c.loop-key.kept.committed c.loop-key.invariant.0
-      c.remove.new.self.committed c.remove.ensures.committed,
-  c.remove.ensures.staged,
-)
+use Rattle.covstore.proofs.index.drops.drop_kind.Goals.{in-OfOneTest+in-Some-1, in-OfOneTest+in-None-1, in-OfTests}
 
 pub returns-clause-committed : goal.returns-clause-committed
 returns-clause-committed g c =
-    losing_all (record { total = g.K.Key.total; exact = g.K.Key.exact }) g.S.PointSum.above c.args.points.now.committed c.args.kept.now.committed c.loop-key.key-iterator c.loop-key.kept.committed c.in-None.ensures.steps.0
-    c.loop-key.invariant.0
+    let above = g.S.PointSum.above in
+    let points = c.args.points.now in
+    elim c.match-kept.branch [
+      | in-OfOneTest+in-Some-1 w ↦
+          rw w.kept-inside-is
+          (sole_dropped g.K.Key.cmp above c.args.kept.now c.kept.inside.counts _ c.kept.view_is w.in-OfOneTest.is points c.requires.follows w.none.result (ap (λ (p : MapData g.row.K.Denot g.row.S.Denot). p.committed) w.none.ensures))
+      | in-OfOneTest+in-None-1 w ↦
+          rw w.kept-inside-is
+          (sole_dropped g.K.Key.cmp above c.args.kept.now c.kept.inside.counts _ c.kept.view_is w.in-OfOneTest.is points c.requires.follows w.none.result (ap (λ (p : MapData g.row.K.Denot g.row.S.Denot). p.committed) w.none.ensures))
+      | in-OfTests w ↦
+          rw w.kept-inside-is
+          (subst (λ (own : List (g.row.K.Denot × TestCounts)). LosesTest g.K.Key.cmp above points.committed own w.drop_counted.new.kept.committed)
+          (counted_committed g.K.Key.cmp above c.args.kept.now c.kept.inside.counts _ c.kept.view_is w.in-OfTests.is) w.drop_counted.ensures.committed)
+    ]

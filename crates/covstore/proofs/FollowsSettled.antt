@@ -1,0 +1,17 @@
+-- Nothing is staged in a file but in some of its tests. This stays true while the tests and what is seen of the index stay.
+use Rattle.std.proofs.Common.{◌≡◌, ℕ, false, List, sym, ◌∙◌, subst, Vec}
+use Rattle.std.specs.List.{AllByRecursion, list_any}
+use Rattle.std.specs.Str.{bytes_eq}
+use Rattle.covstore.specs.declared.file.File.{File}
+use Rattle.covstore.specs.declared.test.Test.{Test}
+use Rattle.covstore.specs.FileIndexView.{index_committed, index_staged}
+use Rattle.covstore.specs.FileParts.{FileTests}
+use Rattle.covstore.specs.StoreView.{IsSettledBut}
+use Rattle.covstore.specs.TestView.{test_committed, test_staged}
+
+pub settled_same : {A : Type 0} (tests : List (List ℕ)) (before after : File A) → after.tests ≡ before.tests → index_committed after.index ≡ index_committed before.index
+    → index_staged after.index ≡ index_staged before.index → IsSettledBut tests before → IsSettledBut tests after
+settled_same {A} tests before after same committed staged settled = record {
+  index = λ none. staged ∙ settled.index none ∙ sym committed;
+  points = subst (λ (t : FileTests A). AllByRecursion (λ (pair : Vec ℕ A × Test A). list_any (λ test. bytes_eq test pair.0.items) tests ≡ false → test_staged pair.1 ≡ test_committed pair.1) t.entries) (sym same) settled.points;
+}

@@ -1,0 +1,98 @@
+-- The counts of the only test of a file: no other test has a point, and each of its points counts once.
+use Rattle.std.proofs.Common.{◌≡◌, ℕ, ◌+◌, ◌≤◌, Bool, true, false, cond, nat_lt, Option, Some, None, option_map, List, [], ◌∷◌, ◌++◌, refl, sym, ap, ◌∙◌, subst, arith}
+use Rattle.std.specs.declared.cmp.Ordering.{Ordering}
+use Rattle.std.specs.declared.cmp.Ordering.TheVariants.{Less}
+use Rattle.std.specs.List.{AllByRecursion}
+use Rattle.std.specs.Ordering.{is_eq}
+use Rattle.std.proofs.lemmas.Bool.{ltb-false}
+use Rattle.std.proofs.lemmas.Option.{none-some, same_Some}
+use Rattle.covmap.specs.Puts.{ArePairs, value_of}
+use Rattle.covstore.specs.declared.point_index.KindTally.{KindTally}
+use Rattle.covstore.specs.declared.sums.TestCounts.{TestCounts}
+use Rattle.covstore.specs.PointIndex.{IsTallyOf}
+use Rattle.covstore.specs.PointIndexCounts.{AreCounts, count_above, count_with, one_if}
+use Rattle.covstore.specs.PointIndexDrops.{IsTallyWithout, LosesTest}
+use Rattle.covstore.specs.SoleTest.{count_of_one, counts_of}
+use Rattle.covstore.proofs.Ascend.{IsExactOrder}
+use Rattle.covstore.proofs.Counts.{above_le_with, same_tests, tests_among, tests_at-between}
+use Rattle.covstore.proofs.Fewer.{one_rest}
+
+none_of : (n hit : ℕ) (some : Bool) → nat_lt 0 n ≡ some → ◌≡◌ {A = Option TestCounts} None (cond some (Some (record { tests = n; hit = hit })) None) → n ≡ 0
+none_of n hit true e is = absurd (none-some (record { tests = n; hit = hit }) is)
+none_of n hit false e is = let least : n ≤ 0 = ltb-false 0 n e in omega (arith, least)
+
+one_of : (n own hit : ℕ) (some : Bool) → nat_lt 0 n ≡ some → ◌≡◌ {A = Option TestCounts} (Some (record { tests = 1; hit = own })) (cond some (Some (record { tests = n; hit = hit })) None) → n ≡ 1
+one_of n own hit true e is = sym (ap (λ (counts : TestCounts). counts.tests) (same_Some (record { tests = 1; hit = own }) (record { tests = n; hit = hit }) is))
+one_of n own hit false e is = absurd (none-some (record { tests = 1; hit = own }) (sym is))
+
+module _ {K V : Type 0} (cmp : K → K → Ordering) (is_above : V → Bool) where
+  -- ---- the counts as a list
+
+  value_at : (here : Bool) (value : V) (rest : Option V) (others : Option TestCounts) → others ≡ option_map (count_of_one is_above) rest
+      → cond here (Some (count_of_one is_above value)) others ≡ option_map (count_of_one is_above) (cond here (Some value) rest)
+  value_at true value rest others e = refl
+  value_at false value rest others e = e
+
+  pub value_of_counts : (key : K) (points : List (K × V)) → value_of cmp key (counts_of is_above points) ≡ option_map (count_of_one is_above) (value_of cmp key points)
+  value_of_counts key [] = refl
+  value_of_counts key (pair ∷ pairs) = value_at (is_eq (cmp pair.0 key)) pair.1 (value_of cmp key pairs) (value_of cmp key (counts_of is_above pairs)) (value_of_counts key pairs)
+
+  all_counts : (first : K) (points : List (K × V)) → AllByRecursion (λ next. cmp first next.0 ≡ Less) points → AllByRecursion (λ next. cmp first next.0 ≡ Less) (counts_of is_above points)
+  all_counts first [] all = tt
+  all_counts first (pair ∷ pairs) all = (all.0, all_counts first pairs all.1)
+
+  all_points : (first : K) (points : List (K × V)) → AllByRecursion (λ next. cmp first next.0 ≡ Less) (counts_of is_above points) → AllByRecursion (λ next. cmp first next.0 ≡ Less) points
+  all_points first [] all = tt
+  all_points first (pair ∷ pairs) all = (all.0, all_points first pairs all.1)
+
+  pub counts_ascend : (points : List (K × V)) → ArePairs cmp points → ArePairs cmp (counts_of is_above points)
+  counts_ascend [] sorted = tt
+  counts_ascend (pair ∷ pairs) sorted = (all_counts pair.0 pairs sorted.0, counts_ascend pairs sorted.1)
+
+  pub points_ascend : (points : List (K × V)) → ArePairs cmp (counts_of is_above points) → ArePairs cmp points
+  points_ascend [] sorted = tt
+  points_ascend (pair ∷ pairs) sorted = (all_points pair.0 pairs sorted.0, points_ascend pairs sorted.1)
+
+  -- ---- the other tests have no points
+
+  none_else : (n hit : ℕ) (value : Option V) → option_map (count_of_one is_above) value ≡ tests_among is_above n hit value → n ≡ 0
+  none_else n hit None is = let all = none_of (n + 0) (hit + 0) (nat_lt 0 (n + 0)) refl is in omega (arith, all)
+  none_else n hit (Some value) is =
+      let all = one_of (n + 1) (one_if (is_above value)) (hit + one_if (is_above value)) (nat_lt 0 (n + 1)) refl is in
+      omega (arith, all)
+
+  one_alone : (n hit : ℕ) (value : Option V) → n ≡ 0 → hit ≡ 0 → option_map (count_of_one is_above) value ≡ tests_among is_above n hit value
+  one_alone n hit None none zero = same_tests {tests = 0} {others = n + 0} {hit = 0} {above = hit + 0} (omega (arith, none)) (omega (arith, zero))
+  one_alone n hit (Some value) none zero =
+      same_tests {tests = 1} {others = n + 1} {hit = one_if (is_above value)} {above = hit + one_if (is_above value)} (omega (arith, none)) (omega (arith, zero))
+
+  module _ (front back : List (List (K × V))) (before : List (K × V)) (are : AreCounts cmp is_above (front ++ before ∷ back) (counts_of is_above before)) where
+    pub no_others : (key : K) → count_with cmp key (front ++ back) ≡ 0
+    no_others key =
+        none_else (count_with cmp key (front ++ back)) (count_above cmp is_above key (front ++ back)) (value_of cmp key before)
+        (sym (value_of_counts key before) ∙ are.counted key ∙ tests_at-between cmp is_above key front before back)
+
+    pub none_above : (key : K) → count_above cmp is_above key (front ++ back) ≡ 0
+    none_above key = let least = above_le_with cmp is_above key (front ++ back) in let none = no_others key in omega (arith, least, none)
+
+    -- whatever the points of the test become, they count once
+    pub still_alone : (after : List (K × V)) → ArePairs cmp after → AreCounts cmp is_above (front ++ after ∷ back) (counts_of is_above after)
+    still_alone after sorted = record {
+      ascending = counts_ascend after sorted;
+      counted = λ key. value_of_counts key after
+          ∙ one_alone (count_with cmp key (front ++ back)) (count_above cmp is_above key (front ++ back)) (value_of cmp key after) (no_others key) (none_above key)
+          ∙ sym (tests_at-between cmp is_above key front after back);
+    }
+
+  -- ---- the test is dropped
+
+  pub sole_loses : (points : List (K × V)) → LosesTest cmp is_above points (counts_of is_above points) []
+  sole_loses points others are = record {
+    ascending = tt;
+    counted = λ key. same_tests {tests = 0} {others = count_with cmp key others} {hit = 0} {above = count_above cmp is_above key others} (sym (no_others [] others points are key)) (sym (none_above [] others points are key));
+  }
+
+  pub sole_tally : (o : IsExactOrder cmp) (points : List (K × V)) (tally : KindTally) → tally.found ≡ 0 → tally.hit ≡ 0 → IsTallyWithout cmp is_above points (counts_of is_above points) tally
+  sole_tally o points tally found hit others rest are own =
+      subst (λ (counts : List (K × TestCounts)). IsTallyOf counts tally) (sym (one_rest o others rest [] own (sole_loses points others are)))
+      (record { found = found; hit = hit })

@@ -1,0 +1,61 @@
+-- Which test the index of a file follows: as long as the file has at most one test, the counts are those of the test's points.
+use Rattle.std.specs.Prelude.{◌≡◌, None, IfSome, List, [], ◌∷◌}
+use Rattle.covstore.specs.declared.index.FileIndex.{FileIndex}
+use Rattle.covstore.specs.declared.test.Test.{Test}
+use Rattle.covstore.specs.SoleTest.{after_commit, after_rollback, no_points}
+
+-- where the index follows a test, the points that it saw last are those of this test
+pub record Follows {A : Type 0} (test : Test A) (index : FileIndex A) : Type 0 where
+  pub lines : IfSome index.lines.follows (λ seen. seen ≡ test.lines)
+  pub functions : IfSome index.functions.follows (λ seen. seen ≡ test.functions)
+  pub branches : IfSome index.branches.follows (λ seen. seen ≡ test.branches)
+
+-- where the index follows a test, it is this one, which was committed since
+pub record FollowsCommitted {A : Type 0} (test : Test A) (index : FileIndex A) : Type 0 where
+  pub lines : IfSome index.lines.follows (λ seen. test.lines ≡ after_commit seen)
+  pub functions : IfSome index.functions.follows (λ seen. test.functions ≡ after_commit seen)
+  pub branches : IfSome index.branches.follows (λ seen. test.branches ≡ after_commit seen)
+
+-- where the index follows a test, it is this one, which was rolled back since
+pub record FollowsRolledBack {A : Type 0} (test : Test A) (index : FileIndex A) : Type 0 where
+  pub lines : IfSome index.lines.follows (λ seen. test.lines ≡ after_rollback seen)
+  pub functions : IfSome index.functions.follows (λ seen. test.functions ≡ after_rollback seen)
+  pub branches : IfSome index.branches.follows (λ seen. test.branches ≡ after_rollback seen)
+
+-- the index follows no test: all points are counted
+pub record CountsAll {A : Type 0} (index : FileIndex A) : Type 0 where
+  pub lines : index.lines.follows ≡ None
+  pub functions : index.functions.follows ≡ None
+  pub branches : index.branches.follows ≡ None
+
+-- the index follows this test, but not where it followed none before
+pub record StillFollows {A : Type 0} (before : FileIndex A) (test : Test A) (after : FileIndex A) : Type 0 where
+  pub follows : Follows test after
+  pub counts : CountsAll before → CountsAll after
+
+-- the index follows the same points as before
+pub record FollowsTheSame {A : Type 0} (before after : FileIndex A) : Type 0 where
+  pub lines : after.lines.follows ≡ before.lines.follows
+  pub functions : after.functions.follows ≡ before.functions.follows
+  pub branches : after.branches.follows ≡ before.branches.follows
+
+-- nothing is staged in the test that the index follows
+pub record FollowsSettled {A : Type 0} (index : FileIndex A) : Type 0 where
+  pub lines : IfSome index.lines.follows (λ seen. seen.staged ≡ seen.committed)
+  pub functions : IfSome index.functions.follows (λ seen. seen.staged ≡ seen.committed)
+  pub branches : IfSome index.branches.follows (λ seen. seen.staged ≡ seen.committed)
+
+-- a test without points
+abbrev pub no_test : {A : Type 0} → Test A
+no_test = record { lines = no_points; functions = no_points; branches = no_points }
+
+-- the index follows the only one of these tests. If there are more, it follows none
+abbrev pub FollowsSole : {K A : Type 0} → List (K × Test A) → FileIndex A → Type 0
+FollowsSole [] index = Follows no_test index
+FollowsSole (pair ∷ []) index = Follows pair.1 index
+FollowsSole (pair ∷ other ∷ pairs) index = CountsAll index
+
+-- a test without points can be added: there is no test yet, or the index follows none
+abbrev pub CanFollow : {K A : Type 0} → List (K × Test A) → FileIndex A → Type 0
+CanFollow [] index = Follows no_test index
+CanFollow (pair ∷ pairs) index = CountsAll index

@@ -1,0 +1,145 @@
+//! What a file keeps of a kind of points: in how many tests each point is, or, if there is only one test, just tallies.
+
+ghost use Rattle.std.specs.Prelude.{◌≡◌, None, IfSome, OnOk};
+ghost use Rattle.covstore.specs.KindData.{empty_kind};
+ghost use Rattle.covstore.specs.PointIndexCounts.{found_of, hit_of};
+ghost use Rattle.covstore.specs.SoleTest.{after_commit, after_rollback};
+
+use crate::point_index::{KindTally, PointIndex};
+use crate::sole_test::SoleTest;
+use crate::sums::PointSum;
+use covmap::{CopyKey, Key, StagedMap};
+use std::alloc::{AllocError, Allocator};
+use std::marker::Model;
+
+/// The counts of a kind of points, in one of two forms.
+#[derive(Drop)]
+pub(crate) enum Counts<K: Key, S: PointSum, A: Allocator> {
+    /// The file has at most one test. The counts follow it: each of its points counts once.
+    OfOneTest(SoleTest<K, S, A>),
+    /// The points of all tests are counted.
+    OfTests(PointIndex<K, A>),
+}
+
+/// For each point of a kind, how many tests of a file have it, and how many have it above 0. Most files have one test, whose own
+/// points tell this. So the points are counted only when the file gets a second test. Contracts see the counts, and the points
+/// of the only test, as long as the counts follow it.
+#[derive(Drop)]
+pub(crate) struct KindIndex<K: Key, S: PointSum, A: Allocator> {
+    pub counts: Counts<K, S, A>,
+}
+
+impl<K: Key, S: PointSum, A: Allocator> Model for KindIndex<K, S, A> {
+    ghost use Rattle.covstore.specs.KindData.{KindData};
+
+    ghost Value = { KindData K S };
+
+    ghost use Rattle.covstore.specs.KindIndex.{kind_data};
+
+    ghost view = { λ k. kind_data S.above k.counts };
+}
+
+impl<K: Key + Drop, S: PointSum, A: Allocator + Copy> KindIndex<K, S, A> {
+    /// The index of a file without tests.
+    pub(crate) fn new() -> KindIndex<K, S, A>
+        ensures { result ≡ empty_kind }
+    {
+        KindIndex {
+            counts: Counts::OfOneTest(SoleTest::none()),
+        }
+    }
+
+    /// The staged tally: how many points are found, and how many of them are hit.
+    pub(crate) fn staged(&self) -> KindTally
+        ensures found { result.found ≡ found_of self.now.staged }
+        ensures hit { result.hit ≡ hit_of self.now.staged }
+    {
+        match &self.counts {
+            Counts::OfOneTest(sole) => sole.staged(),
+            Counts::OfTests(counts) => counts.staged(),
+        }
+    }
+
+    /// The committed tally: how many points are found, and how many of them are hit.
+    pub(crate) fn committed(&self) -> KindTally
+        ensures found { result.found ≡ found_of self.now.committed }
+        ensures hit { result.hit ≡ hit_of self.now.committed }
+    {
+        match &self.counts {
+            Counts::OfOneTest(sole) => sole.committed(),
+            Counts::OfTests(counts) => counts.committed(),
+        }
+    }
+
+    /// Commits what is staged. If the counts follow a test, it is the one with these points, and has committed them.
+    pub(crate) fn commit(&mut self, points: &StagedMap<K, S, A>)
+        requires { IfSome self.old.follows (λ seen. points.now ≡ after_commit seen) }
+        ensures committed { self.new.committed ≡ self.old.staged }
+        ensures staged { self.new.staged ≡ self.old.staged }
+        ensures follows { IfSome self.new.follows (λ seen. seen ≡ points.now) }
+        ensures counted { self.old.follows ≡ None → self.new.follows ≡ None }
+    {
+        match &mut self.counts {
+            Counts::OfOneTest(sole) => sole.commit(points),
+            Counts::OfTests(counts) => counts.commit(),
+        }
+    }
+
+    /// Forgets what is staged. If the counts follow a test, it is the one with these points, and has rolled them back.
+    pub(crate) fn rollback(&mut self, points: &StagedMap<K, S, A>)
+        requires { IfSome self.old.follows (λ seen. points.now ≡ after_rollback seen) }
+        ensures committed { self.new.committed ≡ self.old.committed }
+        ensures staged { self.new.staged ≡ self.old.committed }
+        ensures follows { IfSome self.new.follows (λ seen. seen ≡ points.now) }
+        ensures counted { self.old.follows ≡ None → self.new.follows ≡ None }
+    {
+        match &mut self.counts {
+            Counts::OfOneTest(sole) => sole.rollback(points),
+            Counts::OfTests(counts) => counts.rollback(),
+        }
+    }
+
+    /// Commits what is staged, unless the counts follow a test.
+    pub(crate) fn commit_counts(&mut self)
+        ensures staged { self.new.staged ≡ self.old.staged }
+        ensures same { self.new.follows ≡ self.old.follows }
+        ensures settled { IfSome self.old.follows (λ seen. seen.staged ≡ seen.committed) → self.new.staged ≡ self.new.committed }
+    {
+        if let Counts::OfTests(counts) = &mut self.counts {
+            counts.commit();
+        }
+    }
+
+    /// Forgets what is staged, unless the counts follow a test.
+    pub(crate) fn rollback_counts(&mut self)
+        ensures committed { self.new.committed ≡ self.old.committed }
+        ensures same { self.new.follows ≡ self.old.follows }
+        ensures settled { IfSome self.old.follows (λ seen. seen.staged ≡ seen.committed) → self.new.staged ≡ self.new.committed }
+    {
+        if let Counts::OfTests(counts) = &mut self.counts {
+            counts.rollback();
+        }
+    }
+}
+
+impl<K: CopyKey<A> + Drop, S: PointSum, A: Allocator + Copy> KindIndex<K, S, A> {
+    /// Counts the points, unless they are counted. If the counts follow a test, it is the one with these points.
+    ///
+    /// # Errors
+    ///
+    /// `AllocError` if memory was refused.
+    pub(crate) fn count(&mut self, alloc: A, points: &StagedMap<K, S, A>) -> Result<(), AllocError>
+        requires { IfSome self.old.follows (λ seen. seen ≡ points.now) }
+        ensures committed { self.new.committed ≡ self.old.committed }
+        ensures staged { self.new.staged ≡ self.old.staged }
+        ensures follows { IfSome self.new.follows (λ seen. seen ≡ points.now) }
+        ensures counted { self.old.follows ≡ None → self.new.follows ≡ None }
+        ensures ok { OnOk result (self.new.follows ≡ None) }
+    {
+        if let Counts::OfOneTest(sole) = &self.counts {
+            let counted = sole.counted(alloc, points)?;
+            self.counts = Counts::OfTests(counted);
+        }
+        Ok(())
+    }
+}

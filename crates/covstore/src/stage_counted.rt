@@ -1,0 +1,63 @@
+//! Stages items of one kind at points that are counted: in their test and in the counts of the file's points.
+
+ghost use Rattle.std.specs.Prelude.{◌≡◌, ◌+◌, ◌≤◌, length, IfOk, OnOk};
+ghost use Rattle.covmap.specs.Puts.{put, value_of};
+ghost use Rattle.covmap.specs.Run.{summed};
+ghost use Rattle.covstore.specs.Items.{HasRoomForRun, HasRoomOfKind, KeepsCountsOfKind};
+
+use crate::point_index::PointIndex;
+use crate::sums::{PointAddend, PointSum};
+use covmap::{Key, Query, StagedMap};
+use std::alloc::{AllocError, Allocator};
+
+/// Stages what an item adds to a point of a kind. Returns the test's sum before.
+pub(crate) fn stage_counted_addend<
+    K: Key + Drop,
+    S: PointSum,
+    A: Allocator + Copy,
+    Q: Query<K, A>,
+    M: PointAddend<S>,
+>(
+    points: &mut StagedMap<K, S, A>,
+    kept: &mut PointIndex<K, A>,
+    alloc: A,
+    query: Q,
+    addend: M,
+) -> Result<Option<S>, AllocError>
+    requires { HasRoomOfKind K.cmp S.above points.old.staged kept.old.staged }
+    ensures test_committed { points.new.committed ≡ points.old.committed }
+    ensures index_committed { kept.new.committed ≡ kept.old.committed }
+    ensures before { IfOk result (λ before. before ≡ value_of K.cmp (Q.named query) points.old.staged) }
+    ensures test { OnOk result (points.new.staged ≡ put K.cmp (Q.named query) (M.sum addend (value_of K.cmp (Q.named query) points.old.staged)) points.old.staged) }
+    ensures counts { OnOk result (KeepsCountsOfKind K.cmp S.above points.old.staged points.new.staged kept.old.staged kept.new.staged) }
+    ensures few { OnOk result (length kept.new.staged ≤ length kept.old.staged + 1) }
+{
+    let added = points.stage_sum(alloc, query, addend, points.cursor())?;
+    let change = addend.report(&added.before, &added.after);
+    kept.add(alloc, query, change, added.place)?;
+    Ok(added.before)
+}
+
+/// Stages a run of items.
+pub(crate) fn stage_counted_run<
+    K: Key + Drop,
+    S: PointSum,
+    A: Allocator + Copy,
+    Q: Query<K, A>,
+    M: PointAddend<S>,
+>(
+    points: &mut StagedMap<K, S, A>,
+    kept: &mut PointIndex<K, A>,
+    alloc: A,
+    run: &[(Q, M)],
+) -> Result<(), AllocError>
+    requires { HasRoomForRun K.cmp S.above points.old.staged kept.old.staged (length run.now) }
+    ensures test_committed { points.new.committed ≡ points.old.committed }
+    ensures index_committed { kept.new.committed ≡ kept.old.committed }
+    ensures test { OnOk result (points.new.staged ≡ summed K.cmp Q.named M.sum run.now points.old.staged) }
+    ensures counts { OnOk result (KeepsCountsOfKind K.cmp S.above points.old.staged points.new.staged kept.old.staged kept.new.staged) }
+{
+    let mut changes = Vec::with_capacity(alloc, run.len())?;
+    points.stage_run(alloc, run, &mut changes)?;
+    kept.add_run(alloc, changes.as_slice())
+}
