@@ -7,6 +7,7 @@ use Rattle.covstore.specs.declared.test.Test.{Test}
 pub record FileTests (A : Type 0) : Type 0 where
   pub entries : List (Vec ℕ A × Test A)
 
+-- the tests and the index
 pub record FileParts (A : Type 0) : Type 0 where
   pub tests : FileTests A
   pub index : FileIndex A

@@ -1,4 +1,4 @@
--- The points of the only test of a file, and the counts that they stand for.
+-- The points of the only test of a file, and the counts that follow from them.
 use Rattle.std.specs.Prelude.{ℕ, Bool, Option, Some, None, List, [], map}
 use Rattle.covmap.specs.MapData.{MapData}
 use Rattle.covstore.specs.declared.sums.TestCounts.{TestCounts}

@@ -6,9 +6,9 @@
 //! refused. A test is renamed in two such steps, `prepare_rename` and `commit_rename`. It is dropped in one step, which needs no
 //! memory.
 //!
-//! A store is nested ordered maps: for each file its tests, for each test its points, and for each point of a file with several
-//! tests how many of them have it and how many have it above 0. Totals are kept alongside. `prepare` stages values beside the committed ones, at the
-//! same places, and `commit` exchanges them.
+//! A store is nested ordered maps: for each file its tests, and for each test its points. If a file has several tests, the store
+//! also counts for each point of the file how many of them have it, and how many have it above 0. Totals are kept alongside.
+//! `prepare` stages values beside the committed ones, at the same places, and `commit` exchanges them.
 //!
 //! An example, proved and run in `covuses`: the store of two submissions, or a `Refuse::Clash` if they have two checksums
 //! of one line. `Store::sections` and `Store::totals` show what it holds.
