@@ -5,6 +5,7 @@ use std::test::*;
 
 mod drops;
 mod held;
+mod images;
 mod maps;
 mod patterns;
 mod plans;

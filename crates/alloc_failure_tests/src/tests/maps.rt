@@ -1,10 +1,10 @@
-//! A run of items that is staged into a map. After a refusal the committed entries are as before. Once the staged values are
-//! rolled back, the whole run can be staged, with room.
+//! A run of items that is staged into a map, and a map of the images of its values. After a refusal the committed entries are as
+//! before. Once the staged values are rolled back, the whole run can be staged, with room; and so the images can be made.
 
 use super::heap::{check_rising, narrow, widen};
 use super::made;
 use bumpalo::Bump;
-use covmap::{Addend, ReportingAddend, StagedMap};
+use covmap::{Addend, Image, ReportingAddend, StagedMap, Value};
 use std::alloc::{AllocError, Allocator};
 use std::process::Abort;
 use std::test::*;
@@ -41,9 +41,9 @@ fn stage<A: Allocator + Copy>(
     map: &mut StagedMap<u64, u64, A>,
     run: &[(u64, Newest)],
 ) -> Result<Vec<(u64, u64), A>, AllocError> {
-    let mut told = Vec::new(alloc);
-    map.stage_run(alloc, run, &mut told)?;
-    Ok(told)
+    let mut reports = Vec::new(alloc);
+    map.stage_run(alloc, run, &mut reports)?;
+    Ok(reports)
 }
 
 /// A map with one committed entry.
@@ -84,17 +84,69 @@ fn a_run(rt: &impl Abort, heap: &Bump, room: usize) -> bool {
     let first = stage(heap, &mut map, &run);
     widen(heap);
     check_numbers(rt, &made(rt, entries(heap, &map)), &[4, 40]);
-    let (told, is_refused) = match first {
-        Ok(told) => (told, false),
+    let (reports, is_refused) = match first {
+        Ok(reports) => (reports, false),
         Err(_refused) => {
             map.rollback();
             (made(rt, stage(heap, &mut map, &run)), true)
         }
     };
-    assert_eq!(rt; told.len(), 3);
+    assert_eq!(rt; reports.len(), 3);
     map.commit();
     check_numbers(rt, &made(rt, entries(heap, &map)), &[2, 21, 4, 41, 9, 91]);
     is_refused
+}
+
+/// The image of a number: the number itself.
+#[derive(Clone, Copy)]
+struct Wrapped {
+    number: u64,
+}
+
+impl Value for Wrapped {
+    fn copy(&self) -> Wrapped {
+        *self
+    }
+}
+
+impl Image<u64> for Wrapped {
+    ghost image = { λ number. record { number = number } };
+
+    fn of(value: &u64) -> Wrapped {
+        Wrapped { number: *value }
+    }
+}
+
+/// The images of a map's values.
+fn wrapped<A: Allocator + Copy>(
+    alloc: A,
+    map: &StagedMap<u64, u64, A>,
+) -> Result<StagedMap<u64, Wrapped, A>, AllocError> {
+    map.images(alloc)
+}
+
+/// Makes a map of the images of a committed and a staged value.
+fn images(rt: &impl Abort, heap: &Bump, room: usize) -> bool {
+    let mut map = made(rt, one_entry(heap));
+    made(rt, map.stage(heap, 9, 90));
+    narrow(rt, heap, room);
+    let first = wrapped(heap, &map);
+    widen(heap);
+    let (mut images, is_refused) = match first {
+        Ok(images) => (images, false),
+        Err(_refused) => (made(rt, wrapped(heap, &map)), true),
+    };
+    let staged = images.lookup_staged(9);
+    assert!(rt; matches!(staged, Some(Wrapped { number: 90 })));
+    assert!(rt; matches!(images.lookup(4), Some(Wrapped { number: 40 })));
+    map.commit();
+    check_numbers(rt, &made(rt, entries(heap, &map)), &[4, 40, 9, 90]);
+    is_refused
+}
+
+#[test]
+fn images_of_values(rt: HostRuntime) {
+    check_rising(&rt, |heap, room| images(&rt, heap, room));
 }
 
 #[test]

@@ -42,14 +42,14 @@ impl ReportingAddend<u64, u64> for Flags {
     }
 }
 
-/// Stages a run, and appends its reports to `told`.
+/// Stages a run, and appends its reports to `reports`.
 fn stage(
     alloc: Global,
     map: &mut StagedMap<u64, u64, Global>,
     run: &[(u64, Flags)],
-    told: &mut Vec<(u64, u64), Global>,
+    reports: &mut Vec<(u64, u64), Global>,
 ) -> Result<(), AllocError> {
-    map.stage_run(alloc, run, told)
+    map.stage_run(alloc, run, reports)
 }
 
 /// A run of `count` keys with the same flags. The first key is 0, and each other one is `step` above the one before.
@@ -97,8 +97,8 @@ fn a_run_in_any_order(rt: HostRuntime) -> Result<(), Fail> {
     map.stage(alloc, 3, 1)?;
     map.stage(alloc, 7, 2)?;
     map.commit();
-    let mut told = Vec::new(alloc);
-    told.push((1, 1))?;
+    let mut reports = Vec::new(alloc);
+    reports.push((1, 1))?;
     let run = [
         (7, Flags { bits: 4 }),
         (3, Flags { bits: 4 }),
@@ -106,8 +106,8 @@ fn a_run_in_any_order(rt: HostRuntime) -> Result<(), Fail> {
         (5, Flags { bits: 16 }),
         (9, Flags { bits: 32 }),
     ];
-    stage(alloc, &mut map, &run, &mut told)?;
-    check_bytes(&rt, &printed(alloc, &told)?, b"1 1\n5 8\n9 32\n");
+    stage(alloc, &mut map, &run, &mut reports)?;
+    check_bytes(&rt, &printed(alloc, &reports)?, b"1 1\n5 8\n9 32\n");
     check_bytes(
         &rt,
         &printed(alloc, &committed(alloc, &map)?)?,
@@ -142,22 +142,22 @@ fn alternate(map: &StagedMap<u64, u64, Global>, count: u64, even: u64, odd: u64)
 fn runs_over_pages(rt: HostRuntime) -> Result<(), Fail> {
     let alloc = rt.alloc();
     let mut map = StagedMap::new(alloc);
-    let mut told = Vec::new(alloc);
-    stage(alloc, &mut map, &run_of(alloc, 600, 2, 1)?, &mut told)?;
+    let mut reports = Vec::new(alloc);
+    stage(alloc, &mut map, &run_of(alloc, 600, 2, 1)?, &mut reports)?;
     map.commit();
-    assert_eq!(rt; told.len(), 600);
-    stage(alloc, &mut map, &run_of(alloc, 1200, 1, 2)?, &mut told)?;
+    assert_eq!(rt; reports.len(), 600);
+    stage(alloc, &mut map, &run_of(alloc, 1200, 1, 2)?, &mut reports)?;
     assert_eq!(rt; (map.lookup(4), map.lookup_staged(4)), (Some(1), Some(3)));
     assert_eq!(rt; (map.lookup(5), map.lookup_staged(5)), (None, Some(2)));
     map.commit();
-    assert_eq!(rt; told.len(), 1200);
+    assert_eq!(rt; reports.len(), 1200);
     assert!(rt; alternate(&map, 1200, 3, 2));
-    stage(alloc, &mut map, &run_of(alloc, 600, 2, 8)?, &mut told)?;
+    stage(alloc, &mut map, &run_of(alloc, 600, 2, 8)?, &mut reports)?;
     map.rollback();
     assert!(rt; alternate(&map, 1200, 3, 2));
-    stage(alloc, &mut map, &run_of(alloc, 600, 2, 4)?, &mut told)?;
+    stage(alloc, &mut map, &run_of(alloc, 600, 2, 4)?, &mut reports)?;
     map.commit();
-    assert_eq!(rt; told.len(), 1200);
+    assert_eq!(rt; reports.len(), 1200);
     assert!(rt; alternate(&map, 1200, 7, 2));
     Ok(())
 }
