@@ -130,11 +130,11 @@ fn images(rt: &impl Abort, heap: &Bump, room: usize) -> bool {
     let mut map = made(rt, one_entry(heap));
     made(rt, map.stage(heap, 9, 90));
     narrow(rt, heap, room);
-    let first = wrapped(heap, &map);
+    let first = images_of(heap, &map);
     widen(heap);
     let (mut images, is_refused) = match first {
         Ok(images) => (images, false),
-        Err(_refused) => (made(rt, wrapped(heap, &map)), true),
+        Err(_refused) => (made(rt, images_of(heap, &map)), true),
     };
     let staged = images.lookup_staged(9);
     assert!(rt; matches!(staged, Some(Wrapped { number: 90 })));

@@ -27,7 +27,7 @@ impl Image<u64> for Wrapped {
 /// The number of an image.
 fn number(image: Option<Wrapped>) -> Option<u64> {
     match image {
-        Some(wrapped) => Some(wrapped.number),
+        Some(image) => Some(image.number),
         None => None,
     }
 }
