@@ -118,7 +118,7 @@ impl Image<u64> for Wrapped {
 }
 
 /// The images of a map's values.
-fn wrapped<A: Allocator + Copy>(
+fn images_of<A: Allocator + Copy>(
     alloc: A,
     map: &StagedMap<u64, u64, A>,
 ) -> Result<StagedMap<u64, Wrapped, A>, AllocError> {
