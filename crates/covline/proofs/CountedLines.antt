@@ -5,7 +5,7 @@ use Rattle.std.specs.Option.{option_and_then}
 use Rattle.std.proofs.lemmas.Bool.{cases_Bool, cases_eq, eq-eqb, ne_eqb}
 use Rattle.std.proofs.lemmas.Option.{none-some, option_and_then_some}
 use Rattle.std.proofs.lemmas.List.Elements.{All-nil, All-cons, All-head, All-tail, All-append, All-weaker}
-use Rattle.covline.specs.declared.reader.CountLine.{CountLine}
+use Rattle.covline.specs.declared.reader.LineCount.{LineCount}
 use Rattle.covline.specs.Lawful.{IsChecksum, IsChecksumByte, IsGoodTest}
 use Rattle.covline.specs.Lines.{line_feed, lines_of, IsFirstCut}
 use Rattle.covline.specs.Spells.{LineData, Line, IsDigit, IsNumeral, Spells, BeginsWithLine, comma}
@@ -216,23 +216,23 @@ counted_line_read text line count checksum rest begins =
     ∙ ap (option_and_then (counted_end line)) number
     ∙ ap (option_map (λ (end : Option (List ℕ) × List ℕ). ((line, count), end))) (count_end_is begins.end checksum rest begins.end_is)
 
--- ---- the contract of `try_count_line`
+-- ---- the contract of `try_line_count`
 
-abbrev pub counted_seen : CountLine → Read
+abbrev pub counted_seen : LineCount → Read
 counted_seen f = ((f.line, f.count), (option_map (λ c. c.now) f.checksum, f.rest.now))
 
-pub counted_form : (result : Option CountLine) (text : List ℕ) → option_map counted_seen result ≡ counted_front text
+pub counted_form : (result : Option LineCount) (text : List ℕ) → option_map counted_seen result ≡ counted_front text
     → IfSome result (λ f. BeginsWithCountedLine text f.line f.count (option_map (λ c. c.now) f.checksum) f.rest.now)
 counted_form None text read = tt
 counted_form (Some f) text read = counted_line_from text (counted_seen f) (sym read)
 
-pub counted_says : (result : Option CountLine) (text : List ℕ) → option_map counted_seen result ≡ counted_front text
+pub counted_says : (result : Option LineCount) (text : List ℕ) → option_map counted_seen result ≡ counted_front text
     → IfSome result (λ f. BeginsWithLine text (Line f.line f.count (option_map (λ c. c.now) f.checksum)) f.rest.now)
 counted_says None text read = tt
 counted_says (Some f) text read =
     counted_line_says text f.line f.count (option_map (λ c. c.now) f.checksum) f.rest.now (counted_line_from text (counted_seen f) (sym read))
 
-pub counted_only : (result : Option CountLine) (text : List ℕ) → option_map counted_seen result ≡ counted_front text → (line count : ℕ) (checksum : Option (List ℕ)) (rest : List ℕ)
+pub counted_only : (result : Option LineCount) (text : List ℕ) → option_map counted_seen result ≡ counted_front text → (line count : ℕ) (checksum : Option (List ℕ)) (rest : List ℕ)
     → BeginsWithCountedLine text line count checksum rest
     → MatchOption result ⊥ (λ f. (f.line ≡ line) × (f.count ≡ count) × (option_map (λ c. c.now) f.checksum ≡ checksum) × (f.rest.now ≡ rest))
 counted_only None text read line count checksum rest begins = none-some ((line, count), (checksum, rest)) (read ∙ counted_line_read text line count checksum rest begins)

@@ -47,7 +47,7 @@ pub use memory::Memory;
 pub use names::good_test;
 pub use point::BranchPoint;
 pub use print::put_line;
-pub use reader::{BranchLine, CountLine, read_line, strip_key, try_branch_line, try_count_line};
+pub use reader::{BranchLine, LineCount, read_line, strip_key, try_branch_line, try_line_count};
 pub use sect::{Sect, Sects};
 pub use submission::{BadSubmission, Submission};
 pub use tally::Tally;

@@ -23,7 +23,7 @@ pub fn put_line<A: Allocator>(line: &TraceLine<'_>, text: &mut Bytes<A>) -> Resu
         × Spells (line_text (line_data line.now)) (line_data line.now) }
 {
     let before = text.len();
-    let put = append_line(line, text);
+    let put = append_record(line, text);
     if put.is_err() {
         text.truncate(before);
     }
@@ -31,8 +31,8 @@ pub fn put_line<A: Allocator>(line: &TraceLine<'_>, text: &mut Bytes<A>) -> Resu
 }
 
 /// Appends the line and a line feed. On `Memory` a part of it may be left at the end of the text. The same holds of
-/// `append_text`, `append_named` and `append_count`.
-fn append_line<A: Allocator>(line: &TraceLine<'_>, text: &mut Bytes<A>) -> Result<(), Memory>
+/// `append_text`, `append_named` and `append_line_count`.
+fn append_record<A: Allocator>(line: &TraceLine<'_>, text: &mut Bytes<A>) -> Result<(), Memory>
     ensures ok { OnOk result (text.new ≡ text.old ++ printed (line_data line.now)) }
     ensures err { OnErr result ((more : List ℕ) × (text.new ≡ text.old ++ more)) }
     ensures skip { line_data line.now ≡ Skip → IsOk result }
@@ -59,7 +59,7 @@ fn append_line<A: Allocator>(line: &TraceLine<'_>, text: &mut Bytes<A>) -> Resul
             line,
             count,
             checksum,
-        } => append_count(line, count, checksum, text),
+        } => append_line_count(line, count, checksum, text),
         TraceLine::Total { kind, value } => append_total(kind, value, text),
         TraceLine::End => append_text(b"end_of_record", b"", text),
         TraceLine::Skip => Ok(()),
@@ -129,7 +129,7 @@ fn put_taken(taken: Option<u128>, line: &mut Tail)
 }
 
 /// Appends the record of an instrumented line.
-fn append_count<A: Allocator>(
+fn append_line_count<A: Allocator>(
     line: u64,
     count: u128,
     checksum: Option<&[u8]>,
@@ -140,14 +140,14 @@ fn append_count<A: Allocator>(
     ensures err { OnErr result ((more : List ℕ) × (text.new ≡ text.old ++ more)) }
 {
     match checksum {
-        Some(checksum) => append_text(line_up_to(line, count, b',').get(), checksum, text),
-        None => text.append(line_up_to(line, count, b'\n').get()),
+        Some(checksum) => append_text(line_count_front(line, count, b',').get(), checksum, text),
+        None => text.append(line_count_front(line, count, b'\n').get()),
     }
 }
 
 /// The front of an instrumented line's record: the key, the line, the count and the byte `end` after the count.
 #[inline]
-fn line_up_to(line: u64, count: u128, end: u8) -> Tail
+fn line_count_front(line: u64, count: u128, end: u8) -> Tail
     ensures { result ≡ codes "DA:" ++ decimal line ++ comma ∷ decimal count ++ end ∷ [] }
 {
     let mut front = Tail::new();

@@ -497,7 +497,7 @@ fn after_feed(text: &[u8]) -> Option<&[u8]>
 
 /// What the first line of a text says if it is a `DA:` line, and the rest of the text.
 #[derive(Clone, Copy)]
-pub struct CountLine<'a> {
+pub struct LineCount<'a> {
     /// The line of the source file.
     pub line: u64,
     /// Its execution count.
@@ -550,7 +550,7 @@ fn split_count_end(text: &[u8]) -> Option<(Option<&[u8]>, &[u8])>
 /// line feed, and if both numbers are digits alone and below 2^64. Most lines of a tracefile are such lines. For any other first
 /// line it returns `None`. Then the caller cuts the line and reads it.
 #[inline]
-pub fn try_count_line(text: &[u8]) -> Option<CountLine<'_>>
+pub fn try_line_count(text: &[u8]) -> Option<LineCount<'_>>
     ensures says { IfSome result (λ f. BeginsWithLine text.now (Line f.line f.count (option_map (λ c. c.now) f.checksum)) f.rest.now) }
     ensures form { IfSome result (λ f. BeginsWithCountedLine text.now f.line f.count (option_map (λ c. c.now) f.checksum) f.rest.now) }
     ensures only { (line count : ℕ) (checksum : Option (List ℕ)) (rest : List ℕ) → BeginsWithCountedLine text.now line count checksum rest → MatchOption result ⊥ (λ f. (f.line ≡ line) × (f.count ≡ count) × (option_map (λ c. c.now) f.checksum ≡ checksum) × (f.rest.now ≡ rest)) }
@@ -558,15 +558,15 @@ pub fn try_count_line(text: &[u8]) -> Option<CountLine<'_>>
     front_counted(text)
 }
 
-/// Reads the first line for `try_count_line`, from left to right.
+/// Reads the first line for `try_line_count`, from left to right.
 #[inline]
-fn front_counted(text: &[u8]) -> Option<CountLine<'_>>
+fn front_counted(text: &[u8]) -> Option<LineCount<'_>>
     ensures { option_map (λ f. ((f.line, f.count), (option_map (λ c. c.now) f.checksum, f.rest.now))) result ≡ counted_front text.now }
 {
     let (line, rest) = small_field(after_count_key(text)?)?;
     let (count, rest) = small_number(rest)?;
     let (checksum, rest) = split_count_end(rest)?;
-    Some(CountLine {
+    Some(LineCount {
         line,
         count,
         checksum,
@@ -613,7 +613,7 @@ fn front_taken(text: &[u8]) -> Option<(Option<u64>, &[u8])>
     Some((Some(taken), rest))
 }
 
-/// Reads the first line of the text in one pass, as `try_count_line` does, if it is `BRDA:<line>,<block>,<branch>,<taken>` and
+/// Reads the first line of the text in one pass, as `try_line_count` does, if it is `BRDA:<line>,<block>,<branch>,<taken>` and
 /// ends in a line feed. All four fields have to be digits, with numbers below 2^64; the last one may also be `-`. For any other
 /// first line it returns `None`. Then the caller cuts the line and reads it.
 #[inline]

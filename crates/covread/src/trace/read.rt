@@ -13,7 +13,7 @@ use crate::trace::misplaced::Misplaced;
 use crate::trace::reader::Reader;
 use covline::{
     BranchPoint, Submission, each_line_has_one_meaning, first_line, lines_are_the_text, read_line,
-    try_branch_line, try_count_line,
+    try_branch_line, try_line_count,
 };
 use std::alloc::Allocator;
 
@@ -67,7 +67,7 @@ fn take_first<'a, A: Allocator + Copy>(
     ensures { (line left : List ℕ) × (lines_of text.now ≡ line ∷ lines_of left) × IfOk result (λ rest. rest.now ≡ left)
         × ((inside : List LineData) → IsOpen reader.old.section inside → TakesLine result (held_data reader.old inside) reader.new line at) }
 {
-    if let Some(first) = try_count_line(text) {
+    if let Some(first) = try_line_count(text) {
         take_line_count(reader, alloc, at, first.line, first.count, first.checksum)?;
         return Ok(first.rest);
     }

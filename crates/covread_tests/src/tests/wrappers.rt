@@ -27,7 +27,7 @@ pub(super) fn put_line(record: &TraceLine<'_>, text: &mut Bytes) -> Result<(), M
 
 /// The numbers of a first line that counts, its checksum (empty if there is none), and how many bytes follow it.
 pub(super) fn counted_first(text: &[u8]) -> Option<(u64, u64, &[u8], usize)> {
-    let first = covline::try_count_line(text)?;
+    let first = covline::try_line_count(text)?;
     let checksum = first.checksum.unwrap_or(b"");
     Some((first.line, first.count, checksum, first.rest.len()))
 }

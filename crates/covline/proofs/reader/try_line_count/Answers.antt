@@ -1,5 +1,5 @@
 use Rattle.covline.proofs.CountedLines.{counted_form, counted_only, counted_says}
-use Rattle.covline.proofs.reader.try_count_line.Goals as goal
+use Rattle.covline.proofs.reader.try_line_count.Goals as goal
 
 pub returns : goal.returns
 returns c = record {
