@@ -2,7 +2,7 @@
 
 use crate::collect_fault::CollectFault;
 use crate::gate::Gate;
-use crate::input::{Input, Text};
+use crate::input::{Input, OneRead};
 use crate::refused::Refused;
 use crate::shares::{Dealt, deal};
 use crate::worker::Worker;
@@ -89,7 +89,7 @@ fn collect_named<
     R: Threads + Wait + Sync,
     G: Gate + Sync,
     L: Name + Send + Sync,
-    T: Text<Global> + Send,
+    T: OneRead<Global> + Send,
 >(
     rt: &R,
     alloc: Global,

@@ -39,7 +39,7 @@ impl<A: Allocator + Copy> Input<A> {
 }
 
 /// A text that is read once, and is used up then: one that is owned is freed, one that is lent goes back to its owner.
-pub(crate) trait Text<A: Allocator>: Drop {
+pub(crate) trait OneRead<A: Allocator>: Drop {
     ghost use Rattle.covjobs.specs.Collect.{InputData, IsOutcomeOf};
 
     /// What there is to read.
@@ -50,7 +50,7 @@ pub(crate) trait Text<A: Allocator>: Drop {
         ensures { IsOutcomeOf (says self) result };
 }
 
-impl<A: Allocator + Copy> Text<A> for Input<A> {
+impl<A: Allocator + Copy> OneRead<A> for Input<A> {
     ghost use Rattle.covjobs.specs.InputView.{input_data};
 
     ghost says = { input_data };
@@ -60,7 +60,7 @@ impl<A: Allocator + Copy> Text<A> for Input<A> {
     }
 }
 
-impl<'a, A: Allocator + Copy> Text<A> for &'a Input<A> {
+impl<'a, A: Allocator + Copy> OneRead<A> for &'a Input<A> {
     ghost use Rattle.covjobs.specs.InputView.{input_data};
 
     ghost says = { λ text. input_data text.now };

@@ -1,7 +1,7 @@
 //! One job's worker.
 
 use crate::gate::Gate;
-use crate::input::Text;
+use crate::input::OneRead;
 use crate::refused::{Refused, RefusedInput};
 use crate::shares::Placed;
 use covbook::{BookFault, JobLog, Op, Readings, Receipts, SubRef};
@@ -57,7 +57,7 @@ impl<L: Name, A: Allocator + Copy> Worker<L, A> {
     }
 
     /// Takes the input: submits what it is read as, or refuses it if it isn't read. It is used up before anything is submitted.
-    fn take<R: Wait, G: Gate, T: Text<A>>(
+    fn take<R: Wait, G: Gate, T: OneRead<A>>(
         &mut self,
         rt: &R,
         alloc: A,
@@ -178,7 +178,7 @@ ghost use Rattle.covjobs.specs.Shares.{share_of};
 
 /// Does the work of one of `jobs` jobs: takes its share of the inputs, in order. Ends at the first fault. If there is no place
 /// for one more reader, the job has no readings.
-pub(crate) fn work<R: Wait, G: Gate, L: Name, A: Allocator + Copy, T: Text<A>>(
+pub(crate) fn work<R: Wait, G: Gate, L: Name, A: Allocator + Copy, T: OneRead<A>>(
     rt: &R,
     alloc: A,
     book: &Shared<L, A>,

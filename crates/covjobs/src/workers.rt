@@ -6,7 +6,7 @@ ghost use Rattle.covjobs.specs.Shares.{share_of};
 ghost use Rattle.covjobs.specs.Work.{HasDone, AreDone, AreDoneIfWell, work_of};
 
 use crate::gate::Gate;
-use crate::input::Text;
+use crate::input::OneRead;
 use crate::shares::Placed;
 use crate::worker::{Worker, work};
 use covbook::BookFault;
@@ -21,13 +21,13 @@ use std::thread::{Promise, PromisedHandle, Threads};
 
 /// What a worker that ends well has done.
 #[derive(Drop)]
-struct WorkPromise<T: Text<Global>> {
+struct WorkPromise<T: OneRead<Global>> {
     job: u32,
     jobs: u32,
     inputs: Snapshot<Snapshot<Vec<T>>>,
 }
 
-impl<T: Text<Global>> Model for WorkPromise<T> {
+impl<T: OneRead<Global>> Model for WorkPromise<T> {
     ghost use Rattle.std.specs.Prelude.{map};
     ghost use Rattle.covjobs.specs.Work.{WorkData};
 
@@ -36,7 +36,7 @@ impl<T: Text<Global>> Model for WorkPromise<T> {
     ghost view = { λ a. record { inputs = map T.says a.inputs.value.value.items; jobs = a.jobs; job = a.job } };
 }
 
-impl<L: Name, T: Text<Global>> Promise<Result<Worker<L>, BookFault>> for WorkPromise<T> {
+impl<L: Name, T: OneRead<Global>> Promise<Result<Worker<L>, BookFault>> for WorkPromise<T> {
     ghost kept_by = { λ p r. IfOk r (λ w. HasDone p w) };
 }
 
@@ -46,7 +46,7 @@ pub(crate) fn work_at_once<
     R: Threads + Wait + Sync,
     G: Gate + Sync,
     L: Name + Send + Sync,
-    T: Text<Global> + Send,
+    T: OneRead<Global> + Send,
 >(
     rt: &R,
     alloc: Global,
@@ -101,7 +101,7 @@ pub(crate) fn work_at_once<
 }
 
 /// Waits until all workers have ended, and returns how each did. If not all were started, memory ran out for the next one.
-fn end_all<R: Threads, L: Name, T: Text<Global>>(
+fn end_all<R: Threads, L: Name, T: OneRead<Global>>(
     rt: &R,
     alloc: Global,
     handles: Vec<PromisedHandle<Result<Worker<L>, BookFault>, WorkPromise<T>>>,
@@ -119,7 +119,7 @@ fn end_all<R: Threads, L: Name, T: Text<Global>>(
 }
 
 /// Waits until all workers have ended, and returns how each did.
-fn join_all<R: Threads, L: Name, T: Text<Global>>(
+fn join_all<R: Threads, L: Name, T: OneRead<Global>>(
     rt: &R,
     alloc: Global,
     handles: Vec<PromisedHandle<Result<Worker<L>, BookFault>, WorkPromise<T>>>,

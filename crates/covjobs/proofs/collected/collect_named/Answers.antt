@@ -18,12 +18,12 @@ use Rattle.covjobs.proofs.collected.collect_named.Goals as goal
 
 pub returns-clause-collected : goal.returns-clause-collected
 returns-clause-collected g c =
-    let inputs = map g.T.Text.says c.args.inputs.items in
+    let inputs = map g.T.OneRead.says c.args.inputs.items in
     let jobs = c.args.jobs in
     let workers = c.in_ok-workers.workers.items in
     let entries : List EntryData = c.in-Ok.entries in
     let done : HaveDone (works_from inputs jobs 0 jobs) workers =
-    done_by_all g.T.Text.says c.args.inputs.items c.in_ok-dealt.dealt.inputs.value.items jobs _ _ workers (ap (λ (v : Vec g.row.T.Denot Global). v.items) c.in_ok-dealt.ensures.inputs)
+    done_by_all g.T.OneRead.says c.args.inputs.items c.in_ok-dealt.dealt.inputs.value.items jobs _ _ workers (ap (λ (v : Vec g.row.T.Denot Global). v.items) c.in_ok-dealt.ensures.inputs)
     (c.in_ok-book.ensures.seats ∙ ap first_seats c.requires.jobs) c.in_ok-work_at_once.ensures c.in_ok-workers.ensures.workers in
     let gathered : IsGathered entries c.in_ok-seats.logs =
     subst (λ (logs : List LogData). IsGathered entries logs) c.get-2.ensures
@@ -44,22 +44,22 @@ work_at_once-requires g c =
 -- there is a worker, since there is a job
 pub ask_last-requires : goal.ask_last-requires
 ask_last-requires g c =
-    let inputs = map g.T.Text.says c.args.inputs.items in
+    let inputs = map g.T.OneRead.says c.args.inputs.items in
     let jobs = c.args.jobs in
     let workers = c.in_ok-workers.workers.items in
     some_worker inputs jobs workers c.requires.some
-    (done_by_all g.T.Text.says c.args.inputs.items c.in_ok-dealt.dealt.inputs.value.items jobs _ _ workers (ap (λ (v : Vec g.row.T.Denot Global). v.items) c.in_ok-dealt.ensures.inputs)
+    (done_by_all g.T.OneRead.says c.args.inputs.items c.in_ok-dealt.dealt.inputs.value.items jobs _ _ workers (ap (λ (v : Vec g.row.T.Denot Global). v.items) c.in_ok-dealt.ensures.inputs)
     (c.in_ok-book.ensures.seats ∙ ap first_seats c.requires.jobs) c.in_ok-work_at_once.ensures c.in_ok-workers.ensures.workers)
 
 -- no seat is missing, since each worker hands in its own
 pub unreachable-requires : goal.unreachable-requires
 unreachable-requires g c =
-    let inputs = map g.T.Text.says c.args.inputs.items in
+    let inputs = map g.T.OneRead.says c.args.inputs.items in
     let jobs = c.args.jobs in
     let workers = c.in_ok-workers.workers.items in
     let after = c.ask_last.new.workers.items in
     let done : HaveDone (works_from inputs jobs 0 jobs) workers =
-    done_by_all g.T.Text.says c.args.inputs.items c.in_ok-dealt.dealt.inputs.value.items jobs _ _ workers (ap (λ (v : Vec g.row.T.Denot Global). v.items) c.in_ok-dealt.ensures.inputs)
+    done_by_all g.T.OneRead.says c.args.inputs.items c.in_ok-dealt.dealt.inputs.value.items jobs _ _ workers (ap (λ (v : Vec g.row.T.Denot Global). v.items) c.in_ok-dealt.ensures.inputs)
     (c.in_ok-book.ensures.seats ∙ ap first_seats c.requires.jobs) c.in_ok-work_at_once.ensures c.in_ok-workers.ensures.workers in
     let job = told_job c.in-Err._back.2 in
     none_missing inputs jobs c.in_ok-end.end (op_data c.args.last.now) workers after done c.in_ok-end.ensures job

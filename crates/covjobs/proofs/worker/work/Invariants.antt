@@ -7,5 +7,5 @@ use Rattle.covjobs.proofs.worker.work.Given as goal
 abbrev pub invariant-loop-placed : goal.invariant-loop-placed
 invariant-loop-placed g l =
     (l.worker.seat.job ≡ l.fn.seat.job)
-    × IsUnderway g.T.Text.says l.fn.inputs.value.items l.fn.jobs l.fn.seat.job l.placed-iterator.rest.items l.worker.receipts l.worker.refused
+    × IsUnderway g.T.OneRead.says l.fn.inputs.value.items l.fn.jobs l.fn.seat.job l.placed-iterator.rest.items l.worker.receipts l.worker.refused
     × HasRead l.worker.has_reader l.worker.receipts l.worker.readings

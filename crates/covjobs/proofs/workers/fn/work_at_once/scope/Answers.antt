@@ -8,7 +8,7 @@ use Rattle.covjobs.proofs.workers.fn.work_at_once.scope.Goals as goal
 -- after the loop no seat is left
 pub returns : goal.returns
 returns g c =
-    let work : SeatData → WorkData = work_of (map g.T.Text.says c.captures.inputs.now.value.items) c.captures.jobs in
+    let work : SeatData → WorkData = work_of (map g.T.OneRead.says c.captures.inputs.now.value.items) c.captures.jobs in
     let rest = c.loop-seat.seat-iterator.rest in
     let handled : List WorkData = map (λ h. h.promise) c.loop-seat.handles.items in
     let all : IsTrue c.loop-seat.all_started → handled ++ map work rest.items ≡ map work c.captures.seats =
