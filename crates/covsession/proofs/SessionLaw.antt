@@ -49,11 +49,11 @@ after_cons w x ws xs true e (inl h) = inl (h.0, ap (λ (u : ℕ). u ∷ xs) (eqb
 after_cons w x ws xs true e (inr h) = inr (λ k. h (k.0, same_tail x w xs (ws ++ space ∷ k.0) k.1))
 after_cons w x ws xs false e h = inr (λ k. eqb-false x w e (same_head x w xs (ws ++ space ∷ k.0) k.1))
 
-behind : (word line : List ℕ) → Following word line ⊎ (Following word line → ⊥)
-behind [] [] = inr (λ h. none_some space h.0 h.1)
-behind [] (x ∷ xs) = after_space x xs (eqb x space) refl
-behind (w ∷ ws) [] = inr (λ h. none_some w (ws ++ space ∷ h.0) h.1)
-behind (w ∷ ws) (x ∷ xs) = after_cons w x ws xs (eqb x w) refl (behind ws xs)
+after : (word line : List ℕ) → Following word line ⊎ (Following word line → ⊥)
+after [] [] = inr (λ h. none_some space h.0 h.1)
+after [] (x ∷ xs) = after_space x xs (eqb x space) refl
+after (w ∷ ws) [] = inr (λ h. none_some w (ws ++ space ∷ h.0) h.1)
+after (w ∷ ws) (x ∷ xs) = after_cons w x ws xs (eqb x w) refl (after ws xs)
 
 -- a piece is a command of its own, or a line that a text or two names follow
 abbrev Kind : List ℕ → Type 0
@@ -146,8 +146,8 @@ word_kind piece t g a (inr n) (inr r) (inr s) (inr e) (inl h) d = inl (Ask (Remo
 word_kind piece t g a (inr n) (inr r) (inr s) (inr e) (inr m) (inl h) = inl (Ask (DropTestOp []) ∷ [], ask_run Feed piece (DropTestOp []) (inl (h, refl)))
 word_kind piece t g a (inr n) (inr r) (inr s) (inr e) (inr m) (inr d) =
     choice_kind piece (record { some = n; trace = t; report = r; summary = s; extract = e; remove = m; gcov = g; drop = d; rename = a })
-    (behind (codes "extract") (line_of piece)) (behind (codes "remove") (line_of piece)) (behind (codes "gcov") (line_of piece))
-    (behind (codes "drop") (line_of piece))
+    (after (codes "extract") (line_of piece)) (after (codes "remove") (line_of piece)) (after (codes "gcov") (line_of piece))
+    (after (codes "drop") (line_of piece))
 
 kind : (piece : List ℕ) → Kind piece
 kind piece =

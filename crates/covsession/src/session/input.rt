@@ -9,7 +9,7 @@ ghost use Rattle.covsession.specs.Text.{AreLines, HasCollected};
 ghost use Rattle.covsession.specs.declared.session.fault.SessionFault.TheVariants as session_faults;
 
 use crate::session::fault::SessionFault;
-use crate::session::lines::whole_lines;
+use crate::session::lines::whole_lines_len;
 use crate::session::output::Output;
 use crate::session::text::{LineEnd, Text};
 use crate::stream::{Sink, Source};
@@ -199,7 +199,7 @@ impl<'s, I: Source, A: Allocator> SessionInput<'s, I, A> {
         ensures same { OnErr result (self.new ≡ self.old) }
     {
         let pending = self.pending();
-        let count = whole_lines(pending);
+        let count = whole_lines_len(pending);
         text.add_lines(&pending[..count])?;
         self.take(count);
         Ok(())

@@ -14,7 +14,7 @@ fn begins_with_dot(bytes: &[u8]) -> bool
 
 /// How many bytes the whole lines at the front have, up to the first line that begins with a dot. So none of these lines ends a
 /// text.
-pub fn whole_lines(bytes: &[u8]) -> usize
+pub fn whole_lines_len(bytes: &[u8]) -> usize
     ensures bound { result ≤ length bytes.now }
     ensures lines { AreLines (take result bytes.now) }
 {

@@ -57,8 +57,8 @@ pub fn take_text<I: Source, O: Sink, A: Allocator>(
 }
 
 // Decides whether a text's fault is answered: returns `Memory`, which ends the session, if memory ran out, and else `Ok`.
-fn told(fault: ReadFault) -> Result<(), SessionFault>
-    ensures told { OnOk result (IsNotMemory fault) }
+fn check_answerable(fault: ReadFault) -> Result<(), SessionFault>
+    ensures answerable { OnOk result (IsNotMemory fault) }
     ensures fault { IfErr result (λ f. (fault ≡ read_faults.Memory) × (f ≡ session_faults.Memory)) }
 {
     if fault.is_memory() {
@@ -118,7 +118,7 @@ fn submit<O: Sink, A: Allocator + Copy>(
             step(alloc, book, &op, output)
         }
         Err(fault) => {
-            told(fault)?;
+            check_answerable(fault)?;
             refuse(alloc, fault, output)
         }
     }

@@ -10,10 +10,10 @@ returns-in_err-of-in-Ok-clause-fails g c =
     let p = err_from_is_err_and c.from_residual.result c.from_residual.ensures.1 in
     rw p.1 (inl (memory_unsaid c.args.output.now p.0 p.2))
 
-pub returns-in_err-told-in-Err-clause-fails : goal.returns-in_err-told-in-Err-clause-fails
-returns-in_err-told-in-Err-clause-fails g c =
-    let p = err_from_is_err_and c.from_residual-in_err-told-in-Err.result c.from_residual-in_err-told-in-Err.ensures.1 in
-    rw (p.1, p.2) (inl (memory_unsaid c.args.output.now c.in_err-told-in-Err.field-0.0 c.in_err-told-in-Err.ensures.fault.1))
+pub returns-in_err-check_answerable-in-Err-clause-fails : goal.returns-in_err-check_answerable-in-Err-clause-fails
+returns-in_err-check_answerable-in-Err-clause-fails g c =
+    let p = err_from_is_err_and c.from_residual-in_err-check_answerable-in-Err.result c.from_residual-in_err-check_answerable-in-Err.ensures.1 in
+    rw (p.1, p.2) (inl (memory_unsaid c.args.output.now c.in_err-check_answerable-in-Err.field-0.0 c.in_err-check_answerable-in-Err.ensures.fault.1))
 
 pub returns-in_ok-of-in-Ok-clause-fails : goal.returns-in_ok-of-in-Ok-clause-fails
 returns-in_ok-of-in-Ok-clause-fails g c =
