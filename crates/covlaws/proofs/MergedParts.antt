@@ -180,7 +180,7 @@ module _ (taken : AllAreTaken) where
   content_taken : (submissions : List SubmissionData) → AreAgreeing submissions → content_at (table_of (map SubmitOp submissions)) ≡ content_of (rows_in submissions)
   content_taken submissions agree = ap content_at (taken submissions agree) ∙ ap content_of (flat_map-map (λ (rows : List Row). rows) rows_of submissions)
 
-  module _ (spells : PrintedSpells) (behind : OneAfterOther) (one : HasOneReading) where
+  module _ (spells : PrintedSpells) (one_after_other : OneAfterOther) (one : HasOneReading) where
     -- the text that a merge is read from is the part's content, printed
     printed_is : (part : List SubmissionData) (merge : SubmissionData) → AreAgreeing part → (is : IsMergeOf part merge) → flat_map section_text (content_of (rows_in part)) ≡ is.text
     printed_is part merge agree is = sym (text_of_all (content_of (rows_in part))) ∙ ap (report_text AllFiles) (sym (content_taken part agree)) ∙ same_text _ is.text is.told
@@ -189,7 +189,7 @@ module _ (taken : AllAreTaken) where
     merge_is : (part : List SubmissionData) (merge : SubmissionData) → AllByRecursion IsLawful part → AreAgreeing part → IsMergeOf part merge → merge ≡ shown_of part
     merge_is part merge lawful agree is =
         one is.text merge (shown_of part) is.read
-        (is.read.0, text_read spells behind (rows_in part) (lawful_all part lawful) agree is.text (printed_is part merge agree is) is.read.0)
+        (is.read.0, text_read spells one_after_other (rows_in part) (lawful_all part lawful) agree is.text (printed_is part merge agree is) is.read.0)
 
     -- the merge of a part is lawful
     merge_lawful : (part : List SubmissionData) (merge : SubmissionData) → AllByRecursion IsLawful part → AreAgreeing part → IsMergeOf part merge → IsLawful merge

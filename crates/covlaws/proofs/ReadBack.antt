@@ -75,18 +75,18 @@ all_apart sections printable = all_more _ _ (λ s own. points_apart s own.order)
 -- the lines of the whole text say the records of the parts, in order
 parts_spelled : PrintedSpells → OneAfterOther → (sections : List SectionData) → IsPrintable sections → length (flat_map section_text sections) ≤ max_bytes
     → AllSpell (lines_of (flat_map section_text sections)) (flat_map records_of (parts_of sections))
-parts_spelled spells behind sections printable short =
+parts_spelled spells one_after_other sections printable short =
     subst (λ (records : List LineData). AllSpell (lines_of (flat_map section_text sections)) records) (sym (records_back sections))
     (subst (λ (text : List ℕ). AllSpell (lines_of text) (flat_map section_records sections)) (text_printed sections)
-    (all_spell spells behind (flat_map section_records sections)
+    (all_spell spells one_after_other (flat_map section_records sections)
     (readable_sections sections printable.each (all_more _ _ few_points sections (all_short sections max_bytes short)))))
 
 pub text_reads_back : PrintedSpells → OneAfterOther → (sections : List SectionData) → IsPrintable sections → length (flat_map section_text sections) ≤ max_bytes
     → Reads (lines_of (flat_map section_text sections)) (submission_shown sections)
-text_reads_back spells behind sections printable short = record {
+text_reads_back spells one_after_other sections printable short = record {
   parts = parts_of sections;
   lawful = parts_lawful sections;
-  spelled = parts_spelled spells behind sections printable short;
+  spelled = parts_spelled spells one_after_other sections printable short;
   sects = sym (sects_back [] sections (all_apart sections printable));
   odd = sym (none_odd sections (all_apart sections printable));
 }

@@ -62,7 +62,7 @@ content_of_one s none = ap content_at (table_of_one s none) ∙ ap content_of (a
 
 -- ---- the text that lawful rows are printed as
 
-module _ (spells : PrintedSpells) (behind : OneAfterOther) (rows : List Row) (lawful : AllByRecursion IsLawfulRow rows) (agree : Agree (checksums_in rows)) where
+module _ (spells : PrintedSpells) (one_after_other : OneAfterOther) (rows : List Row) (lawful : AllByRecursion IsLawfulRow rows) (agree : Agree (checksums_in rows)) where
   abbrev shown : SubmissionData
   shown = submission_shown (content_of rows)
 
@@ -73,7 +73,7 @@ module _ (spells : PrintedSpells) (behind : OneAfterOther) (rows : List Row) (la
   pub text_read : (text : List ℕ) → flat_map section_text (content_of rows) ≡ text → length text ≤ max_bytes → Reads (lines_of text) shown
   text_read text is short =
       subst (λ (t : List ℕ). Reads (lines_of t) shown) is
-      (text_reads_back spells behind (content_of rows) printable (subst (λ (t : List ℕ). length t ≤ max_bytes) (sym is) short))
+      (text_reads_back spells one_after_other (content_of rows) printable (subst (λ (t : List ℕ). length t ≤ max_bytes) (sym is) short))
 
   -- an empty book that has accepted this submission reports the text again
   text_again : clash_at [] shown ≡ None → answer_of (table_of (SubmitOp shown ∷ [])) ReportOp ≡ TextAnswer (flat_map section_text (content_of rows))
@@ -104,12 +104,12 @@ agree_picked p rows agree a b i j = agree a b (among a i) (among b j)
         let from = In-unflat checksum_of_row (filter p rows) c (In-from (checksums_in (filter p rows)) c k) in
         Contains-from (checksums_in rows) c (In-flat checksum_of_row rows from.0 c (In-unfilter p rows from.0 from.1).0 from.2)
 
-module _ (spells : PrintedSpells) (behind : OneAfterOther) (told : ToldByFirstClash) where
+module _ (spells : PrintedSpells) (one_after_other : OneAfterOther) (told : ToldByFirstClash) where
   chosen_reads_back : (choice : ChoiceData) (rows : List Row) → AllByRecursion IsLawfulRow rows → Agree (checksums_in rows)
       → (text : List ℕ) → report_text choice (content_of rows) ≡ text → length text ≤ max_bytes → ReadsBack text
   chosen_reads_back choice rows lawful agree text is short =
       let test = λ (row : Row). is_chosen choice row.file in
-      rows_read_back spells behind (filter test rows) (All-picked IsLawfulRow test rows lawful) (agree_picked test rows agree) told text
+      rows_read_back spells one_after_other (filter test rows) (All-picked IsLawfulRow test rows lawful) (agree_picked test rows agree) told text
       (ap (flat_map section_text) (sym (chosen_content choice rows)) ∙ is) short
 
   -- a report, an extract and a remove are each answered with the text of chosen files, so the text reads back

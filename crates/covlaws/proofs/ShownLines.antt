@@ -117,12 +117,12 @@ feed_last (Total kind value) readable = refl
 feed_last End readable = refl
 feed_last Skip readable = absurd readable.texts
 
-module _ (spells : PrintedSpells) (behind : OneAfterOther) where
+module _ (spells : PrintedSpells) (one_after_other : OneAfterOther) where
   first_line : (says : LineData) → IsReadable says → (rest : List ℕ) → lines_of (printed says ++ rest) ≡ line_text says ∷ lines_of rest
   first_line says readable rest =
       ap (λ (text : List ℕ). lines_of (text ++ rest)) (feed_last says readable)
       ∙ ap lines_of (append_assoc (line_text says) (line_feed ∷ []) rest)
-      ∙ behind (line_text says) rest
+      ∙ one_after_other (line_text says) rest
       ∙ ap (λ (text : List ℕ). lines_of text ++ lines_of rest) (sym (feed_last says readable))
       ∙ ap (λ (lines : List (List ℕ)). lines ++ lines_of rest) (spells says readable).0
 
