@@ -21,7 +21,7 @@ use Rattle.covsession.specs.Fault.{HasBegun, calls}
 use Rattle.covsession.specs.Program.{fault_status, words_of_fault, TellsSession}
 use Rattle.covsession.specs.Session.{said}
 use Rattle.covsession.specs.declared.session.fault.SessionFault.TheVariants as faults
-use Rattle.covrun.specs.declared.words_fault.WordsFault.{WordsFault}
+use Rattle.covrun.specs.declared.argument_fault.ArgumentFault.{ArgumentFault}
 use Rattle.covrun.specs.Ending.{EndingData, Prints, BadLine, BadWords, Unreadable, Stopped, status_of, complaint, of_collect, of_collected}
 use Rattle.covrun.specs.Work.{WorkData, TaskData, Serves, Collects, Checks, task_of, input_of, AreTaken, AreRefused}
 use Rattle.covrun.specs.Check.{IsCheck}
@@ -68,7 +68,7 @@ WorkEnds folder work ending =
 -- how a call ends before its work begins: memory ran out, or a pattern or the test's name is refused
 abbrev pub StopsEarly : Command → EndingData → Type 0
 StopsEarly command ending =
-    (ending ≡ Stopped faults.Memory) ⊎ ((fault : WordsFault) × (ending ≡ BadWords fault) × AreRefused command fault)
+    (ending ≡ Stopped faults.Memory) ⊎ ((fault : ArgumentFault) × (ending ≡ BadWords fault) × AreRefused command fault)
 
 -- how a call ends if its words form no command
 abbrev pub of_line : CommandFault → EndingData

@@ -10,8 +10,8 @@ use Rattle.covsession.specs.Program.{fault_status, words_of_fault}
 use Rattle.covsession.specs.Session.{said, clash_text, refused_text}
 use Rattle.covsession.specs.declared.session.fault.SessionFault.{SessionFault}
 use Rattle.covsession.specs.declared.session.fault.SessionFault.TheVariants as faults
-use Rattle.covrun.specs.declared.words_fault.WordsFault.{WordsFault}
-use Rattle.covrun.specs.declared.words_fault.WordsFault.TheVariants as words
+use Rattle.covrun.specs.declared.argument_fault.ArgumentFault.{ArgumentFault}
+use Rattle.covrun.specs.declared.argument_fault.ArgumentFault.TheVariants as arguments
 
 -- how a call ends. `Prints`: it prints the text of the last entry, help or the version. `BadLine`: the words don't fit the
 -- command line. `BadWords`: the patterns, the test's name or the number of jobs are refused. `Unreadable`: this file can't be
@@ -20,7 +20,7 @@ use Rattle.covrun.specs.declared.words_fault.WordsFault.TheVariants as words
 pub data EndingData : Type 0 where
   Prints : (text : List ℕ) → EndingData
   BadLine : (text : List ℕ) → EndingData
-  BadWords : (fault : WordsFault) → EndingData
+  BadWords : (fault : ArgumentFault) → EndingData
   Unreadable : (name : List ℕ) → EndingData
   Stopped : (fault : SessionFault) → EndingData
   Ungathered : EndingData
@@ -35,17 +35,17 @@ status_of (Stopped fault) = fault_status fault
 status_of Ungathered = 3
 status_of (Refuses lines) = 4
 
-abbrev pub words_fault_name : WordsFault → List ℕ
-words_fault_name words.TooMany = codes "TooMany"
-words_fault_name words.TooLong = codes "TooLong"
-words_fault_name words.BadTest = codes "BadTest"
-words_fault_name words.BadJobs = codes "BadJobs"
+abbrev pub argument_fault_name : ArgumentFault → List ℕ
+argument_fault_name arguments.TooMany = codes "TooMany"
+argument_fault_name arguments.TooLong = codes "TooLong"
+argument_fault_name arguments.BadTest = codes "BadTest"
+argument_fault_name arguments.BadJobs = codes "BadJobs"
 
 -- what is written to the stream for faults
 abbrev pub complaint : EndingData → List ℕ
 complaint (Prints text) = []
 complaint (BadLine text) = text
-complaint (BadWords fault) = said (words_fault_name fault)
+complaint (BadWords fault) = said (argument_fault_name fault)
 complaint (Unreadable name) = name ++ said (codes ": can't read")
 complaint (Stopped fault) = said (words_of_fault fault)
 complaint Ungathered = said (codes "gather")
@@ -53,7 +53,7 @@ complaint (Refuses lines) = lines
 
 -- the ending for a fault of collecting
 abbrev pub of_collect : CollectFault → EndingData
-of_collect collects.BadJobs = BadWords words.BadJobs
+of_collect collects.BadJobs = BadWords arguments.BadJobs
 of_collect collects.Full = Stopped faults.Full
 of_collect collects.Memory = Stopped faults.Memory
 of_collect (collects.Gather fault) = Ungathered

@@ -8,8 +8,8 @@ use Rattle.covjobs.specs.Collect.{InputData, TraceInput, GcovInput}
 use Rattle.covcommand.specs.declared.asked.Command.{Command}
 use Rattle.covcommand.specs.declared.asked.Command.TheVariants.{Session, Merge, Summary, Extract, Remove, Gcov, Check}
 use Rattle.covcommand.specs.declared.asked.TextFormat.{TextFormat}
-use Rattle.covrun.specs.declared.words_fault.WordsFault.{WordsFault}
-use Rattle.covrun.specs.declared.words_fault.WordsFault.TheVariants as words
+use Rattle.covrun.specs.declared.argument_fault.ArgumentFault.{ArgumentFault}
+use Rattle.covrun.specs.declared.argument_fault.ArgumentFault.TheVariants as arguments
 
 -- what a subcommand that collects files has to do. `files`: the files to read. `test`: if the files are gcov's output, the test
 -- that their counts are of. `jobs`: the number of jobs. `last`: the operation that is asked after all files are collected
@@ -51,14 +51,14 @@ IsShort pattern = length pattern ≤ max_pattern_bytes
 abbrev pub ArePatterns : List (List ℕ) → Type 0
 ArePatterns patterns = (length patterns ≤ max_patterns) × AllByRecursion IsShort patterns
 
-abbrev pub IsPatternFault : List (List ℕ) → WordsFault → Type 0
-IsPatternFault patterns words.TooMany = (max_patterns < length patterns) × AllByRecursion IsShort (take max_patterns patterns)
-IsPatternFault patterns words.TooLong = AllByRecursion IsShort (take max_patterns patterns) → ⊥
-IsPatternFault patterns words.BadTest = ⊥
-IsPatternFault patterns words.BadJobs = ⊥
+abbrev pub IsPatternFault : List (List ℕ) → ArgumentFault → Type 0
+IsPatternFault patterns arguments.TooMany = (max_patterns < length patterns) × AllByRecursion IsShort (take max_patterns patterns)
+IsPatternFault patterns arguments.TooLong = AllByRecursion IsShort (take max_patterns patterns) → ⊥
+IsPatternFault patterns arguments.BadTest = ⊥
+IsPatternFault patterns arguments.BadJobs = ⊥
 
-abbrev pub IsTestFault : List ℕ → WordsFault → Type 0
-IsTestFault test fault = (fault ≡ words.BadTest) × (IsGoodTest test → ⊥)
+abbrev pub IsTestFault : List ℕ → ArgumentFault → Type 0
+IsTestFault test fault = (fault ≡ arguments.BadTest) × (IsGoodTest test → ⊥)
 
 -- the patterns and the test's name are accepted
 abbrev pub AreTaken : Command → Type 0
@@ -71,7 +71,7 @@ AreTaken (Gcov test names) = IsGoodTest test
 AreTaken (Check format names) = Unit {0}
 
 -- a pattern or the test's name is refused for this reason
-abbrev pub AreRefused : Command → WordsFault → Type 0
+abbrev pub AreRefused : Command → ArgumentFault → Type 0
 AreRefused Session fault = ⊥
 AreRefused (Merge jobs names) fault = ⊥
 AreRefused (Summary names) fault = ⊥

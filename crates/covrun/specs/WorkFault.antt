@@ -3,7 +3,7 @@ use Rattle.std.specs.Prelude.{ℕ, List}
 use Rattle.covcommand.specs.declared.asked.Command.{Command}
 use Rattle.covreport.specs.declared.patterns.PatternFault.{PatternFault}
 use Rattle.covreport.specs.declared.patterns.PatternFault.TheVariants as patterns
-use Rattle.covrun.specs.declared.words_fault.WordsFault.TheVariants as words
+use Rattle.covrun.specs.declared.argument_fault.ArgumentFault.TheVariants as arguments
 use Rattle.covrun.specs.declared.work.WorkFault.{WorkFault}
 use Rattle.covrun.specs.declared.work.WorkFault.TheVariants.{Words, Memory}
 use Rattle.covsession.specs.declared.session.fault.SessionFault.TheVariants as faults
@@ -11,8 +11,8 @@ use Rattle.covrun.specs.Ending.{EndingData, BadWords, Stopped}
 use Rattle.covrun.specs.Work.{AreRefused, IsPatternFault, IsTestFault}
 
 abbrev pub of_pattern : PatternFault → WorkFault
-of_pattern patterns.TooMany = Words words.TooMany
-of_pattern patterns.TooLong = Words words.TooLong
+of_pattern patterns.TooMany = Words arguments.TooMany
+of_pattern patterns.TooLong = Words arguments.TooLong
 of_pattern patterns.Memory = Memory
 
 abbrev pub IsRefusal : Command → WorkFault → Type 0

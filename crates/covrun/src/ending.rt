@@ -6,7 +6,7 @@ ghost use Rattle.covrun.specs.Ending.{of_collect};
 ghost use Rattle.covrun.specs.View.{ending_data};
 ghost use Rattle.covrun.specs.WorkFault.{of_work};
 
-use crate::words_fault::WordsFault;
+use crate::argument_fault::ArgumentFault;
 use crate::work::WorkFault;
 use covbook::TextRef;
 use covcommand::CommandFault;
@@ -23,7 +23,7 @@ pub(crate) enum Ending<'a> {
     /// The words don't fit the command line.
     Line(String),
     /// The patterns, the test's name or the number of jobs are refused.
-    Words(WordsFault),
+    Words(ArgumentFault),
     /// This file can't be read.
     Unreadable(&'a str),
     /// Memory ran out, or the history was full.
@@ -50,7 +50,7 @@ pub(crate) fn ending_of_collect<'a>(fault: CollectFault) -> Ending<'a>
     ensures { ending_data result ≡ of_collect fault }
 {
     match fault {
-        CollectFault::BadJobs => Ending::Words(WordsFault::BadJobs),
+        CollectFault::BadJobs => Ending::Words(ArgumentFault::BadJobs),
         CollectFault::Full => Ending::Stopped(SessionFault::Full),
         CollectFault::Memory => Ending::Stopped(SessionFault::Memory),
         CollectFault::Gather(_) | CollectFault::NotLast => Ending::Ungathered,

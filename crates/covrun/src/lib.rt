@@ -20,6 +20,7 @@
 //! ```
 #![tactic(auto)]
 
+mod argument_fault;
 mod checked;
 mod collecting;
 mod ending;
@@ -29,9 +30,8 @@ mod inputs;
 mod output;
 mod program;
 mod verdict;
-mod words_fault;
 mod work;
 
+pub use argument_fault::ArgumentFault;
 pub use folder::{Folder, FromFiles, Opened};
 pub use program::{refuse, run};
-pub use words_fault::WordsFault;

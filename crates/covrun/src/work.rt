@@ -1,6 +1,6 @@
 //! What a call has to do.
 
-use crate::words_fault::WordsFault;
+use crate::argument_fault::ArgumentFault;
 use covbook::Op;
 use covcommand::{Command, Names, TextFormat};
 use covline::{Bytes, Memory, good_test};
@@ -37,7 +37,7 @@ pub(crate) enum Task {
 #[derive(Clone, Copy)]
 pub(crate) enum WorkFault {
     /// Its words are refused.
-    Words(WordsFault),
+    Words(ArgumentFault),
     /// Memory was refused.
     Memory,
 }
@@ -72,8 +72,8 @@ impl From<PatternFault> for WorkFault {
 
     fn from(fault: PatternFault) -> WorkFault {
         match fault {
-            PatternFault::TooMany => WorkFault::Words(WordsFault::TooMany),
-            PatternFault::TooLong => WorkFault::Words(WordsFault::TooLong),
+            PatternFault::TooMany => WorkFault::Words(ArgumentFault::TooMany),
+            PatternFault::TooLong => WorkFault::Words(ArgumentFault::TooLong),
             PatternFault::Memory => WorkFault::Memory,
         }
     }
@@ -137,7 +137,7 @@ fn test_name(test: &Bytes) -> Result<(), WorkFault>
     if good_test(test.get()) {
         Ok(())
     } else {
-        Err(WorkFault::Words(WordsFault::BadTest))
+        Err(WorkFault::Words(ArgumentFault::BadTest))
     }
 }
 

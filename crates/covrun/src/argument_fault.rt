@@ -5,7 +5,7 @@ use thiserror::Error;
 
 /// Why a subcommand is refused although its words fit the command line.
 #[derive(Clone, Copy, Debug, PartialEq, Eq, Error)]
-pub enum WordsFault {
+pub enum ArgumentFault {
     /// There are more than 64 patterns.
     #[error("TooMany")]
     TooMany,
@@ -20,20 +20,20 @@ pub enum WordsFault {
     BadJobs,
 }
 
-impl WordsFault {
+impl ArgumentFault {
     ghost use Rattle.std.specs.Prelude.{◌≡◌};
     ghost use Rattle.covsession.specs.Session.{said};
-    ghost use Rattle.covrun.specs.Ending.{words_fault_name};
+    ghost use Rattle.covrun.specs.Ending.{argument_fault_name};
 
     /// The line that reports it.
     pub(crate) fn line(self) -> &'static [u8]
-        ensures { result.now ≡ said (words_fault_name self) }
+        ensures { result.now ≡ said (argument_fault_name self) }
     {
         match self {
-            WordsFault::TooMany => b"TooMany\n",
-            WordsFault::TooLong => b"TooLong\n",
-            WordsFault::BadTest => b"BadTest\n",
-            WordsFault::BadJobs => b"BadJobs\n",
+            ArgumentFault::TooMany => b"TooMany\n",
+            ArgumentFault::TooLong => b"TooLong\n",
+            ArgumentFault::BadTest => b"BadTest\n",
+            ArgumentFault::BadJobs => b"BadJobs\n",
         }
     }
 }
