@@ -129,13 +129,13 @@ record IsGoodItem (item : ItemData) : Type 0 where
   fits : FitsItem item
   lawful : IsLawfulItem item
 
-abbrev IsSmallPlace : Option BranchAnchor → Type 0
-IsSmallPlace None = Unit {0}
-IsSmallPlace (Some p) = IsSmall p.line × IsSmall p.block
+abbrev IsSmallAnchor : Option BranchAnchor → Type 0
+IsSmallAnchor None = Unit {0}
+IsSmallAnchor (Some p) = IsSmall p.line × IsSmall p.block
 
 abbrev IsGoodSection : Option SectionData → Type 0
 IsGoodSection None = Unit {0}
-IsGoodSection (Some s) = IsGoodName s.file × AllByRecursion IsGoodItem s.items × IsSmallPlace s.place
+IsGoodSection (Some s) = IsGoodName s.file × AllByRecursion IsGoodItem s.items × IsSmallAnchor s.anchor
 
 -- how many items there are, with one for each function that waits
 abbrev held_items : List ℕ → HeldData → ℕ
@@ -197,9 +197,9 @@ few_begun : (test path : List ℕ) (n : ℕ) (held : HeldData) → held_items te
 few_begun test path n held few =
     omega (arith, few, items_append (held.sects ++ closed test held.section) (record { test = test; file = path; items = [] } ∷ []), one_section (record { test = test; file = path; items = [] }))
 
-few_with : (test : List ℕ) (n k : ℕ) (held : HeldData) (s : SectionData) (more : List ItemData) (place : Option BranchAnchor) (waits : List (List ℕ × ℕ)) → held.section ≡ Some s
-    → held_items test held ≤ n → length more + length waits ≤ length held.waiting + k → held_items test (section_with s more place held waits) ≤ n + k
-few_with test n k held s more place waits e few less =
+few_with : (test : List ℕ) (n k : ℕ) (held : HeldData) (s : SectionData) (more : List ItemData) (anchor : Option BranchAnchor) (waits : List (List ℕ × ℕ)) → held.section ≡ Some s
+    → held_items test held ≤ n → length more + length waits ≤ length held.waiting + k → held_items test (section_with s more anchor held waits) ≤ n + k
+few_with test n k held s more anchor waits e few less =
     let old : SectData = record { test = test; file = s.file; items = s.items } in
     let now : SectData = record { test = test; file = s.file; items = s.items ++ more } in
     let before : items_in (held.sects ++ closed test held.section) ≡ items_in held.sects + length s.items
@@ -252,28 +252,28 @@ func_step test n held name count h good small = record {
   few = omega (arith, h.few, length-append held.waiting ((name, count) ∷ []));
 }
 
-branch_in : (test : List ℕ) (at n : ℕ) (held : HeldData) (branch : ℕ) (taken : Option ℕ) (o : SectionData) (place : Option BranchAnchor) → held.section ≡ Some o → IsGoodSection (Some o) → IsSmallPlace place
-    → IsGoodHeld test n held → IsSmall branch → IsSmallIf taken → IsGoodStep test (n + 1) (step_branch_in at o place held branch taken)
+branch_in : (test : List ℕ) (at n : ℕ) (held : HeldData) (branch : ℕ) (taken : Option ℕ) (o : SectionData) (anchor : Option BranchAnchor) → held.section ≡ Some o → IsGoodSection (Some o) → IsSmallAnchor anchor
+    → IsGoodHeld test n held → IsSmall branch → IsSmallIf taken → IsGoodStep test (n + 1) (step_branch_in at o anchor held branch taken)
 branch_in test at n held branch taken o None e g small h b t = tt
 branch_in test at n held branch taken o (Some p) e g small h b t = record {
   funcs = h.funcs;
   sects = h.sects;
   section = (g.0, all_joined IsGoodItem o.items (BranchItem p.line p.block branch taken ∷ []) g.1 (record { fits = branch_fits p.line p.block branch taken small.0 small.1 b t; lawful = tt }, tt), g.2);
-  few = few_with test n 1 held o (BranchItem p.line p.block branch taken ∷ []) o.place held.waiting e h.few (omega arith);
+  few = few_with test n 1 held o (BranchItem p.line p.block branch taken ∷ []) o.anchor held.waiting e h.few (omega arith);
 }
 
 branch_step : (test : List ℕ) (at n : ℕ) (held : HeldData) (branch : ℕ) (taken : Option ℕ) (section : Option SectionData) → held.section ≡ section → IsGoodSection section
     → IsGoodHeld test n held → IsSmall branch → IsSmallIf taken → IsGoodStep test (n + 1) (step_branch at section held branch taken)
 branch_step test at n held branch taken None e g h b t = tt
-branch_step test at n held branch taken (Some o) e g h b t = branch_in test at n held branch taken o o.place e g g.2 h b t
+branch_step test at n held branch taken (Some o) e g h b t = branch_in test at n held branch taken o o.anchor e g g.2 h b t
 
-place_small : (block : ℕ) (place : Option BranchAnchor) → IsSmall block → IsSmallPlace place → IsSmallPlace (option_map (in_block block) place)
-place_small block None b p = tt
-place_small block (Some x) b p = (p.0, b)
+anchor_small : (block : ℕ) (anchor : Option BranchAnchor) → IsSmall block → IsSmallAnchor anchor → IsSmallAnchor (option_map (in_block block) anchor)
+anchor_small block None b p = tt
+anchor_small block (Some x) b p = (p.0, b)
 
 section_good : (block : ℕ) (section : Option SectionData) → IsSmall block → IsGoodSection section → IsGoodSection (option_map (section_in_block block) section)
 section_good block None b g = tt
-section_good block (Some s) b g = (g.0, g.1, place_small block s.place b g.2)
+section_good block (Some s) b g = (g.0, g.1, anchor_small block s.anchor b g.2)
 
 closed_block : (test : List ℕ) (block : ℕ) (section : Option SectionData) → closed test (option_map (section_in_block block) section) ≡ closed test section
 closed_block test block None = refl

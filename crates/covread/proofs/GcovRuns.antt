@@ -17,13 +17,13 @@ use Rattle.covread.proofs.GcovPlaces.{any-yes, any-no, after_last-yes, after_las
 
 -- this is where a branch below these lines belongs: the last source line and its last block; `None` if no source line comes
 -- after the last path
-abbrev pub PlaceStands : List GcovLine → Option BranchAnchor → Type 0
-PlaceStands above None = has_line above ≡ false
-PlaceStands above (Some p) = (has_line above ≡ true) × (line_above above ≡ Some p.line) × (block_above above ≡ p.block)
+abbrev pub AnchorStands : List GcovLine → Option BranchAnchor → Type 0
+AnchorStands above None = has_line above ≡ false
+AnchorStands above (Some p) = (has_line above ≡ true) × (line_above above ≡ Some p.line) × (block_above above ≡ p.block)
 
 abbrev pub SectionStands : List GcovLine → Option SectionData → Type 0
 SectionStands above None = has_path above ≡ false
-SectionStands above (Some s) = (has_path above ≡ true) × PlaceStands above s.place
+SectionStands above (Some s) = (has_path above ≡ true) × AnchorStands above s.anchor
 
 pub record Stands (test : List ℕ) (above : List GcovLine) (held : HeldData) : Type 0 where
   pub waits : held.waiting ≡ waiting above
@@ -77,11 +77,11 @@ no_items test above says fails given =
 
 -- ---- each kind of line
 
--- a line that is no path, no source line and no block line leaves the place of branches as it is
-place_same : (above : List GcovLine) (says : GcovLine) (place : Option BranchAnchor) → is_path says ≡ false → source_number says ≡ None → block_number says ≡ None
-    → PlaceStands above place → PlaceStands (above ++ says ∷ []) place
-place_same above says None no_path no_source no_block stands = line_same above says no_path (ap (λ (o : Option ℕ). is_some o) no_source) ∙ stands
-place_same above says (Some p) no_path no_source no_block stands = (
+-- a line that is no path, no source line and no block line leaves the anchor of branches as it is
+anchor_same : (above : List GcovLine) (says : GcovLine) (anchor : Option BranchAnchor) → is_path says ≡ false → source_number says ≡ None → block_number says ≡ None
+    → AnchorStands above anchor → AnchorStands (above ++ says ∷ []) anchor
+anchor_same above says None no_path no_source no_block stands = line_same above says no_path (ap (λ (o : Option ℕ). is_some o) no_source) ∙ stands
+anchor_same above says (Some p) no_path no_source no_block stands = (
   line_same above says no_path (ap (λ (o : Option ℕ). is_some o) no_source) ∙ stands.0,
   last_number-more source_number above says ∙ ap (λ (o : Option ℕ). option_or o (line_above above)) no_source ∙ stands.1,
   ap (λ (ls : List GcovLine). or_zero (last_number block_number ls)) (after_last-no is_source above says (ap (λ (o : Option ℕ). is_some o) no_source))
@@ -93,7 +93,7 @@ place_same above says (Some p) no_path no_source no_block stands = (
 section_same : (above : List GcovLine) (says : GcovLine) (section : Option SectionData) → is_path says ≡ false → source_number says ≡ None → block_number says ≡ None
     → SectionStands above section → SectionStands (above ++ says ∷ []) section
 section_same above says None no_path no_source no_block stands = path_same above says no_path ∙ stands
-section_same above says (Some s) no_path no_source no_block stands = (path_same above says no_path ∙ stands.0, place_same above says s.place no_path no_source no_block stands.1)
+section_same above says (Some s) no_path no_source no_block stands = (path_same above says no_path ∙ stands.0, anchor_same above says s.anchor no_path no_source no_block stands.1)
 
 -- ---- the steps
 
@@ -128,8 +128,8 @@ goes_path test at above held (b ∷ bs) s =
           inr (faults.LostFunction, rw some refl, rw left refl)
     ]
 
-line_place : (above : List GcovLine) (line : ℕ) (count : Option ℕ) → has_path above ≡ true → PlaceStands (above ++ SourceLine line count ∷ []) (Some (record { line = line; block = 0 }))
-line_place above line count some = (
+line_anchor : (above : List GcovLine) (line : ℕ) (count : Option ℕ) → has_path above ≡ true → AnchorStands (above ++ SourceLine line count ∷ []) (Some (record { line = line; block = 0 }))
+line_anchor above line count some = (
   rw (any-no is_path above (SourceLine line count) refl, some, after_last-no is_path above (SourceLine line count) refl, any-yes is_source (after_last is_path above) (SourceLine line count) refl) refl,
   last_number-more source_number above (SourceLine line count),
   ap (λ (ls : List GcovLine). or_zero (last_number block_number ls)) (after_last-yes is_source above (SourceLine line count) refl),
@@ -148,7 +148,7 @@ goes_source_in test at above held line count (Some o) e s stands =
         waits = sym (waits_none above (SourceLine line count) refl);
         sects = more_items test above (SourceLine line count) held.sects o items refl (s.sects ∙ ap (λ (x : Option SectionData). held.sects ++ closed test x) e)
             (ap (λ (w : List (List ℕ × ℕ)). map (func_item line) w ++ line_item line count) (sym s.waits));
-        section = (path_same above (SourceLine line count) refl ∙ stands.0, line_place above line count stands.0);
+        section = (path_same above (SourceLine line count) refl ∙ stands.0, line_anchor above line count stands.0);
       },
     )
 
@@ -176,31 +176,31 @@ goes_nothing test at above held s = inl (
   },
 )
 
-goes_branch_at : (test : List ℕ) (at : ℕ) (above : List GcovLine) (held : HeldData) (branch : ℕ) (taken : Option ℕ) (o : SectionData) (place : Option BranchAnchor) → held.section ≡ Some o → o.place ≡ place
-    → Stands test above held → SectionStands above (Some o) → PlaceStands above place → Goes test at above held (BranchCount branch taken)
+goes_branch_at : (test : List ℕ) (at : ℕ) (above : List GcovLine) (held : HeldData) (branch : ℕ) (taken : Option ℕ) (o : SectionData) (anchor : Option BranchAnchor) → held.section ≡ Some o → o.anchor ≡ anchor
+    → Stands test above held → SectionStands above (Some o) → AnchorStands above anchor → Goes test at above held (BranchCount branch taken)
 goes_branch_at test at above held branch taken o None e f s stands here = inr (faults.Misplaced at, rw (e, f) refl, rw here refl)
 goes_branch_at test at above held branch taken o (Some p) e f s stands here =
     let items = BranchItem p.line p.block branch taken ∷ [] in
     inl (
-      section_with o items o.place held held.waiting,
+      section_with o items o.anchor held held.waiting,
       rw (e, f) refl,
       rw here.0 refl,
       record {
         waits = s.waits ∙ sym (append-nil (waiting above)) ∙ sym (waits_same above (BranchCount branch taken) refl);
         sects = more_items test above (BranchCount branch taken) held.sects o items refl (s.sects ∙ ap (λ (x : Option SectionData). held.sects ++ closed test x) e)
             (rw (here.1, here.2) refl);
-        section = (path_same above (BranchCount branch taken) refl ∙ stands.0, place_same above (BranchCount branch taken) o.place refl refl refl stands.1);
+        section = (path_same above (BranchCount branch taken) refl ∙ stands.0, anchor_same above (BranchCount branch taken) o.anchor refl refl refl stands.1);
       },
     )
 
 goes_branch : (test : List ℕ) (at : ℕ) (above : List GcovLine) (held : HeldData) (branch : ℕ) (taken : Option ℕ) (section : Option SectionData) → held.section ≡ section
     → Stands test above held → SectionStands above section → Goes test at above held (BranchCount branch taken)
 goes_branch test at above held branch taken None e s stands = inr (faults.Misplaced at, rw e refl, rw stands refl)
-goes_branch test at above held branch taken (Some o) e s stands = goes_branch_at test at above held branch taken o o.place e refl s stands stands.1
+goes_branch test at above held branch taken (Some o) e s stands = goes_branch_at test at above held branch taken o o.anchor e refl s stands stands.1
 
-place_in_block : (above : List GcovLine) (block : ℕ) (place : Option BranchAnchor) → PlaceStands above place → PlaceStands (above ++ BlockNumber block ∷ []) (option_map (in_block block) place)
-place_in_block above block None stands = line_same above (BlockNumber block) refl refl ∙ stands
-place_in_block above block (Some p) stands = (
+anchor_in_block : (above : List GcovLine) (block : ℕ) (anchor : Option BranchAnchor) → AnchorStands above anchor → AnchorStands (above ++ BlockNumber block ∷ []) (option_map (in_block block) anchor)
+anchor_in_block above block None stands = line_same above (BlockNumber block) refl refl ∙ stands
+anchor_in_block above block (Some p) stands = (
   line_same above (BlockNumber block) refl refl ∙ stands.0,
   last_number-more source_number above (BlockNumber block) ∙ stands.1,
   ap (λ (ls : List GcovLine). or_zero (last_number block_number ls)) (after_last-no is_source above (BlockNumber block) refl)
@@ -209,7 +209,7 @@ place_in_block above block (Some p) stands = (
 
 section_block : (above : List GcovLine) (block : ℕ) (section : Option SectionData) → SectionStands above section → SectionStands (above ++ BlockNumber block ∷ []) (option_map (section_in_block block) section)
 section_block above block None stands = path_same above (BlockNumber block) refl ∙ stands
-section_block above block (Some s) stands = (path_same above (BlockNumber block) refl ∙ stands.0, place_in_block above block s.place stands.1)
+section_block above block (Some s) stands = (path_same above (BlockNumber block) refl ∙ stands.0, anchor_in_block above block s.anchor stands.1)
 
 closed_block : (test : List ℕ) (block : ℕ) (section : Option SectionData) → closed test (option_map (section_in_block block) section) ≡ closed test section
 closed_block test block None = refl

@@ -3,7 +3,7 @@ use Rattle.std.proofs.Common.{refl, ◌≡◌, true, false, ℕ, List, Option, S
 use Rattle.std.specs.Option.{is_some}
 use Rattle.covline.specs.Spells.{LineData, Test, Skip}
 use Rattle.covread.specs.declared.fault.ReadFault.TheVariants as faults
-use Rattle.covread.specs.declared.trace.misplaced.Misplaced.TheVariants as misplaced
+use Rattle.covread.specs.declared.trace.placement_fault.PlacementFault.TheVariants as placement
 use Rattle.covread.specs.declared.trace.reader.OpenSection.{OpenSection}
 use Rattle.covread.specs.TraceSteps.{HeldData, section_data, step_at, IsLawfulAt, ends_at, submission_held}
 use Rattle.covline.specs.Lawful.{IsLawful}
@@ -11,7 +11,7 @@ use Rattle.covline.specs.Lawful.{IsLawful}
 module _ {A : Type 0} (inside : List LineData) (held : HeldData) where
   -- a test's name
   pub test_within : (name : List ℕ) (section : Option (OpenSection A)) → true ≡ is_some section
-      → step_at (option_map (section_data inside) section) held (Test name) ≡ Err misplaced.Inside
+      → step_at (option_map (section_data inside) section) held (Test name) ≡ Err placement.Inside
   test_within name None e = absurd cc
   test_within name (Some s) e = refl
 

@@ -7,8 +7,8 @@ use Rattle.std.proofs.lemmas.List.Sums.{sum_by_push}
 use Rattle.covline.specs.Row.{ItemData, SectData}
 use Rattle.covline.specs.Spells.{LineData, Test, Path, End, Skip, Spells}
 use Rattle.covread.specs.declared.fault.ReadFault.TheVariants as faults
-use Rattle.covread.specs.declared.trace.misplaced.Misplaced.{Misplaced}
-use Rattle.covread.specs.declared.trace.misplaced.Misplaced.TheVariants as misplaced
+use Rattle.covread.specs.declared.trace.placement_fault.PlacementFault.{PlacementFault}
+use Rattle.covread.specs.declared.trace.placement_fault.PlacementFault.TheVariants as placement
 use Rattle.covread.specs.Reads.{Part, Outside, Section, items_of, is_odd, odd_in, test_after, sects_from}
 use Rattle.covread.specs.Outcome.{IsFirstFault}
 use Rattle.covread.specs.TraceSteps.{SectionData, HeldData, empty, closed, step}
@@ -53,13 +53,13 @@ sects_push test [] part = refl
 sects_push test (Outside says ∷ parts) part = sects_push (test_after test says) parts part
 sects_push test (Section path inside ∷ parts) part = ap (λ (x : List SectData). record { test = test; file = path; items = items_of inside } ∷ x) (sects_push test parts part)
 
-ok_is : (x y : HeldData) → (let a : Result HeldData Misplaced = Ok x in let b : Result HeldData Misplaced = Ok y in a ≡ b) → x ≡ y
+ok_is : (x y : HeldData) → (let a : Result HeldData PlacementFault = Ok x in let b : Result HeldData PlacementFault = Ok y in a ≡ b) → x ≡ y
 ok_is x y e = cc
 
-no_error : (x : HeldData) (m : Misplaced) → (let a : Result HeldData Misplaced = Ok x in let b : Result HeldData Misplaced = Err m in a ≡ b) → ⊥
+no_error : (x : HeldData) (m : PlacementFault) → (let a : Result HeldData PlacementFault = Ok x in let b : Result HeldData PlacementFault = Err m in a ≡ b) → ⊥
 no_error x m e = absurd cc
 
-two_errors : (let a : Result HeldData Misplaced = Err misplaced.Outside in let b : Result HeldData Misplaced = Err misplaced.Inside in a ≡ b) → ⊥
+two_errors : (let a : Result HeldData PlacementFault = Err placement.Outside in let b : Result HeldData PlacementFault = Err placement.Inside in a ≡ b) → ⊥
 two_errors e = absurd cc
 
 -- ---- one more line
@@ -130,7 +130,7 @@ holds_more lines line before after says h spells e =
 -- ---- a misplaced line
 
 outside_stop : LineLaw → (lines : List (List ℕ)) (line : List ℕ) (rest all : List (List ℕ)) (parts : List Part) (place : Place) (says : LineData)
-    → Stands lines parts place → all ≡ lines ++ line ∷ rest → Spells line says → step (held_of parts place) says ≡ Err misplaced.Outside → IsFirstFault all (faults.Outside (length lines + 1))
+    → Stands lines parts place → all ≡ lines ++ line ∷ rest → Spells line says → step (held_of parts place) says ≡ Err placement.Outside → IsFirstFault all (faults.Outside (length lines + 1))
 outside_stop line_law lines line rest all parts Between (Test name) s e spells f = absurd cc
 outside_stop line_law lines line rest all parts Between (Path path) s e spells f = absurd cc
 outside_stop line_law lines line rest all parts Between Skip s e spells f = absurd cc
@@ -139,7 +139,7 @@ outside_stop line_law lines line rest all parts (Within path inside) End s e spe
 outside_stop line_law lines line rest all parts (Within path inside) says s e spells f = absurd cc
 
 inside_stop : LineLaw → (lines : List (List ℕ)) (line : List ℕ) (rest all : List (List ℕ)) (parts : List Part) (place : Place) (says : LineData)
-    → Stands lines parts place → all ≡ lines ++ line ∷ rest → Spells line says → step (held_of parts place) says ≡ Err misplaced.Inside → IsFirstFault all (faults.Inside (length lines + 1))
+    → Stands lines parts place → all ≡ lines ++ line ∷ rest → Spells line says → step (held_of parts place) says ≡ Err placement.Inside → IsFirstFault all (faults.Inside (length lines + 1))
 inside_stop line_law lines line rest all parts (Within path inside) (Test name) s e spells f = stop_inside line_law lines parts path inside line rest all (Test name) s e spells tt
 inside_stop line_law lines line rest all parts (Within path inside) (Path other) s e spells f = stop_inside line_law lines parts path inside line rest all (Path other) s e spells tt
 inside_stop line_law lines line rest all parts (Within path inside) End s e spells f = absurd (no_error _ _ f)
@@ -150,11 +150,11 @@ inside_stop line_law lines line rest all parts Between Skip s e spells f = absur
 inside_stop line_law lines line rest all parts Between says s e spells f = absurd (two_errors f)
 
 pub holds_outside : LineLaw → (lines : List (List ℕ)) (line : List ℕ) (rest all : List (List ℕ)) (before : HeldData) (says : LineData) → Holds lines before → all ≡ lines ++ line ∷ rest
-    → Spells line says → step before says ≡ Err misplaced.Outside → IsFirstFault all (faults.Outside (length lines + 1))
+    → Spells line says → step before says ≡ Err placement.Outside → IsFirstFault all (faults.Outside (length lines + 1))
 holds_outside line_law lines line rest all before says h e spells f =
-    outside_stop line_law lines line rest all h.parts h.place says h.stands e spells (subst (λ (x : HeldData). step x says ≡ Err misplaced.Outside) h.is f)
+    outside_stop line_law lines line rest all h.parts h.place says h.stands e spells (subst (λ (x : HeldData). step x says ≡ Err placement.Outside) h.is f)
 
 pub holds_inside : LineLaw → (lines : List (List ℕ)) (line : List ℕ) (rest all : List (List ℕ)) (before : HeldData) (says : LineData) → Holds lines before → all ≡ lines ++ line ∷ rest
-    → Spells line says → step before says ≡ Err misplaced.Inside → IsFirstFault all (faults.Inside (length lines + 1))
+    → Spells line says → step before says ≡ Err placement.Inside → IsFirstFault all (faults.Inside (length lines + 1))
 holds_inside line_law lines line rest all before says h e spells f =
-    inside_stop line_law lines line rest all h.parts h.place says h.stands e spells (subst (λ (x : HeldData). step x says ≡ Err misplaced.Inside) h.is f)
+    inside_stop line_law lines line rest all h.parts h.place says h.stands e spells (subst (λ (x : HeldData). step x says ≡ Err placement.Inside) h.is f)

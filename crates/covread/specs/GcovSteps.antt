@@ -18,7 +18,7 @@ use Rattle.covread.specs.GcovOutcome.{own_fault, HasBegun}
 pub record SectionData : Type 0 where
   pub file : List ℕ
   pub items : List ItemData
-  pub place : Option BranchAnchor
+  pub anchor : Option BranchAnchor
 
 pub record HeldData : Type 0 where
   pub waiting : List (List ℕ × ℕ)
@@ -29,7 +29,7 @@ abbrev pub func_data : Function → List ℕ × ℕ
 func_data f = (f.name.now, f.count)
 
 abbrev pub section_data : {A : Type 0} → OpenSection A → SectionData
-section_data s = record { file = s.file; items = s.items; place = s.place }
+section_data s = record { file = s.file; items = s.items; anchor = s.anchor }
 
 abbrev pub held_data : {A : Type 0} → Reader A → HeldData
 held_data r = record { waiting = map func_data r.waiting.items; section = option_map section_data r.section; sects = r.sects }
@@ -43,15 +43,15 @@ abbrev pub closed : List ℕ → Option SectionData → List SectData
 closed test None = []
 closed test (Some s) = record { test = test; file = s.file; items = s.items } ∷ []
 
--- what is held after the open section got more items and another place; these functions wait
+-- what is held after the open section got more items and another anchor; these functions wait
 abbrev pub section_with : SectionData → List ItemData → Option BranchAnchor → HeldData → List (List ℕ × ℕ) → HeldData
-section_with s more place held waiting = record { waiting = waiting; section = Some (record { file = s.file; items = s.items ++ more; place = place }); sects = held.sects }
+section_with s more anchor held waiting = record { waiting = waiting; section = Some (record { file = s.file; items = s.items ++ more; anchor = anchor }); sects = held.sects }
 
 abbrev pub Stepped : Type 0
 Stepped = Result HeldData ReadFault
 
 abbrev pub begun : List ℕ → List ℕ → HeldData → HeldData
-begun test path held = record { waiting = held.waiting; section = Some (record { file = path; items = []; place = None }); sects = held.sects ++ closed test held.section }
+begun test path held = record { waiting = held.waiting; section = Some (record { file = path; items = []; anchor = None }); sects = held.sects ++ closed test held.section }
 
 abbrev pub step_path : List ℕ → ℕ → HeldData → List ℕ → Stepped
 step_path test at held [] = Err (faults.NoSource at)
@@ -67,17 +67,17 @@ step_func held name count = record { waiting = held.waiting ++ (name, count) ∷
 
 abbrev pub step_branch_in : ℕ → SectionData → Option BranchAnchor → HeldData → ℕ → Option ℕ → Stepped
 step_branch_in at s None held branch taken = Err (faults.Misplaced at)
-step_branch_in at s (Some p) held branch taken = Ok (section_with s (BranchItem p.line p.block branch taken ∷ []) s.place held held.waiting)
+step_branch_in at s (Some p) held branch taken = Ok (section_with s (BranchItem p.line p.block branch taken ∷ []) s.anchor held held.waiting)
 
 abbrev pub step_branch : ℕ → Option SectionData → HeldData → ℕ → Option ℕ → Stepped
 step_branch at None held branch taken = Err (faults.Misplaced at)
-step_branch at (Some s) held branch taken = step_branch_in at s s.place held branch taken
+step_branch at (Some s) held branch taken = step_branch_in at s s.anchor held branch taken
 
 abbrev pub in_block : ℕ → BranchAnchor → BranchAnchor
 in_block block p = record { line = p.line; block = block }
 
 abbrev pub section_in_block : ℕ → SectionData → SectionData
-section_in_block block s = record { file = s.file; items = s.items; place = option_map (in_block block) s.place }
+section_in_block block s = record { file = s.file; items = s.items; anchor = option_map (in_block block) s.anchor }
 
 abbrev pub step_block : HeldData → ℕ → HeldData
 step_block held block = record { waiting = held.waiting; section = option_map (section_in_block block) held.section; sects = held.sects }

@@ -6,8 +6,8 @@ use Rattle.covline.specs.Spells.{LineData, Test, Path, End, Skip, Spells, HasFau
 use Rattle.covline.specs.Lawful.{IsLawful}
 use Rattle.covread.specs.declared.trace.reader.OpenSection.{OpenSection}
 use Rattle.covread.specs.declared.trace.reader.Reader.{Reader}
-use Rattle.covread.specs.declared.trace.misplaced.Misplaced.{Misplaced}
-use Rattle.covread.specs.declared.trace.misplaced.Misplaced.TheVariants as misplaced
+use Rattle.covread.specs.declared.trace.placement_fault.PlacementFault.{PlacementFault}
+use Rattle.covread.specs.declared.trace.placement_fault.PlacementFault.TheVariants as placement
 use Rattle.covread.specs.declared.fault.ReadFault.{ReadFault}
 use Rattle.covread.specs.declared.fault.ReadFault.TheVariants as faults
 use Rattle.covread.specs.Outcome.{Answers, GrowsLate}
@@ -61,25 +61,25 @@ closed s held = record {
 }
 
 -- the step of one line, if no section is open
-abbrev pub step_between : HeldData → LineData → Result HeldData Misplaced
+abbrev pub step_between : HeldData → LineData → Result HeldData PlacementFault
 step_between held (Test name) = Ok (record { test = name; section = None; sects = held.sects; odd = held.odd })
 step_between held (Path path) = Ok (record { test = held.test; section = Some (record { file = path; lines = [] }); sects = held.sects; odd = held.odd })
 step_between held Skip = Ok held
-step_between held says = Err misplaced.Outside
+step_between held says = Err placement.Outside
 
 -- the step of one line in this open section
-abbrev pub step_within : SectionData → HeldData → LineData → Result HeldData Misplaced
-step_within s held (Test name) = Err misplaced.Inside
-step_within s held (Path path) = Err misplaced.Inside
+abbrev pub step_within : SectionData → HeldData → LineData → Result HeldData PlacementFault
+step_within s held (Test name) = Err placement.Inside
+step_within s held (Path path) = Err placement.Inside
 step_within s held End = Ok (closed s held)
 step_within s held Skip = Ok held
 step_within s held says = Ok (kept s held says)
 
-abbrev pub step_at : Option SectionData → HeldData → LineData → Result HeldData Misplaced
+abbrev pub step_at : Option SectionData → HeldData → LineData → Result HeldData PlacementFault
 step_at None held says = step_between held says
 step_at (Some s) held says = step_within s held says
 
-abbrev pub step : HeldData → LineData → Result HeldData Misplaced
+abbrev pub step : HeldData → LineData → Result HeldData PlacementFault
 step held says = step_at held.section held says
 
 -- the line may take memory: it is a path that begins a section, or a section is open
@@ -89,11 +89,11 @@ GrowsAt None says = ⊥
 GrowsAt (Some s) says = Unit {0}
 
 -- a step of the code makes what the step on plain data makes, unless memory ran out
-abbrev pub Steps : {A T : Type 0} → Result T Misplaced → HeldData → Reader A → LineData → Type 0
+abbrev pub Steps : {A T : Type 0} → Result T PlacementFault → HeldData → Reader A → LineData → Type 0
 Steps (Ok done) before after says = (inside : List LineData) × (step before says ≡ Ok (held_data after inside)) × IsOpen after.section inside
-Steps (Err misplaced.Outside) before after says = step before says ≡ Err misplaced.Outside
-Steps (Err misplaced.Inside) before after says = step before says ≡ Err misplaced.Inside
-Steps (Err misplaced.Memory) before after says = GrowsAt before.section says
+Steps (Err placement.Outside) before after says = step before says ≡ Err placement.Outside
+Steps (Err placement.Inside) before after says = step before says ≡ Err placement.Inside
+Steps (Err placement.Memory) before after says = GrowsAt before.section says
 
 -- the records that are kept of the open section, if there is one
 abbrev pub kept_in : Option SectionData → List LineData
@@ -103,16 +103,16 @@ kept_in (Some s) = s.lines
 -- why a reader doesn't take a line; lines are counted from 1
 abbrev pub StopsAt : ReadFault → HeldData → List ℕ → ℕ → Type 0
 StopsAt (faults.Line n fault) before line at = (n ≡ at) × HasFault line fault
-StopsAt (faults.Outside n) before line at = (n ≡ at) × (says : LineData) × Spells line says × (step before says ≡ Err misplaced.Outside)
-StopsAt (faults.Inside n) before line at = (n ≡ at) × (says : LineData) × Spells line says × (step before says ≡ Err misplaced.Inside)
+StopsAt (faults.Outside n) before line at = (n ≡ at) × (says : LineData) × Spells line says × (step before says ≡ Err placement.Outside)
+StopsAt (faults.Inside n) before line at = (n ≡ at) × (says : LineData) × Spells line says × (step before says ≡ Err placement.Inside)
 StopsAt faults.Memory before line at = (says : LineData) × Spells line says × GrowsAt before.section says
 StopsAt other before line at = ⊥
 
 -- the fault of a line that isn't taken
-abbrev pub misplaced_at : Misplaced → ℕ → ReadFault
-misplaced_at misplaced.Outside at = faults.Outside at
-misplaced_at misplaced.Inside at = faults.Inside at
-misplaced_at misplaced.Memory at = faults.Memory
+abbrev pub fault_at : PlacementFault → ℕ → ReadFault
+fault_at placement.Outside at = faults.Outside at
+fault_at placement.Inside at = faults.Inside at
+fault_at placement.Memory at = faults.Memory
 
 -- what a reader makes of a line, or why it doesn't take it
 abbrev pub TakesLine : {A T : Type 0} → Result T ReadFault → HeldData → Reader A → List ℕ → ℕ → Type 0

@@ -2,7 +2,7 @@
 
 mod functions;
 pub mod laws;
-mod misplaced;
+mod placement_fault;
 mod points;
 mod read;
 mod reader;

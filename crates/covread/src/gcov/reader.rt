@@ -40,7 +40,7 @@ pub struct OpenSection<A: Allocator> {
     /// Its items so far.
     pub items: Items<A>,
     /// Its last source line with that line's last block, if it has a source line.
-    pub place: Option<BranchAnchor>,
+    pub anchor: Option<BranchAnchor>,
 }
 
 /// What a reader holds between two lines.
@@ -106,7 +106,7 @@ impl<'a, A: Allocator + Copy> Reader<'a, A> {
         self.section = Some(OpenSection {
             file: Bytes::of(alloc, path)?,
             items: Items::new(alloc),
-            place: None,
+            anchor: None,
         });
         Ok(())
     }
@@ -139,7 +139,7 @@ impl<'a, A: Allocator + Copy> Reader<'a, A> {
         if let Some(section) = &mut self.section {
             push_functions(alloc, &mut section.items, &self.waiting, line)?;
             push_line(&mut section.items, line, count)?;
-            section.place = Some(BranchAnchor { line, block: 0 });
+            section.anchor = Some(BranchAnchor { line, block: 0 });
             self.waiting.clear();
             return Ok(());
         }
@@ -161,7 +161,7 @@ impl<'a, A: Allocator + Copy> Reader<'a, A> {
         ensures test { self.new.test.now ≡ self.old.test.now }
     {
         if let Some(section) = &mut self.section {
-            if let Some(BranchAnchor { line, block }) = section.place {
+            if let Some(BranchAnchor { line, block }) = section.anchor {
                 section.items.push(Item::Branch {
                     line,
                     block,
@@ -181,8 +181,8 @@ impl<'a, A: Allocator + Copy> Reader<'a, A> {
         ensures test { self.new.test.now ≡ self.old.test.now }
     {
         if let Some(section) = &mut self.section {
-            if let Some(place) = &mut section.place {
-                place.block = block;
+            if let Some(anchor) = &mut section.anchor {
+                anchor.block = block;
             }
         }
     }

@@ -6,10 +6,10 @@ ghost use Rattle.covread.specs.declared.fault.ReadFault.{ReadFault as Fault};
 ghost use Rattle.covread.specs.Outcome.{max_bytes, IsOutcome, Answers, GrowsLate, IsOrMemory};
 ghost use Rattle.covline.specs.Lines.{lines_of};
 ghost use Rattle.covline.specs.Spells.{LineData, Branch, Line, Spells};
-ghost use Rattle.covread.specs.TraceSteps.{held_data, HasRoom, IsOpen, ReadsTo, TakesLine, misplaced_at};
+ghost use Rattle.covread.specs.TraceSteps.{held_data, HasRoom, IsOpen, ReadsTo, TakesLine, fault_at};
 
 use crate::fault::{MAX_BYTES, ReadFault};
-use crate::trace::misplaced::Misplaced;
+use crate::trace::placement_fault::PlacementFault;
 use crate::trace::reader::Reader;
 use covline::{
     BranchPoint, Submission, each_line_has_one_meaning, first_line, lines_are_the_text, read_line,
@@ -137,12 +137,12 @@ fn take_line<'a, A: Allocator + Copy>(
 }
 
 /// The text's fault if the line with this number isn't taken for this reason.
-fn fault_at(why: Misplaced, at: u64) -> ReadFault
-    ensures { result ≡ misplaced_at why at }
+fn fault_at(why: PlacementFault, at: u64) -> ReadFault
+    ensures { result ≡ fault_at why at }
 {
     match why {
-        Misplaced::Outside => ReadFault::Outside { at },
-        Misplaced::Inside => ReadFault::Inside { at },
-        Misplaced::Memory => ReadFault::Memory,
+        PlacementFault::Outside => ReadFault::Outside { at },
+        PlacementFault::Inside => ReadFault::Inside { at },
+        PlacementFault::Memory => ReadFault::Memory,
     }
 }

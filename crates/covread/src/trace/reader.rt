@@ -6,7 +6,7 @@ ghost use Rattle.covread.specs.TraceSection.{IsKept};
 ghost use Rattle.covread.specs.TraceSteps.{held_data, empty, IsOpen, HasRoom, Steps, ends, EndsLawfully};
 
 use crate::fault::ReadFault;
-use crate::trace::misplaced::Misplaced;
+use crate::trace::placement_fault::PlacementFault;
 use crate::trace::section::SectionBuilder;
 use crate::trace::settle::{ClosedSection, settle};
 use crate::wide::wide;
@@ -50,7 +50,7 @@ impl<'a, A: Allocator + Copy> Reader<'a, A> {
     }
 
     /// Takes what one line says.
-    pub fn take(&mut self, alloc: A, line: TraceLine<'a>) -> Result<(), Misplaced>
+    pub fn take(&mut self, alloc: A, line: TraceLine<'a>) -> Result<(), PlacementFault>
         requires { (inside : List LineData) × HasRoom self.old inside }
         ensures { (inside : List LineData) → IsOpen self.old.section inside → Steps result (held_data self.old inside) self.new (line_data line.entry) }
     {
@@ -68,22 +68,22 @@ impl<'a, A: Allocator + Copy> Reader<'a, A> {
     }
 
     /// Takes the test name of the sections that follow.
-    fn name_test(&mut self, name: &'a [u8]) -> Result<(), Misplaced>
+    fn name_test(&mut self, name: &'a [u8]) -> Result<(), PlacementFault>
         ensures { (inside : List LineData) → IsOpen self.old.section inside → Steps result (held_data self.old inside) self.new (Test name.now) }
     {
         if self.section.is_some() {
-            return Err(Misplaced::Inside);
+            return Err(PlacementFault::Inside);
         }
         self.test = name;
         Ok(())
     }
 
     /// Begins a section.
-    fn begin(&mut self, alloc: A, path: &[u8]) -> Result<(), Misplaced>
+    fn begin(&mut self, alloc: A, path: &[u8]) -> Result<(), PlacementFault>
         ensures { (inside : List LineData) → IsOpen self.old.section inside → Steps result (held_data self.old inside) self.new (Path path.now) }
     {
         if self.section.is_some() {
-            return Err(Misplaced::Inside);
+            return Err(PlacementFault::Inside);
         }
         self.section = Some(OpenSection {
             file: Bytes::of(alloc, path)?,
@@ -93,7 +93,7 @@ impl<'a, A: Allocator + Copy> Reader<'a, A> {
     }
 
     /// Takes a line of the open section.
-    fn keep(&mut self, alloc: A, line: TraceLine<'a>) -> Result<(), Misplaced>
+    fn keep(&mut self, alloc: A, line: TraceLine<'a>) -> Result<(), PlacementFault>
         requires room { (inside : List LineData) × HasRoom self.old inside }
         requires kept { IsKept (line_data line) }
         ensures { (inside : List LineData) → IsOpen self.old.section inside → Steps result (held_data self.old inside) self.new (line_data line.entry) }
@@ -102,7 +102,7 @@ impl<'a, A: Allocator + Copy> Reader<'a, A> {
             section.builder.take(alloc, line)?;
             return Ok(());
         }
-        Err(Misplaced::Outside)
+        Err(PlacementFault::Outside)
     }
 
     /// Takes the count of a source line, which a line of the open section says.
@@ -113,7 +113,7 @@ impl<'a, A: Allocator + Copy> Reader<'a, A> {
         line: u64,
         count: u64,
         checksum: Option<&[u8]>,
-    ) -> Result<(), Misplaced>
+    ) -> Result<(), PlacementFault>
         requires { (inside : List LineData) × HasRoom self.old inside }
         ensures { (inside : List LineData) → IsOpen self.old.section inside → Steps result (held_data self.old inside) self.new (Line line count (option_map (λ c. c.now) checksum.entry)) }
     {
@@ -123,12 +123,16 @@ impl<'a, A: Allocator + Copy> Reader<'a, A> {
                 .take_line(alloc, line, u128::from(count), checksum)?;
             return Ok(());
         }
-        Err(Misplaced::Outside)
+        Err(PlacementFault::Outside)
     }
 
     /// Takes how often a branch was taken, which a line of the open section says.
     #[inline]
-    pub fn keep_branch(&mut self, point: BranchPoint, taken: Option<u64>) -> Result<(), Misplaced>
+    pub fn keep_branch(
+        &mut self,
+        point: BranchPoint,
+        taken: Option<u64>,
+    ) -> Result<(), PlacementFault>
         requires { (inside : List LineData) × HasRoom self.old inside }
         ensures { (inside : List LineData) → IsOpen self.old.section inside → Steps result (held_data self.old inside) self.new (Branch point.line point.block point.branch taken) }
     {
@@ -136,16 +140,16 @@ impl<'a, A: Allocator + Copy> Reader<'a, A> {
             section.builder.take_branch(point, wide(taken))?;
             return Ok(());
         }
-        Err(Misplaced::Outside)
+        Err(PlacementFault::Outside)
     }
 
     /// Ends the open section: it is settled, and kept with the test's name.
-    fn end(&mut self, alloc: A) -> Result<(), Misplaced>
+    fn end(&mut self, alloc: A) -> Result<(), PlacementFault>
         requires { (inside : List LineData) × HasRoom self.old inside }
         ensures { (inside : List LineData) → IsOpen self.old.section inside → Steps result (held_data self.old inside) self.new End }
     {
         let Some(section) = self.section.take() else {
-            return Err(Misplaced::Outside);
+            return Err(PlacementFault::Outside);
         };
         let OpenSection { file, builder } = section;
         let ClosedSection { items, odd } = settle(alloc, builder)?;

@@ -25,7 +25,7 @@ pub struct ClosedSection<A: Allocator> {
 
 /// What follows from the counts of functions that were taken so far.
 #[derive(Drop)]
-pub struct Counts<A: Allocator> {
+pub struct SettledCounts<A: Allocator> {
     /// How many functions have both a start line and a count above 0.
     pub hit: u64,
     /// The places, among the section's items, of the counts whose function has no start line. They ascend.
@@ -50,7 +50,7 @@ pub fn settle<'a, A: Allocator + Copy>(
         branches,
         totals,
     } = builder;
-    let Counts { hit, unstarted } = settle_counts(
+    let SettledCounts { hit, unstarted } = settle_counts(
         alloc,
         waiting.as_slice(),
         &mut functions,
@@ -75,12 +75,12 @@ fn settle_counts<'a, A: Allocator + Copy>(
     waiting: &[PendingCount<'a>],
     functions: &mut Functions<'a, A>,
     items: &mut Items<A>,
-) -> Result<Counts<A>, Memory>
+) -> Result<SettledCounts<A>, Memory>
     requires { HavePlaces (length items.old) (map mark waiting.now) }
     ensures counts { IfOk result (λ c. (starts : List ℕ → Option ℕ) → AreFunctions functions.old starts [] → IsSettled starts (map mark waiting.now) c.hit c.unstarted.items items.old items.new) }
     ensures functions { IfOk result (λ c. (starts : List ℕ → Option ℕ) → AreFunctions functions.old starts [] → AreFunctions functions.new starts (names_in starts (map mark waiting.now))) }
 {
-    let mut counts = Counts {
+    let mut counts = SettledCounts {
         hit: 0,
         unstarted: Vec::new(alloc),
     };
@@ -90,7 +90,7 @@ fn settle_counts<'a, A: Allocator + Copy>(
     Ok(counts)
 }
 
-impl<A: Allocator + Copy> Counts<A> {
+impl<A: Allocator + Copy> SettledCounts<A> {
     ghost use Rattle.std.specs.Prelude.{◌≡◌, ◌+◌, ◌<◌, ◌≤◌, ◌^◌, ◌++◌, ◌∷◌, [], ℕ, List, Option, OnOk, length};
     ghost use Rattle.covline.specs.Row.{ItemData};
     ghost use Rattle.covread.specs.TraceFunctions.{AreFunctions};

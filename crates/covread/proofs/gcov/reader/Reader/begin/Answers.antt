@@ -45,7 +45,7 @@ returns-clause-steps g c =
     let waits = c.if-not-is_empty.ensures ∙ ap (λ (n : ℕ). eqb n 0) c.args.self.now.waiting.ok.0 ∙ none_wait c.args.self.now.waiting.items in
     let taken = taken_path c.args.self.now.test.now c.args.at (held_data c.args.self.now) c.args.path.now (sym c.if-is_empty.false ∙ c.is_empty.ensures) waits in
     rw (c.in_ok-of.ensures, c.new.ensures)
-    (taken ∙ ap (λ (h : HeldData). Ok (record { waiting = h.waiting; section = Some (record { file = c.args.path.now; items = []; place = None }); sects = h.sects })) (sym c.in_ok-close.ensures.ok))
+    (taken ∙ ap (λ (h : HeldData). Ok (record { waiting = h.waiting; section = Some (record { file = c.args.path.now; items = []; anchor = None }); sects = h.sects })) (sym c.in_ok-close.ensures.ok))
 
 pub returns-clause-test : goal.returns-clause-test
 returns-clause-test g c = c.close.ensures.test

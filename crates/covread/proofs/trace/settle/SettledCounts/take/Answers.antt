@@ -5,7 +5,7 @@ use Rattle.covread.specs.TraceFunctions.{AreFunctions}
 use Rattle.covread.specs.TraceSection.{mark}
 use Rattle.covread.specs.TraceSettle.{names_in}
 use Rattle.covread.proofs.TraceSection.{settled_some, settled_none, set_is, length_set, names_more}
-use Rattle.covread.proofs.trace.settle.Counts.take.Goals as goal
+use Rattle.covread.proofs.trace.settle.SettledCounts.take.Goals as goal
 
 byte_is : (b : Bool) → bool_byte b ≡ cond b 1 0
 byte_is true = refl
