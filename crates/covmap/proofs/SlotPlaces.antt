@@ -30,10 +30,10 @@ before_there {K} {V} {cmp} {order} query (first ∷ front) slot back a e =
 
 -- ---- over pages
 
-pub page_here : {X : Type 0} (page : List X) (j : ℕ) (slot : X) → slice_get page j ≡ Some slot → drop j page ≡ slot ∷ drop (suc j) page
-page_here [] j slot e = absurd cc
-page_here (first ∷ page) zero slot e = let same : first ≡ slot = cc in ap (λ slot. slot ∷ page) same
-page_here (first ∷ page) (suc j) slot e = page_here page j slot e
+pub rest_from_slot : {X : Type 0} (page : List X) (j : ℕ) (slot : X) → slice_get page j ≡ Some slot → drop j page ≡ slot ∷ drop (suc j) page
+rest_from_slot [] j slot e = absurd cc
+rest_from_slot (first ∷ page) zero slot e = let same : first ≡ slot = cc in ap (λ slot. slot ∷ page) same
+rest_from_slot (first ∷ page) (suc j) slot e = rest_from_slot page j slot e
 
 pub column_set : {K V : Type 0} (page : List (K × Option V)) (j : ℕ) (slot : K × Option V) (value : Option V) → slice_get page j ≡ Some slot
     → with_column page (set (column_of page) j value) ≡ take j page ++ (slot.0, value) ∷ drop (suc j) page
@@ -52,7 +52,7 @@ page_is_there (page ∷ pages) (suc i) j slot e = omega (arith, page_is_there pa
 
 module _ {K V : Type 0} {cmp : K → K → Ordering} {order : K → Ordering} (query : IsQuery cmp order) (pages : List (List (K × Option V))) (i j : ℕ) (ascending : IsAscending cmp (slots_of pages)) where
   pub around : (slot : K × Option V) → slot_at pages (i, j) ≡ Some slot → slots_of pages ≡ before pages (i, j) ++ slot ∷ (drop (suc j) (page_at pages i) ++ slots_of (drop (suc i) pages))
-  around slot e = whole pages i j ∙ ap (λ rest. before pages (i, j) ++ (rest ++ slots_of (drop (suc i) pages))) (page_here (page_at pages i) j slot e)
+  around slot e = whole pages i j ∙ ap (λ rest. before pages (i, j) ++ (rest ++ slots_of (drop (suc i) pages))) (rest_from_slot (page_at pages i) j slot e)
 
   -- the queried key has the value at its place
   pub value_there : (slot : K × Option V) → slot_at pages (i, j) ≡ Some slot → order slot.0 ≡ Equal → slot_value order (slots_of pages) ≡ Some slot.1

@@ -52,7 +52,7 @@ module _ {K V : Type 0} {cmp : K → K → Ordering} (o : IsExactOrder cmp) wher
 
   pub length-put_there : (key : K) (value other : V) (pairs : List (K × V)) → ArePairs cmp pairs → value_of cmp key pairs ≡ Some value → length (put cmp key other pairs) ≡ length pairs
   length-put_there key value other pairs sorted h =
-      let none : one_if (is_new (value_of cmp key pairs)) ≡ 0 = ap (λ (committed : Option V). one_if (is_new committed)) h in
+      let none : one_if (is_new (value_of cmp key pairs)) ≡ 0 = ap (λ (value : Option V). one_if (is_new value)) h in
       omega (arith, length-put o key other pairs sorted, none)
 
   -- ---- a value put in after another one for the same key
@@ -81,11 +81,11 @@ joined_at x (Some other) front whole back rest none = absurd (none-some (clash_w
 joined_at x None front whole back rest none = rest none
 
 -- if the first list doesn't clash, the clash of both is that of the second list, with the first one held too
-pub clash_after : (committed xs ys : List Checksum) → first_clash committed xs ≡ None → first_clash committed (xs ++ ys) ≡ first_clash (committed ++ xs) ys
-clash_after committed [] ys none = ap (λ (all : List Checksum). first_clash all ys) (sym (append-nil committed))
-clash_after committed (x ∷ xs) ys none =
-    joined_at x (find (differs x) committed) (first_clash (committed ++ x ∷ []) xs) (first_clash (committed ++ x ∷ []) (xs ++ ys)) (first_clash (committed ++ x ∷ xs) ys)
-    (λ later. clash_after (committed ++ x ∷ []) xs ys later ∙ ap (λ (all : List Checksum). first_clash all ys) (append_assoc committed (x ∷ []) xs)) none
+pub clash_after : (held xs ys : List Checksum) → first_clash held xs ≡ None → first_clash held (xs ++ ys) ≡ first_clash (held ++ xs) ys
+clash_after held [] ys none = ap (λ (all : List Checksum). first_clash all ys) (sym (append-nil held))
+clash_after held (x ∷ xs) ys none =
+    joined_at x (find (differs x) held) (first_clash (held ++ x ∷ []) xs) (first_clash (held ++ x ∷ []) (xs ++ ys)) (first_clash (held ++ x ∷ xs) ys)
+    (λ later. clash_after (held ++ x ∷ []) xs ys later ∙ ap (λ (all : List Checksum). first_clash all ys) (append_assoc held (x ∷ []) xs)) none
 
 front_at : (x : Checksum) (found : Option Checksum) (front whole : Option ClashData) (clash : ClashData) → (front ≡ Some clash → whole ≡ Some clash) → or_later x found front ≡ Some clash
     → or_later x found whole ≡ Some clash
@@ -93,7 +93,7 @@ front_at x (Some other) front whole clash rest h = h
 front_at x None front whole clash rest h = rest h
 
 -- if the first list clashes, its clash is the clash of both
-pub clash_before : (committed xs ys : List Checksum) (clash : ClashData) → first_clash committed xs ≡ Some clash → first_clash committed (xs ++ ys) ≡ Some clash
-clash_before committed [] ys clash h = absurd (none-some clash h)
-clash_before committed (x ∷ xs) ys clash h =
-    front_at x (find (differs x) committed) (first_clash (committed ++ x ∷ []) xs) (first_clash (committed ++ x ∷ []) (xs ++ ys)) clash (λ later. clash_before (committed ++ x ∷ []) xs ys clash later) h
+pub clash_before : (held xs ys : List Checksum) (clash : ClashData) → first_clash held xs ≡ Some clash → first_clash held (xs ++ ys) ≡ Some clash
+clash_before held [] ys clash h = absurd (none-some clash h)
+clash_before held (x ∷ xs) ys clash h =
+    front_at x (find (differs x) held) (first_clash (held ++ x ∷ []) xs) (first_clash (held ++ x ∷ []) (xs ++ ys)) clash (λ later. clash_before (held ++ x ∷ []) xs ys clash later) h

@@ -60,7 +60,7 @@ clash_joined rows file name xs ys none =
     let front = checksums_in (rows_of_sect (section_of_items file name xs)) in
     let back = checksums_in (rows_of_sect (section_of_items file name ys)) in
     ap (first_clash (checksums_in rows)) (checksums_joined file name xs ys) ∙ clash_after (checksums_in rows) front back none
-    ∙ ap (λ (committed : List Checksum). first_clash committed back) (sym (flat_map-append checksum_of_row rows (rows_of_sect (section_of_items file name xs))))
+    ∙ ap (λ (held : List Checksum). first_clash held back) (sym (flat_map-append checksum_of_row rows (rows_of_sect (section_of_items file name xs))))
 
 pub adds_more : (xs ys : List ItemData) (a b c : TestData) (m n o : FileIndexData) → Adds xs a m b n → Adds ys b n c o → Adds (xs ++ ys) a m c o
 adds_more xs ys a b c m n o first second rows files file name tests is =
@@ -85,17 +85,17 @@ adds_more xs ys a b c m n o first second rows files file name tests is =
 -- ---- clashes
 
 -- if the earlier items don't clash, a clash of the later ones is the clash of all
-pub clash_later : (xs ys : List ItemData) (a b : TestData) (m n : FileIndexData) (line : ℕ) (committed given : List ℕ) → Adds xs a m b n → ClashesAt ys b n line committed given → ClashesAt (xs ++ ys) a m line committed given
-clash_later xs ys a b m n line committed given first later rows files file name tests is =
+pub clash_later : (xs ys : List ItemData) (a b : TestData) (m n : FileIndexData) (line : ℕ) (held given : List ℕ) → Adds xs a m b n → ClashesAt ys b n line held given → ClashesAt (xs ++ ys) a m line held given
+clash_later xs ys a b m n line held given first later rows files file name tests is =
     let one = first rows files file name tests is in
     clash_joined rows file name xs ys one.0
     ∙ later (rows ++ rows_of_sect (section_of_items file name xs)) (files_with file name tests b n files) file name (put (slice_cmp nat_cmp) name b tests) one.1
 
 -- a clash of the earlier items is the clash of all
-pub clash_front : (xs ys : List ItemData) (a : TestData) (m : FileIndexData) (line : ℕ) (committed given : List ℕ) → ClashesAt xs a m line committed given → ClashesAt (xs ++ ys) a m line committed given
-clash_front xs ys a m line committed given front rows files file name tests is =
+pub clash_front : (xs ys : List ItemData) (a : TestData) (m : FileIndexData) (line : ℕ) (held given : List ℕ) → ClashesAt xs a m line held given → ClashesAt (xs ++ ys) a m line held given
+clash_front xs ys a m line held given front rows files file name tests is =
     ap (first_clash (checksums_in rows)) (checksums_joined file name xs ys)
-    ∙ clash_before (checksums_in rows) (checksums_in (rows_of_sect (section_of_items file name xs))) (checksums_in (rows_of_sect (section_of_items file name ys))) (clash_in_file file line committed given)
+    ∙ clash_before (checksums_in rows) (checksums_in (rows_of_sect (section_of_items file name xs))) (checksums_in (rows_of_sect (section_of_items file name ys))) (clash_in_file file line held given)
     (front rows files file name tests is)
 
 -- ---- one item that clashes
@@ -107,32 +107,32 @@ all_hold true false z first second other = second
 all_hold false y z first second other = first
 
 -- checksums of one line that aren't equal are different in the sense of `differs`
-pub two_checksums : (file : List ℕ) (line : ℕ) (given committed : List ℕ) → (committed ≡ given → ⊥) → differs (record { file = file; line = line; checksum = given }) (record { file = file; line = line; checksum = committed }) ≡ true
-two_checksums file line given committed other =
-    all_hold (bytes_eq file file) (line == line) (bytes_eq given committed) ((bytes_eq-Decides file file).1 refl) (eq-eqb line line refl) (λ same. other (sym ((bytes_eq-Decides given committed).0 same)))
+pub two_checksums : (file : List ℕ) (line : ℕ) (given held : List ℕ) → (held ≡ given → ⊥) → differs (record { file = file; line = line; checksum = given }) (record { file = file; line = line; checksum = held }) ≡ true
+two_checksums file line given held other =
+    all_hold (bytes_eq file file) (line == line) (bytes_eq given held) ((bytes_eq-Decides file file).1 refl) (eq-eqb line line refl) (λ same. other (sym ((bytes_eq-Decides given held).0 same)))
 
-line_clashes : (line count : ℕ) (checksum : List ℕ) (test : TestData) (index : FileIndexData) (committed : List ℕ) → IsOtherText index line committed checksum
-    → ClashesAt (LineItem line count (Some checksum) ∷ []) test index line committed checksum
-line_clashes line count checksum test index committed other rows files file name tests is =
+line_clashes : (line count : ℕ) (checksum : List ℕ) (test : TestData) (index : FileIndexData) (held : List ℕ) → IsOtherText index line held checksum
+    → ClashesAt (LineItem line count (Some checksum) ∷ []) test index line held checksum
+line_clashes line count checksum test index held other rows files file name tests is =
     let own : Checksum = record { file = file; line = line; checksum = checksum } in
-    let before : Checksum = record { file = file; line = line; checksum = committed } in
+    let before : Checksum = record { file = file; line = line; checksum = held } in
     let all : checksums_in rows ≡ checksums_in rows ++ [] = sym (append-nil (checksums_in rows)) in
-    told_first (checksums_in rows) (own ∷ []) (clash_in_file file line committed checksum) (record {
+    told_first (checksums_in rows) (own ∷ []) (clash_in_file file line held checksum) (record {
       before = [];
       first = own;
       after = [];
       other = before;
       place = refl;
-      among = subst (λ (cs : List Checksum). Contains cs before) all (Contains-from (checksums_in rows) before (held_text is line committed other.is_held other.is_kept));
-      differ = two_checksums file line checksum committed other.other;
+      among = subst (λ (cs : List Checksum). Contains cs before) all (Contains-from (checksums_in rows) before (held_text is line held other.is_held other.is_kept));
+      differ = two_checksums file line checksum held other.other;
       none_before = subst Agree all is.agree;
       told = refl;
     })
 
-pub item_clashes : (item : ItemData) (test : TestData) (index : FileIndexData) (told : ℕ) (committed given : List ℕ) → IsClashAt item index told committed given → ClashesAt (item ∷ []) test index told committed given
-item_clashes (LineItem line count (Some checksum)) test index told committed given clash rows files file name tests is =
-    line_clashes line count checksum test index committed clash.2 rows files file name tests is
-    ∙ ap (λ (n : ℕ). Some (clash_in_file file n committed checksum)) (sym clash.0) ∙ ap (λ (text : List ℕ). Some (clash_in_file file told committed text)) (sym clash.1)
-item_clashes (LineItem line count None) test index told committed given clash rows files file name tests is = absurd clash
-item_clashes (FuncItem function line count) test index told committed given clash rows files file name tests is = absurd clash
-item_clashes (BranchItem line block branch taken) test index told committed given clash rows files file name tests is = absurd clash
+pub item_clashes : (item : ItemData) (test : TestData) (index : FileIndexData) (told : ℕ) (held given : List ℕ) → IsClashAt item index told held given → ClashesAt (item ∷ []) test index told held given
+item_clashes (LineItem line count (Some checksum)) test index told held given clash rows files file name tests is =
+    line_clashes line count checksum test index held clash.2 rows files file name tests is
+    ∙ ap (λ (n : ℕ). Some (clash_in_file file n held checksum)) (sym clash.0) ∙ ap (λ (text : List ℕ). Some (clash_in_file file told held text)) (sym clash.1)
+item_clashes (LineItem line count None) test index told held given clash rows files file name tests is = absurd clash
+item_clashes (FuncItem function line count) test index told held given clash rows files file name tests is = absurd clash
+item_clashes (BranchItem line block branch taken) test index told held given clash rows files file name tests is = absurd clash

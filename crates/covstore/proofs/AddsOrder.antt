@@ -12,11 +12,11 @@ use Rattle.std.proofs.lemmas.List.Sorted.{IsPermutation-sym, sum_by-IsPermutatio
 use Rattle.std.proofs.lemmas.List.Sums.{sum_by-append}
 use Rattle.std.specs.List.{All}
 use Rattle.covline.specs.Row.{ItemData, Row, rows_of_sect}
-use Rattle.covstore.specs.declared.order.Spot.{Spot}
+use Rattle.covstore.specs.declared.stage_by_line.Spot.{Spot}
 use Rattle.covstore.specs.Clash.{Agree, checksum_of_row, checksums_in}
 use Rattle.covstore.specs.FileIndex.{FileIndexData}
 use Rattle.covstore.specs.Kinds.{Each}
-use Rattle.covstore.specs.Order.{AreSpotsOf, HasNoChecksum, picked}
+use Rattle.covstore.specs.Order.{AreSpotsOf, HasNoChecksum, at_spots}
 use Rattle.covstore.specs.Runs.{RunOf, runs_of, runs_with}
 use Rattle.covstore.specs.Section.{Adds, HasRoomFor, files_with, section_of_items}
 use Rattle.covstore.specs.Sums.{TestData}
@@ -87,26 +87,26 @@ at_spot : {D : Type 0} → List D → Spot → List D
 at_spot items spot = option_to_list (slice_get items spot.index)
 
 module _ {D : Type 0} (items : List D) (spots : List Spot) (are : AreSpotsOf items spots) where
-  spots_alike : AreAlike (picked items spots) items
+  spots_alike : AreAlike (at_spots items spots) items
   unfolding at_spot
   spots_alike =
-      subst (λ (xs : List D). AreAlike (picked items spots) xs) are.all
+      subst (λ (xs : List D). AreAlike (at_spots items spots) xs) are.all
       (alike_said (at_spot items) spots are.others (alike_permuted spots are.others (IsPermutation-sym are.others spots are.permuted)))
 
-  as_many : length (picked items spots) ≡ length items
+  as_many : length (at_spots items spots) ≡ length items
   unfolding at_spot
   as_many =
       length-flat_map (at_spot items) spots ∙ sum_by-IsPermutation (λ (spot : Spot). length (at_spot items spot)) are.others spots are.permuted
       ∙ sym (length-flat_map (at_spot items) are.others) ∙ ap length are.all
 
 -- if the spots pick the items before the next one, the spots and the next item's spot pick one item more
-pub spot_more : {D : Type 0} (items : List D) (spots : List Spot) (spot : Spot) (item : D) → spot.index < length items → item ≡ get_or items spot.index item → picked items spots ≡ take spot.index items
-    → picked items (spots ++ spot ∷ []) ≡ take (spot.index + 1) items
+pub spot_more : {D : Type 0} (items : List D) (spots : List Spot) (spot : Spot) (item : D) → spot.index < length items → item ≡ get_or items spot.index item → at_spots items spots ≡ take spot.index items
+    → at_spots items (spots ++ spot ∷ []) ≡ take (spot.index + 1) items
 unfolding at_spot
 spot_more {D} items spots spot item within is so_far =
     let here : slice_get items spot.index ≡ Some item = slice_get-get_or items spot.index item within ∙ ap (λ (x : D). Some x) (sym is) in
-    flat_map-append (at_spot items) spots (spot ∷ []) ∙ ap (λ (xs : List D). picked items spots ++ xs) (append-nil (at_spot items spot))
-    ∙ ap (λ (o : Option D). picked items spots ++ option_to_list o) here ∙ ap (λ (xs : List D). xs ++ item ∷ []) so_far
+    flat_map-append (at_spot items) spots (spot ∷ []) ∙ ap (λ (xs : List D). at_spots items spots ++ xs) (append-nil (at_spot items spot))
+    ∙ ap (λ (o : Option D). at_spots items spots ++ option_to_list o) here ∙ ap (λ (xs : List D). xs ++ item ∷ []) so_far
     ∙ ap (λ (x : D). take spot.index items ++ x ∷ []) is ∙ sym (take_more items spot.index item within)
 
 -- ---- what `get` gives
@@ -120,36 +120,36 @@ none_got xs i h = slice_get_past xs i h.3
 -- ---- the item at a spot
 
 module _ {D : Type 0} (items : List D) (spots : List Spot) (k : ℕ) (spot : Spot) (within : k < length spots) where
-  at_taken : (here : Option D) → slice_get items (get_or spots k spot).index ≡ here → picked items (take (k + 1) spots) ≡ picked items (take k spots) ++ option_to_list here
+  at_taken : (here : Option D) → slice_get items (get_or spots k spot).index ≡ here → at_spots items (take (k + 1) spots) ≡ at_spots items (take k spots) ++ option_to_list here
   unfolding at_spot
   at_taken here found =
-      ap (picked items) (take_more spots k spot within)
+      ap (at_spots items) (take_more spots k spot within)
       ∙ flat_map-append (at_spot items) (take k spots) (get_or spots k spot ∷ [])
-      ∙ ap (λ (xs : List D). picked items (take k spots) ++ xs) (append-nil (at_spot items (get_or spots k spot)))
-      ∙ ap (λ (o : Option D). picked items (take k spots) ++ option_to_list o) found
+      ∙ ap (λ (xs : List D). at_spots items (take k spots) ++ xs) (append-nil (at_spot items (get_or spots k spot)))
+      ∙ ap (λ (o : Option D). at_spots items (take k spots) ++ option_to_list o) found
 
   -- if there is an item at the next spot, the runs with this item are those of one spot more
-  pub run_at_spot : (f : D → ItemData) (item : D) → slice_get items (get_or spots k spot).index ≡ Some item → (runs more : Each RunOf) → runs ≡ runs_of (map f (picked items (take k spots)))
-      → more ≡ runs_with (f item) runs → more ≡ runs_of (map f (picked items (take (k + 1) spots)))
+  pub run_at_spot : (f : D → ItemData) (item : D) → slice_get items (get_or spots k spot).index ≡ Some item → (runs more : Each RunOf) → runs ≡ runs_of (map f (at_spots items (take k spots)))
+      → more ≡ runs_with (f item) runs → more ≡ runs_of (map f (at_spots items (take (k + 1) spots)))
   run_at_spot f item found runs more so_far with_it =
-      let before = picked items (take k spots) in
+      let before = at_spots items (take k spots) in
       with_it ∙ ap (runs_with (f item)) so_far ∙ sym (runs_more (map f before) (f item))
       ∙ ap runs_of (sym (ap (map f) (at_taken (Some item) found) ∙ map-append f before (item ∷ [])))
 
-  pub none_at_spot : (f : D → ItemData) → slice_get items (get_or spots k spot).index ≡ None → (runs : Each RunOf) → runs ≡ runs_of (map f (picked items (take k spots)))
-      → runs ≡ runs_of (map f (picked items (take (k + 1) spots)))
+  pub none_at_spot : (f : D → ItemData) → slice_get items (get_or spots k spot).index ≡ None → (runs : Each RunOf) → runs ≡ runs_of (map f (at_spots items (take k spots)))
+      → runs ≡ runs_of (map f (at_spots items (take (k + 1) spots)))
   none_at_spot f found runs so_far =
-      so_far ∙ ap (λ (some : List D). runs_of (map f some)) (sym (at_taken None found ∙ append-nil (picked items (take k spots))))
+      so_far ∙ ap (λ (some : List D). runs_of (map f some)) (sym (at_taken None found ∙ append-nil (at_spots items (take k spots))))
 
 -- ---- the items at spots
 
 -- the items at these spots, where `f` gives the item of each element
 abbrev pub said_at : {D : Type 0} → (D → ItemData) → List D → List Spot → List ItemData
-said_at f items spots = map f (picked items spots)
+said_at f items spots = map f (at_spots items spots)
 
 pub said_joined : {D : Type 0} (f : D → ItemData) (items : List D) (xs ys : List Spot) → said_at f items (xs ++ ys) ≡ said_at f items xs ++ said_at f items ys
 unfolding at_spot
-said_joined f items xs ys = ap (map f) (flat_map-append (at_spot items) xs ys) ∙ map-append f (picked items xs) (picked items ys)
+said_joined f items xs ys = ap (map f) (flat_map-append (at_spot items) xs ys) ∙ map-append f (at_spots items xs) (at_spots items ys)
 
 got_there : {D : Type 0} (items : List D) (i : ℕ) (item : D) (here : Option D) → slice_get items i ≡ here → In item (option_to_list here) → In item items
 got_there items i item None found there = absurd there
@@ -161,14 +161,14 @@ got_there {D} items i item (Some got) found (inl same) =
 pub spots_plain : {D : Type 0} (f : D → ItemData) (items : List D) (spots : List Spot) → All (λ (item : D). HasNoChecksum (f item)) items → (item : ItemData) → In item (said_at f items spots) → HasNoChecksum item
 unfolding at_spot
 spots_plain f items spots plain =
-    all_plain f items (picked items spots)
+    all_plain f items (at_spots items spots)
     (λ item i. let from = In-unflat (at_spot items) spots item i in got_there items from.0.index item (slice_get items from.0.index) refl from.2) plain
 
 module _ {D : Type 0} (f : D → ItemData) (items : List D) (spots : List Spot) (are : AreSpotsOf items spots) where
   pub spots_have_room : (test : TestData) (index : FileIndexData) → HasRoomFor (map f items) test index → HasRoomFor (said_at f items spots) test index
   spots_have_room test index room =
-      room_alike (map f items) (said_at f items spots) test index (length-map (picked items spots) f ∙ as_many items spots are ∙ sym (length-map items f)) room
+      room_alike (map f items) (said_at f items spots) test index (length-map (at_spots items spots) f ∙ as_many items spots are ∙ sym (length-map items f)) room
 
   pub spots_add : (test after : TestData) (index more : FileIndexData) → Adds (said_at f items spots) test index after more → Adds (map f items) test index after more
   spots_add test after index more adds =
-      adds_alike (said_at f items spots) (map f items) test after index more (alike_mapped f (picked items spots) items (spots_alike items spots are)) adds
+      adds_alike (said_at f items spots) (map f items) test after index more (alike_mapped f (at_spots items spots) items (spots_alike items spots are)) adds

@@ -45,8 +45,8 @@ no_difference true false z same = refl
 no_difference false y z same = refl
 
 -- if each checksum is the text of its line, the checksums agree, since a line has one text
-pub agree_by_text : (text : List ℕ → ℕ → Option (List ℕ)) (committed : List Checksum) → ((c : Checksum) → Contains committed c → text c.file c.line ≡ Some c.checksum) → Agree committed
-agree_by_text text committed own a b i j =
+pub agree_by_text : (text : List ℕ → ℕ → Option (List ℕ)) (held : List Checksum) → ((c : Checksum) → Contains held c → text c.file c.line ≡ Some c.checksum) → Agree held
+agree_by_text text held own a b i j =
     no_difference (bytes_eq a.file b.file) (eqb a.line b.line) (bytes_eq a.checksum b.checksum)
     (λ file line.
     let same_file : a.file ≡ b.file = (bytes_eq-Decides a.file b.file).0 file in
@@ -196,8 +196,8 @@ module _ {rows : List Row} {files : List (List ℕ × FileData)} {file name : Li
   pub held_text : (line : ℕ) (text : List ℕ) → is_some (value_of nat_cmp line index.holders) ≡ true → value_of nat_cmp line index.texts ≡ Some text
       → In (record { file = file; line = line; checksum = text }) (checksums_in rows)
   unfolding checksum_with
-  held_text line text committed kept =
-      let holder = holder_of line (tests_in (file_with tests index)) (sym (ap is_some (its_whole.kept.holders line)) ∙ committed) in
+  held_text line text held kept =
+      let holder = holder_of line (tests_in (file_with tests index)) (sym (ap is_some (its_whole.kept.holders line)) ∙ held) in
       let pair = In-unmap (λ (pair : List ℕ × TestData). pair.1) tests holder.0 holder.1 in
       let key : Key = record { file = file; test = pair.0.0 } in
       let sums : holder.0 ≡ test_of (items_at key rows) =

@@ -15,7 +15,7 @@ pub clash_of_more : (rows xs ys : List Row) → clash_of rows xs ≡ None → cl
 clash_of_more rows xs ys none =
     ap (first_clash (checksums_in rows)) (flat_map-append checksum_of_row xs ys)
     ∙ clash_after (checksums_in rows) (checksums_in xs) (checksums_in ys) none
-    ∙ ap (λ (committed : List Checksum). first_clash committed (checksums_in ys)) (sym (flat_map-append checksum_of_row rows xs))
+    ∙ ap (λ (held : List Checksum). first_clash held (checksums_in ys)) (sym (flat_map-append checksum_of_row rows xs))
 
 pub no_rows_added : (store : StoreData) → AddsRows [] store store
 no_rows_added store = record {

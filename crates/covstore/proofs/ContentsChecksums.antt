@@ -117,9 +117,9 @@ checksums_there rows others agree same c i =
     let there : In (checksum_with key.file c.line first.0) (checksums_in others) =
     said_among others key c.line first.0
     (first_in (said_at key c.line others) first.0 (sym (ap (λ (v : LineValueData). v.checksum) (lines_same rows others same key c.line)) ∙ first.1)) in
-    let committed : In (checksum_with c.file c.line first.0) (checksums_in rows) = subst (λ (file : List ℕ). In (checksum_with file c.line first.0) (checksums_in rows)) said.1 own in
+    let held : In (checksum_with c.file c.line first.0) (checksums_in rows) = subst (λ (file : List ℕ). In (checksum_with file c.line first.0) (checksums_in rows)) said.1 own in
     let is : first.0 ≡ c.checksum =
-    one_checksum c.file c.line first.0 c.checksum (agree (checksum_with c.file c.line first.0) c (Contains-from (checksums_in rows) (checksum_with c.file c.line first.0) committed) (Contains-from (checksums_in rows) c i)) in
+    one_checksum c.file c.line first.0 c.checksum (agree (checksum_with c.file c.line first.0) c (Contains-from (checksums_in rows) (checksum_with c.file c.line first.0) held) (Contains-from (checksums_in rows) c i)) in
     subst (λ (d : Checksum). In d (checksums_in others)) (ap (λ (file : List ℕ). checksum_with file c.line first.0) said.1 ∙ ap (checksum_with c.file c.line) is) there
 
 -- ---- a clash depends on which checksums are held, and not on their order

@@ -12,17 +12,17 @@ use Rattle.covmap.specs.Puts.{value_of}
 use Rattle.covstore.proofs.Puts.{counted_one}
 
 -- the numbers of a point, if this many tests have it, and this many have it above 0
-abbrev pub tests_of : ℕ → ℕ → Option TestCounts
-tests_of tests hit = if nat_lt 0 tests then Some (record { tests = tests; hit = hit }) else None
+abbrev pub test_counts_of : ℕ → ℕ → Option TestCounts
+test_counts_of tests hit = if nat_lt 0 tests then Some (record { tests = tests; hit = hit }) else None
 
-pub same_tests : {tests others hit above : ℕ} → tests ≡ others → hit ≡ above → tests_of tests hit ≡ tests_of others above
-same_tests {others = others} {hit = hit} e f = ap (λ (n : ℕ). tests_of n hit) e ∙ ap (tests_of others) f
+pub same_tests : {tests others hit above : ℕ} → tests ≡ others → hit ≡ above → test_counts_of tests hit ≡ test_counts_of others above
+same_tests {others = others} {hit = hit} e f = ap (λ (n : ℕ). test_counts_of n hit) e ∙ ap (test_counts_of others) f
 
 -- ---- one test among others
 
 -- the numbers of a point after a test is added to this many tests and hits. The test has this value at the point, if any
 abbrev pub tests_among : {V : Type 0} → (V → Bool) → ℕ → ℕ → Option V → Option TestCounts
-tests_among is_above tests hit value = tests_of (tests + one_if (is_some value)) (hit + one_if (is_above_at is_above value))
+tests_among is_above tests hit value = test_counts_of (tests + one_if (is_some value)) (hit + one_if (is_above_at is_above value))
 
 pub sum_by-between : {X : Type 0} (f : X → ℕ) (front : List X) (x : X) (back : List X) → sum_by f (front ++ x ∷ back) ≡ sum_by f (front ++ back) + f x
 sum_by-between f front x back = omega (arith, sum_by-append f front (x ∷ back), sum_by-append f front back, sum_by-cons f x back)

@@ -17,7 +17,7 @@ use Rattle.covstore.specs.Ascending.{ascending}
 use Rattle.covstore.specs.Content.{BranchValueData, FunctionValueData, LineValueData, SectionData, branch_at, content_of, function_at, line_at, section_of, section_with}
 use Rattle.covstore.specs.PointIndexCounts.{AreCounts, found_of, hit_of}
 use Rattle.covmap.specs.Puts.{ArePairs}
-use Rattle.covstore.specs.Totals.{sections_of}
+use Rattle.covstore.specs.Totals.{own_sections}
 use Rattle.covstore.specs.Value.{Key, branch_cmp, branches_in, is_branch, is_taken, items_at, keys_of, lines_in, names_in}
 use Rattle.covstore.specs.Kinds.{Branch, CountsOf, Function, KeyOf, Kind, Line, cmp_of}
 use Rattle.covstore.proofs.Ascend.{IsExactOrder, ascending_sorted}
@@ -116,6 +116,6 @@ section_ascends Function items key =
     made_ascending (slice_cmp nat_cmp) (λ (f : FunctionValueData). f.name) (function_at items) (λ x. refl) (names_in items) (ascending_sorted names_order.total (func_points items))
 section_ascends Branch items key = made_ascending branch_cmp (λ (b : BranchValueData). b.point) (branch_at items) (λ x. refl) (branches_in items) (ascending_sorted branches_order.total (branch_points items))
 
-pub ascend : (kind : Kind) (file : List ℕ) (rows : List Row) → AllByRecursion (λ s. ArePairs (cmp_of kind) (valued kind s)) (sections_of file (content_of rows))
+pub ascend : (kind : Kind) (file : List ℕ) (rows : List Row) → AllByRecursion (λ s. ArePairs (cmp_of kind) (valued kind s)) (own_sections file (content_of rows))
 ascend kind file rows =
     All-made (λ s. ArePairs (cmp_of kind) (valued kind s)) (λ s. bytes_eq s.key.file file) (section_of rows) (λ (key : Key). section_ascends kind (items_at key rows) key) (keys_of rows)

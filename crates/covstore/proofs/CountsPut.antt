@@ -8,14 +8,14 @@ use Rattle.covstore.specs.declared.sums.TestCounts.{TestCounts}
 use Rattle.covstore.specs.PointIndexCounts.{AreCounts, count_above, count_with, counts_with, is_above_at, is_new, is_newly_hit, one_if, tests_at, tests_more}
 use Rattle.covmap.specs.Puts.{ArePairs, put, value_of}
 use Rattle.covstore.proofs.Ascend.{IsExactOrder}
-use Rattle.covstore.proofs.Counts.{above_le_with, same_tests, tests_among, tests_at-between, tests_of}
+use Rattle.covstore.proofs.Counts.{above_le_with, same_tests, tests_among, tests_at-between, test_counts_of}
 use Rattle.covstore.proofs.Puts.{ArePairs-put, value_of-put, value_of-put_apart}
 
 -- ---- the numbers of the point itself
 
 -- one more test has the point, or has it above 0
 more_at : (new newly : Bool) (tests hit : ℕ) (is : Bool) → nat_lt 0 tests ≡ is → hit ≤ tests → 0 < tests + one_if new
-    → Some (tests_more new newly (if is then Some (record { tests = tests; hit = hit }) else None)) ≡ tests_of (tests + one_if new) (hit + one_if newly)
+    → Some (tests_more new newly (if is then Some (record { tests = tests; hit = hit }) else None)) ≡ test_counts_of (tests + one_if new) (hit + one_if newly)
 more_at new newly tests hit true e less some =
     sym (cond-true (nat_lt 0 (tests + one_if new)) (Some (record { tests = tests + one_if new; hit = hit + one_if newly })) None (lt-ltb 0 (tests + one_if new) some))
 more_at new newly tests hit false e less some =
@@ -24,7 +24,7 @@ more_at new newly tests hit false e less some =
     let above : one_if newly ≡ hit + one_if newly = omega arith in
     sym (cond-true (nat_lt 0 (one_if new)) (Some (record { tests = one_if new; hit = one_if newly })) None (lt-ltb 0 (one_if new) (omega arith))) ∙ same_tests all above
 
-tests_more_is : (new newly : Bool) (tests hit : ℕ) → hit ≤ tests → 0 < tests + one_if new → Some (tests_more new newly (tests_of tests hit)) ≡ tests_of (tests + one_if new) (hit + one_if newly)
+tests_more_is : (new newly : Bool) (tests hit : ℕ) → hit ≤ tests → 0 < tests + one_if new → Some (tests_more new newly (test_counts_of tests hit)) ≡ test_counts_of (tests + one_if new) (hit + one_if newly)
 tests_more_is new newly tests hit less some = more_at new newly tests hit (nat_lt 0 tests) refl less some
 
 module _ {K V : Type 0} {cmp : K → K → Ordering} (o : IsExactOrder cmp) (is_above : V → Bool) (key : K) (value : V) (counts : List (K × TestCounts)) where
@@ -49,8 +49,8 @@ module _ {K V : Type 0} {cmp : K → K → Ordering} (o : IsExactOrder cmp) (is_
 
   -- ---- the numbers of the point
 
-  new_at : (above : Bool) (tests hit : ℕ) → hit ≤ tests → value_of cmp key counts ≡ tests_of (tests + 0) (hit + 0)
-      → value_of cmp key (put cmp key (tests_more true (above && true) (value_of cmp key counts)) counts) ≡ tests_of (tests + 1) (hit + one_if above)
+  new_at : (above : Bool) (tests hit : ℕ) → hit ≤ tests → value_of cmp key counts ≡ test_counts_of (tests + 0) (hit + 0)
+      → value_of cmp key (put cmp key (tests_more true (above && true) (value_of cmp key counts)) counts) ≡ test_counts_of (tests + 1) (hit + one_if above)
   new_at above tests hit less e =
       value_of-put o key (tests_more true (above && true) (value_of cmp key counts)) counts
       ∙ ap (λ (committed : Option TestCounts). Some (tests_more true (above && true) committed)) e
@@ -61,8 +61,8 @@ module _ {K V : Type 0} {cmp : K → K → Ordering} (o : IsExactOrder cmp) (is_
       both true = omega arith
       both false = omega arith
 
-  old_at : (after above : Bool) (tests hit : ℕ) → hit ≤ tests → (above ≡ true → after ≡ true) → value_of cmp key counts ≡ tests_of (tests + 1) (hit + one_if above)
-      → value_of cmp key (if after && not above then put cmp key (tests_more false true (value_of cmp key counts)) counts else counts) ≡ tests_of (tests + 1) (hit + one_if after)
+  old_at : (after above : Bool) (tests hit : ℕ) → hit ≤ tests → (above ≡ true → after ≡ true) → value_of cmp key counts ≡ test_counts_of (tests + 1) (hit + one_if above)
+      → value_of cmp key (if after && not above then put cmp key (tests_more false true (value_of cmp key counts)) counts else counts) ≡ test_counts_of (tests + 1) (hit + one_if after)
   old_at true true tests hit less stays e = e
   old_at true false tests hit less stays e =
       value_of-put o key (tests_more false true (value_of cmp key counts)) counts

@@ -104,9 +104,9 @@ counted_none : {X : Type 0} (n : ℕ) (x : X) → n ≤ 0 → (if nat_lt 0 n the
 counted_none n x few = cond-false (nat_lt 0 n) (Some x) None (le-ltb 0 n few)
 
 -- if the number of all tests is `None`, so is that of all but the first
-none_of_others : {X Y : Type 0} (p : Y → Bool) (first : Y) (others : List Y) (x z : X) → (if nat_lt 0 (count_by p (first ∷ others)) then Some x else None) ≡ None
+none_without_first : {X Y : Type 0} (p : Y → Bool) (first : Y) (others : List Y) (x z : X) → (if nat_lt 0 (count_by p (first ∷ others)) then Some x else None) ≡ None
     → (if nat_lt 0 (count_by p others) then Some z else None) ≡ None
-none_of_others p first others x z none =
+none_without_first p first others x z none =
     counted_none (count_by p others) z (omega (arith, none_counted (count_by p (first ∷ others)) x none, sum_by-cons (λ y. cond {A = ℕ} (p y) 1 0) first others))
 
 rest_counts : {K V : Type 0} {cmp : K → K → Ordering} → IsExactOrder cmp → (is_above : V → Bool) (pairs : List (K × V)) (others : List (List (K × V))) (counts : List (K × TestCounts))
@@ -114,7 +114,7 @@ rest_counts : {K V : Type 0} {cmp : K → K → Ordering} → IsExactOrder cmp �
 rest_counts {K} {V} {cmp} o is_above pairs others counts are = record {
   ascending = renewed_ascend (λ key. tests_at cmp is_above key others) o counts are.ascending;
   counted = λ key. renewed_is (λ k. tests_at cmp is_above k others) o key counts
-      (λ none. none_of_others (λ ps. is_some (value_of cmp key ps)) pairs others
+      (λ none. none_without_first (λ ps. is_some (value_of cmp key ps)) pairs others
       (record { tests = count_with cmp key (pairs ∷ others); hit = count_above cmp is_above key (pairs ∷ others) })
       (record { tests = count_with cmp key others; hit = count_above cmp is_above key others })
       (sym (are.counted key) ∙ none));
@@ -128,7 +128,7 @@ rest_of test others index are = (
     counts = of_all (λ kind (counts : CountsOf kind). AreCounts (cmp_of kind) (above_of kind) (map (at kind) others) counts) rest_of_kind
         (λ kind. rest_counts (order_of kind) (above_of kind) (at kind test) (map (at kind) others) (at kind index.counts) (are.counts kind));
     holders = λ line. renewed_is (λ l. holders_at l others) lines_order line index.holders
-        (λ none. none_of_others (λ t. is_above_at has_checksum (value_of nat_cmp line t.lines)) test others (holding line (test ∷ others)) (holding line others) (sym (are.holders line) ∙ none));
+        (λ none. none_without_first (λ t. is_above_at has_checksum (value_of nat_cmp line t.lines)) test others (holding line (test ∷ others)) (holding line others) (sym (are.holders line) ∙ none));
   },
 )
   where

@@ -81,6 +81,6 @@ pub totals_same : (files others : List (List ℕ × FileData)) → ((kind : Kind
 totals_same files others same =
     λ i. record { lf = (same Line).0 i; lh = (same Line).1 i; ff = (same Function).0 i; fh = (same Function).1 i; bf = (same Branch).0 i; bh = (same Branch).1 i }
 
-pub totals_are : (counts : Each CountsOf) (lines functions branches : KindTally) → IsTallyOf counts.lines lines → IsTallyOf counts.functions functions → IsTallyOf counts.branches branches
+pub totals_of_tallies : (counts : Each CountsOf) (lines functions branches : KindTally) → IsTallyOf counts.lines lines → IsTallyOf counts.functions functions → IsTallyOf counts.branches branches
     → totals_by lines functions branches ≡ counts_totals counts
-totals_are counts lines functions branches l f b = λ i. record { lf = l.found i; lh = l.hit i; ff = f.found i; fh = f.hit i; bf = b.found i; bh = b.hit i }
+totals_of_tallies counts lines functions branches l f b = λ i. record { lf = l.found i; lh = l.hit i; ff = f.found i; fh = f.hit i; bf = b.found i; bh = b.hit i }

@@ -9,7 +9,7 @@ use Rattle.covstore.specs.PointIndexDrops.{CanLose, counts_without, fewer_of, fe
 use Rattle.covmap.specs.Puts.{ArePairs, value_of}
 use Rattle.covstore.proofs.Ascend.{IsExactOrder}
 use Rattle.covstore.proofs.Assigned.{ArePairs-assigned, any_key, apart_assigned, own_assigned}
-use Rattle.covstore.proofs.Counts.{above_le_with, same_tests, tests_among, tests_at-between, tests_of}
+use Rattle.covstore.proofs.Counts.{above_le_with, same_tests, tests_among, tests_at-between, test_counts_of}
 use Rattle.covstore.proofs.Puts.{same_pairs, value_of_before, value_of_first, value_of_later}
 
 -- ---- the numbers of one point
@@ -17,10 +17,10 @@ use Rattle.covstore.proofs.Puts.{same_pairs, value_of_before, value_of_first, va
 abbrev numbers : ℕ → ℕ → TestCounts
 numbers tests hit = record { tests = tests; hit = hit }
 
-some_tests : (tests hit : ℕ) → 0 < tests → tests_of tests hit ≡ Some (numbers tests hit)
+some_tests : (tests hit : ℕ) → 0 < tests → test_counts_of tests hit ≡ Some (numbers tests hit)
 some_tests tests hit more = cond-true (nat_lt 0 tests) (Some (numbers tests hit)) None (lt-ltb 0 tests more)
 
-fewer_by : (above : Bool) (tests hit : ℕ) (is : Bool) → nat_lt 0 tests ≡ is → fewer_tests above (numbers (tests + 1) (hit + one_if above)) ≡ tests_of tests hit
+fewer_by : (above : Bool) (tests hit : ℕ) (is : Bool) → nat_lt 0 tests ≡ is → fewer_tests above (numbers (tests + 1) (hit + one_if above)) ≡ test_counts_of tests hit
 fewer_by above tests hit true e =
     let one : tests + 1 - 1 ≡ tests = omega arith in
     let own : hit + one_if above - one_if above ≡ hit = omega arith in
@@ -33,10 +33,10 @@ fewer_by above tests hit false e =
     ∙ sym (cond-false (nat_lt 0 tests) (Some (numbers tests hit)) None e)
 
 -- one more test and then one less leaves the numbers as they were
-fewer_more : (above : Bool) (tests hit : ℕ) → fewer_of above (tests_of (tests + 1) (hit + one_if above)) ≡ tests_of tests hit
+fewer_more : (above : Bool) (tests hit : ℕ) → fewer_of above (test_counts_of (tests + 1) (hit + one_if above)) ≡ test_counts_of tests hit
 fewer_more above tests hit = ap (fewer_of above) (some_tests (tests + 1) (hit + one_if above) (omega arith)) ∙ fewer_by above tests hit (nat_lt 0 tests) refl
 
-can_more : (above : Bool) (tests hit : ℕ) → hit ≤ tests → CanLose above (tests_of (tests + 1) (hit + one_if above))
+can_more : (above : Bool) (tests hit : ℕ) → hit ≤ tests → CanLose above (test_counts_of (tests + 1) (hit + one_if above))
 can_more above tests hit less = subst (CanLose above) (sym (some_tests (tests + 1) (hit + one_if above) (omega arith))) (omega arith, omega (arith, less))
 
 -- ---- among the numbers of all points

@@ -24,7 +24,7 @@ use Rattle.covstore.proofs.ContentsLists.{In-filter, in_from_any}
 use Rattle.covstore.proofs.Members.{In, In-map}
 use Rattle.covstore.proofs.Orders.{keys_order}
 use Rattle.covstore.proofs.StateSeen.{map_of_map}
-use Rattle.covstore.proofs.TotalsKinds.{same_totals, totals_are}
+use Rattle.covstore.proofs.TotalsKinds.{same_totals, totals_of_rows}
 
 row_with : List ℕ → List ℕ → ItemData → Row
 row_with test file item = record { test = test; file = file; item = item }
@@ -162,7 +162,7 @@ module _ (old new : List ℕ) (rows : List Row) where
 
   -- nor do the totals of what the rows add up to
   pub content_totals_renamed : totals_of (content_of (map (renamed_row old new) rows)) ≡ totals_of (content_of rows)
-  content_totals_renamed = totals_are (map (renamed_row old new) rows) ∙ totals_renamed ∙ sym (totals_are rows)
+  content_totals_renamed = totals_of_rows (map (renamed_row old new) rows) ∙ totals_renamed ∙ sym (totals_of_rows rows)
 
 -- a rename doesn't change a table's totals
 pub table_totals_renamed : (old new : List ℕ) (table : Table) → totals_of (content_at (renamed old new table)) ≡ totals_of (content_at table)

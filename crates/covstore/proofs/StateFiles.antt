@@ -14,7 +14,7 @@ use Rattle.std.proofs.lemmas.Slice.Eq.{bytes_eq-Decides}
 use Rattle.covstore.specs.Content.{SectionData}
 use Rattle.covmap.specs.Puts.{ArePairs}
 use Rattle.covstore.specs.State.{FileData, sections_of, sections_of_file}
-use Rattle.covstore.specs.Totals.{files_in, over_files, sections_of as own_sections}
+use Rattle.covstore.specs.Totals.{files_in, over_files, own_sections}
 use Rattle.covstore.proofs.Ascend.{In-ascending, In-to_ascending, ascending_sorted, one_sorted}
 use Rattle.covstore.proofs.ContentsLists.{In-flat, In-unflat}
 use Rattle.covstore.proofs.Members.{All-in, In, In-map, In-unmap}

@@ -40,8 +40,8 @@ pub record IsChange (rows more : List Row) (name : List ℕ) (after : FileData) 
   pub whole : IsConsistentFile after
   pub points : (test : List ℕ) → points_in (Some after) test ≡ test_of (items_at (record { file = name; test = test }) more)
   pub others : (key : Key) → (name ≡ key.file → ⊥) → items_at key more ≡ items_at key rows
-  pub texts : (committed : Checksum) → Contains (checksums_in more) committed → name ≡ committed.file → value_of nat_cmp committed.line after.index.texts ≡ Some committed.checksum
-  pub held_before : (committed : Checksum) → Contains (checksums_in more) committed → (name ≡ committed.file → ⊥) → Contains (checksums_in rows) committed
+  pub texts : (held : Checksum) → Contains (checksums_in more) held → name ≡ held.file → value_of nat_cmp held.line after.index.texts ≡ Some held.checksum
+  pub held_before : (held : Checksum) → Contains (checksums_in more) held → (name ≡ held.file → ⊥) → Contains (checksums_in rows) held
 
 module _ (rows more : List Row) (files : List (List ℕ × FileData)) (state : IsStateOf rows files) (name : List ℕ) (after : FileData) (change : IsChange rows more name after) where
   abbrev files_after : List (List ℕ × FileData)
@@ -60,15 +60,15 @@ module _ (rows more : List Row) (files : List (List ℕ × FileData)) (state : I
   points_after key (inr other) =
       ap (λ (found : Option FileData). points_in found key.test) (found_before key.file other) ∙ state.points key ∙ ap test_of (sym (change.others key other))
 
-  texts_after : (committed : Checksum) → Contains (checksums_in more) committed → (name ≡ committed.file) ⊎ (name ≡ committed.file → ⊥) → text_in (value_of (slice_cmp nat_cmp) committed.file files_after) committed.line ≡ Some committed.checksum
-  texts_after committed i (inl is) = ap (λ (found : Option FileData). text_in found committed.line) (found_after committed.file is) ∙ change.texts committed i is
-  texts_after committed i (inr other) = ap (λ (found : Option FileData). text_in found committed.line) (found_before committed.file other) ∙ state.texts committed (change.held_before committed i other)
+  texts_after : (held : Checksum) → Contains (checksums_in more) held → (name ≡ held.file) ⊎ (name ≡ held.file → ⊥) → text_in (value_of (slice_cmp nat_cmp) held.file files_after) held.line ≡ Some held.checksum
+  texts_after held i (inl is) = ap (λ (found : Option FileData). text_in found held.line) (found_after held.file is) ∙ change.texts held i is
+  texts_after held i (inr other) = ap (λ (found : Option FileData). text_in found held.line) (found_before held.file other) ∙ state.texts held (change.held_before held i other)
 
   pub state_changed : IsStateOf more (put (slice_cmp nat_cmp) name after files)
   state_changed = record {
     ascending = ArePairs-put names_order name after files state.ascending;
     points = λ key. points_after key (name_or_not name key.file);
-    texts = λ committed i. texts_after committed i (name_or_not name committed.file);
+    texts = λ held i. texts_after held i (name_or_not name held.file);
     whole = All-put names_order (λ (pair : List ℕ × FileData). IsConsistentFile pair.1) name after files change.whole state.whole;
   }
 
@@ -82,9 +82,9 @@ same_rows rows files state name after whole points texts = state_changed rows ro
   whole = whole;
   points = λ test. points test ∙ state.points (record { file = name; test = test });
   others = λ key other. refl;
-  texts = λ committed i is. texts committed.line committed.checksum
-      (ap (λ (file : List ℕ). text_in (value_of (slice_cmp nat_cmp) file files) committed.line) is ∙ state.texts committed i);
-  held_before = λ committed i other. i;
+  texts = λ held i is. texts held.line held.checksum
+      (ap (λ (file : List ℕ). text_in (value_of (slice_cmp nat_cmp) file files) held.line) is ∙ state.texts held i);
+  held_before = λ held i other. i;
 })
 
 -- ---- more rows of one file and test
@@ -129,16 +129,16 @@ module _ (name test : List ℕ) where
       items_at-append key rows (more_rows items) ∙ ap (λ (own : List ItemData). items_at key rows ++ own) (own_more items)
 
   -- the checksums of other files are those of the rows before
-  held_of_others : (rows : List Row) (items : List ItemData) (committed : Checksum) → Contains (checksums_in (rows ++ more_rows items)) committed → (name ≡ committed.file → ⊥) → Contains (checksums_in rows) committed
-  held_of_others rows items committed i other =
-      ⊎_elim {C = Contains (checksums_in rows) committed}
-      (λ (before : In committed (checksums_in rows)). Contains-from (checksums_in rows) committed before)
-      (λ (now : In committed (checksums_in (more_rows items))).
-      let own = In-unflat checksum_of_row (more_rows items) committed now in
+  held_of_others : (rows : List Row) (items : List ItemData) (held : Checksum) → Contains (checksums_in (rows ++ more_rows items)) held → (name ≡ held.file → ⊥) → Contains (checksums_in rows) held
+  held_of_others rows items held i other =
+      ⊎_elim {C = Contains (checksums_in rows) held}
+      (λ (before : In held (checksums_in rows)). Contains-from (checksums_in rows) held before)
+      (λ (now : In held (checksums_in (more_rows items))).
+      let own = In-unflat checksum_of_row (more_rows items) held now in
       let from = In-unmap row_with items own.0 own.1 in
-      absurd (other (ap (λ (r : Row). r.file) from.2 ∙ (line_of_said own.0.file committed own.0.item own.2).0)))
-      (In-parts (checksums_in rows) (checksums_in (more_rows items)) committed
-      (subst (In committed) (flat_map-append checksum_of_row rows (more_rows items)) (In-from (checksums_in (rows ++ more_rows items)) committed i)))
+      absurd (other (ap (λ (r : Row). r.file) from.2 ∙ (line_of_said own.0.file held own.0.item own.2).0)))
+      (In-parts (checksums_in rows) (checksums_in (more_rows items)) held
+      (subst (In held) (flat_map-append checksum_of_row rows (more_rows items)) (In-from (checksums_in (rows ++ more_rows items)) held i)))
 
   module _ (rows : List Row) (items : List ItemData) (files : List (List ℕ × FileData)) (file after : FileData) (points : TestData) where
     points_more : IsStateOf rows files → value_of (slice_cmp nat_cmp) name files ≡ Some file → value_of (slice_cmp nat_cmp) test file.tests ≡ Some points
@@ -160,12 +160,12 @@ module _ (name test : List ℕ) where
     -- with the rows added, the state is that of the files with this file replaced
     pub rows_more : IsStateOf rows files → value_of (slice_cmp nat_cmp) name files ≡ Some file → value_of (slice_cmp nat_cmp) test file.tests ≡ Some points
         → after.tests ≡ put (slice_cmp nat_cmp) test (with_items items points) file.tests → IsConsistentFile after
-        → ((committed : Checksum) → Contains (checksums_in (rows ++ more_rows items)) committed → committed.file ≡ name → value_of nat_cmp committed.line after.index.texts ≡ Some committed.checksum)
+        → ((held : Checksum) → Contains (checksums_in (rows ++ more_rows items)) held → held.file ≡ name → value_of nat_cmp held.line after.index.texts ≡ Some held.checksum)
         → IsStateOf (rows ++ more_rows items) (put (slice_cmp nat_cmp) name after files)
     rows_more state in_files in_tests more whole texts = state_changed rows (rows ++ more_rows items) files state name after (record {
       whole = whole;
       points = λ other. points_more state in_files in_tests more other (name_or_not test other);
       others = λ key other. items_as_before key rows items (λ file test. other file);
-      texts = λ committed i is. texts committed i (sym is);
+      texts = λ held i is. texts held i (sym is);
       held_before = held_of_others rows items;
     })

@@ -87,8 +87,8 @@ some_points_of (first ∷ others) item i none = some_points (first ∷ others) f
 -- ---- the values of the points
 
 pub text_as_said : (texts : List (ℕ × List ℕ)) (line : ℕ) (said : Option (List ℕ)) → ((text : List ℕ) → said ≡ Some text → value_of nat_cmp line texts ≡ Some text) → text_at texts line (is_some said) ≡ said
-text_as_said texts line None committed = refl
-text_as_said texts line (Some text) committed = committed text refl
+text_as_said texts line None has = refl
+text_as_said texts line (Some text) has = has text refl
 
 pub map_of_map : {X Y Z : Type 0} (f : X → Y) (g : Y → Z) (h : X → Z) (xs : List X) → ((x : X) → g (f x) ≡ h x) → map g (map f xs) ≡ map h xs
 map_of_map f g h [] same = refl
@@ -100,18 +100,18 @@ line_from line count checksum = record { line = line; count = count; checksum = 
 line_as : (texts : List (ℕ × List ℕ)) (items : List ItemData) (line : ℕ) → ((text : List ℕ) → line_checksum line items ≡ Some text → value_of nat_cmp line texts ≡ Some text)
     → line_seen texts (line_sum items line) ≡ line_at items line
 unfolding line_from
-line_as texts items line committed = ap (line_from line (line_sum items line).1.count) (text_as_said texts line (line_checksum line items) committed)
+line_as texts items line has = ap (line_from line (line_sum items line).1.count) (text_as_said texts line (line_checksum line items) has)
 
 -- the texts have the checksums that the items give
 abbrev pub HasChecksums : List (ℕ × List ℕ) → List ItemData → Type 0
 HasChecksums texts items = (line : ℕ) (text : List ℕ) → line_checksum line items ≡ Some text → value_of nat_cmp line texts ≡ Some text
 
 whole_as : (key : Key) (texts : List (ℕ × List ℕ)) (items : List ItemData) → HasChecksums texts items → section_with_points key.file texts key.test (test_of items) ≡ section_with key items
-whole_as key texts items committed =
+whole_as key texts items has =
     let functions : map function_seen (test_of items).functions ≡ map (function_at items) (names_in items) = map_of_map (function_sum items) function_seen (function_at items) (names_in items) (λ name. refl) in
     let branches : map branch_seen (test_of items).branches ≡ map (branch_at items) (branches_in items) = map_of_map (branch_sum items) branch_seen (branch_at items) (branches_in items) (λ point. refl) in
     let lines : map (line_seen texts) (test_of items).lines ≡ map (line_at items) (lines_in items) =
-    map_of_map (line_sum items) (line_seen texts) (line_at items) (lines_in items) (λ line. line_as texts items line (committed line)) in
+    map_of_map (line_sum items) (line_seen texts) (line_at items) (lines_in items) (λ line. line_as texts items line (has line)) in
     λ i. record { key = key; functions = functions i; branches = branches i; lines = lines i }
 
 -- ---- the section
@@ -119,16 +119,16 @@ whole_as key texts items committed =
 -- if there are items, the section is theirs
 pub seen_as : (key : Key) (texts : List (ℕ × List ℕ)) (items : List ItemData) (item : ItemData) → HasChecksums texts items → In item items
     → section_seen key.file texts key.test (test_of items) ≡ section_with key items ∷ []
-seen_as key texts [] item committed i = absurd i
-seen_as key texts (first ∷ others) item committed i =
+seen_as key texts [] item has i = absurd i
+seen_as key texts (first ∷ others) item has i =
     let items = first ∷ others in
-    seen_whole key.file texts key.test (test_of items) (some_points items first others refl) ∙ ap (λ (s : SectionData). s ∷ []) (whole_as key texts items committed)
+    seen_whole key.file texts key.test (test_of items) (some_points items first others refl) ∙ ap (λ (s : SectionData). s ∷ []) (whole_as key texts items has)
 
 -- if there is a section, it is that of the items, and there is an item
 pub seen_is : (key : Key) (texts : List (ℕ × List ℕ)) (items : List ItemData) (section : SectionData) → HasChecksums texts items → In section (section_seen key.file texts key.test (test_of items))
     → (section_with key items ≡ section) × (item : ItemData) × In item items
-seen_is key texts [] section committed i = absurd i
-seen_is key texts (first ∷ others) section committed i = by (subst (In section) (seen_as key texts (first ∷ others) first committed (inl refl)) i)
+seen_is key texts [] section has i = absurd i
+seen_is key texts (first ∷ others) section has i = by (subst (In section) (seen_as key texts (first ∷ others) first has (inl refl)) i)
   where
     by : In section (section_with key (first ∷ others) ∷ []) → (section_with key (first ∷ others) ≡ section) × (item : ItemData) × In item (first ∷ others)
     by (inl is) = (is, first, inl refl)

@@ -15,7 +15,7 @@ use Rattle.covstore.specs.PointIndexCounts.{AreCounts, found_of, hit_of}
 use Rattle.covmap.specs.Puts.{ArePairs}
 use Rattle.covstore.specs.State.{FileData, IsStateOf, IsConsistentFile, branch_seen, found_at, function_seen, hit_at, line_seen, section_seen, section_with_points, sections_of, sections_of_file, totals_in}
 use Rattle.covstore.specs.Sums.{TestData}
-use Rattle.covstore.specs.Totals.{over_files, sections_of as own_sections, totals_of}
+use Rattle.covstore.specs.Totals.{over_files, own_sections, totals_of}
 use Rattle.covstore.proofs.Counts.{counts_unempty}
 use Rattle.covstore.proofs.CountsKinds.{ValueOf, above_in, ascend, counted, found_in, is_hit_in, valued}
 use Rattle.covstore.proofs.CountsMapped.{counts_mapped_at}

@@ -34,7 +34,7 @@ module _ (test : TestData) (index : FileIndexData) (room : HasRoom test index) (
       ∙ held_where (holding line tests) (holding line (room.front ++ room.back)) (count_by-between (is_holding line) room.front test room.back ∙ ap (λ (b : Bool). holding line (room.front ++ room.back) + one_if b) holds)
 
   -- no more tests hold a checksum of the line than there are tests
-  pub holders_few : IfSome (value_of nat_cmp line index.holders) (λ committed. committed ≤ 2 ^ 63)
+  pub holders_few : IfSome (value_of nat_cmp line index.holders) (λ tests. tests ≤ 2 ^ 63)
   holders_few =
       let few : holding line tests ≤ 2 ^ 63 = omega (arith, room.few_tests, count_by-le-length (is_holding line) tests) in
-      subst (λ committed. IfSome committed (λ n. n ≤ 2 ^ 63)) (sym (room.kept.holders line)) (few_where (nat_lt 0 (holding line tests)) (holding line tests) few)
+      subst (λ holders. IfSome holders (λ n. n ≤ 2 ^ 63)) (sym (room.kept.holders line)) (few_where (nat_lt 0 (holding line tests)) (holding line tests) few)

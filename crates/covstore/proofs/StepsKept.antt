@@ -34,16 +34,16 @@ module _ {K V : Type 0} {cmp : K → K → Ordering} (is_above : V → Bool) (po
       (subst (λ (own : List (K × V)). AreCounts cmp is_above (front ++ own ∷ back) (counts_with cmp is_above key (value_of cmp key points) value counts)) (sym puts)
       (counts_put o is_above key value counts front points back stays are))
 
-within_few : (value : Option TestCounts) (tests : ℕ) → tests ≤ 2 ^ 63 → ((committed : TestCounts) → value ≡ Some committed → IsWithin committed tests) → IfSome value (λ committed. (committed.tests ≤ 2 ^ 63) × (committed.hit ≤ 2 ^ 63))
+within_few : (value : Option TestCounts) (tests : ℕ) → tests ≤ 2 ^ 63 → ((numbers : TestCounts) → value ≡ Some numbers → IsWithin numbers tests) → IfSome value (λ numbers. (numbers.tests ≤ 2 ^ 63) × (numbers.hit ≤ 2 ^ 63))
 within_few None tests few within = tt
 within_few (Some committed) tests few within = let is = within committed refl in (omega (arith, is.all), omega (arith, is.all, is.hit))
 
 pub numbers_few : {K V : Type 0} {cmp : K → K → Ordering} {is_above : V → Bool} {tests : List (List (K × V))} {counts : List (K × TestCounts)} → AreCounts cmp is_above tests counts → length tests ≤ 2 ^ 63
-    → (key : K) → IfSome (value_of cmp key counts) (λ committed. (committed.tests ≤ 2 ^ 63) × (committed.hit ≤ 2 ^ 63))
+    → (key : K) → IfSome (value_of cmp key counts) (λ numbers. (numbers.tests ≤ 2 ^ 63) × (numbers.hit ≤ 2 ^ 63))
 numbers_few {cmp = cmp} {tests = tests} {counts = counts} are few key = within_few (value_of cmp key counts) (length tests) few (counts_within are key)
 
 pub room_at : {K V : Type 0} {cmp : K → K → Ordering} {is_above : V → Bool} (points : List (K × V)) (counts : List (K × TestCounts)) → HasRoomOfKind cmp is_above points counts
-    → (key : K) → IfSome (value_of cmp key counts) (λ committed. (committed.tests ≤ 2 ^ 63) × (committed.hit ≤ 2 ^ 63))
+    → (key : K) → IfSome (value_of cmp key counts) (λ numbers. (numbers.tests ≤ 2 ^ 63) × (numbers.hit ≤ 2 ^ 63))
 room_at points counts room = numbers_few room.kept room.few_tests
 
 -- ---- how many tests hold a checksum of a line

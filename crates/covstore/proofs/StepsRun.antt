@@ -10,7 +10,7 @@ use Rattle.covstore.specs.declared.sums.TestCounts.{TestCounts}
 use Rattle.covstore.specs.declared.sums.TestsAddend.{TestsAddend}
 use Rattle.covstore.specs.Items.{HasRoomForRun, KeepsCountsOfKind}
 use Rattle.covstore.specs.PointIndex.{changed}
-use Rattle.covstore.specs.PointIndexCounts.{AreCounts, change_of, is_above_at, is_new, one_if, tests_fit, tests_with}
+use Rattle.covstore.specs.PointIndexCounts.{AreCounts, change_of, is_above_at, is_new, one_if, tests_fit, test_counts_with}
 use Rattle.covstore.proofs.Ascend.{IsExactOrder}
 use Rattle.covstore.proofs.Puts.{length-put}
 use Rattle.covstore.proofs.StepsCounts.{changed_is}
@@ -19,12 +19,12 @@ use Rattle.covstore.proofs.StepsKept.{numbers_few, put_keeps}
 -- ---- what one addend reports, before the rest of the run
 
 module _ {K Q : Type 0} (cmp : K → K → Ordering) (named : Q → K) (query : Q) (rest : List (Q × TestsAddend)) (counts : List (K × TestCounts)) where
-  pub summed_reports : (change : Option TestsAddend) → summed cmp named tests_with (reports_one query change ++ rest) counts ≡ summed cmp named tests_with rest (changed cmp (named query) change counts)
+  pub summed_reports : (change : Option TestsAddend) → summed cmp named test_counts_with (reports_one query change ++ rest) counts ≡ summed cmp named test_counts_with rest (changed cmp (named query) change counts)
   summed_reports None = refl
   summed_reports (Some more) = refl
 
   pub fit_reports : (change : Option TestsAddend) → IfSome (value_of cmp (named query) counts) (λ tests. (tests.tests ≤ 2 ^ 63) × (tests.hit ≤ 2 ^ 63))
-      → FitRun cmp named tests_fit tests_with rest (changed cmp (named query) change counts) → FitRun cmp named tests_fit tests_with (reports_one query change ++ rest) counts
+      → FitRun cmp named tests_fit test_counts_with rest (changed cmp (named query) change counts) → FitRun cmp named tests_fit test_counts_with (reports_one query change ++ rest) counts
   fit_reports None fits left = left
   fit_reports (Some more) fits left = (fits, left)
 
@@ -32,7 +32,7 @@ module _ {K Q : Type 0} (cmp : K → K → Ordering) (named : Q → K) (query : 
 pub length_changed : {K : Type 0} {cmp : K → K → Ordering} (o : IsExactOrder cmp) (key : K) (change : Option TestsAddend) (counts : List (K × TestCounts)) → ArePairs cmp counts
     → length (changed cmp key change counts) ≤ length counts + 1
 length_changed o key None counts sorted = omega arith
-length_changed {cmp = cmp} o key (Some more) counts sorted = omega (arith, length-put o key (tests_with more (value_of cmp key counts)) counts sorted, one_at_most (is_new (value_of cmp key counts)))
+length_changed {cmp = cmp} o key (Some more) counts sorted = omega (arith, length-put o key (test_counts_with more (value_of cmp key counts)) counts sorted, one_at_most (is_new (value_of cmp key counts)))
   where
     one_at_most : (is : Bool) → one_if is ≤ 1
     one_at_most true = omega arith
@@ -57,7 +57,7 @@ module _ {K V Q M : Type 0} {cmp : K → K → Ordering} (o : IsExactOrder cmp) 
 
   -- if the counts are those of the tests, they still are after the run is added to one test, and its reports to the counts
   pub run_keeps : (run : List (Q × M)) (points : List (K × V)) (counts : List (K × TestCounts))
-      → KeepsCountsOfKind cmp is_above points (summed cmp named sum run points) counts (summed cmp named tests_with (reports_run cmp named sum reports run points) counts)
+      → KeepsCountsOfKind cmp is_above points (summed cmp named sum run points) counts (summed cmp named test_counts_with (reports_run cmp named sum reports run points) counts)
   run_keeps [] points counts front back are = are
   run_keeps (item ∷ run) points counts front back are =
       let next = sum_put cmp named sum item points in
@@ -68,7 +68,7 @@ module _ {K V Q M : Type 0} {cmp : K → K → Ordering} (o : IsExactOrder cmp) 
 
   -- each number can grow, since no more tests have a point than there are
   runs_fit : (front back : List (List (K × V))) → length front + (length back + 1) ≤ 2 ^ 63 → (run : List (Q × M)) (points : List (K × V)) (counts : List (K × TestCounts)) → AreCounts cmp is_above (front ++ points ∷ back) counts
-      → FitRun cmp named tests_fit tests_with (reports_run cmp named sum reports run points) counts
+      → FitRun cmp named tests_fit test_counts_with (reports_run cmp named sum reports run points) counts
   runs_fit front back few [] points counts are = tt
   runs_fit front back few (item ∷ run) points counts are =
       let next = sum_put cmp named sum item points in
@@ -78,5 +78,5 @@ module _ {K V Q M : Type 0} {cmp : K → K → Ordering} (o : IsExactOrder cmp) 
       (runs_fit front back few run next more (one_keeps item points counts front back are))
 
   pub run_fits : (run : List (Q × M)) (points : List (K × V)) (counts : List (K × TestCounts)) → HasRoomForRun cmp is_above points counts (length run)
-      → FitRun cmp named tests_fit tests_with (reports_run cmp named sum reports run points) counts
+      → FitRun cmp named tests_fit test_counts_with (reports_run cmp named sum reports run points) counts
   run_fits run points counts room = runs_fit room.front room.back (omega (arith, length-append room.front (points ∷ room.back), room.few_tests)) run points counts room.kept

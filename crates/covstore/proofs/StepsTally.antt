@@ -8,7 +8,7 @@ use Rattle.covstore.specs.declared.point_index.KindTally.{KindTally}
 use Rattle.covstore.specs.declared.sums.TestCounts.{TestCounts}
 use Rattle.covstore.specs.declared.sums.TestsAddend.{TestsAddend}
 use Rattle.covstore.specs.PointIndex.{IsTallyOf}
-use Rattle.covstore.specs.PointIndexCounts.{change_by, change_of, found_of, hit_of, is_above_at, is_hit_by_some, is_new, is_newly_hit, one_if, tests_with}
+use Rattle.covstore.specs.PointIndexCounts.{change_by, change_of, found_of, hit_of, is_above_at, is_hit_by_some, is_new, is_newly_hit, one_if, test_counts_with}
 use Rattle.covmap.specs.MapData.{MapData}
 use Rattle.covmap.specs.Puts.{ArePairs, put, value_of}
 use Rattle.covmap.specs.Run.{sum_put, summed, reports_one, reports_run}
@@ -18,7 +18,7 @@ use Rattle.covstore.proofs.Puts.{ArePairs-put, count_by-put, length-put}
 module _ {K : Type 0} {cmp : K → K → Ordering} (o : IsExactOrder cmp) (key : K) (after : TestCounts) (counts : List (K × TestCounts)) (sorted : ArePairs cmp counts) where
   -- if the tally changes as the point's numbers require, it is the tally of the new counts
   pub tally_put : (before : Option TestCounts) → before ≡ value_of cmp key counts → (tally more : KindTally) → IsTallyOf counts tally → more.found ≡ tally.found + one_if (is_new before)
-      → more.hit + one_if (is_above_at (λ committed. nat_lt 0 committed.hit) before) ≡ tally.hit + one_if (nat_lt 0 after.hit) → IsTallyOf (put cmp key after counts) more
+      → more.hit + one_if (is_above_at (λ numbers. nat_lt 0 numbers.hit) before) ≡ tally.hit + one_if (nat_lt 0 after.hit) → IsTallyOf (put cmp key after counts) more
   tally_put before e tally more is found hit =
       let new = ap (λ (committed : Option TestCounts). one_if (is_new committed)) e in
       let above = ap (λ (committed : Option TestCounts). one_if (is_above_at (λ (tests : TestCounts). nat_lt 0 tests.hit) committed)) e in
@@ -30,7 +30,7 @@ module _ {K : Type 0} {cmp : K → K → Ordering} (o : IsExactOrder cmp) (key :
   -- likewise for the program's two tallies: the committed one stays, and the staged one changes
   pub tallies_put : (before : Option TestCounts) (old middle new : MapData K TestCounts) (committed staged more : KindTally) → IsTallyOf old.committed committed × IsTallyOf old.staged staged → counts ≡ old.staged → middle ≡ old
       → new.committed ≡ middle.committed → new.staged ≡ put cmp key after middle.staged → before ≡ value_of cmp key old.staged → more.found ≡ staged.found + one_if (is_new before)
-      → more.hit + one_if (is_above_at (λ committed. nat_lt 0 committed.hit) before) ≡ staged.hit + one_if (nat_lt 0 after.hit) → IsTallyOf new.committed committed × IsTallyOf new.staged more
+      → more.hit + one_if (is_above_at (λ numbers. nat_lt 0 numbers.hit) before) ≡ staged.hit + one_if (nat_lt 0 after.hit) → IsTallyOf new.committed committed × IsTallyOf new.staged more
   tallies_put before old middle new committed staged more are own same stays puts e found hit =
       let first = subst (λ (points : List (K × TestCounts)). IsTallyOf points committed) (sym (stays ∙ ap (λ (points : MapData K TestCounts). points.committed) same)) are.0 in
       let there = tally_put before (e ∙ ap (value_of cmp key) (sym own)) staged more (subst (λ (points : List (K × TestCounts)). IsTallyOf points staged) (sym own) are.1) found hit in
@@ -56,23 +56,23 @@ rises true false stays = absurd (false≢true (stays refl))
 rises false true stays = refl
 rises false false stays = refl
 
-numbers_stay : (more : TestsAddend) (before : Option TestCounts) → is_above_at is_hit_by_some before ≡ true → is_hit_by_some (tests_with more before) ≡ true
+numbers_stay : (more : TestsAddend) (before : Option TestCounts) → is_above_at is_hit_by_some before ≡ true → is_hit_by_some (test_counts_with more before) ≡ true
 numbers_stay more None e = absurd (false≢true e)
 numbers_stay more (Some tests) e = lt-ltb 0 (tests.hit + one_if more.is_hit) (omega (arith, ltb-true 0 tests.hit e))
 
 -- what a run reports from the file's counts
 abbrev pub reports_of_counts : {K Q : Type 0} → (K → K → Ordering) → (Q → K) → List (Q × TestsAddend) → List (K × TestCounts) → List (Q × TestsAddend)
-reports_of_counts cmp named run counts = reports_run cmp named tests_with (λ more before after. change_of is_hit_by_some before after) run counts
+reports_of_counts cmp named run counts = reports_run cmp named test_counts_with (λ more before after. change_of is_hit_by_some before after) run counts
 
 module _ {K Q : Type 0} {cmp : K → K → Ordering} (o : IsExactOrder cmp) (named : Q → K) where
   -- a run finds as many points more as it reports new ones
   pub found_run : (run : List (Q × TestsAddend)) (counts : List (K × TestCounts)) → ArePairs cmp counts
-      → found_of (summed cmp named tests_with run counts) ≡ found_of counts + count_by (λ item. item.1.is_new) (reports_of_counts cmp named run counts)
+      → found_of (summed cmp named test_counts_with run counts) ≡ found_of counts + count_by (λ item. item.1.is_new) (reports_of_counts cmp named run counts)
   found_run [] counts sorted = omega arith
   found_run (item ∷ run) counts sorted =
       let key = named item.0 in
       let before = value_of cmp key counts in
-      let after = tests_with item.1 before in
+      let after = test_counts_with item.1 before in
       let next = put cmp key after counts in
       let change = change_of is_hit_by_some before after in
       omega (
@@ -84,12 +84,12 @@ module _ {K Q : Type 0} {cmp : K → K → Ordering} (o : IsExactOrder cmp) (nam
       )
 
   pub hit_run : (run : List (Q × TestsAddend)) (counts : List (K × TestCounts)) → ArePairs cmp counts
-      → hit_of (summed cmp named tests_with run counts) ≡ hit_of counts + count_by (λ item. item.1.is_hit) (reports_of_counts cmp named run counts)
+      → hit_of (summed cmp named test_counts_with run counts) ≡ hit_of counts + count_by (λ item. item.1.is_hit) (reports_of_counts cmp named run counts)
   hit_run [] counts sorted = omega arith
   hit_run (item ∷ run) counts sorted =
       let key = named item.0 in
       let before = value_of cmp key counts in
-      let after = tests_with item.1 before in
+      let after = test_counts_with item.1 before in
       let next = put cmp key after counts in
       let change = change_of is_hit_by_some before after in
       omega (
@@ -103,7 +103,7 @@ module _ {K Q : Type 0} {cmp : K → K → Ordering} (o : IsExactOrder cmp) (nam
 
   pub tally_run : (run : List (Q × TestsAddend)) (counts : List (K × TestCounts)) → ArePairs cmp counts → (tally more : KindTally) → IsTallyOf counts tally
       → more.found ≡ tally.found + count_by (λ item. item.1.is_new) (reports_of_counts cmp named run counts) → more.hit ≡ tally.hit + count_by (λ item. item.1.is_hit) (reports_of_counts cmp named run counts)
-      → IsTallyOf (summed cmp named tests_with run counts) more
+      → IsTallyOf (summed cmp named test_counts_with run counts) more
   tally_run run counts sorted tally more is found hit = record {
     found = omega (arith, found_run run counts sorted, found, is.found);
     hit = omega (arith, hit_run run counts sorted, hit, is.hit);

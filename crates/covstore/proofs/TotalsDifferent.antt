@@ -22,13 +22,13 @@ use Rattle.covstore.specs.Ascending.{ascending}
 use Rattle.covstore.specs.Content.{SectionData, content_of}
 use Rattle.covstore.specs.Counted.{Kind, FilePoint, lines, functions, branches, in_file, is_same, points_of, is_hit_in_a_test, found, hit}
 use Rattle.covstore.specs.declared.totals.Totals.{Totals}
-use Rattle.covstore.specs.Totals.{AreTotals, totals_of, over_files, files_in, sections_of, lines_found, is_line_hit, functions_found, is_function_hit, branches_found, is_branch_hit}
+use Rattle.covstore.specs.Totals.{AreTotals, totals_of, over_files, files_in, own_sections, lines_found, is_line_hit, functions_found, is_function_hit, branches_found, is_branch_hit}
 use Rattle.covstore.specs.TotalsSteps.{files_of, has_file, items_of_file, found_in, hit_in, is_hit_in, hits_line, hits_function, hits_branch, totals_over}
 use Rattle.covstore.specs.Value.{Key, has_key, items_at}
 use Rattle.covstore.proofs.Ascend.{IsExactOrder, ascending_sorted, In-ascending, In-to_ascending}
 use Rattle.covstore.proofs.Members.{In, All-in, In-map, In-unmap}
 use Rattle.covstore.proofs.Orders.{lines_order, names_order, branches_order}
-use Rattle.covstore.proofs.TotalsKinds.{totals_are, sum_agree, count_agree, line_above, function_above, branch_above, same_branch, itself}
+use Rattle.covstore.proofs.TotalsKinds.{totals_of_rows, sum_agree, count_agree, line_above, function_above, branch_above, same_branch, itself}
 use Rattle.covstore.proofs.ContentsLists.{In-filter, In-flat, In-unfilter, In-unflat, any_from_in, in_from_any, same_truth}
 use Rattle.covstore.proofs.TotalsRows.{SameMembers, any_same_members}
 use Rattle.covstore.proofs.WithoutContent.{count_mapped}
@@ -39,8 +39,8 @@ use Rattle.covstore.proofs.ContentsPoints.{unless}
 hit_le_found : {X : Type 0} (points : List SectionData → List X) (hits : List SectionData → X → Bool) (sections : List SectionData)
     → over_files (λ own. count_by (hits own) (points own)) sections ≤ over_files (λ own. length (points own)) sections
 hit_le_found points hits sections =
-    sum_by-le-sum_by (λ file. count_by (hits (sections_of file sections)) (points (sections_of file sections))) (λ file. length (points (sections_of file sections))) (files_in sections)
-    (λ file. count_by-le-length (hits (sections_of file sections)) (points (sections_of file sections)))
+    sum_by-le-sum_by (λ file. count_by (hits (own_sections file sections)) (points (own_sections file sections))) (λ file. length (points (own_sections file sections))) (files_in sections)
+    (λ file. count_by-le-length (hits (own_sections file sections)) (points (own_sections file sections)))
 
 pub are_totals : (sections : List SectionData) → AreTotals (totals_of sections)
 are_totals sections = record {
@@ -245,17 +245,17 @@ branch_decides a b = (λ e. sym (same_branch a b.line b.block b.branch e), λ is
 
 pub lines_counted : (rows : List Row) → ((totals_of (content_of rows)).lf ≡ found lines rows) × ((totals_of (content_of rows)).lh ≡ hit lines rows)
 lines_counted rows =
-    let same : totals_of (content_of rows) ≡ totals_over rows = totals_are rows in
+    let same : totals_of (content_of rows) ≡ totals_over rows = totals_of_rows rows in
     (ap (λ (t : Totals). t.lf) same ∙ found_is lines_order lines line_decides hits_line line_above rows, ap (λ (t : Totals). t.lh) same ∙ hit_is lines_order lines line_decides hits_line line_above rows)
 
 pub functions_counted : (rows : List Row) → ((totals_of (content_of rows)).ff ≡ found functions rows) × ((totals_of (content_of rows)).fh ≡ hit functions rows)
 functions_counted rows =
-    let same : totals_of (content_of rows) ≡ totals_over rows = totals_are rows in (
+    let same : totals_of (content_of rows) ≡ totals_over rows = totals_of_rows rows in (
       ap (λ (t : Totals). t.ff) same ∙ found_is names_order functions bytes_eq-Decides hits_function function_above rows,
       ap (λ (t : Totals). t.fh) same ∙ hit_is names_order functions bytes_eq-Decides hits_function function_above rows,
     )
 
 pub branches_counted : (rows : List Row) → ((totals_of (content_of rows)).bf ≡ found branches rows) × ((totals_of (content_of rows)).bh ≡ hit branches rows)
 branches_counted rows =
-    let same : totals_of (content_of rows) ≡ totals_over rows = totals_are rows in
+    let same : totals_of (content_of rows) ≡ totals_over rows = totals_of_rows rows in
     (ap (λ (t : Totals). t.bf) same ∙ found_is branches_order branches branch_decides hits_branch branch_above rows, ap (λ (t : Totals). t.bh) same ∙ hit_is branches_order branches branch_decides hits_branch branch_above rows)

@@ -11,7 +11,7 @@ use Rattle.covline.specs.Points.{BranchPoint, line_point, func_point, branch_poi
 use Rattle.covline.specs.Row.{ItemData, LineItem, FuncItem, BranchItem, Row}
 use Rattle.covstore.specs.declared.totals.Totals.{Totals}
 use Rattle.covstore.specs.Content.{SectionData, LineValueData, FunctionValueData, BranchValueData, line_at, function_at, branch_at, content_of}
-use Rattle.covstore.specs.Totals.{sections_of, lines_found, is_line_hit, functions_found, is_function_hit, branches_found, is_branch_hit, over_files, totals_of}
+use Rattle.covstore.specs.Totals.{own_sections, lines_found, is_line_hit, functions_found, is_function_hit, branches_found, is_branch_hit, over_files, totals_of}
 use Rattle.covstore.specs.TotalsSteps.{files_of, items_of_file, is_hit_in, found_in, hit_in, hits_line, hits_function, hits_branch, totals_over}
 use Rattle.covstore.specs.Value.{items_at, lines_in, line_added, line_value, names_in, function_added, function_count, branch_cmp, branches_in, branch_value, is_branch, is_taken, sum_if_any, taken_said}
 use Rattle.covstore.proofs.Bounds.{bounded_above}
@@ -54,12 +54,12 @@ line_hit_at line items =
     (λ h. and_from (line == line) (nat_lt 0 (line_value line items)) (eq-eqb line line refl) (line_above line items ∙ h))
     (line_speaks line)
 
-lines_are : (file : List ℕ) (rows : List Row) → lines_found (sections_of file (content_of rows)) ≡ lines_in (items_of_file file rows)
+lines_are : (file : List ℕ) (rows : List Row) → lines_found (own_sections file (content_of rows)) ≡ lines_in (items_of_file file rows)
 lines_are file rows =
     points_found lines_order line_point (λ s. map (λ l. l.line) s.lines)
     (λ all key. read_back (λ (l : LineValueData). l.line) (line_at (items_at key all)) (λ x. refl) (lines_in (items_at key all))) file rows
 
-line_hits_are : (file : List ℕ) (rows : List Row) (line : ℕ) → is_line_hit (sections_of file (content_of rows)) line ≡ is_hit_in hits_line (items_of_file file rows) line
+line_hits_are : (file : List ℕ) (rows : List Row) (line : ℕ) → is_line_hit (own_sections file (content_of rows)) line ≡ is_hit_in hits_line (items_of_file file rows) line
 line_hits_are file rows line = hit_in_file (λ s. list_any (line_test line) s.lines) (hits_line line) (λ all key. line_hit_at line (items_at key all)) file rows
 
 -- ---- functions
@@ -88,12 +88,12 @@ function_hit_at name items =
     (λ h. and_from (bytes_eq name name) (nat_lt 0 (function_count name items)) ((bytes_eq-Decides name name).1 refl) (function_above name items ∙ h))
     (function_speaks name)
 
-functions_are : (file : List ℕ) (rows : List Row) → functions_found (sections_of file (content_of rows)) ≡ names_in (items_of_file file rows)
+functions_are : (file : List ℕ) (rows : List Row) → functions_found (own_sections file (content_of rows)) ≡ names_in (items_of_file file rows)
 functions_are file rows =
     points_found names_order func_point (λ s. map (λ f. f.name) s.functions)
     (λ all key. read_back (λ (f : FunctionValueData). f.name) (function_at (items_at key all)) (λ x. refl) (names_in (items_at key all))) file rows
 
-function_hits_are : (file : List ℕ) (rows : List Row) (name : List ℕ) → is_function_hit (sections_of file (content_of rows)) name ≡ is_hit_in hits_function (items_of_file file rows) name
+function_hits_are : (file : List ℕ) (rows : List Row) (name : List ℕ) → is_function_hit (own_sections file (content_of rows)) name ≡ is_hit_in hits_function (items_of_file file rows) name
 function_hits_are file rows name = hit_in_file (λ s. list_any (function_test name) s.functions) (hits_function name) (λ all key. function_hit_at name (items_at key all)) file rows
 
 -- ---- branches
@@ -152,12 +152,12 @@ branch_hit_at point items =
     (λ h. and_from (is_branch point point.line point.block point.branch) (is_taken (branch_value point items)) (itself point) (branch_above point items ∙ h))
     (branch_speaks point)
 
-branches_are : (file : List ℕ) (rows : List Row) → branches_found (sections_of file (content_of rows)) ≡ branches_in (items_of_file file rows)
+branches_are : (file : List ℕ) (rows : List Row) → branches_found (own_sections file (content_of rows)) ≡ branches_in (items_of_file file rows)
 branches_are file rows =
     points_found branches_order branch_point (λ s. map (λ b. b.point) s.branches)
     (λ all key. read_back (λ (b : BranchValueData). b.point) (branch_at (items_at key all)) (λ x. refl) (branches_in (items_at key all))) file rows
 
-branch_hits_are : (file : List ℕ) (rows : List Row) (point : BranchPoint) → is_branch_hit (sections_of file (content_of rows)) point ≡ is_hit_in hits_branch (items_of_file file rows) point
+branch_hits_are : (file : List ℕ) (rows : List Row) (point : BranchPoint) → is_branch_hit (own_sections file (content_of rows)) point ≡ is_hit_in hits_branch (items_of_file file rows) point
 branch_hits_are file rows point = hit_in_file (λ s. list_any (branch_test point) s.branches) (hits_branch point) (λ all key. branch_hit_at point (items_at key all)) file rows
 
 -- ---- all files
@@ -169,16 +169,16 @@ sum_agree f g same (x ∷ xs) = omega (arith, sum_by-cons f x xs, sum_by-cons g 
 pub count_agree : {X : Type 0} (p q : X → Bool) → ((x : X) → p x ≡ q x) → (xs : List X) → count_by p xs ≡ count_by q xs
 count_agree p q same xs = sum_agree (λ x. cond (p x) 1 0) (λ x. cond (q x) 1 0) (λ x. ap (λ (b : Bool). cond {A = ℕ} b 1 0) (same x)) xs
 
-over_are : (count : List SectionData → ℕ) (f : List ℕ → ℕ) (rows : List Row) → ((file : List ℕ) → count (sections_of file (content_of rows)) ≡ f file) → over_files count (content_of rows) ≡ sum_by f (files_of rows)
+over_are : (count : List SectionData → ℕ) (f : List ℕ → ℕ) (rows : List Row) → ((file : List ℕ) → count (own_sections file (content_of rows)) ≡ f file) → over_files count (content_of rows) ≡ sum_by f (files_of rows)
 over_are count f rows same =
-    ap (sum_by (λ file. count (sections_of file (content_of rows)))) (files_are rows) ∙ sum_agree (λ file. count (sections_of file (content_of rows))) f same (files_of rows)
+    ap (sum_by (λ file. count (own_sections file (content_of rows)))) (files_are rows) ∙ sum_agree (λ file. count (own_sections file (content_of rows))) f same (files_of rows)
 
 pub same_totals : (a b : Totals) → a.lf ≡ b.lf → a.lh ≡ b.lh → a.ff ≡ b.ff → a.fh ≡ b.fh → a.bf ≡ b.bf → a.bh ≡ b.bh → a ≡ b
 same_totals a b lf lh ff fh bf bh = λ i. record { lf = lf i; lh = lh i; ff = ff i; fh = fh i; bf = bf i; bh = bh i }
 
-pub totals_are : (rows : List Row) → totals_of (content_of rows) ≡ totals_over rows
-totals_are rows =
-    let own = λ (file : List ℕ). sections_of file (content_of rows) in
+pub totals_of_rows : (rows : List Row) → totals_of (content_of rows) ≡ totals_over rows
+totals_of_rows rows =
+    let own = λ (file : List ℕ). own_sections file (content_of rows) in
     let items = λ (file : List ℕ). items_of_file file rows in
     same_totals (totals_of (content_of rows)) (totals_over rows)
     (over_are (λ s. length (lines_found s)) (λ file. found_in nat_cmp line_point (items file)) rows (λ file. ap (λ (ls : List ℕ). length ls) (lines_are file rows)))

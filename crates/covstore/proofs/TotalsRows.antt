@@ -10,7 +10,7 @@ use Rattle.std.proofs.lemmas.Slice.Eq.{bytes_eq-Decides}
 use Rattle.covline.specs.Row.{ItemData, Row}
 use Rattle.covstore.specs.Ascending.{ascending}
 use Rattle.covstore.specs.Content.{SectionData, section_of, content_of}
-use Rattle.covstore.specs.Totals.{files_in, sections_of}
+use Rattle.covstore.specs.Totals.{files_in, own_sections}
 use Rattle.covstore.specs.TotalsSteps.{files_of, has_file, items_of_file}
 use Rattle.covstore.specs.Value.{Key, key_of_row, keys_of, has_key, items_at}
 use Rattle.covstore.proofs.Ascend.{In-ascending, In-to_ascending, IsExactOrder}
@@ -74,7 +74,7 @@ filter-map {X} {Y} p f (x ∷ xs) = by (p (f x)) (filter-map p f xs)
     by true rest = ap (λ (ys : List Y). f x ∷ ys) rest
     by false rest = rest
 
-sections_of_keys : (file : List ℕ) (rows : List Row) → sections_of file (content_of rows) ≡ map (section_of rows) (keys_of_file file rows)
+sections_of_keys : (file : List ℕ) (rows : List Row) → own_sections file (content_of rows) ≡ map (section_of rows) (keys_of_file file rows)
 sections_of_keys file rows = filter-map (λ (s : SectionData). bytes_eq s.key.file file) (section_of rows) (keys_of rows)
 
 -- ---- the files
@@ -125,7 +125,7 @@ module _ {X : Type 0} {cmp : X → X → Ordering} (o : IsExactOrder cmp) (point
   points_of_items items others same x i = let item = In-unflat point items x i in In-flat point others item.0 x (same.0 item.0 item.1) item.2
 
   -- the points found in the sections of a file are those of its rows
-  pub points_found : ascending cmp (flat_map points (sections_of file (content_of rows))) ≡ ascending cmp (flat_map point (items_of_file file rows))
+  pub points_found : ascending cmp (flat_map points (own_sections file (content_of rows))) ≡ ascending cmp (flat_map point (items_of_file file rows))
   points_found =
       let keys = keys_of_file file rows in
       let same = items_of_file_keys file rows in
@@ -147,7 +147,7 @@ module _ (is_hit : SectionData → Bool) (hits : ItemData → Bool) (reads : (ro
       ∙ sym (list_any-append hits (items_at key rows) (items_of_keys rows keys))
 
   -- a point is hit in some section of a file exactly if some row of the file hits it
-  pub hit_in_file : list_any is_hit (sections_of file (content_of rows)) ≡ list_any hits (items_of_file file rows)
+  pub hit_in_file : list_any is_hit (own_sections file (content_of rows)) ≡ list_any hits (items_of_file file rows)
   hit_in_file =
       ap (list_any is_hit) (sections_of_keys file rows) ∙ hit_in_keys (keys_of_file file rows)
       ∙ any_same_members hits (items_of_keys rows (keys_of_file file rows)) (items_of_file file rows) (items_of_file_keys file rows)

@@ -4,17 +4,17 @@ use Rattle.std.specs.List.{flat_map}
 use Rattle.std.specs.List.Sorted.{IsPermutation}
 use Rattle.std.specs.Option.{option_to_list}
 use Rattle.covline.specs.Row.{ItemData, LineItem, FuncItem, BranchItem}
-use Rattle.covstore.specs.declared.order.Spot.{Spot}
+use Rattle.covstore.specs.declared.stage_by_line.Spot.{Spot}
 
 -- the items at these spots, in the spots' order
-abbrev pub picked : {D : Type 0} → List D → List Spot → List D
-picked items spots = flat_map (λ spot. option_to_list (slice_get items spot.index)) spots
+abbrev pub at_spots : {D : Type 0} → List D → List Spot → List D
+at_spots items spots = flat_map (λ spot. option_to_list (slice_get items spot.index)) spots
 
 -- these are the spots of the items, in any order
 pub record AreSpotsOf {D : Type 0} (items : List D) (spots : List Spot) : Type 0 where
   pub others : List Spot
   pub permuted : IsPermutation others spots
-  pub all : picked items others ≡ items
+  pub all : at_spots items others ≡ items
 
 -- the item has no checksum, so it clashes with nothing
 abbrev pub HasNoChecksum : ItemData → Type 0

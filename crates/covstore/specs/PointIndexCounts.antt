@@ -68,8 +68,8 @@ counts_with cmp is_above key before after counts =
 
 -- ---- what a test adds to the numbers of a point
 
-abbrev pub tests_with : TestsAddend → Option TestCounts → TestCounts
-tests_with more before = tests_more more.is_new more.is_hit before
+abbrev pub test_counts_with : TestsAddend → Option TestCounts → TestCounts
+test_counts_with more before = tests_more more.is_new more.is_hit before
 
 -- the point's numbers can grow by 1
 abbrev pub tests_fit : TestsAddend → Option TestCounts → Type 0

@@ -15,8 +15,8 @@ abbrev pub files_in : List SectionData → List (List ℕ)
 files_in sections = ascending (slice_cmp nat_cmp) (map (λ s. s.key.file) sections)
 
 -- the sections of a file, over all tests
-abbrev pub sections_of : List ℕ → List SectionData → List SectionData
-sections_of file sections = filter (λ s. bytes_eq s.key.file file) sections
+abbrev pub own_sections : List ℕ → List SectionData → List SectionData
+own_sections file sections = filter (λ s. bytes_eq s.key.file file) sections
 
 -- the lines of a file's sections, each once
 abbrev pub lines_found : List SectionData → List ℕ
@@ -45,7 +45,7 @@ is_branch_hit sections point =
 
 -- a number is counted for each file, from the file's sections. This is the sum of these numbers
 abbrev pub over_files : (List SectionData → ℕ) → List SectionData → ℕ
-over_files count sections = sum_by (λ file. count (sections_of file sections)) (files_in sections)
+over_files count sections = sum_by (λ file. count (own_sections file sections)) (files_in sections)
 
 abbrev pub totals_of : List SectionData → Totals
 totals_of sections = record {

@@ -66,11 +66,11 @@ impl<A: Allocator + Copy> Checksums<A> {
         let Some(tests) = self.holders.lookup_staged(line) else {
             return self.hold_first(alloc, line, text);
         };
-        self.agrees(alloc, line, text)?;
+        self.refuse_clash(alloc, line, text)?;
         if is_held {
             return Ok(());
         }
-        self.count(alloc, line, tests + 1)
+        self.set_holders(alloc, line, tests + 1)
     }
 
     /// Stages the first test that holds a checksum of a line, which is this text from then on. If memory is refused, forgets what
@@ -88,11 +88,11 @@ impl<A: Allocator + Copy> Checksums<A> {
             self.holders.rollback();
             return Err(StageFault::Memory);
         }
-        self.count(alloc, line, 1)
+        self.set_holders(alloc, line, 1)
     }
 
     /// Stages how many tests hold the checksum of a line, which has a text. If memory is refused, forgets what is staged.
-    fn count(&mut self, alloc: A, line: u64, tests: u64) -> Result<(), StageFault<A>>
+    fn set_holders(&mut self, alloc: A, line: u64, tests: u64) -> Result<(), StageFault<A>>
         requires { is_some (value_of nat_cmp line self.old.texts) ≡ true }
         ensures committed { self.new.committed ≡ self.old.committed }
         ensures texts { self.new.texts ≡ self.old.texts }
@@ -107,7 +107,7 @@ impl<A: Allocator + Copy> Checksums<A> {
     }
 
     /// Compares a checksum with the one that is held of the line. They clash where they differ.
-    fn agrees(&self, alloc: A, line: u64, text: &[u8]) -> Result<(), StageFault<A>>
+    fn refuse_clash(&self, alloc: A, line: u64, text: &[u8]) -> Result<(), StageFault<A>>
         requires held { is_some (value_of nat_cmp line self.now.staged) ≡ true }
         requires kept { is_some (value_of nat_cmp line self.now.texts) ≡ true }
         ensures ok { OnOk result (value_of nat_cmp line self.now.texts ≡ Some text.now) }

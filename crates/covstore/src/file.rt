@@ -4,11 +4,11 @@ ghost use Rattle.std.specs.Prelude.{◌≡◌, ℕ, List, [], ◌∷◌, ◌++�
 
 use crate::boxed::Boxed;
 use crate::content::FileSections;
-use crate::copies::stage_values;
+use crate::copy_test::stage_values;
 use crate::index::FileIndex;
 use crate::refuse::Refuse;
 use crate::stage_fault::StageFault;
-use crate::stage_items::stage_items;
+use crate::stage_section::stage_items;
 use crate::test::Test;
 use crate::totals::Totals;
 use covline::{Bytes, Item, Memory};
@@ -168,20 +168,20 @@ impl<A: Allocator + Copy> File<A> {
         }
         let name = Vec::from_slice(alloc, test)?;
         let points = Boxed::new(alloc, Test::new(alloc))?;
-        self.count(alloc)?;
+        self.start_counting(alloc)?;
         self.tests.insert(name, points)?;
         Ok(())
     }
 
     /// Counts the points of the file's tests, unless it has none. Then a test can be added.
-    fn count(&mut self, alloc: A) -> Result<(), Memory>
+    fn start_counting(&mut self, alloc: A) -> Result<(), Memory>
         ensures same { self.new.tests ≡ self.old.tests }
         ensures committed { index_committed self.new.index ≡ index_committed self.old.index }
         ensures staged { index_staged self.new.index ≡ index_staged self.old.index }
         ensures ok { OnOk result (CanFollow self.new.tests.entries self.new.index) }
     {
         if let Some((_, points)) = self.tests.iter().next() {
-            self.index.count(alloc, points.get())?;
+            self.index.start_counting(alloc, points.get())?;
         }
         Ok(())
     }

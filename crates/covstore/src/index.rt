@@ -53,16 +53,16 @@ impl<A: Allocator + Copy> FileIndex<A> {
     /// # Errors
     ///
     /// `AllocError` if memory was refused.
-    pub(crate) fn count(&mut self, alloc: A, test: &Test<A>) -> Result<(), AllocError>
+    pub(crate) fn start_counting(&mut self, alloc: A, test: &Test<A>) -> Result<(), AllocError>
         requires { Follows test.now self.old }
         ensures committed { index_committed self.new ≡ index_committed self.old }
         ensures staged { index_staged self.new ≡ index_staged self.old }
         ensures follows { StillFollows self.old test.now self.new }
         ensures ok { OnOk result (CountsAll self.new) }
     {
-        self.lines.count(alloc, &test.lines)?;
-        self.functions.count(alloc, &test.functions)?;
-        self.branches.count(alloc, &test.branches)
+        self.lines.start_counting(alloc, &test.lines)?;
+        self.functions.start_counting(alloc, &test.functions)?;
+        self.branches.start_counting(alloc, &test.branches)
     }
 
     /// Commits what is staged. If the index follows a test, it is this one, which has committed already.

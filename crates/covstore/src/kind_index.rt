@@ -128,7 +128,11 @@ impl<K: CopyKey<A> + Drop, S: PointSum, A: Allocator + Copy> KindIndex<K, S, A> 
     /// # Errors
     ///
     /// `AllocError` if memory was refused.
-    pub(crate) fn count(&mut self, alloc: A, points: &StagedMap<K, S, A>) -> Result<(), AllocError>
+    pub(crate) fn start_counting(
+        &mut self,
+        alloc: A,
+        points: &StagedMap<K, S, A>,
+    ) -> Result<(), AllocError>
         requires { IfSome self.old.follows (λ seen. seen ≡ points.now) }
         ensures committed { self.new.committed ≡ self.old.committed }
         ensures staged { self.new.staged ≡ self.old.staged }

@@ -2,7 +2,7 @@
 
 ghost use Rattle.std.specs.Prelude.{◌≡◌, ◌+◌, ◌<◌, ◌≤◌, ◌^◌, IfSome, OnOk, length};
 ghost use Rattle.covstore.specs.PointIndex.{changed};
-ghost use Rattle.covstore.specs.PointIndexCounts.{found_of, hit_of, tests_fit, tests_with};
+ghost use Rattle.covstore.specs.PointIndexCounts.{found_of, hit_of, tests_fit, test_counts_with};
 ghost use Rattle.covmap.specs.Puts.{ArePairs, value_of};
 ghost use Rattle.covmap.specs.Run.{FitRun, summed};
 
@@ -175,9 +175,9 @@ impl<K: Key + Drop, A: Allocator + Copy> PointIndex<K, A> {
     ) -> Result<(), AllocError>
         requires few { length self.old.staged + length changes.now ≤ 2 ^ 63 }
         requires ascending { ArePairs K.cmp self.old.staged }
-        requires fits { FitRun K.cmp Q.named tests_fit tests_with changes.now self.old.staged }
+        requires fits { FitRun K.cmp Q.named tests_fit test_counts_with changes.now self.old.staged }
         ensures committed { self.new.committed ≡ self.old.committed }
-        ensures ok { OnOk result (self.new.staged ≡ summed K.cmp Q.named tests_with changes.now self.old.staged) }
+        ensures ok { OnOk result (self.new.staged ≡ summed K.cmp Q.named test_counts_with changes.now self.old.staged) }
     {
         if changes.is_empty() {
             return Ok(());
@@ -234,7 +234,7 @@ impl<K: Key, A: Allocator> PointIndex<K, A> {
     ghost use Rattle.covstore.specs.PointIndexDrops.{CanLose, IsTallyAt, counts_without};
 
     /// Takes one test off a point's committed numbers. `was_above`: the test had the point above 0. Nothing is staged afterwards.
-    pub(crate) fn remove<Q: Query<K, A>>(&mut self, query: Q, was_above: bool)
+    pub(crate) fn take_test_off<Q: Query<K, A>>(&mut self, query: Q, was_above: bool)
         requires { CanLose was_above (value_of K.cmp (Q.named query) self.old.committed) }
         ensures committed { self.new.committed ≡ counts_without K.cmp (Q.named query) was_above self.old.committed }
         ensures staged { self.new.staged ≡ self.new.committed }
@@ -259,7 +259,7 @@ impl<K: Key, A: Allocator> PointIndex<K, A> {
 
     /// Passes a point: takes one test that has the point off the walk's tally. The index stays as it is: its committed numbers of
     /// the point still count the test.
-    pub(crate) fn subtract<Q: Query<K, A>>(
+    pub(crate) fn walk_without<Q: Query<K, A>>(
         &self,
         walk: TallyWalk,
         query: Q,

@@ -2,7 +2,7 @@
 
 ghost use Rattle.std.specs.Prelude.{◌≡◌, Bool, true, Option};
 ghost use Rattle.std.proofs.Common.{refl};
-ghost use Rattle.covstore.specs.PointIndexCounts.{change_of, is_above_at, is_hit_by_some, tests_fit, tests_with};
+ghost use Rattle.covstore.specs.PointIndexCounts.{change_of, is_above_at, is_hit_by_some, tests_fit, test_counts_with};
 ghost use Rattle.covstore.specs.SoleTest.{count_of_one};
 ghost use Rattle.covstore.specs.Kinds.{branch_above, function_above, line_above};
 ghost use Rattle.covstore.specs.State.{has_checksum};
@@ -223,11 +223,11 @@ impl TestsAddend {
 impl Addend<TestCounts> for TestsAddend {
     ghost fits = { tests_fit };
 
-    ghost sum = { tests_with };
+    ghost sum = { test_counts_with };
 
     fn plus(self, value: &Option<TestCounts>) -> TestCounts
         requires { tests_fit self value.now }
-        ensures { result ≡ tests_with self value.now }
+        ensures { result ≡ test_counts_with self value.now }
     {
         let (tests, hit) = match value {
             Some(value) => (value.tests.get(), value.hit.get()),

@@ -36,12 +36,12 @@ impl<K: Key, V, A: Allocator> Slots<K, V, A> {
     }
 
     /// Where to begin the search for a key: a place on the page of the guess, found without a search among the pages.
-    fn near<Q: Query<K, A>>(&self, query: Q, guess: SlotIndex) -> SlotIndex
+    fn guess_near<Q: Query<K, A>>(&self, query: Q, guess: SlotIndex) -> SlotIndex
     where
         V: Value,
     {
         match self.page(guess.page) {
-            Some(page) => guess.at(page.near(guess.index, query)),
+            Some(page) => guess.at(page.guess_near(guess.index, query)),
             None => guess,
         }
     }
@@ -97,7 +97,7 @@ pub(crate) fn make_slots<
     ensures place { IfOk result (λ place. FirstHere K.cmp Q.named (page_at slots.new place.page) place.index run.now) }
 {
     let (query, _) = run[0];
-    match slots.find(query, slots.near(query, guess)) {
+    match slots.find(query, slots.guess_near(query, guess)) {
         Ok(place) => Ok(place),
         Err(place) => {
             // A short run fills the last page first, so that short runs don't leave short pages.
@@ -129,7 +129,7 @@ fn make_ahead<K: Key + Drop, V: Value, A: Allocator + Copy, Q: Query<K, A>, M: A
     let mut count = 0;
     while count < run.len() {
         let (query, _) = run[count];
-        let guess = slots.near(query, place);
+        let guess = slots.guess_near(query, place);
         let next = make_slot(slots, staged, alloc, query, guess)?;
         if next.page != first.page || slots.len_of(next.page) == PAGE_SLOTS {
             return Ok(());

@@ -44,7 +44,7 @@ fn drop_counted<'a, K: PointKey<'a, A> + Drop, S: PointSum, A: Allocator + Copy>
     kept.rollback();
     points.ascends();
     for (key, sum) in points.entries() {
-        kept.remove(key.name(), sum.is_above());
+        kept.take_test_off(key.name(), sum.is_above());
     }
 }
 
@@ -93,7 +93,7 @@ fn tally_without_counted<'a, K: PointKey<'a, A>, S: PointSum, A: Allocator>(
     let mut walk = kept.walk();
     points.ascends();
     for (key, sum) in points.entries() {
-        walk = kept.subtract(walk, key.name(), sum.is_above());
+        walk = kept.walk_without(walk, key.name(), sum.is_above());
     }
     walk.tally
 }

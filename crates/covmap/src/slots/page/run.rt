@@ -47,7 +47,7 @@ impl<K: Key, V: Value, A: Allocator> Page<K, V, A> {
         let mut count = 0;
         while count < run.len() {
             let (query, addend) = run[count];
-            let index = self.near(next, query);
+            let index = self.guess_near(next, query);
             if !self.order(index, query).is_eq() {
                 return Ok(Along { count, next });
             }
@@ -59,7 +59,7 @@ impl<K: Key, V: Value, A: Allocator> Page<K, V, A> {
     }
 
     /// Where to look for the slot of a key: at `start`, at one of the next slots, or where a search of the page leads.
-    pub(crate) fn near<Q: Query<K, A>>(&self, start: usize, query: Q) -> usize
+    pub(crate) fn guess_near<Q: Query<K, A>>(&self, start: usize, query: Q) -> usize
         requires { IsAscending K.cmp self.now }
         ensures { order_at (λ key. K.cmp key (Q.named query)) (slice_get self.now start) ≡ Equal → result ≡ start }
     {

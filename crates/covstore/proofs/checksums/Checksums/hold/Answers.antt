@@ -41,23 +41,23 @@ returns-in_default-clause-others g c =
 pub returns-clause-text : goal.returns-clause-text
 returns-clause-text g c =
     let tests = c.in-Some.tests + 1 in
-    on_ok_weaker c.count.result
-    (λ (staged : c.count.new.self.staged ≡ put nat_cmp c.args.line tests c.lookup_staged.new.self.staged).
+    on_ok_weaker c.set_holders.result
+    (λ (staged : c.set_holders.new.self.staged ≡ put nat_cmp c.args.line tests c.lookup_staged.new.self.staged).
     record {
-      is_held = held_is c.args.line tests c.lookup_staged.new.self.staged c.count.new.self.staged staged;
-      is_kept = ap (value_of nat_cmp c.args.line) c.count.ensures.texts ∙ c.in_ok-agrees.ensures.ok;
-      agrees = λ some. sym (ap (λ (before : ChecksumsData). value_of nat_cmp c.args.line before.texts) c.self.view_is) ∙ c.in_ok-agrees.ensures.ok;
+      is_held = held_is c.args.line tests c.lookup_staged.new.self.staged c.set_holders.new.self.staged staged;
+      is_kept = ap (value_of nat_cmp c.args.line) c.set_holders.ensures.texts ∙ c.in_ok-refuse_clash.ensures.ok;
+      agrees = λ some. sym (ap (λ (before : ChecksumsData). value_of nat_cmp c.args.line before.texts) c.self.view_is) ∙ c.in_ok-refuse_clash.ensures.ok;
     })
-    c.count.ensures.ok
+    c.set_holders.ensures.ok
 
 pub returns-clause-others : goal.returns-clause-others
 returns-clause-others g c =
     let inside = c.self.inside in
     let tests = c.in-Some.tests + 1 in
-    on_ok_weaker c.count.result
-    (λ (staged : c.count.new.self.staged ≡ put nat_cmp c.args.line tests c.lookup_staged.new.self.staged).
+    on_ok_weaker c.set_holders.result
+    (λ (staged : c.set_holders.new.self.staged ≡ put nat_cmp c.args.line tests c.lookup_staged.new.self.staged).
     let puts = staged ∙ ap (λ (points : MapData ℕ ℕ). put nat_cmp c.args.line tests points.staged) c.lookup_staged.ensures.same in
-    subst (λ (before : ChecksumsData). KeepsTexts before.staged before.texts c.count.new.self.staged c.count.new.self.texts) c.self.view_is
-    (subst (KeepsTexts inside.holders.staged inside.texts.staged c.count.new.self.staged) (sym c.count.ensures.texts)
-    (keeps_committed c.args.line tests inside.holders.staged c.count.new.self.staged puts inside.texts.staged)))
-    c.count.ensures.ok
+    subst (λ (before : ChecksumsData). KeepsTexts before.staged before.texts c.set_holders.new.self.staged c.set_holders.new.self.texts) c.self.view_is
+    (subst (KeepsTexts inside.holders.staged inside.texts.staged c.set_holders.new.self.staged) (sym c.set_holders.ensures.texts)
+    (keeps_committed c.args.line tests inside.holders.staged c.set_holders.new.self.staged puts inside.texts.staged)))
+    c.set_holders.ensures.ok

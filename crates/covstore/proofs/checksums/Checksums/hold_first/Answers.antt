@@ -20,8 +20,8 @@ invariant_of-self-else-is_err g c =
       among = have.among;
     }
 
-pub count-requires : goal.count-requires
-count-requires g c =
+pub set_holders-requires : goal.set_holders-requires
+set_holders-requires g c =
     let puts = ok_unless c.set.result c.is_err.ensures.value c.if-is_err.false c.set.ensures.ok in
     ap is_some (inserted_is c.args.line c.in_ok-kept.kept c.self.inside.holders.staged c.self.inside.texts.staged c.set.new.self.staged puts)
 
@@ -31,6 +31,6 @@ returns-clause-stay g c =
     let texts = c.self.inside.texts.staged in
     let puts = ok_unless c.set.result c.is_err.ensures.value c.if-is_err.false c.set.ensures.ok in
     let none : value_of nat_cmp c.args.line holders.staged ≡ None = ap (λ (before : ChecksumsData). value_of nat_cmp c.args.line before.staged) c.self.view_is ∙ c.requires in
-    subst (λ (before : ChecksumsData). StayTexts before.committed before.texts c.count.new.self.texts) c.self.view_is
-    (subst (StayTexts holders.committed texts) (sym c.count.ensures.texts)
+    subst (λ (before : ChecksumsData). StayTexts before.committed before.texts c.set_holders.new.self.texts) c.self.view_is
+    (subst (StayTexts holders.committed texts) (sym c.set_holders.ensures.texts)
     (stay_inserted c.args.line c.in_ok-kept.kept holders.staged texts c.set.new.self.staged puts holders.committed c.self.invariant.among none))

@@ -1,6 +1,6 @@
 use Rattle.std.proofs.Common.{map, refl, ◌∙◌}
 use Rattle.covstore.specs.Kinds.{Branch, Function, Line, at}
-use Rattle.covstore.proofs.EachKind.{totals_are}
+use Rattle.covstore.proofs.EachKind.{totals_of_tallies}
 use Rattle.covstore.proofs.index.FileIndex.totals_without.Goals as goal
 
 pub tally_without-requires : goal.tally_without-requires
@@ -15,7 +15,7 @@ tally_without-requires-3 g c = λ lifetimes. ((refl, tt), (c.requires.follows.br
 pub returns : goal.returns
 returns g c others rest are own =
     c.totals_of.ensures
-    ∙ totals_are rest.counts c.tally_without.result c.tally_without-2.result c.tally_without-3.result
+    ∙ totals_of_tallies rest.counts c.tally_without.result c.tally_without-2.result c.tally_without-3.result
     (c.tally_without.ensures (map (at Line) others) rest.counts.lines (are.counts Line) (own.counts Line))
     (c.tally_without-2.ensures (map (at Function) others) rest.counts.functions (are.counts Function) (own.counts Function))
     (c.tally_without-3.ensures (map (at Branch) others) rest.counts.branches (are.counts Branch) (own.counts Branch))

@@ -5,7 +5,7 @@ use Rattle.covmap.specs.Puts.{ArePairs}
 use Rattle.covstore.specs.declared.sums.TestCounts.{TestCounts}
 use Rattle.covstore.specs.declared.sums.TestsAddend.{TestsAddend}
 use Rattle.covstore.specs.PointIndex.{IsTallyOf}
-use Rattle.covstore.specs.PointIndexCounts.{change_of, is_hit_by_some, tests_with}
+use Rattle.covstore.specs.PointIndexCounts.{change_of, is_hit_by_some, test_counts_with}
 use Rattle.covstore.proofs.StepsTally.{length_reports, tally_run, reports_of_counts}
 use Rattle.covstore.proofs.point_index.PointIndex.add_run.Goals as goal
 
@@ -16,7 +16,7 @@ with_reports-self-inside-requires-clause-found g c =
     let run = c.args.changes.now in
     let reports = reports_of_counts g.K.Key.cmp named run counts in
     let given : c.as_slice.result.now ≡ reports = c.as_slice.ensures.value ∙ c.in_default.ensures.reports ∙ ap (λ (items : List (g.row.Q.Denot × TestsAddend)). items ++ reports) c.in_ok-reports.ensures.items in
-    let few = length_reports g.K.Key.cmp named tests_with (λ (more : TestsAddend) before after. change_of is_hit_by_some before after) run counts in
+    let few = length_reports g.K.Key.cmp named test_counts_with (λ (more : TestsAddend) before after. change_of is_hit_by_some before after) run counts in
     let own = ap (λ (points : MapData g.row.K.Denot TestCounts). length points.staged) c.self.view_is in
     omega (arith, c.self.invariant.1.found, own, c.requires.few, ap (λ (items : List (g.row.Q.Denot × TestsAddend)). length items) given, few)
 
@@ -27,7 +27,7 @@ with_reports-self-inside-requires-clause-hit g c =
     let run = c.args.changes.now in
     let reports = reports_of_counts g.K.Key.cmp named run counts in
     let given : c.as_slice.result.now ≡ reports = c.as_slice.ensures.value ∙ c.in_default.ensures.reports ∙ ap (λ (items : List (g.row.Q.Denot × TestsAddend)). items ++ reports) c.in_ok-reports.ensures.items in
-    let few = length_reports g.K.Key.cmp named tests_with (λ (more : TestsAddend) before after. change_of is_hit_by_some before after) run counts in
+    let few = length_reports g.K.Key.cmp named test_counts_with (λ (more : TestsAddend) before after. change_of is_hit_by_some before after) run counts in
     let own = ap (λ (points : MapData g.row.K.Denot TestCounts). length points.staged) c.self.view_is in
     let hit = count_by-le-length (λ (pair : g.row.K.Denot × TestCounts). nat_lt 0 pair.1.hit) counts in
     omega (arith, c.self.invariant.1.hit, hit, own, c.requires.few, ap (λ (items : List (g.row.Q.Denot × TestsAddend)). length items) given, few)

@@ -1,0 +1,187 @@
+//! Stages items without checksums, in the order of their lines if these often fall. In this order, points are found without a
+//! search, and a new point that comes after all others moves none of them.
+
+ghost use Rattle.std.specs.Prelude.{◌≡◌, ◌↔◌, map, IfOk, IsTrue, OnOk};
+ghost use Rattle.std.specs.List.{All};
+ghost use Rattle.covline.specs.Row.{item_data};
+ghost use Rattle.covstore.specs.Order.{AreSpotsOf, HasNoChecksum, at_spots};
+ghost use Rattle.covstore.specs.Section.{Adds, HasRoomFor};
+ghost use Rattle.covstore.specs.Follows.{Follows, StillFollows};
+ghost use Rattle.covstore.specs.FileIndexView.{KeepsCommitted, index_staged};
+ghost use Rattle.covstore.specs.TestView.{test_staged, test_committed};
+ghost use Rattle.covstore.specs.Runs.{runs_of};
+ghost use Rattle.covstore.specs.RunsView.{runs_seen};
+
+use crate::index::FileIndex;
+use crate::runs::{MAX_STAGED_AT_ONCE, Runs, stage_as_they_are, stage_runs};
+use crate::test::Test;
+use covline::Item;
+use std::alloc::{AllocError, Allocator};
+
+/// The smallest number of items for which a section is sorted.
+const MIN_SORTED: usize = 1024;
+
+/// One of this many items is sampled, to see whether the lines of the items ascend.
+const SAMPLE_STRIDE: usize = 16;
+
+/// Items are sorted if more than one in this many samples has a lower line than the sample before it.
+const SAMPLES_PER_FALL: usize = 4;
+
+/// Where an item is in its section. Spots ascend by line, and on one line by the items' order in the section.
+#[derive(PartialEq, Eq, PartialOrd, Ord, Drop)]
+struct Spot {
+    line: u64,
+    index: usize,
+}
+
+/// Stages the items, none of which has a checksum. They are staged in the order of their lines if there are many items and their
+/// lines often fall, else in the section's order.
+pub(crate) fn stage_without_checksums<A: Allocator + Copy>(
+    test: &mut Test<A>,
+    index: &mut FileIndex<A>,
+    alloc: A,
+    items: &[Item<A>],
+) -> Result<(), AllocError>
+    requires follows { Follows test.old index.old }
+    requires room { HasRoomFor (map item_data items.now) (test_staged test.old) (index_staged index.old) }
+    requires plain { All (λ item. HasNoChecksum (item_data item)) items.now }
+    ensures test_committed { test_committed test.new ≡ test_committed test.old }
+    ensures index_committed { KeepsCommitted index.old index.new }
+    ensures follows { StillFollows index.old test.new index.new }
+    ensures ok { OnOk result (Adds (map item_data items.now) (test_staged test.old) (index_staged index.old) (test_staged test.new) (index_staged index.new)) }
+{
+    if items.len() >= MIN_SORTED && falls_often(items) {
+        return stage_in_order(test, index, alloc, items);
+    }
+    stage_as_they_are(test, index, alloc, items)
+}
+
+/// Whether the lines of the items often fall: whether many of the sampled items have a lower line than the sample before.
+fn falls_often<A: Allocator>(items: &[Item<A>]) -> bool {
+    let most = items.len() / SAMPLE_STRIDE / SAMPLES_PER_FALL;
+    let mut falls = 0;
+    let mut last = 0;
+    for run in items.chunks(SAMPLE_STRIDE) {
+        if let Some(item) = run.first() {
+            let line = line_of(item);
+            if line < last && falls <= most {
+                falls += 1;
+            }
+            last = line;
+        }
+    }
+    falls > most
+}
+
+/// Whether none of the items has a checksum.
+pub(crate) fn have_no_checksum<A: Allocator>(items: &[Item<A>]) -> bool
+    ensures { IsTrue result ↔ All (λ item. HasNoChecksum (item_data item)) items.now }
+{
+    items.iter().all(|item| has_no_checksum(item))
+}
+
+/// Whether the item has no checksum.
+fn has_no_checksum<A: Allocator>(item: &Item<A>) -> bool
+    ensures { IsTrue result ↔ HasNoChecksum (item_data item.now) }
+{
+    match item {
+        Item::Line {
+            checksum: Some(_),
+            ..
+        } => false,
+        Item::Line { checksum: None, .. } | Item::Func { .. } | Item::Branch { .. } => true,
+    }
+}
+
+/// The line that an item is of.
+fn line_of<A: Allocator>(item: &Item<A>) -> u64 {
+    match item {
+        Item::Line { line, .. } | Item::Func { line, .. } | Item::Branch { line, .. } => *line,
+    }
+}
+
+/// Stages the items, none of which has a checksum, in the order of their lines.
+fn stage_in_order<A: Allocator + Copy>(
+    test: &mut Test<A>,
+    index: &mut FileIndex<A>,
+    alloc: A,
+    items: &[Item<A>],
+) -> Result<(), AllocError>
+    requires follows { Follows test.old index.old }
+    requires room { HasRoomFor (map item_data items.now) (test_staged test.old) (index_staged index.old) }
+    requires plain { All (λ item. HasNoChecksum (item_data item)) items.now }
+    ensures test_committed { test_committed test.new ≡ test_committed test.old }
+    ensures index_committed { KeepsCommitted index.old index.new }
+    ensures follows { StillFollows index.old test.new index.new }
+    ensures ok { OnOk result (Adds (map item_data items.now) (test_staged test.old) (index_staged index.old) (test_staged test.new) (index_staged index.new)) }
+{
+    let spots = sorted_spots(alloc, items)?;
+    stage_at(test, index, alloc, items, &spots)?;
+    Ok(())
+}
+
+/// Stages the items at these spots, in the order of the spots.
+fn stage_at<A: Allocator + Copy>(
+    test: &mut Test<A>,
+    index: &mut FileIndex<A>,
+    alloc: A,
+    items: &[Item<A>],
+    spots: &[Spot],
+) -> Result<(), AllocError>
+    requires follows { Follows test.old index.old }
+    requires room { HasRoomFor (map item_data (at_spots items.now spots.now)) (test_staged test.old) (index_staged index.old) }
+    requires plain { All (λ item. HasNoChecksum (item_data item)) items.now }
+    ensures test_committed { test_committed test.new ≡ test_committed test.old }
+    ensures index_committed { KeepsCommitted index.old index.new }
+    ensures follows { StillFollows index.old test.new index.new }
+    ensures ok { OnOk result (Adds (map item_data (at_spots items.now spots.now)) (test_staged test.old) (index_staged index.old) (test_staged test.new) (index_staged index.new)) }
+{
+    for some in spots.chunks(MAX_STAGED_AT_ONCE) {
+        let runs = runs_at(alloc, items, some)?;
+        stage_runs(test, index, alloc, &runs)?;
+    }
+    Ok(())
+}
+
+/// The runs of the items at these spots.
+fn runs_at<'a, A: Allocator + Copy>(
+    alloc: A,
+    items: &'a [Item<A>],
+    spots: &[Spot],
+) -> Result<Runs<'a, A>, AllocError>
+    ensures { IfOk result (λ runs. runs_seen runs ≡ runs_of (map item_data (at_spots items.now spots.now))) }
+{
+    let mut runs = Runs::with_room(alloc, spots.len())?;
+    for spot in spots {
+        if let Some(item) = items.get(spot.index) {
+            runs.take(item)?;
+        }
+    }
+    Ok(runs)
+}
+
+/// The spots of the items, in ascending order.
+fn sorted_spots<A: Allocator + Copy>(
+    alloc: A,
+    items: &[Item<A>],
+) -> Result<Vec<Spot, A>, AllocError>
+    ensures { IfOk result (λ spots. AreSpotsOf items.now spots.items) }
+{
+    let mut spots = spots_of(alloc, items)?;
+    spots.sort_unstable();
+    Ok(spots)
+}
+
+/// The spots of the items, in the section's order.
+fn spots_of<A: Allocator + Copy>(alloc: A, items: &[Item<A>]) -> Result<Vec<Spot, A>, AllocError>
+    ensures { IfOk result (λ spots. at_spots items.now spots.items ≡ items.now) }
+{
+    let mut spots = Vec::with_capacity(alloc, items.len())?;
+    for index in 0..items.len() {
+        spots.push(Spot {
+            line: line_of(&items[index]),
+            index,
+        })?;
+    }
+    Ok(spots)
+}
