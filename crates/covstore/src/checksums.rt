@@ -143,7 +143,6 @@ impl<A: Allocator + Copy> Checksums<A> {
         ensures texts { self.new.texts ≡ self.old.texts }
     {
         self.holders.rollback();
-        self.texts.commit();
     }
 }
 
