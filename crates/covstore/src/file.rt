@@ -17,8 +17,8 @@ use std::collections::BTreeMap;
 use std::marker::Model;
 use std::mem;
 
-/// The tests of a file, each with its points, and the file's index. As long as the file has one test, the index follows it, and
-/// keeps no counts of points. Contracts see tests and index.
+/// The tests of a file, each with its points, and the file's index. The index follows the file's only test, until a second one
+/// comes. Then the points are counted, and the counts stay, also if one test is left. Contracts see tests and index.
 #[derive(Drop)]
 pub(crate) struct File<A: Allocator> {
     tests: BTreeMap<Vec<u8, A>, Boxed<Test<A>, A>, A>,

@@ -15,8 +15,8 @@ use crate::test::Test;
 use crate::totals::Totals;
 use std::alloc::{AllocError, Allocator};
 
-/// For each point of a file, how many tests have it, and how many have it above 0; and the checksums of the file's lines. As long
-/// as the file has at most one test, the index follows that test.
+/// For each point of a file, how many tests have it, and how many have it above 0; and the checksums of the file's lines. The index
+/// follows the file's only test, until a second one comes.
 #[derive(Drop)]
 pub(crate) struct FileIndex<A: Allocator> {
     pub lines: KindIndex<u64, LineSum, A>,
