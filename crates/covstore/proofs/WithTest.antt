@@ -5,7 +5,7 @@ use Rattle.std.specs.Cmp.Lexicographic.{slice_cmp}
 use Rattle.std.specs.Map.{lookup}
 use Rattle.std.specs.Option.{is_some}
 use Rattle.std.specs.Ordering.{nat_cmp}
-use Rattle.std.proofs.lemmas.Bool.{cond-true, cond-false}
+use Rattle.std.proofs.lemmas.Bool.{cond-true, cond-false, false≢true}
 use Rattle.covstore.specs.FileView.{with_test}
 use Rattle.covmap.specs.Puts.{put, value_of}
 use Rattle.covstore.specs.State.{FileData, file_with}
@@ -16,6 +16,9 @@ use Rattle.covstore.proofs.Orders.{names_order}
 module _ {K V : Type 0} (name : K → List ℕ) (f : V → TestData) (file : FileData) (pairs : List (K × V)) (is : seen names_order name f pairs ≡ file.tests) (test : List ℕ) where
   found : (b : Bool) → b ≡ is_some (lookup (is_at (λ other. slice_cmp nat_cmp test (name other))) pairs) → is_some (value_of (slice_cmp nat_cmp) test file.tests) ≡ b
   found b e = ap (λ (tests : List (List ℕ × TestData)). is_some (value_of (slice_cmp nat_cmp) test tests)) (sym is) ∙ seen_there names_order name f test pairs ∙ sym e
+
+  pub not_found : (b : Bool) → b ≡ is_some (lookup (is_at (λ other. slice_cmp nat_cmp test (name other))) pairs) → b ≡ false → is_some (value_of (slice_cmp nat_cmp) test file.tests) ≡ true → ⊥
+  not_found b e none there = false≢true (sym none ∙ sym (found b e) ∙ there)
 
   pub test_there : (b : Bool) → b ≡ is_some (lookup (is_at (λ other. slice_cmp nat_cmp test (name other))) pairs) → b ≡ true → file ≡ with_test test file
   test_there b e there =

@@ -162,6 +162,7 @@ impl<A: Allocator + Copy> File<A> {
         ensures err_committed { OnErr result (file_committed self.new ≡ file_committed self.old) }
         ensures err_staged { OnErr result (file_staged self.new ≡ file_staged self.old) }
         ensures settled { (tests : List (List ℕ)) → IsSettledBut tests self.old → IsSettledBut tests self.new }
+        ensures there { is_some (value_of (slice_cmp nat_cmp) test.now (file_committed self.old).tests) ≡ true → self.new ≡ self.old }
     {
         if self.tests.contains_key(test) {
             return Ok(());

@@ -16,7 +16,7 @@ use Rattle.covstore.proofs.FollowsSettled.{settled_same}
 use Rattle.covstore.proofs.FollowsSole.{is_no_test, sole_inserted}
 use Rattle.covstore.proofs.MapNames.{names_with}
 use Rattle.covstore.proofs.Settled.{file_name, same_file}
-use Rattle.covstore.proofs.WithTest.{test_there, test_opened}
+use Rattle.covstore.proofs.WithTest.{not_found, test_there, test_opened}
 use Rattle.covstore.proofs.file.File.open.Goals as goal
 
 -- the test is there
@@ -46,6 +46,11 @@ returns-in_err-start_counting-clause-err_staged g c =
 pub returns-in_err-start_counting-clause-settled : goal.returns-in_err-start_counting-clause-settled
 returns-in_err-start_counting-clause-settled g c = λ tests settled. settled_same tests c.args.self.now c.start_counting.new.self c.start_counting.ensures.same c.start_counting.ensures.committed c.start_counting.ensures.staged settled
 
+pub returns-in_err-start_counting-clause-there : goal.returns-in_err-start_counting-clause-there
+returns-in_err-start_counting-clause-there g c = λ there.
+    let first = ap (λ (f : File g.row.A.Denot). f.tests.entries) c.self.view_is in
+    absurd (not_found file_name test_committed (file_committed c.args.self.now) c.self.inside.tests.entries (ap (names_with file_name test_committed) first) c.args.test.now c.contains_key.result c.contains_key.ensures c.if-contains_key.false there)
+
 -- the test can't be inserted
 
 pub returns-in_err-insert-clause-err_committed : goal.returns-in_err-insert-clause-err_committed
@@ -66,6 +71,11 @@ returns-in_err-insert-clause-settled g c = λ tests settled.
     let same : later.tests ≡ c.start_counting.new.self.tests = ap (λ (es : List (Vec ℕ g.row.A.Denot × Test g.row.A.Denot)). record { entries = es }) c.in_err-insert.ensures.err ∙ ap (λ (f : File g.row.A.Denot). f.tests) c.self-2.view_is in
     settled_same tests c.args.self.now later (same ∙ c.start_counting.ensures.same) (ap (λ (f : File g.row.A.Denot). index_committed f.index) c.self-2.view_is ∙ c.start_counting.ensures.committed)
     (ap (λ (f : File g.row.A.Denot). index_staged f.index) c.self-2.view_is ∙ c.start_counting.ensures.staged) settled
+
+pub returns-in_err-insert-clause-there : goal.returns-in_err-insert-clause-there
+returns-in_err-insert-clause-there g c = λ there.
+    let first = ap (λ (f : File g.row.A.Denot). f.tests.entries) c.self.view_is in
+    absurd (not_found file_name test_committed (file_committed c.args.self.now) c.self.inside.tests.entries (ap (names_with file_name test_committed) first) c.args.test.now c.contains_key.result c.contains_key.ensures c.if-contains_key.false there)
 
 -- the test is inserted
 
@@ -102,3 +112,8 @@ returns-clause-settled g c = λ tests settled.
     test_inserted tests (λ a b. slice_cmp nat_cmp a.items b.items) middle later c.in_ok-name.name c.in_ok-points.points
     (ap test_staged c.in_ok-points.ensures ∙ c.new.ensures.staged ∙ sym (ap test_committed c.in_ok-points.ensures ∙ c.new.ensures.committed)) refl c.in_ok-insert.ensures.entries
     (subst (λ (f : File g.row.A.Denot). IsSettledBut tests f) (sym c.self-2.view_is) (settled_same tests c.args.self.now c.start_counting.new.self c.start_counting.ensures.same c.start_counting.ensures.committed c.start_counting.ensures.staged settled))
+
+pub returns-clause-there : goal.returns-clause-there
+returns-clause-there g c = λ there.
+    let first = ap (λ (f : File g.row.A.Denot). f.tests.entries) c.self.view_is in
+    absurd (not_found file_name test_committed (file_committed c.args.self.now) c.self.inside.tests.entries (ap (names_with file_name test_committed) first) c.args.test.now c.contains_key.result c.contains_key.ensures c.if-contains_key.false there)
