@@ -73,7 +73,8 @@ renamed_next entries job old new answer after there said told =
     (said ∙ ap (answer_to_rename table old) (sym there))
     (told ∙ ap (λ (b : Bool). totals_at (table_after_rename table old new b)) (sym there))
 
--- a renaming with the given names is planned for a rename with the same names
+-- the table has a test of the rename's old name, and the rename's own two names equal the given ones. Then the renaming of the
+-- store by the given names is the change that is planned for the rename
 pub renaming_planned : (store : StoreData) (table : Table) (old new own_old own_new : List ℕ) (renaming : RenamingData) → has_test table own_old ≡ true → own_old ≡ old → own_new ≡ new
     → IsRenamingOf store old new renaming → IsPlanned store table (RenameOp own_old own_new) (RenameChange renaming)
 renaming_planned store table old new own_old own_new renaming there same_old same_new is = (

@@ -6,7 +6,7 @@ use Rattle.covbook.specs.GatherSteps.{below}
 use Rattle.covbook.proofs.Claims.{rest_is}
 use Rattle.covbook.proofs.PlaceCounts.{all_at, all_unmapped, below_append}
 
--- the places below a number, in the logs that are left: those of the first of these logs, and those of the others
+-- how many places of the logs from index `i` on are below a number: those of the log at `i`, plus those of all later logs
 pub rest_below : {X : Type 0} (f : X → LogData) (xs : List X) (i : ℕ) (x : X) (place : ℕ) → i < length xs → x ≡ get_or xs i x
     → below place (places_in (map f (drop i xs))) ≡ below place (places_of (f x)) + below place (places_in (map f (drop (i + 1) xs)))
 rest_below {X} f xs i x place within is =

@@ -1,4 +1,5 @@
--- All claims on logs hold exactly if the history is gathered from them.
+-- All claims on a history and its logs hold exactly if the history is gathered from the logs. A claim is one thing that has to
+-- hold, with the fault if it doesn't.
 use Rattle.std.proofs.Common.{◌≡◌, ℕ, ◌+◌, ◌<◌, ◌≤◌, List, [], ◌∷◌, ◌++◌, length, map, sym, ap, inl, inr, subst, arith}
 use Rattle.std.specs.Prelude.{◌≢◌}
 use Rattle.std.specs.List.{AllByRecursion, Contains}

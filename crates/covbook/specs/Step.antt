@@ -125,7 +125,7 @@ last_totals (e ∷ next ∷ entries) = last_totals (next ∷ entries)
 abbrev pub next_entry : List EntryData → ℕ → OpData → EntryData
 next_entry history job op = record { job = job; op = op; answer = answer_of (table_of (ops_in history)) op; after = totals_at (table_after (table_of (ops_in history)) op) }
 
--- the entry comes next in the history: it is the one that its job and its operation append to it
+-- the entry can come next in the history: it is the entry that the history gets when the entry's job asks for its operation
 abbrev pub ComesNext : List EntryData → EntryData → Type 0
 ComesNext history entry = entry ≡ next_entry history entry.job entry.op
 

@@ -270,7 +270,7 @@ impl<A: Allocator> Answer<A> {
         }
     }
 
-    /// Whether this is an equal text.
+    /// Whether this answer is a text that is equal to the given one.
     fn is_text(&self, text: &TextRef<A>) -> bool
         ensures { IsTrue result ↔ (TextAnswer text.now ≡ answer_data self.now) }
     {

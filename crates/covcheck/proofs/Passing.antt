@@ -9,7 +9,8 @@ use Rattle.covcheck.specs.Skipped.{AreAllThat, start_of}
 abbrev pub Line : Type 0
 Line = ℕ × List ℕ
 
--- if the pass has found a line, it is the first of `those`; if it hasn't, all of `those` are still to come
+-- `those` are all lines that the pass is to find, and `left` are those that it hasn't come to yet. If it has found a first line,
+-- this is the first of `those`. If it has found none, all of `those` are left
 abbrev pub IsFirstSoFar : Option SkippedLine → List Line → List Line → Type 0
 IsFirstSoFar None left those = those ≡ left
 IsFirstSoFar (Some first) left those = IsFirstOf those (Some first)

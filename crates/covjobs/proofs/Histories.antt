@@ -32,7 +32,8 @@ receipts_submit entries (r ∷ receipts) are =
     ap (λ (ss : List SubmissionData). ss ++ flat_map (submits_at entries) (map (λ (r : ReceiptData). r.place) receipts)) (receipt_submits (slice_get entries r.place) r are.0)
     ∙ ap (λ (ss : List SubmissionData). submission_of r.op ++ ss) (receipts_submit entries receipts are.1)
 
--- the logs submit what the entries at the places of their receipts submit
+-- two lists of submissions are the same: those of the entries at the receipts' places, log by log, and those of the receipts'
+-- own operations
 pub logs_submit : (entries : List EntryData) (logs : List LogData) → AllByRecursion (IsLogOf entries) logs
     → flat_map (submits_at entries) (places_in logs) ≡ flat_map (λ (log : LogData). submissions_in (ops_in log.receipts)) logs
 logs_submit entries [] are = refl

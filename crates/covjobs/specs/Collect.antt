@@ -50,8 +50,7 @@ abbrev pub refusal : ℕ → Result SubmissionData ReadFault → List RefusedInp
 refusal index (Ok submission) = []
 refusal index (Err fault) = record { index = index; fault = fault } ∷ []
 
--- of the first `count` places, take those for which `meant` is true. These are the elements that `bring` gives for each of them,
--- in ascending order of the places
+-- all that `bring` gives for those of the first `count` places for which `meant` is true, in ascending order of the places
 abbrev pub brought : {X : Type 0} → (meant : ℕ → Bool) → (bring : ℕ → List X) → (count : ℕ) → List X
 brought meant bring zero = []
 brought meant bring (suc count) = brought meant bring count ++ (if meant count then bring count else [])

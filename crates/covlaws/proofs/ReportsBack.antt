@@ -39,7 +39,7 @@ all_passed {X} (x ∷ xs) = ap (λ (others : List X). x ∷ others) (all_passed 
 pub text_of_all : (sections : List SectionData) → report_text AllFiles sections ≡ flat_map section_text sections
 text_of_all sections = ap (flat_map section_text) (all_passed sections)
 
--- ---- an empty book after a first submission
+-- ---- the first submission to an empty book
 
 abbrev pub ToldByFirstClash : Type 0
 ToldByFirstClash = (held given : List Checksum) → Agree held → first_clash held given ≡ None ↔ Agree (held ++ given)

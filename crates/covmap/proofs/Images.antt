@@ -95,7 +95,7 @@ page_at_images image [] i = refl
 page_at_images image (page ∷ pages) zero = refl
 page_at_images image (page ∷ pages) (suc i) = page_at_images image pages i
 
--- the images of a page's column are a column of the page's image
+-- if these are columns of the pages, then the columns' images are columns of the pages' images
 pub columns_of_images : {K V W : Type 0} (image : V → W) (pages : List (List (K × Option V))) (columns : List (ℕ × List (Option V)))
     → AreColumnsOf pages columns → AreColumnsOf (map (page_image image) pages) (map (column_image image) columns)
 columns_of_images image pages [] a = tt

@@ -152,7 +152,7 @@ shape_read line (Numbered mark number text) some form plain =
     (ap numbered_shape form.2 ∙ numbered_found form.0 mark form.1 number (colon ∷ text) form.3 form.4 form.5 form.6 refl)
 shape_read line Other some form plain = absurd some
 
--- ---- what is found fits
+-- ---- a line has the shape that is found for it
 
 -- if a shape was found, the line has its form
 abbrev Fits : List ℕ → Option Shape → Type 0

@@ -114,7 +114,7 @@ stands_end lines parts line path inside s spells = record {
       subst (λ (x : List LineData). AllSpell (lines ++ line ∷ []) x) (sym e) (AllSpell-append lines (line ∷ []) (flat_map records_of parts ++ Path path ∷ inside) (End ∷ []) s.spelled (spells, tt));
 }
 
--- if the lines say these records, one of the lines says this record, and those above it say the records before it
+-- if the lines say the records `a`, then `b`, then `c`, one of the lines says `b`, and the lines above that one say `a`
 by_record : (lines : List (List ℕ)) (a : List LineData) (b : LineData) (c : List LineData) → AllSpell lines (a ++ b ∷ c)
     → (ls : List (List ℕ)) × (l : List ℕ) × (ms : List (List ℕ)) × (lines ≡ ls ++ l ∷ ms) × AllSpell ls a × Spells l b
 by_record [] [] b c h = absurd h

@@ -103,8 +103,8 @@ abbrev pub line_grows : HeldData → Says → Bool
 line_grows held (Err why) = false
 line_grows held (Ok says) = grows held says
 
--- the code's step gives what the step on plain data gives, unless memory ran out. This happens only if that step has no fault,
--- and lists grow
+-- the code's step gives what the step on plain data gives, or it runs out of memory. It runs out only if the step on plain data
+-- has no fault, and the reader's lists grow
 abbrev pub StepsTo : {T : Type 0} → Result T ReadFault → HeldData → Bool → Stepped → Type 0
 StepsTo (Ok done) after growing stepped = stepped ≡ Ok after
 StepsTo (Err fault) after growing stepped = ((fault ≡ faults.Memory) × (is_ok stepped ≡ true) × (growing ≡ true)) ⊎ (stepped ≡ Err fault)

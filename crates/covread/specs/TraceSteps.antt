@@ -25,7 +25,7 @@ pub record HeldData : Type 0 where
   pub sects : List SectData
   pub odd : ℕ
 
--- an open section of the code, as plain data, if it has these records so far
+-- a reader's open section as plain data: its path, and the records that it has so far, which are given
 abbrev pub section_data : {A : Type 0} → List LineData → OpenSection A → SectionData
 section_data inside s = record { file = s.file; lines = inside }
 

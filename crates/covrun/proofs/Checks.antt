@@ -25,8 +25,8 @@ use Rattle.covrun.specs.Check.{OutcomeData, Unread, Refused, Held, IsOutcome, Is
 use Rattle.covrun.specs.Checked.{AnswersText, Says, TellsEach, TellsOne, TellsText, verdict_of, worse, worst_of}
 use Rattle.covrun.specs.Folder.{FolderData, IsTextOf}
 use Rattle.covrun.specs.Streams.{SinksData}
-use Rattle.covrun.specs.declared.verdict.Verdict.{Verdict}
-use Rattle.covrun.specs.declared.verdict.Verdict.TheVariants as verdicts
+use Rattle.covrun.specs.declared.check_verdict.CheckVerdict.{CheckVerdict}
+use Rattle.covrun.specs.declared.check_verdict.CheckVerdict.TheVariants as verdicts
 use Rattle.covrun.proofs.Places.{pairs_front, pairs_more, zip_front, zip_next}
 
 -- ---- the result of checking a text
@@ -71,7 +71,7 @@ becomes folder format f = IsOutcome folder format f.0 f.1
 
 -- if the file may have this text, to report the file with this text is to report the file
 pub told_text : (folder : FolderData) (format : TextFormat) (file text : List ℕ) → length text ≤ suc max_bytes → IsTextOf (folder.holds file) text
-    → (answer : Result Verdict SessionFault) (b d : SinksData) → TellsText format file text answer b d → TellsOne folder format file answer b d
+    → (answer : Result CheckVerdict SessionFault) (b d : SinksData) → TellsText format file text answer b d → TellsOne folder format file answer b d
 told_text folder format file text short fits answer b d (inl ran_out) = inl ran_out
 told_text folder format file text short fits answer b d (inr (Unread, none, told)) = absurd none
 told_text folder format file text short fits answer b d (inr (Refused fault, is, told)) = inr (Refused fault, (text, short, fits, is), told)
@@ -80,7 +80,7 @@ told_text folder format file text short fits answer b d (inr (Held summary, is, 
 -- ---- the worst verdict
 
 -- the verdict, by whether some file is unread, refused or empty
-abbrev worst : (unread refused empty : Bool) → Verdict
+abbrev worst : (unread refused empty : Bool) → CheckVerdict
 worst unread refused empty =
     if unread then verdicts.Unreadable else if refused then verdicts.Refused else if empty then verdicts.Empty else verdicts.Fine
 
@@ -142,7 +142,7 @@ within_next files outcomes a b d same within = record {
 
 -- ---- one more file
 
-told_next : (folder : FolderData) (format : TextFormat) (files : List (List ℕ)) (file : List ℕ) (so_far verdict : Verdict) (a b d : SinksData)
+told_next : (folder : FolderData) (format : TextFormat) (files : List (List ℕ)) (file : List ℕ) (so_far verdict : CheckVerdict) (a b d : SinksData)
     → TellsEach folder format files (Ok so_far) a b → TellsOne folder format file (Ok verdict) b d
     → TellsEach folder format (files ++ file ∷ []) (Ok (worse so_far verdict)) a d
 told_next folder format files file so_far verdict a b d before (inl (ran_out, unchanged)) = absurd cc
@@ -152,7 +152,7 @@ told_next folder format files file so_far verdict a b d (outcomes, all, (same, i
       pairs_more (becomes folder format) files [] outcomes file outcome same all fits,
       (
         longer ∙ ap (λ (n : ℕ). n + 1) same ∙ sym (length-append files (file ∷ [])),
-        ap (λ (v : Verdict). worse v verdict) is ∙ ap (worse (worst_of outcomes)) is' ∙ sym (worst_next outcomes outcome),
+        ap (λ (v : CheckVerdict). worse v verdict) is ∙ ap (worse (worst_of outcomes)) is' ∙ sym (worst_next outcomes outcome),
         subst (Appends a.output d.output) (each_next outcome_line files [] outcomes file outcome same)
             (Appends-trans a.output b.output d.output _ _ lines line),
         good' ∙ good,
@@ -163,7 +163,7 @@ told_next folder format files file so_far verdict a b d (outcomes, all, (same, i
     )
 
 -- memory ran out before the next file was reported
-told_without_room : (folder : FolderData) (format : TextFormat) (files rest : List (List ℕ)) (file : List ℕ) (so_far : Verdict) (a b d : SinksData)
+told_without_room : (folder : FolderData) (format : TextFormat) (files rest : List (List ℕ)) (file : List ℕ) (so_far : CheckVerdict) (a b d : SinksData)
     → TellsEach folder format files (Ok so_far) a b → d ≡ b → TellsEach folder format (files ++ file ∷ rest) (Err faults.Memory) a d
 told_without_room folder format files rest file so_far a b d (outcomes, all, (same, is, lines, good, says)) unchanged =
     let front : zip (files ++ file ∷ rest) outcomes ≡ zip files outcomes = zip_front files (file ∷ rest) outcomes same in
@@ -179,7 +179,7 @@ told_without_room folder format files rest file so_far a b d (outcomes, all, (sa
     )
 
 -- a fault came at the next file, so no later file is checked
-told_until : (folder : FolderData) (format : TextFormat) (files rest : List (List ℕ)) (file : List ℕ) (so_far : Verdict) (fault : SessionFault) (a b d : SinksData)
+told_until : (folder : FolderData) (format : TextFormat) (files rest : List (List ℕ)) (file : List ℕ) (so_far : CheckVerdict) (fault : SessionFault) (a b d : SinksData)
     → TellsEach folder format files (Ok so_far) a b → TellsOne folder format file (Err fault) b d
     → TellsEach folder format (files ++ file ∷ rest) (Err fault) a d
 told_until folder format files rest file so_far faults.Write a b d before (inl (ran_out, unchanged)) = absurd cc
@@ -220,7 +220,7 @@ told_until folder format files rest file so_far faults.Full a b d before (inr (o
 
 -- the next file is reported
 pub told_more : {X : Type 0} (folder : FolderData) (name : X → List ℕ) (format : TextFormat) (files : List X) (i : ℕ) (default : X) → i < length files
-    → (file : List ℕ) → file ≡ name (get_or files i default) → (so_far verdict after : Verdict) → after ≡ worse so_far verdict → (a b d : SinksData)
+    → (file : List ℕ) → file ≡ name (get_or files i default) → (so_far verdict after : CheckVerdict) → after ≡ worse so_far verdict → (a b d : SinksData)
     → TellsEach folder format (map name (take i files)) (Ok so_far) a b → TellsOne folder format file (Ok verdict) b d
     → TellsEach folder format (map name (take (i + 1) files)) (Ok after) a d
 told_more folder name format files i default within file is so_far verdict after worse_is a b d before next =
@@ -228,12 +228,12 @@ told_more folder name format files i default within file is so_far verdict after
     = ap (map name) (take_more files i default within) ∙ map-append name (take i files) (get_or files i default ∷ [])
     ∙ ap (λ (f : List ℕ). map name (take i files) ++ f ∷ []) (sym is) in
     subst (λ (fs : List (List ℕ)). TellsEach folder format fs (Ok after) a d) (sym more)
-    (subst (λ (v : Verdict). TellsEach folder format (map name (take i files) ++ file ∷ []) (Ok v) a d) (sym worse_is)
+    (subst (λ (v : CheckVerdict). TellsEach folder format (map name (take i files) ++ file ∷ []) (Ok v) a d) (sym worse_is)
     (told_next folder format (map name (take i files)) file so_far verdict a b d before next))
 
 -- a fault came at the next file of the slice, so no later file is reported
 pub told_last : {X : Type 0} (folder : FolderData) (name : X → List ℕ) (format : TextFormat) (files : List X) (i : ℕ) (default : X) → i < length files
-    → (file : List ℕ) → file ≡ name (get_or files i default) → (so_far : Verdict) (fault : SessionFault) (a b d : SinksData)
+    → (file : List ℕ) → file ≡ name (get_or files i default) → (so_far : CheckVerdict) (fault : SessionFault) (a b d : SinksData)
     → TellsEach folder format (map name (take i files)) (Ok so_far) a b → TellsOne folder format file (Err fault) b d
     → TellsEach folder format (map name files) (Err fault) a d
 told_last {X} folder name format files i default within file is so_far fault a b d before next =

@@ -12,36 +12,36 @@ use Rattle.covsession.specs.declared.session.fault.SessionFault.TheVariants as f
 use Rattle.covrun.specs.Check.{OutcomeData, Unread, Refused, Held, IsTextOutcome, IsOutcome, AreOutcomes, EndsWithin, has_item, outcome_line, outcome_complaint, check_lines, check_complaints, is_unread, is_refused, is_empty}
 use Rattle.covrun.specs.Folder.{FolderData}
 use Rattle.covrun.specs.Streams.{SinksData, Complains}
-use Rattle.covrun.specs.declared.verdict.Verdict.{Verdict}
-use Rattle.covrun.specs.declared.verdict.Verdict.TheVariants as verdicts
+use Rattle.covrun.specs.declared.check_verdict.CheckVerdict.{CheckVerdict}
+use Rattle.covrun.specs.declared.check_verdict.CheckVerdict.TheVariants as verdicts
 
 -- a text is checked with this result, or memory ran out
 abbrev pub AnswersText : TextFormat → List ℕ → Result TextSummary ReadFault → Type 0
 AnswersText format text answer = (answer ≡ Err reads.Memory) ⊎ IsTextOutcome format text answer
 
-abbrev pub verdict_of_summary : TextSummary → Verdict
+abbrev pub verdict_of_summary : TextSummary → CheckVerdict
 verdict_of_summary summary = if has_item summary then verdicts.Fine else verdicts.Empty
 
-abbrev pub verdict_of : OutcomeData → Verdict
+abbrev pub verdict_of : OutcomeData → CheckVerdict
 verdict_of Unread = verdicts.Unreadable
 verdict_of (Refused fault) = verdicts.Refused
 verdict_of (Held summary) = verdict_of_summary summary
 
 -- the verdict on the worst outcome
-abbrev pub worst_of : List OutcomeData → Verdict
+abbrev pub worst_of : List OutcomeData → CheckVerdict
 worst_of outcomes =
     if list_any is_unread outcomes then verdicts.Unreadable
     else if list_any is_refused outcomes then verdicts.Refused
     else if list_any is_empty outcomes then verdicts.Empty else verdicts.Fine
 
-abbrev pub verdict_status : Verdict → ℕ
+abbrev pub verdict_status : CheckVerdict → ℕ
 verdict_status verdicts.Fine = 0
 verdict_status verdicts.Unreadable = 1
 verdict_status verdicts.Refused = 4
 verdict_status verdicts.Empty = 5
 
 -- the one of two verdicts that decides the exit status
-abbrev pub worse : Verdict → Verdict → Verdict
+abbrev pub worse : CheckVerdict → CheckVerdict → CheckVerdict
 worse verdicts.Unreadable other = verdicts.Unreadable
 worse verdicts.Refused verdicts.Unreadable = verdicts.Unreadable
 worse verdicts.Refused verdicts.Refused = verdicts.Refused
@@ -59,7 +59,7 @@ Says most words old new =
     Complains words old new × (old.failed_faults ≤ new.failed_faults) × (new.failed_faults ≤ old.failed_faults + most)
 
 -- how a file's outcome is reported. If memory ran out, nothing was written
-abbrev pub ReportsFile : (file : List ℕ) → OutcomeData → Result Verdict SessionFault → SinksData → SinksData → Type 0
+abbrev pub ReportsFile : (file : List ℕ) → OutcomeData → Result CheckVerdict SessionFault → SinksData → SinksData → Type 0
 ReportsFile file outcome (Ok verdict) old new =
     (verdict ≡ verdict_of outcome) × Appends old.output new.output (outcome_line file outcome)
     × (new.failed_output ≡ old.failed_output) × Says 1 (outcome_complaint file outcome) old new
@@ -77,19 +77,19 @@ IsOutcomeOfText format text (Refused fault) = IsTextOutcome format text (Err fau
 IsOutcomeOfText format text (Held summary) = IsTextOutcome format text (Ok summary)
 
 -- how a file with this text is reported. If memory ran out, nothing was written
-abbrev pub TellsText : TextFormat → (file text : List ℕ) → Result Verdict SessionFault → SinksData → SinksData → Type 0
+abbrev pub TellsText : TextFormat → (file text : List ℕ) → Result CheckVerdict SessionFault → SinksData → SinksData → Type 0
 TellsText format file text answer old new =
     ((answer ≡ Err faults.Memory) × (new ≡ old))
     ⊎ ((outcome : OutcomeData) × IsOutcomeOfText format text outcome × ReportsFile file outcome answer old new)
 
 -- how one file is reported. If memory ran out, nothing was written
-abbrev pub TellsOne : FolderData → TextFormat → (file : List ℕ) → Result Verdict SessionFault → SinksData → SinksData → Type 0
+abbrev pub TellsOne : FolderData → TextFormat → (file : List ℕ) → Result CheckVerdict SessionFault → SinksData → SinksData → Type 0
 TellsOne folder format file answer old new =
     ((answer ≡ Err faults.Memory) × (new ≡ old))
     ⊎ ((outcome : OutcomeData) × IsOutcome folder format file outcome × ReportsFile file outcome answer old new)
 
 -- how files with these outcomes are reported. If memory ran out, the last files weren't checked and have no outcome
-abbrev pub TellsAll : TextFormat → (files : List (List ℕ)) → List OutcomeData → Result Verdict SessionFault → SinksData → SinksData → Type 0
+abbrev pub TellsAll : TextFormat → (files : List (List ℕ)) → List OutcomeData → Result CheckVerdict SessionFault → SinksData → SinksData → Type 0
 TellsAll format files outcomes (Ok verdict) old new =
     (length outcomes ≡ length files) × (verdict ≡ worst_of outcomes)
     × Appends old.output new.output (check_lines files outcomes) × (new.failed_output ≡ old.failed_output)
@@ -104,6 +104,6 @@ TellsAll format files outcomes (Err faults.Read) old new = ⊥
 TellsAll format files outcomes (Err faults.Full) old new = ⊥
 
 -- how files are reported: their outcomes are possible for them, and these outcomes are reported
-abbrev pub TellsEach : FolderData → TextFormat → (files : List (List ℕ)) → Result Verdict SessionFault → SinksData → SinksData → Type 0
+abbrev pub TellsEach : FolderData → TextFormat → (files : List (List ℕ)) → Result CheckVerdict SessionFault → SinksData → SinksData → Type 0
 TellsEach folder format files answer old new =
     (outcomes : List OutcomeData) × AreOutcomes folder format files outcomes × TellsAll format files outcomes answer old new

@@ -9,10 +9,10 @@ ghost use Rattle.covrun.specs.Folder.{folder_data};
 ghost use Rattle.covrun.specs.Streams.{sinks};
 ghost use Rattle.covsession.specs.declared.session.fault.SessionFault.TheVariants as session_faults;
 
+use crate::check_verdict::CheckVerdict;
 use crate::files::{FileFault, file_text};
 use crate::folder::Folder;
 use crate::output::{put_out, say};
-use crate::verdict::Verdict;
 use covcheck::{TextSummary, check_gcov, check_trace, summary_line};
 use covcommand::TextFormat;
 use covread::ReadFault;
@@ -52,14 +52,14 @@ fn check_each<F: Folder, O: Sink, E: Sink>(
     files: &[String],
     output: &mut O,
     faults: &mut E,
-) -> Result<Verdict, SessionFault>
+) -> Result<CheckVerdict, SessionFault>
     requires output { O.failed_writes output.old < 2 ^ 62 }
     requires faults { E.failed_writes faults.old < 2 ^ 62 }
     ensures { TellsEach (folder_data (F.holds folder.now) (F.may_refuse folder.now) F.File.left F.File.failed_reads) format (map string_bytes files.now) result
         (sinks (O.written output.old) (O.failed_writes output.old) (E.written faults.old) (E.failed_writes faults.old))
         (sinks (O.written output.new) (O.failed_writes output.new) (E.written faults.new) (E.failed_writes faults.new)) }
 {
-    let mut worst = Verdict::Fine;
+    let mut worst = CheckVerdict::Fine;
     for name in files {
         let verdict = check_file(folder, alloc, format, name.as_str(), output, faults)?;
         worst = worst.or(verdict);
@@ -75,7 +75,7 @@ fn check_file<F: Folder, O: Sink, E: Sink>(
     name: &str,
     output: &mut O,
     faults: &mut E,
-) -> Result<Verdict, SessionFault>
+) -> Result<CheckVerdict, SessionFault>
     requires output { O.failed_writes output.old < 2 ^ 62 }
     requires faults { E.failed_writes faults.old < 2 ^ 63 }
     ensures { TellsOne (folder_data (F.holds folder.now) (F.may_refuse folder.now) F.File.left F.File.failed_reads) format name.now result
@@ -86,7 +86,7 @@ fn check_file<F: Folder, O: Sink, E: Sink>(
         Ok(text) => check_text(alloc, format, name, text.get(), output, faults),
         Err(FileFault::Unreadable(_)) => {
             say(name.as_bytes(), b": can't read\n", faults);
-            Ok(Verdict::Unreadable)
+            Ok(CheckVerdict::Unreadable)
         }
         Err(FileFault::Memory) => Err(SessionFault::Memory),
     }
@@ -100,7 +100,7 @@ fn check_text<O: Sink, E: Sink>(
     text: &[u8],
     output: &mut O,
     faults: &mut E,
-) -> Result<Verdict, SessionFault>
+) -> Result<CheckVerdict, SessionFault>
     requires output { O.failed_writes output.old < 2 ^ 62 }
     requires faults { E.failed_writes faults.old < 2 ^ 63 }
     ensures { TellsText format name.now text.now result
@@ -131,7 +131,7 @@ fn report_text_summary<O: Sink, E: Sink>(
     summary: &TextSummary<'_>,
     output: &mut O,
     faults: &mut E,
-) -> Result<Verdict, SessionFault>
+) -> Result<CheckVerdict, SessionFault>
     requires output { O.failed_writes output.old < 2 ^ 62 }
     requires faults { E.failed_writes faults.old < 2 ^ 63 }
     ensures { ReportsFile name.now (Held summary.now) result
@@ -146,7 +146,7 @@ fn report_text_summary<O: Sink, E: Sink>(
 }
 
 /// The verdict on a file with this summary. Complains if the file has no item.
-fn judge<E: Sink>(name: &str, summary: &TextSummary<'_>, faults: &mut E) -> Verdict
+fn judge<E: Sink>(name: &str, summary: &TextSummary<'_>, faults: &mut E) -> CheckVerdict
     requires { E.failed_writes faults.old < 2 ^ 63 }
     ensures verdict { result ≡ verdict_of_summary summary.now }
     ensures said { E.failed_writes faults.new ≡ E.failed_writes faults.old
@@ -155,10 +155,10 @@ fn judge<E: Sink>(name: &str, summary: &TextSummary<'_>, faults: &mut E) -> Verd
     ensures few { E.failed_writes faults.new ≤ suc (E.failed_writes faults.old) }
 {
     if summary.has_item() {
-        return Verdict::Fine;
+        return CheckVerdict::Fine;
     }
     say(name.as_bytes(), b": no items\n", faults);
-    Verdict::Empty
+    CheckVerdict::Empty
 }
 
 /// Reports why a file is refused.
@@ -168,7 +168,7 @@ fn print_refusal<O: Sink, E: Sink>(
     fault: ReadFault,
     output: &mut O,
     faults: &mut E,
-) -> Result<Verdict, SessionFault>
+) -> Result<CheckVerdict, SessionFault>
     requires output { O.failed_writes output.old < 2 ^ 62 }
     requires faults { E.failed_writes faults.old < 2 ^ 63 }
     ensures { ReportsFile name.now (Refused fault) result
@@ -178,7 +178,7 @@ fn print_refusal<O: Sink, E: Sink>(
     let told = refused_line(alloc, fault)?;
     let line = line_of_file(alloc, name, told.as_slice())?;
     put_out(line.as_slice(), output)?;
-    Ok(Verdict::Refused)
+    Ok(CheckVerdict::Refused)
 }
 
 /// The line `told`, with the name of its file and a colon in front.

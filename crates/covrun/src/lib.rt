@@ -2,7 +2,7 @@
 //!
 //! `run` parses the command line (covcommand), and makes a `Task` of the command. Without a subcommand, the task is a session
 //! (covsession). For `check`, each file is read and reported by itself (`checked`). Any other subcommand is `Work`: its files are
-//! read (`files`) and collected by covjobs, and the result becomes an `Ending`. `print_ending` reports this by an exit status and
+//! read (`files`) and collected by covjobs, and the result becomes an `Ending`. `report_ending` reports this by an exit status and
 //! on the two output streams. Files are read from a `Folder`; `FromFiles` makes one of std's files.
 //!
 //! A sketch: the program's main function.
@@ -21,6 +21,7 @@
 #![tactic(auto)]
 
 mod argument_fault;
+mod check_verdict;
 mod checked;
 mod collecting;
 mod ending;
@@ -29,7 +30,6 @@ mod folder;
 mod inputs;
 mod output;
 mod program;
-mod verdict;
 mod work;
 
 pub use argument_fault::ArgumentFault;

@@ -13,7 +13,7 @@ use crate::ending::Ending;
 use covsession::{SessionFault, Sink, line_of, put_bytes, status_of};
 
 /// Reports the ending, and returns its exit status.
-pub(crate) fn print_ending<O: Sink, E: Sink>(
+pub(crate) fn report_ending<O: Sink, E: Sink>(
     ending: &Ending<'_>,
     output: &mut O,
     faults: &mut E,

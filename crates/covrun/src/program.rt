@@ -10,7 +10,7 @@ use crate::checked::check_files;
 use crate::collecting::ending_of;
 use crate::ending::{ending_of_line, ending_of_work};
 use crate::folder::Folder;
-use crate::output::print_ending;
+use crate::output::report_ending;
 use crate::work::{Task, task_for};
 use covcommand::{Command, CommandFault, command};
 use covsession::{Sink, Source, run_session};
@@ -54,7 +54,7 @@ pub fn run<R: AllocGlobal + Threads + Wait + Sync, F: Folder, I: Source, O: Sink
     let alloc = rt.alloc();
     match command(alloc, words) {
         Ok(asked) => run_command(rt, folder, alloc, asked, input, output, faults),
-        Err(fault) => print_ending(&ending_of_line(fault), output, faults),
+        Err(fault) => report_ending(&ending_of_line(fault), output, faults),
     }
 }
 
@@ -79,7 +79,7 @@ fn run_command<R: Threads + Wait + Sync, F: Folder, I: Source, O: Sink, E: Sink>
 {
     match task_for(alloc, asked) {
         Ok(Task::Session) => run_session(alloc, input, output, faults),
-        Ok(Task::Collect(work)) => print_ending(
+        Ok(Task::Collect(work)) => report_ending(
             &ending_of(rt, folder, alloc, &work),
             output,
             faults,
@@ -87,7 +87,7 @@ fn run_command<R: Threads + Wait + Sync, F: Folder, I: Source, O: Sink, E: Sink>
         Ok(Task::Check { format, files }) => {
             check_files(folder, alloc, format, files.get(), output, faults)
         }
-        Err(fault) => print_ending(&ending_of_work(fault), output, faults),
+        Err(fault) => report_ending(&ending_of_work(fault), output, faults),
     }
 }
 
@@ -99,5 +99,5 @@ pub fn refuse<O: Sink, E: Sink>(fault: CommandFault, output: &mut O, faults: &mu
         (sinks (O.written output.old) (O.failed_writes output.old) (E.written faults.old) (E.failed_writes faults.old))
         (sinks (O.written output.new) (O.failed_writes output.new) (E.written faults.new) (E.failed_writes faults.new)) }
 {
-    print_ending(&ending_of_line(fault), output, faults)
+    report_ending(&ending_of_line(fault), output, faults)
 }

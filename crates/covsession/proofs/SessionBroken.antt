@@ -150,7 +150,8 @@ fails_after_line Such Part m n o line ending fault h feed is opens k =
     taking_after (IsPart Part) (IsPart IsOpen) m n o fault (line ++ line_feed ∷ []) taken.moves
     (λ bytes p. part_after Such Part line bytes h.one_line is opens p) k
 
--- a fault cut the answer to a line and the lines that belong to it short
+-- a line was taken, and then the lines that belong to it, and a fault cut the answer short. Put together: a whole command was
+-- taken, and a fault cut its answer short
 pub fails_with_line : (Such : List ℕ → Type 0) (m n o : Moment) (line : List ℕ) (first : LineEnd) (before : List OpData) (fault : SessionFault)
     → TakesLine m n line first → first ≡ Feed → Such (strip line) → FailsAfter Such n o before fault → FailsAnswering m o before fault
 fails_with_line Such m n o line first before fault h feed is t =

@@ -149,7 +149,7 @@ module _ (old new : List ℕ) (rows : List Row) where
   over_same : (count : List ItemData → ℕ) → sum_by (λ file. count (items_of_file file (map (renamed_row old new) rows))) (files_of (map (renamed_row old new) rows)) ≡ sum_by (λ file. count (items_of_file file rows)) (files_of rows)
   over_same count = λ i. sum_by (λ file. count (items_same file i)) (files_same i)
 
-  -- the totals of rows don't depend on tests
+  -- the renamed rows have the same totals, since totals don't depend on the names of tests
   pub totals_renamed : totals_over (map (renamed_row old new) rows) ≡ totals_over rows
   totals_renamed =
       same_totals (totals_over (map (renamed_row old new) rows)) (totals_over rows)

@@ -1,4 +1,5 @@
--- Items without a checksum are added when their runs are staged.
+-- Items without a checksum are split by kind into runs. Once the runs are staged, the items are added. This can be done with
+-- some of the items at a time.
 use Rattle.std.proofs.Common.{◌≡◌, ℕ, Some, None, List, [], ◌++◌, length, map, refl, sym, ap, ◌∙◌, subst, inl, inr}
 use Rattle.std.specs.List.{All}
 use Rattle.std.specs.Option.{is_some}

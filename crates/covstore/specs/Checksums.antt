@@ -14,7 +14,7 @@ pub record ChecksumsData : Type 0 where
   pub staged : List (ℕ × ℕ)
   pub texts : List (ℕ × List ℕ)
 
--- each line with a held checksum has its text
+-- if a test holds a checksum of a line, `texts` has the text of that checksum
 abbrev pub HaveTexts : List (ℕ × ℕ) → List (ℕ × List ℕ) → Type 0
 HaveTexts holders texts = (line : ℕ) → is_some (value_of nat_cmp line holders) ≡ true → is_some (value_of nat_cmp line texts) ≡ true
 

@@ -39,9 +39,9 @@ pub fn order_is_unique()
     ensures lines { (all some others : List ℕ) → IsAscendingOf nat_cmp all some → IsAscendingOf nat_cmp all others → some ≡ others }
 {}
 
-/// Let the held checksums agree with each other. Then `first_clash` is a clash exactly if this is the first one. The first clash
-/// is that of the first given checksum that differs from a held one or from an earlier given one; all checksums before it agree
-/// with each other. There is no clash exactly if no two of all the checksums differ.
+/// Let the held checksums agree with each other. Then `first_clash` gives a clash exactly if it is the first clash. This is the
+/// clash of the first given checksum that differs from a held one or from an earlier given one. The checksums before it, held
+/// and given, agree with each other. `first_clash` gives `None` exactly if all checksums, held and given, agree.
 pub fn the_first_clash_is_told()
     ensures first { (held given : List Checksum) (clash : ClashData) → Agree held → first_clash held given ≡ Some clash ↔ IsFirstClash held given clash }
     ensures none { (held given : List Checksum) → Agree held → first_clash held given ≡ None ↔ Agree (held ++ given) }

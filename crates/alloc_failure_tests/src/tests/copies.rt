@@ -1,4 +1,5 @@
-//! Copies, which are equal to what was copied.
+//! Copies of texts, pattern lists, submissions, operations and answers. A copy is equal to its original. If memory for a copy is
+//! refused, the original is still whole, and is copied once there is room.
 
 use super::heap::{check_none, check_rising, narrow, widen};
 use super::said::check_answer;

@@ -37,8 +37,8 @@ fn close_without<L: Name, R: Wait + Abort>(
     }
 }
 
-/// Asks for the operation of this name by the first seat. Checks that this seat is job 0's, and that `calls` of its calls have
-/// now succeeded.
+/// Calls the book through the first seat, and asks for the operation of this name. Checks that the call succeeds, that the seat
+/// is job 0's, and that `calls` of its calls have now succeeded.
 fn check_usable<L: Name, R: Wait + Abort + AllocGlobal>(
     rt: &R,
     book: &Shared<L>,

@@ -126,7 +126,8 @@ impl<'a, A: Allocator + Copy> Reader<'a, A> {
         Err(PlacementFault::Outside)
     }
 
-    /// Takes how often a branch was taken, which a line of the open section says.
+    /// Adds the count of a branch to the open section. `taken` is how often the branch was taken, or `None` if its block was
+    /// never executed.
     #[inline]
     pub fn keep_branch(
         &mut self,

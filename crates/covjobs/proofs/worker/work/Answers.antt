@@ -27,7 +27,7 @@ loop-placed-preserved g c =
       c.in_ok-take.ensures.read c.loop-placed.invariant.2,
     )
 
--- no input of the share is left
+-- after the loop no input of the share is left, so the worker has taken its whole share
 pub returns-clause-taken : goal.returns-clause-taken
 returns-clause-taken g c =
     let worker = c.loop-placed.worker in

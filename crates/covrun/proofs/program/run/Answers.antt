@@ -11,4 +11,4 @@ returns-in-Ok g c =
 pub returns-in-Err : goal.returns-in-Err
 returns-in-Err g c =
     let e = c.in-Err.ensures in
-    (Err c.in-Err.fault, record { asks = e.asks; bounds = e.bounds; fits = e.fits; taken = e.takes; told = e.told }, (refl, told_line c.in-Err.fault (ending_data c.ending_of_line.result) c.ending_of_line.ensures _ _ _ c.print_ending.ensures))
+    (Err c.in-Err.fault, record { asks = e.asks; bounds = e.bounds; fits = e.fits; taken = e.takes; told = e.told }, (refl, told_line c.in-Err.fault (ending_data c.ending_of_line.result) c.ending_of_line.ensures _ _ _ c.report_ending.ensures))

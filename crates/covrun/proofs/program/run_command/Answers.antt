@@ -9,7 +9,7 @@ returns-in-Ok-Collect g c =
     inr (
       c.in-Ok-Collect.ensures.taken,
       told_work (folder_data (g.F.Folder.holds c.args.folder.now) (g.F.Folder.may_refuse c.args.folder.now) g.F.File.Source.left g.F.File.Source.failed_reads) (work_data c.in-Ok-Collect.work) _ (ending_data c.ending_of.result) _ _ _ _ _ refl
-          (ap task_data (sym c.in-Ok-Collect.field-0-is) ∙ c.in-Ok-Collect.ensures.task) c.ending_of.ensures c.print_ending.ensures,
+          (ap task_data (sym c.in-Ok-Collect.field-0-is) ∙ c.in-Ok-Collect.ensures.task) c.ending_of.ensures c.report_ending.ensures,
     )
 
 pub returns-in-Ok-Check : goal.returns-in-Ok-Check
@@ -21,4 +21,4 @@ returns-in-Ok-Check g c =
     )
 
 pub returns-in-Err : goal.returns-in-Err
-returns-in-Err g c = inl (refl, ending_data c.ending_of_work.result, stops_early c.args.asked _ _ c.ending_of_work.ensures c.in-Err.ensures.refused, c.print_ending-in-Err.ensures)
+returns-in-Err g c = inl (refl, ending_data c.ending_of_work.result, stops_early c.args.asked _ _ c.ending_of_work.ensures c.in-Err.ensures.refused, c.report_ending-in-Err.ensures)

@@ -2,7 +2,7 @@
 
 /// The verdict on a checked file, which decides the exit status.
 #[derive(Clone, Copy)]
-pub(crate) enum Verdict {
+pub(crate) enum CheckVerdict {
     /// It is read, and has an item.
     Fine,
     /// It is read, and has no item.
@@ -13,19 +13,19 @@ pub(crate) enum Verdict {
     Unreadable,
 }
 
-impl Verdict {
+impl CheckVerdict {
     ghost use Rattle.std.specs.Prelude.{◌≡◌};
     ghost use Rattle.covrun.specs.Checked.{verdict_status, worse};
 
     /// The one of two verdicts that decides the exit status.
-    pub(crate) fn or(self, other: Verdict) -> Verdict
+    pub(crate) fn or(self, other: CheckVerdict) -> CheckVerdict
         ensures { result ≡ worse self other }
     {
         match (self, other) {
-            (Verdict::Unreadable, _) | (_, Verdict::Unreadable) => Verdict::Unreadable,
-            (Verdict::Refused, _) | (_, Verdict::Refused) => Verdict::Refused,
-            (Verdict::Empty, _) | (_, Verdict::Empty) => Verdict::Empty,
-            (Verdict::Fine, Verdict::Fine) => Verdict::Fine,
+            (CheckVerdict::Unreadable, _) | (_, CheckVerdict::Unreadable) => CheckVerdict::Unreadable,
+            (CheckVerdict::Refused, _) | (_, CheckVerdict::Refused) => CheckVerdict::Refused,
+            (CheckVerdict::Empty, _) | (_, CheckVerdict::Empty) => CheckVerdict::Empty,
+            (CheckVerdict::Fine, CheckVerdict::Fine) => CheckVerdict::Fine,
         }
     }
 
@@ -34,10 +34,10 @@ impl Verdict {
         ensures { result ≡ verdict_status self }
     {
         match self {
-            Verdict::Fine => 0,
-            Verdict::Unreadable => 1,
-            Verdict::Refused => 4,
-            Verdict::Empty => 5,
+            CheckVerdict::Fine => 0,
+            CheckVerdict::Unreadable => 1,
+            CheckVerdict::Refused => 4,
+            CheckVerdict::Empty => 5,
         }
     }
 }

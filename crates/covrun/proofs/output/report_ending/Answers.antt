@@ -2,7 +2,7 @@ use Rattle.std.proofs.Common.{ℕ, List, ◌++◌, codes, ap}
 use Rattle.covsession.specs.Session.{said}
 use Rattle.covrun.specs.View.{ending_data}
 use Rattle.covrun.proofs.Endings.{told_unreadable}
-use Rattle.covrun.proofs.output.print_ending.Goals as goal
+use Rattle.covrun.proofs.output.report_ending.Goals as goal
 
 pub returns-in-Unreadable : goal.returns-in-Unreadable
 returns-in-Unreadable g c =
