@@ -105,7 +105,7 @@ impl<'a, A: Allocator + Copy> Reader<'a, A> {
         Err(PlacementFault::Outside)
     }
 
-    /// Takes the count of a source line, which a line of the open section says.
+    /// Adds the count of a source line to the open section.
     #[inline]
     pub fn keep_count(
         &mut self,
