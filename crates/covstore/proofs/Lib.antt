@@ -120,3 +120,4 @@ pub mod CopiesFile
 pub mod NamedFiles
 pub mod Ready
 pub mod RenamedStore
+pub mod Crossing

@@ -4,9 +4,9 @@ ghost use Rattle.std.specs.Prelude.{◌≡◌, ℕ, List, [], ◌∷◌, ◌++�
 
 use crate::boxed::Boxed;
 use crate::content::FileSections;
-use crate::copy_test::stage_values;
 use crate::index::FileIndex;
 use crate::refuse::Refuse;
+use crate::stage_copied::stage_values;
 use crate::stage_fault::StageFault;
 use crate::stage_section::stage_items;
 use crate::test::Test;
@@ -275,7 +275,7 @@ impl<A: Allocator + Copy> File<A> {
         ensures settled { (tests : List (List ℕ)) → IsSettledBut tests self.old → IsSettledBut tests self.new }
     {
         if let Some(points) = self.tests.remove(test) {
-            self.index.drop_points(points.get());
+            self.index.uncount_test(points.get());
         }
     }
 

@@ -6,7 +6,7 @@ ghost use Rattle.covstore.specs.PointIndexDrops.{totals_by};
 mod drops;
 
 use crate::checksums::Checksums;
-use crate::index::drops::{drop_checksums, drop_kind, tally_without};
+use crate::index::drops::{release_checksums, tally_without, uncount_kind};
 use crate::keys::{Branch, FunctionName};
 use crate::kind_index::KindIndex;
 use crate::point_index::KindTally;
@@ -127,7 +127,7 @@ impl<A: Allocator + Copy> FileIndex<A> {
     }
 
     /// Stops counting a test that has these points. Nothing is staged afterwards. If the index follows a test, it is this one.
-    pub(crate) fn drop_points(&mut self, points: &Test<A>)
+    pub(crate) fn uncount_test(&mut self, points: &Test<A>)
         requires follows { Follows points.now self.old }
         requires counted { (others : List TestData) × IsIndexOf (test_committed points.now ∷ others) (index_committed self.old) }
         ensures committed { (others : List TestData) → IsIndexOf (test_committed points.now ∷ others) (index_committed self.old) → IsIndexOf others (index_committed self.new) }
@@ -135,10 +135,10 @@ impl<A: Allocator + Copy> FileIndex<A> {
         ensures staged { index_staged self.new ≡ index_committed self.new }
         ensures follows { StillFollows self.old no_test self.new }
     {
-        drop_kind(&mut self.lines, &points.lines);
-        drop_kind(&mut self.functions, &points.functions);
-        drop_kind(&mut self.branches, &points.branches);
-        drop_checksums(&mut self.checksums, &points.lines);
+        uncount_kind(&mut self.lines, &points.lines);
+        uncount_kind(&mut self.functions, &points.functions);
+        uncount_kind(&mut self.branches, &points.branches);
+        release_checksums(&mut self.checksums, &points.lines);
     }
 
     /// The committed totals of the file.

@@ -28,9 +28,8 @@
 mod boxed;
 mod checksums;
 mod content;
-mod copy_test;
-mod drops;
 mod file;
+mod file_walks;
 mod held_checksums;
 mod index;
 mod kept_texts;
@@ -48,6 +47,7 @@ mod renaming;
 mod runs;
 mod sole_test;
 mod stage_by_line;
+mod stage_copied;
 mod stage_counted;
 mod stage_fault;
 mod stage_one_item;

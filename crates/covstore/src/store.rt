@@ -15,8 +15,8 @@ ghost use Rattle.covstore.specs.TotalsExchanged.{IsExchange};
 
 use crate::boxed::Boxed;
 use crate::content::Sections;
-use crate::drops::{add_up, count_sections, count_without, drop_from_files, names_with};
 use crate::file::File;
+use crate::file_walks::{add_up, count_sections, count_without, drop_from_files, names_with};
 use crate::path::Path;
 use crate::plan::Plan;
 use crate::refuse::Refuse;

@@ -15,7 +15,7 @@ use std::alloc::Allocator;
 
 /// Stops counting the test that has these points of one kind. Nothing is staged afterwards. If the counts follow a test, it is
 /// this one.
-pub(super) fn drop_kind<'a, K: PointKey<'a, A> + Drop, S: PointSum, A: Allocator + Copy>(
+pub(super) fn uncount_kind<'a, K: PointKey<'a, A> + Drop, S: PointSum, A: Allocator + Copy>(
     kept: &mut KindIndex<K, S, A>,
     points: &'a StagedMap<K, S, A>,
 )
@@ -49,7 +49,7 @@ fn drop_counted<'a, K: PointKey<'a, A> + Drop, S: PointSum, A: Allocator + Copy>
 }
 
 /// Stops counting the test that has these lines as a holder of their checksums. Nothing is staged afterwards.
-pub(super) fn drop_checksums<A: Allocator + Copy>(
+pub(super) fn release_checksums<A: Allocator + Copy>(
     checksums: &mut Checksums<A>,
     lines: &StagedMap<u64, LineSum, A>,
 )

@@ -15,12 +15,12 @@ use Rattle.covstore.proofs.MapNames.{has_name, names_with, value_of_named}
 use Rattle.covstore.proofs.Settled.{file_name}
 use Rattle.covstore.proofs.file.File.drop_test.Goals as goal
 
-pub drop_points-requires-clause-follows : goal.drop_points-requires-clause-follows
-drop_points-requires-clause-follows g c =
+pub uncount_test-requires-clause-follows : goal.uncount_test-requires-clause-follows
+uncount_test-requires-clause-follows g c =
     rw c.get.ensures (sole_found (has_name file_name c.args.test.now) c.self.inside.tests.entries c.self.inside.index c.in-Some.points (sym c.in-Some.ensures.value) c.self.invariant)
 
-pub drop_points-requires-clause-counted : goal.drop_points-requires-clause-counted
-drop_points-requires-clause-counted g c =
+pub uncount_test-requires-clause-counted : goal.uncount_test-requires-clause-counted
+uncount_test-requires-clause-counted g c =
     let entries = c.self.inside.tests.entries in
     let tests = names_with file_name test_committed entries in
     let test = c.args.test.now in
@@ -34,25 +34,25 @@ returns-in-Some-clause-committed g c =
     let tests = names_with file_name test_committed entries in
     let test = c.args.test.now in
     let index = index_committed c.self.inside.index in
-    let rest = index_committed c.drop_points.new.self in
+    let rest = index_committed c.uncount_test.new.self in
     let points = test_committed c.in-Some.points in
     let found = value_of_named file_name test_committed test entries ∙ ap (option_map test_committed) (sym c.in-Some.ensures.value) in
     let left : names_with file_name test_committed c.remove.new.self.entries ≡ tests_without test tests =
     ap (names_with file_name test_committed) c.in-Some.ensures.entries ∙ removed file_name test_committed test entries (subst (λ (f : File g.row.A.Denot). IsConsistentFile (file_committed f)) (sym c.self.view_is) c.requires).ascending in
-    let counted = c.drop_points.ensures.committed (points_of_all (tests_without test tests)) (rw c.get.ensures (index_first test points tests index (subst (λ (f : File g.row.A.Denot). IsConsistentFile (file_committed f)) (sym c.self.view_is) c.requires) found)) in
+    let counted = c.uncount_test.ensures.committed (points_of_all (tests_without test tests)) (rw c.get.ensures (index_first test points tests index (subst (λ (f : File g.row.A.Denot). IsConsistentFile (file_committed f)) (sym c.self.view_is) c.requires) found)) in
     rw (← c.self.view_is)
     (subst (λ (list : List (List ℕ × TestData)). IsWithoutTest test (file_committed file) (file_with list rest)) (sym left)
-    (without_found test points tests index (subst (λ (f : File g.row.A.Denot). IsConsistentFile (file_committed f)) (sym c.self.view_is) c.requires) found rest c.drop_points.ensures.texts counted))
+    (without_found test points tests index (subst (λ (f : File g.row.A.Denot). IsConsistentFile (file_committed f)) (sym c.self.view_is) c.requires) found rest c.uncount_test.ensures.texts counted))
 
 pub returns-in-Some-clause-settled : goal.returns-in-Some-clause-settled
 returns-in-Some-clause-settled g c = λ tests settled.
     let file : File g.row.A.Denot = record { tests = record { entries = c.self.inside.tests.entries }; index = c.self.inside.index } in
-    let later : File g.row.A.Denot = record { tests = record { entries = c.remove.new.self.entries }; index = c.drop_points.new.self } in
-    removed_settled tests (has_name file_name c.args.test.now) file later c.drop_points.ensures.staged c.in-Some.ensures.entries (subst (λ (f : File g.row.A.Denot). IsSettledBut tests f) (sym c.self.view_is) settled)
+    let later : File g.row.A.Denot = record { tests = record { entries = c.remove.new.self.entries }; index = c.uncount_test.new.self } in
+    removed_settled tests (has_name file_name c.args.test.now) file later c.uncount_test.ensures.staged c.in-Some.ensures.entries (subst (λ (f : File g.row.A.Denot). IsSettledBut tests f) (sym c.self.view_is) settled)
 
 pub invariant_of-self : goal.invariant_of-self
 invariant_of-self g c =
-    rw c.in-Some.ensures.entries (sole_removed (has_name file_name c.args.test.now) c.self.inside.tests.entries c.self.inside.index c.drop_points.new.self c.in-Some.points (sym c.in-Some.ensures.value) c.self.invariant c.drop_points.ensures.follows)
+    rw c.in-Some.ensures.entries (sole_removed (has_name file_name c.args.test.now) c.self.inside.tests.entries c.self.inside.index c.uncount_test.new.self c.in-Some.points (sym c.in-Some.ensures.value) c.self.invariant c.uncount_test.ensures.follows)
 
 pub returns-in_default-clause-committed : goal.returns-in_default-clause-committed
 returns-in_default-clause-committed g c =
