@@ -12,3 +12,4 @@ pub mod LogPlaces
 pub mod Checked
 pub mod Gathered
 pub mod Causes
+pub mod Crossing

@@ -1,2 +1,3 @@
 pub mod Seated
 pub mod Steps
+pub mod Crossing

@@ -1,0 +1,20 @@
+-- Threads may share a book on the heap.
+use denote.RattleType.{RattleType}
+use denote.Param.Send.{IsSend, IsSync, sendable}
+use Rattle.std.proofs.Crossing as heap
+use Rattle.std.proofs.sync.ledger.Book.TheSendSync as count
+use Rattle.std.proofs.sync.ledger.Share.TheSendSync as share
+use Rattle.std.specs.contracts.alloc.Global as Heap
+use Rattle.std.specs.contracts.impls.GlobalAllocator.TheImpl.{ghosts}
+use Rattle.std.specs.declared.sync.ledger.Ledger as Ledger
+use Rattle.covbook.proofs.Crossing.{book_send}
+use Rattle.covnews.proofs.publisher.Publisher.TheSendSync as publisher
+use Rattle.covnews.specs.declared.name.Name as Name
+use Rattle.covlock.specs.contracts.shared.Shared as Shared
+use Rattle.covlock.specs.contracts.shared_state.SharedState as SharedState
+
+state_send : (L : RattleType) (n : Name.Ghosts L.Denot) (l : Ledger.Ghosts L.Denot) → IsSend (SharedState.the_row L Heap.the_row n l ghosts)
+state_send L n l = search (sendable, heap.crosses, book_send, publisher.the_send, count.the_send, share.the_send) depth 40 fits 20000
+
+pub shared_sync : (L : RattleType) (n : Name.Ghosts L.Denot) (l : Ledger.Ghosts L.Denot) → IsSync (Shared.the_row L Heap.the_row n l ghosts)
+shared_sync L n l = search (sendable, heap.crosses, state_send) depth 40 fits 20000
