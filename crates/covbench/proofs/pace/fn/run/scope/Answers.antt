@@ -1,0 +1,13 @@
+use borrow.Author.Rules.{rules}
+use denote.Param.Send.{IsSync, sendable}
+use Rattle.std.proofs.Crossing as heap
+use Rattle.covbook.proofs.op.Op.TheSendSync as op
+use Rattle.covlock.proofs.Crossing.{shared_sync}
+use Rattle.covbench.proofs.pace.Submitter.TheSendSync as submitter
+use Rattle.covbench.proofs.pace.fn.run.scope.Goals as goal
+
+-- the closure may go to another thread, since threads may share the book
+pub spawn-started-requires-send-F : goal.spawn-started-requires-send-F
+spawn-started-requires-send-F g c κs within =
+    let runtime : IsSync g.row.R = search (rules, c.requires) parts 8 in
+    search (sendable, heap.crosses, shared_sync, op.the_sync, submitter.the_send) depth 60 fits 20000

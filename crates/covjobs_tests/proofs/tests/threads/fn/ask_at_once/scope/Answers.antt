@@ -1,0 +1,14 @@
+use borrow.Author.Rules.{rules}
+use denote.Param.Send.{IsSync, sendable}
+use Rattle.std.proofs.Crossing as heap
+use Rattle.covbook.proofs.log.JobLog.TheSendSync as log
+use Rattle.covbook.proofs.op.Op.TheSendSync as op
+use Rattle.covlock.proofs.Crossing.{shared_sync}
+use Rattle.covlock.proofs.seat.Seat.TheSendSync as seat
+use Rattle.covjobs_tests.proofs.tests.threads.fn.ask_at_once.scope.Goals as goal
+
+-- the closure may go to another thread, since threads may share the book
+pub spawn-requires-send-F : goal.spawn-requires-send-F
+spawn-requires-send-F g c κs within =
+    let runtime : IsSync g.row.R = search (rules, c.requires) parts 8 in
+    search (sendable, heap.crosses, shared_sync, seat.the_send, log.the_send, op.the_sync) depth 60 fits 20000
