@@ -22,7 +22,8 @@ impl CheckVerdict {
         ensures { result ≡ worse self other }
     {
         match (self, other) {
-            (CheckVerdict::Unreadable, _) | (_, CheckVerdict::Unreadable) => CheckVerdict::Unreadable,
+            (CheckVerdict::Unreadable, _) | (_, CheckVerdict::Unreadable) =>
+                CheckVerdict::Unreadable,
             (CheckVerdict::Refused, _) | (_, CheckVerdict::Refused) => CheckVerdict::Refused,
             (CheckVerdict::Empty, _) | (_, CheckVerdict::Empty) => CheckVerdict::Empty,
             (CheckVerdict::Fine, CheckVerdict::Fine) => CheckVerdict::Fine,

@@ -32,6 +32,15 @@ fn number(image: Option<Wrapped>) -> Option<u64> {
     }
 }
 
+/// The number of keys that have a committed value.
+fn entry_count(map: &StagedMap<u64, Wrapped, Global>) -> usize {
+    let mut count: usize = 0;
+    for _entry in map.entries() {
+        count = count.wrapping_add(1);
+    }
+    count
+}
+
 /// A map with more keys than fit on a page: each of 0 to 599 with ten times itself. For two keys a value is staged: for 4, and for
 /// 1000, which isn't there.
 fn two_staged(alloc: Global) -> Result<StagedMap<u64, u64, Global>, Fail> {
@@ -52,7 +61,7 @@ fn images_of_committed_and_staged_values(rt: HostRuntime) -> Result<(), Fail> {
     let mut map = two_staged(alloc)?;
     let mut images: StagedMap<u64, Wrapped, Global> = map.images(alloc)?;
     map.rollback();
-    assert_eq!(rt; images.entries().count(), 600);
+    assert_eq!(rt; entry_count(&images), 600);
     assert_eq!(rt; number(images.lookup(599)), Some(5990));
     assert_eq!(rt; number(images.lookup_staged(599)), Some(5990));
     assert_eq!(rt; number(images.lookup(4)), Some(40));
@@ -60,7 +69,7 @@ fn images_of_committed_and_staged_values(rt: HostRuntime) -> Result<(), Fail> {
     assert_eq!(rt; number(images.lookup(1000)), None);
     assert_eq!(rt; number(images.lookup_staged(1000)), Some(8));
     images.commit();
-    assert_eq!(rt; images.entries().count(), 601);
+    assert_eq!(rt; entry_count(&images), 601);
     assert_eq!(rt; number(images.lookup(4)), Some(7));
     assert_eq!(rt; (map.lookup(4), map.lookup_staged(1000)), (Some(40), None));
     Ok(())
