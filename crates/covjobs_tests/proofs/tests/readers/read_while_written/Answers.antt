@@ -1,0 +1,12 @@
+use borrow.Author.Rules.{rules}
+use denote.Param.Send.{IsSync, sendable}
+use Rattle.std.proofs.Crossing as heap
+use Rattle.covlock.proofs.Crossing.{shared_sync}
+use Rattle.covlock.proofs.seat.Seat.TheSendSync as seat
+use Rattle.covjobs_tests.proofs.tests.readers.read_while_written.Goals as goal
+
+-- the closure may go to another thread, since threads may share the book
+pub join-told-requires-send-F : goal.join-told-requires-send-F
+join-told-requires-send-F g c κs within =
+    let runtime : IsSync g.row.R = search (rules, c.requires) parts 8 in
+    search (sendable, heap.crosses, shared_sync, seat.the_send) depth 60 fits 20000
