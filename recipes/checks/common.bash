@@ -1,0 +1,130 @@
+# What each suite loads: how a check is told, the folder that a scenario works in, and the processes that it starts. See README.md.
+# shellcheck shell=bash
+
+if [ -z "${CHECKS_CLEAN-}" ]; then
+    # What the user has set must not change what is tried. Only once, since setup_file may set such variables itself.
+    unset "${!SLURM_@}" "${!SBATCH_@}" "${!COVERAGE_@}" MAKEFLAGS MAKELEVEL
+    export CHECKS_CLEAN=yes LC_ALL=C
+fi
+recipes=$(cd "$BATS_TEST_DIRNAME/.." && pwd -P)
+COVCOLLECT=$(realpath -e "${COVCOLLECT:-$recipes/../build/covcollect}")
+export COVCOLLECT
+
+# --- a scenario -----------------------------------------------------------------------------------------------------------------
+
+# Each scenario (@test) works in an empty folder of its own. $work is the folder above, for what isn't part of the scenario.
+setup() {
+    set -uo pipefail
+    trap 'exit 130' INT
+    trap 'exit 143' TERM
+    work=$BATS_TEST_TMPDIR
+    failed=0 daemons=()
+    mkdir "$work/here"
+    cd "$work/here"
+    told "-- $(basename "$BATS_TEST_FILENAME" .bats): $BATS_TEST_DESCRIPTION"
+}
+
+# A failed check doesn't end its scenario: it fails here.
+teardown() {
+    set +uo pipefail
+    trap '' INT TERM
+    [ -n "$BATS_TEST_COMPLETED" ] || verdict 1 "$(basename "$BATS_TEST_FILENAME" .bats): $BATS_TEST_DESCRIPTION: ended early"
+    stop_daemons
+    cd /
+    [ "$failed" -eq 0 ]
+}
+
+# --- processes ------------------------------------------------------------------------------------------------------------------
+
+# Starts a command in the background. It is stopped when the scenario ends, or by recipes/check, if bats itself was killed. The two
+# descriptors are those on which bats waits.
+daemon() { # COMMAND...
+    "$@" 3>&- 4>&- &
+    daemons+=($!)
+    [ -z "${CHECKS_DAEMONS-}" ] || printf '%s %s\n' $! "$(started_at $!)" >>"$CHECKS_DAEMONS"
+}
+# The moment when a process started, which tells it from a later one with the same number.
+started_at() { # PID
+    sed 's/.*) //' "/proc/$1/stat" 2>/dev/null | cut -d' ' -f20
+}
+stop_daemons() {
+    local pid
+    for pid in "${daemons[@]}"; do
+        kill "$pid" 2>/dev/null || true
+    done
+    for pid in "${daemons[@]}"; do
+        wait "$pid" 2>/dev/null || true
+    done
+    daemons=()
+}
+free_port() { # FIRST: a port from there that nobody listens on
+    local port=$1
+    while (: >"/dev/tcp/127.0.0.1/$port") 2>/dev/null; do
+        port=$((port + 1))
+    done
+    echo "$port"
+}
+
+# --- checks ---------------------------------------------------------------------------------------------------------------------
+
+# bats hands descriptor 3 on as it is. recipes/check counts the lines that begin with ok and FAILED.
+told() { printf '# %s\n' "$*" >&3; }
+show() { sed 's/^/#         /' "$@" >&3; }
+not_tried() { told "not tried: $*"; } # WHAT AND WHY: what this machine can't do
+verdict() { # STATUS WHAT
+    if [ "$1" -eq 0 ]; then
+        told "ok      $2"
+    else
+        failed=$((failed + 1))
+        told "FAILED  $2"
+    fi
+}
+# The call's status, output and messages are left in $status, $work/out and $work/err.
+call() { # COMMAND...
+    status=0
+    "$@" >"$work/out" 2>"$work/err" </dev/null 3>&- 4>&- || status=$?
+}
+# A call that must end well, and of which nothing is looked at.
+quietly() { "$@" >/dev/null 2>&1 </dev/null 3>&- 4>&-; }
+ended() { # STATUS WHAT: whether the last call ended so
+    local bad=0
+    [ "$status" -eq "$1" ] || bad=1
+    verdict $bad "$2"
+    [ $bad -eq 0 ] || { told "        status $status in place of $1; messages:"; tail -n 8 "$work/err" | show; }
+}
+holds() { # WHAT COMMAND...: whether the command succeeds
+    local what=$1 bad=0
+    shift
+    "$@" || bad=1
+    verdict $bad "$what"
+}
+same() { # FILE FILE WHAT: whether both have the same bytes
+    local bad=0
+    cmp -s "$1" "$2" || bad=1
+    verdict $bad "$3"
+    [ $bad -eq 0 ] || { diff "$1" "$2" | head -n 20 | show; } || true
+}
+says() { # FILE WHAT LINE...: whether the file has each line, as it is
+    local file=$1 what=$2 line bad=0
+    shift 2
+    for line in "$@"; do
+        grep -qxF -- "$line" "$file" || { bad=1; break; }
+    done
+    verdict $bad "$what"
+    [ $bad -eq 0 ] || { told "        not there: $line; there is:"; head -n 20 "$file" | show; }
+}
+clashes() { # WHAT FILE LINE CHECKSUM CHECKSUM: with more than one job either file may be read first
+    if grep -qxF -e "clash $2 $3 $4 $5" -e "clash $2 $3 $5 $4" "$work/err"; then
+        verdict 0 "$1"
+    else
+        verdict 1 "$1"
+        show "$work/err"
+    fi
+}
+only() { # WHAT FOLDER NAME...: whether the folder has exactly these names
+    local what=$1 folder=$2 bad=0
+    shift 2
+    [ "$(ls -A "$folder")" = "$(printf '%s\n' "$@" | sort)" ] || bad=1
+    verdict $bad "$what"
+    [ $bad -eq 0 ] || find "$folder" -mindepth 1 -maxdepth 1 | sort | show
+}
