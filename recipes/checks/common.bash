@@ -19,6 +19,11 @@ setup() {
     trap 'exit 143' TERM
     work=$BATS_TEST_TMPDIR
     failed=0 daemons=()
+    if [ -n "${CHECKS_RUN-}" ]; then
+        # recipes/check ends this process if it is interrupted itself, and then none begins anew.
+        note $$ >"$CHECKS_RUN/scenario"
+        [ ! -e "$CHECKS_RUN/stop" ] || skip interrupted
+    fi
     mkdir "$work/here"
     cd "$work/here"
     told "-- $(basename "$BATS_TEST_FILENAME" .bats): $BATS_TEST_DESCRIPTION"
@@ -27,7 +32,7 @@ setup() {
 # A failed check doesn't end its scenario: it fails here.
 teardown() {
     set +uo pipefail
-    trap '' INT TERM
+    trap '' INT TERM PIPE
     [ -n "$BATS_TEST_COMPLETED" ] || verdict 1 "$(basename "$BATS_TEST_FILENAME" .bats): $BATS_TEST_DESCRIPTION: ended early"
     stop_daemons
     cd /
@@ -36,16 +41,18 @@ teardown() {
 
 # --- processes ------------------------------------------------------------------------------------------------------------------
 
-# Starts a command in the background. It is stopped when the scenario ends, or by recipes/check, if bats itself was killed. The two
-# descriptors are those on which bats waits.
+# Starts a command in the background, in a group of its own, so that no interrupt ends it before the scenario has cleaned up. It is
+# stopped when the scenario ends, or by recipes/check, if bats itself was killed. The two descriptors are those on which bats waits.
 daemon() { # COMMAND...
+    set -m
     "$@" 3>&- 4>&- &
+    set +m
     daemons+=($!)
-    [ -z "${CHECKS_DAEMONS-}" ] || printf '%s %s\n' $! "$(started_at $!)" >>"$CHECKS_DAEMONS"
+    [ -z "${CHECKS_RUN-}" ] || note $! >>"$CHECKS_RUN/daemons"
 }
-# The moment when a process started, which tells it from a later one with the same number.
-started_at() { # PID
-    sed 's/.*) //' "/proc/$1/stat" 2>/dev/null | cut -d' ' -f20
+# A process for recipes/check: its number, and the moment when it started, which tells it from a later one with the same number.
+note() { # PID
+    echo "$1 $(sed 's/.*) //' "/proc/$1/stat" 2>/dev/null | cut -d' ' -f20)"
 }
 stop_daemons() {
     local pid
