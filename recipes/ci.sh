@@ -20,6 +20,8 @@
 #     --jobs N           read N tracefiles at once (default: 4)
 #     --no-html          don't run genhtml
 #
+# A value can also follow an equals sign, as in --lines=80, and after -- all words are tracefiles.
+#
 #     COVERAGE_BUILD     the command that builds with --coverage (default: make CFLAGS='--coverage -O0' LDFLAGS=--coverage)
 #     COVERAGE_TEST      the command that runs the tests (default: make check)
 #     COVERAGE_LINES     the same as --lines
@@ -55,8 +57,10 @@ capture=yes
 empty=fail
 handed=()
 while [ $# -gt 0 ]; do
-    case $1 in
-        --lines|--remove|--test-name|--output|--jobs|--empty) [ $# -gt 1 ] || wrong "$1 needs a value" ;;
+    case ${1%%=*} in
+        --lines|--remove|--test-name|--output|--jobs|--empty)
+            [[ $1 != *=* ]] || set -- "${1%%=*}" "${1#*=}" "${@:2}"
+            [ $# -gt 1 ] || wrong "$1 needs a value" ;;
     esac
     case $1 in
         --lines) threshold=$2; shift ;;
@@ -76,6 +80,7 @@ while [ $# -gt 0 ]; do
 done
 [ ${#patterns[@]} -gt 0 ] || patterns=('/usr/*')
 case $empty in fail|skip) ;; *) wrong "--empty: $empty is neither fail nor skip" ;; esac
+[[ $jobs =~ ^0*([1-9]|[1-5][0-9]|6[0-4])$ ]] || wrong "--jobs: $jobs isn't a number from 1 to 64"
 [ $capture = yes ] || [ ${#handed[@]} -gt 0 ] || wrong '--merge-only needs tracefiles'
 if [ -n "$threshold" ]; then
     [[ $threshold =~ ^([0-9]{1,3})(\.([0-9]{1,6}))?$ ]] || wrong "--lines: $threshold isn't a percentage such as 80 or 79.95"
@@ -98,14 +103,21 @@ for needed in lcov2.awk intake; do
 done
 for file in "${handed[@]}"; do
     [ -e "$file" ] || wrong "$file isn't there"
+    [ ! -d "$file" ] || { say "$file is a folder, and no tracefile"; exit 1; }
 done
+# The folder of results is replaced at the end, by a rename. That it can be is seen here, before anything is built.
+while [[ $output == */ ]]; do output=${output%/}; done
+case ${output##*/} in ''|.|..) wrong "--output: ${output:-/} can't be replaced: choose another folder" ;; esac
 # Only an empty folder, or one from an earlier run, is replaced.
-output=${output%/}
-if [ -e "$output" ] && [ ! -f "$output/own.info" ] && [ -n "$(ls -A "$output" 2>&1)" ]; then
-    wrong "$output exists and isn't a folder of results: choose another --output"
+if [ -L "$output" ] && [ ! -e "$output" ]; then
+    wrong "--output: $output is a link that leads nowhere: choose another folder"
+elif [ -e "$output" ] && [ ! -f "$output/own.info" ] && [ -n "$(ls -A "$output" 2>&1)" ]; then
+    wrong "--output: $output exists and isn't a folder of results: choose another folder"
+elif mountpoint -q "$output" 2>/dev/null; then
+    wrong "--output: $output is a mount point, which can't be replaced: choose a folder in it"
 fi
-mkdir -p "$(dirname "$output")"
-next=$(mktemp -d "$(dirname "$output")/.coverage.XXXXXX")
+top=$(dirname "$output")
+mkdir -p "$top" 2>/dev/null && next=$(mktemp -d "$top/.coverage.XXXXXX" 2>/dev/null) || wrong "--output: $top can't be written"
 trap 'trap "" INT TERM HUP; rm -rf "$next" "$next.old"' EXIT
 trap 'exit 130' INT
 trap 'exit 143' TERM HUP

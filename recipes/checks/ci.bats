@@ -100,3 +100,32 @@ load projects
     ended 0 'ci.sh: after all these failures the results are as they were'
     only 'ci.sh: and nothing half written is left' . Makefile ci coverage jobs src test
 }
+
+@test "folders of results that can't be, and folders in place of tracefiles" {
+    local folder
+    project .
+    mkdir empty
+    : >file
+    ln -s nothing link
+    for folder in / // . empty/. /proc/coverage file/coverage file link; do
+        call env COVERAGE_BUILD='touch built' ci/ci.sh --no-html --output "$folder"
+        ended 2 "ci.sh: --output $folder"
+        holds 'ci.sh: and this is told' grep -q '^ci\.sh: --output' "$work/err"
+        holds 'ci.sh: before anything is built' [ ! -e built ]
+        rm -f built
+    done
+    if unshare -m true 2>/dev/null; then
+        call unshare -m bash -c "mount -t tmpfs none empty && COVERAGE_BUILD='touch built' ci/ci.sh --no-html --output empty"
+        ended 2 'ci.sh: --output is a mount point'
+        holds 'ci.sh: and nothing is built' [ ! -e built ]
+    else
+        not_tried 'ci.sh: --output is a mount point: this user may not mount'
+    fi
+    printf 'SF:/a.c\nDA:1,1\nend_of_record\n' >a.info
+    call ci/ci.sh --merge-only --no-html a.info empty
+    ended 1 "ci.sh --merge-only: a folder can't be read as a tracefile"
+    says "$work/err" 'ci.sh --merge-only: and is named' 'ci.sh: empty is a folder, and no tracefile'
+    call env COVERAGE_BUILD='touch built' ci/ci.sh --no-html empty
+    ended 1 'ci.sh: a folder among the tracefiles'
+    only 'ci.sh: nothing is built, and nothing is left' . Makefile a.info ci empty file link src
+}
