@@ -17,6 +17,8 @@ _covcollect_files() {
 # that match just these. They are quoted for the shell as the word is.
 _covcollect_sources() {
     local file=$1 path word
+    # The word has the tilde itself, which nothing has expanded.
+    # shellcheck disable=SC2088
     case $file in
         [\"\']*) file=${file:1:${#file}-2} ;;
         '~/'*) file=$HOME/${file:2} ;;
@@ -38,6 +40,8 @@ _covcollect_sources() {
 }
 
 _covcollect() {
+    # _init_completion -s sets split.
+    # shellcheck disable=SC2034
     local cur prev words cword split
     _init_completion -s || return
 
@@ -63,7 +67,7 @@ _covcollect() {
             merge--jobs)
                 # The number of processors, of which 64 can be used.
                 i=$(nproc 2>/dev/null)
-                COMPREPLY=($(compgen -W "$((i > 64 ? 64 : i))" -- "$cur"))
+                mapfile -t COMPREPLY < <(compgen -W "$((i > 64 ? 64 : i))" -- "$cur")
                 return
                 ;;
             gcov--test)
@@ -78,13 +82,13 @@ _covcollect() {
                 gcov) options+=' --test' ;;
                 check) options+=' --gcov' ;;
             esac
-            COMPREPLY=($(compgen -W "$options" -- "$cur"))
+            mapfile -t COMPREPLY < <(compgen -W "$options" -- "$cur")
             return
         fi
     fi
 
     case $subcommand$annotated in
-        '') COMPREPLY=($(compgen -W 'merge summary extract remove gcov check' -- "$cur")) ;;
+        '') mapfile -t COMPREPLY < <(compgen -W 'merge summary extract remove gcov check' -- "$cur") ;;
         merge | summary | check) _covcollect_files "$tracefiles" ;;
         gcov | check1) _covcollect_files gcov ;;
         extract | remove)

@@ -25,7 +25,7 @@ status=0
 "$program" merge --jobs "${SLURM_CPUS_PER_TASK:-1}" -- "${shares[@]}" >total.part || status=$?
 [ $status -eq 0 ] || fail $status
 mv total.part "$out"
-: >done
+: >'done'
 if [ "$end" = remove ]; then
     trap - EXIT
     cd /
