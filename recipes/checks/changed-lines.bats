@@ -23,7 +23,7 @@ git_user() {
 changed_repository() {
     mkdir -p repository/sub
     git init -q repository
-    cd repository
+    cd repository || return
     seq 1 20 >'sub/a b.c'
     cp 'sub/a b.c' $'tab\t"quoted"\\.c'
     cp 'sub/a b.c' $'\303\244.c'

@@ -12,23 +12,26 @@ load projects
 collector=$recipes/collector/collector
 
 # Runs a collector as systemd would: if it dies, it is started again. What it says goes to SPOOL.said.
-serve_spool() { # SPOOL COMMAND...
+serve_spool() { daemon serve_again "$@"; } # SPOOL COMMAND...
+serve_again() {
     local spool=$1 pid=''
     shift
-    (
-        trap 'kill "$pid" 2>/dev/null; wait "$pid"; exit 0' TERM
-        while :; do
-            "$@" "$recipes/collector/collector" start "$spool" 2>>"$spool.said" &
-            pid=$!
-            ! wait "$pid" 2>/dev/null || break
-        done
-    ) &
-    daemons+=($!)
+    trap 'kill "$pid" 2>/dev/null; wait "$pid"; exit 0' TERM
+    while :; do
+        "$@" "$collector" start "$spool" 2>>"$spool.said" &
+        pid=$!
+        ! wait "$pid" 2>/dev/null || break
+    done
+}
+# Two equal tracefiles, and a broken one.
+files() {
+    printf 'TN:t\nSF:/a.c\nDA:1,2\nDA:2,0\nend_of_record\n' | tee a.info >b.info
+    printf 'SF:/a.c\nDA:1,1\nDA:2\n' >broken.info
 }
 
-@test "files by hand" {
-    local collector=$recipes/collector/collector name pattern
-    printf 'TN:t\nSF:/a.c\nDA:1,2\nDA:2,0\nend_of_record\n' >a.info
+collector_by_hand() {
+    local name pattern
+    files
     call env COLLECTOR_WAIT=5 "$collector" give spool a.info
     ended 2 "collector: a spool that isn't there"
     serve_spool spool env
@@ -41,7 +44,6 @@ serve_spool() { # SPOOL COMMAND...
     holds 'collector: and says what is in it' grep -qE '^accepted f\.a\.info\.[0-9a-f]{40} items 2 odd 0$' "$work/out"
     call "$collector" give spool a.info
     ended 0 'collector: is asked again with the same file'
-    cp a.info b.info
     call "$collector" give spool b.info
     ended 0 'collector: the equal file of another job'
     call "$collector" give spool --key job-1 a.info
@@ -61,7 +63,6 @@ serve_spool() { # SPOOL COMMAND...
         ended 4 "collector: $name"
         says "$work/err" 'collector: and why' "$name: no record in it (items 0): is it empty, or no tracefile?"
     done
-    printf 'SF:/a.c\nDA:1,1\nDA:2\n' >broken.info
     call "$collector" give spool broken.info
     ended 4 'collector: a broken tracefile'
     says "$work/err" 'collector: in the words of a merge' 'broken.info: refused BadLine at 3'
@@ -167,11 +168,15 @@ WANTED
     same report.wanted "$work/out" 'collector: and the report is that of all files, old and new, that one once'
     quietly "$collector" stop spool
 }
+@test "files by hand" {
+    collector_by_hand
+}
 
 @test "a spool that is removed, and tools that are missing" {
-    local collector=$recipes/collector/collector pid name
-    "$collector" start gone 2>gone.first &
-    pid=$!
+    local pid name
+    files
+    daemon "$collector" start gone 2>gone.first
+    pid=${daemons[-1]}
     until grep -q 'files again$' gone.first; do sleep 0.1; done
     rm -r gone
     serve_spool gone env
@@ -196,7 +201,7 @@ WANTED
 }
 
 @test "clients, the session and its feeder are killed" {
-    local collector=$recipes/collector/collector writer number pid status killed=0 again=() gone=() in=0 writers=() asker span=600
+    local writer number pid status killed=0 again=() gone=() in=0 writers=() asker span=600
     for ((writer = 0; writer < 8; writer++)); do
         tracefiles "writers/$writer" $((writer * 50 + 1)) $((writer * 50 + 50))
     done
@@ -209,7 +214,7 @@ WANTED
     for ((writer = 0; writer < 8; writer++)); do
         for ((number = writer * 50 + 1; number <= writer * 50 + 50; number++)); do
             ! "$collector" give storm "writers/$writer/f $number.info" >>"told.$writer" 2>&1 || echo >>"count.$writer"
-        done </dev/null &
+        done </dev/null 3>&- &
         writers+=($!)
     done
     # Reports while this goes on: each reads back as what it is.
@@ -223,11 +228,11 @@ WANTED
             sleep 0.5
         done
         rm -f reports/part
-    ) &
+    ) 3>&- &
     asker=$!
     # Clients that are killed with all that they started, at some moment of the time that they take: about half of them are done before.
     for ((number = 1; number <= 60 && killed < 12; number++)); do
-        setsid "$collector" give storm victims/$number.info >/dev/null 2>&1 </dev/null &
+        setsid "$collector" give storm victims/$number.info >/dev/null 2>&1 </dev/null 3>&- &
         pid=$!
         sleep "0.$(printf '%03d' $((RANDOM % span)))"
         kill -9 -- "-$pid" 2>/dev/null || true
@@ -244,7 +249,7 @@ WANTED
             6) [ -e feeder.killed ] || ! kill -9 "$(cut -d' ' -f1 storm/pids)" 2>/dev/null || : >feeder.killed ;;
         esac
     done
-    holds 'collector: 12 clients were killed, and the session and its feeder too' [ $killed:$(ls *.killed | wc -l) = 12:2 ]
+    holds 'collector: 12 clients were killed, and the session and its feeder too' [ "$killed:$(ls ./*.killed | wc -l)" = 12:2 ]
     for pid in "${writers[@]}"; do wait "$pid"; done
     : >storm.over
     wait $asker
@@ -281,8 +286,8 @@ WANTED
 
 # A file that takes more memory than there is doesn't end the collector for good.
 @test "memory" {
-    local collector=$recipes/collector/collector
-    { for number in {1..200000}; do echo "SF:/$number"; echo DA:1,1; echo end_of_record; done; } >hungry.info
+    files
+    seq 200000 | sed 's|.*|SF:/&\nDA:1,1\nend_of_record|' >hungry.info
     serve_spool memory bash -c 'ulimit -v 200000 && exec "$@"' limited
     until [ -s memory/pids ]; do sleep 0.1; done
     call "$collector" give memory --key first a.info
@@ -301,30 +306,30 @@ WANTED
 }
 
 @test "sockets, systemd and ssh" {
-    local collector=$recipes/collector/collector port number pids=() here=$PWD via
+    local port number pids=() here=$PWD via
+    files
     serve_spool afar env
     until [ -s afar/pids ]; do sleep 0.1; done
     # A socat that was killed left its socket.
-    socat UNIX-LISTEN:"$here/s.sock" - >/dev/null 2>&1 </dev/null &
+    socat UNIX-LISTEN:"$here/s.sock" - >/dev/null 2>&1 </dev/null 3>&- &
     number=$!
     until [ -S s.sock ]; do sleep 0.1; done
     kill -9 $number
     wait $number 2>/dev/null || true
-    socat -t 60 UNIX-LISTEN:"$here/s.sock",fork,unlink-early,mode=660,group="$(id -gn)" EXEC:"$collector answer $here/afar" 2>socat.said &
-    daemons+=($!)
+    daemon socat -t 60 "UNIX-LISTEN:$here/s.sock,fork,unlink-early,mode=660,group=$(id -gn)" "EXEC:$collector answer $here/afar" 2>socat.said
     until [ "$(stat -c %a s.sock 2>/dev/null)" = 660 ]; do sleep 0.1; done
     via="socat -t 60 - UNIX-CONNECT:$here/s.sock"
     # The numbers 1 to 8 are the sources 0 to 3, two each.
     tracefiles afar.in 1 8
     for number in {1..8}; do
-        "$collector" give --via "$via" "afar.in/f $number.info" >>"afar.told" 2>&1 &
+        "$collector" give --via "$via" "afar.in/f $number.info" >>afar.told 2>&1 3>&- &
         pids+=($!)
     done
     for number in "${pids[@]}"; do wait "$number" || true; done
     holds 'collector: eight clients at once over a socket' [ "$(grep -cE '^accepted .* items 6 odd 0$' afar.told)" -eq 8 ]
     # A file that grows meanwhile.
     yes "$(<a.info)" 2>/dev/null | head -n 15000 >growing.info || true
-    (until [ -e grown ]; do echo >>growing.info; done) &
+    (until [ -e grown ]; do echo >>growing.info; done) 3>&- &
     number=$!
     call "$collector" give --via "$via" growing.info
     : >grown
@@ -354,8 +359,7 @@ WANTED
     done
     call systemd-analyze verify units/covcollect.service units/covcollect-give.socket units/covcollect-give@.service
     holds "collector: systemd's units are fine" [ "$status:$(grep -c "$here/units" "$work/err")" = 0:0 ]
-    systemd-socket-activate --accept --inetd --listen="$here/u.sock" "$collector" answer "$here/afar" >/dev/null 2>&1 &
-    daemons+=($!)
+    daemon systemd-socket-activate --accept --inetd --listen="$here/u.sock" "$collector" answer "$here/afar" >/dev/null 2>&1
     until [ -S u.sock ]; do sleep 0.1; done
     call "$collector" give --via "socat -t 60 - UNIX-CONNECT:$here/u.sock" b.info
     ended 0 "collector: over systemd's socket"
@@ -371,8 +375,7 @@ WANTED
     port=$(free_port $((20000 + RANDOM % 20000)))
     printf '%s\n' "Port $port" 'ListenAddress 127.0.0.1' "HostKey $here/keys/host" "AuthorizedKeysFile $here/keys/authorized" \
         'StrictModes no' 'UsePAM no' 'PermitRootLogin yes' 'PidFile none' "SetEnv COVCOLLECT=$COVCOLLECT" >keys/sshd
-    "$(command -v sshd || echo /usr/sbin/sshd)" -D -e -f keys/sshd 2>sshd.said &
-    daemons+=($!)
+    daemon "$(command -v sshd || echo /usr/sbin/sshd)" -D -e -f keys/sshd 2>sshd.said
     until (: >"/dev/tcp/127.0.0.1/$port") 2>/dev/null; do sleep 0.1; done
     via="ssh -q -F none -o StrictHostKeyChecking=no -o UserKnownHostsFile=$here/keys/known -o IdentitiesOnly=yes -p $port"
     call "$collector" give --via "$via -i keys/jobs 127.0.0.1" --key over-ssh a.info

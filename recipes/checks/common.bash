@@ -7,8 +7,9 @@ if [ -z "${CHECKS_CLEAN-}" ]; then
     export CHECKS_CLEAN=yes LC_ALL=C
 fi
 recipes=$(cd "$BATS_TEST_DIRNAME/.." && pwd -P)
-COVCOLLECT=$(realpath -e "${COVCOLLECT:-$recipes/../build/covcollect}")
+COVCOLLECT=$(realpath -e "${COVCOLLECT:-$recipes/../build/covcollect}") || return 1
 export COVCOLLECT
+failed=0 daemons=()
 
 # --- a scenario -----------------------------------------------------------------------------------------------------------------
 
@@ -18,14 +19,13 @@ setup() {
     trap 'exit 130' INT
     trap 'exit 143' TERM
     work=$BATS_TEST_TMPDIR
-    failed=0 daemons=()
     if [ -n "${CHECKS_RUN-}" ]; then
         # recipes/check ends this process if it is interrupted itself, and then none begins anew.
         note $$ >"$CHECKS_RUN/scenario"
         [ ! -e "$CHECKS_RUN/stop" ] || skip interrupted
     fi
     mkdir "$work/here"
-    cd "$work/here"
+    cd "$work/here" || return
     told "-- $(basename "$BATS_TEST_FILENAME" .bats): $BATS_TEST_DESCRIPTION"
 }
 
