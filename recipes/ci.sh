@@ -107,6 +107,7 @@ for file in "${handed[@]}"; do
 done
 # The folder of results is replaced at the end, by a rename. That it can be is seen here, before anything is built.
 while [[ $output == */ ]]; do output=${output%/}; done
+[[ $output != -* ]] || output=./$output
 case ${output##*/} in ''|.|..) wrong "--output: ${output:-/} can't be replaced: choose another folder" ;; esac
 # Only an empty folder, or one from an earlier run, is replaced.
 if [ -L "$output" ] && [ ! -e "$output" ]; then

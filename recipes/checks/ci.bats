@@ -128,4 +128,7 @@ load projects
     call env COVERAGE_BUILD='touch built' ci/ci.sh --no-html empty
     ended 1 'ci.sh: a folder among the tracefiles'
     only 'ci.sh: nothing is built, and nothing is left' . Makefile a.info ci empty file link src
+    call ci/ci.sh --merge-only --no-html --output=-x/ a.info
+    ended 0 'ci.sh: --output=-x/'
+    holds 'ci.sh: which is a folder of that name' [ -f ./-x/own.info ]
 }
