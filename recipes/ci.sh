@@ -80,6 +80,7 @@ while [ $# -gt 0 ]; do
 done
 [ ${#patterns[@]} -gt 0 ] || patterns=('/usr/*')
 case $empty in fail|skip) ;; *) wrong "--empty: $empty is neither fail nor skip" ;; esac
+[ -n "$output" ] || wrong '--output: the name is empty'
 [[ $jobs =~ ^0*([1-9]|[1-5][0-9]|6[0-4])$ ]] || wrong "--jobs: $jobs isn't a number from 1 to 64"
 [ $capture = yes ] || [ ${#handed[@]} -gt 0 ] || wrong '--merge-only needs tracefiles'
 if [ -n "$threshold" ]; then

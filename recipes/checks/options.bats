@@ -35,6 +35,7 @@ form() { # RECIPE OPTION FLAG: an option with a value, and one without
     refused ci.sh '--empty: maybe is neither fail nor skip' --empty=maybe
     refused ci.sh "--x.info isn't there" --merge-only --no-html -- --x.info
     refused ci.sh "a=b.info isn't there" --merge-only --no-html a=b.info
+    refused ci.sh '--output: the name is empty' --output= a.info
     refused ci.sh "--jobs: 0 isn't a number from 1 to 64" --jobs=0
     refused ci.sh "--jobs: 65 isn't a number from 1 to 64" --jobs 65
 }
