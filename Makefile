@@ -3,7 +3,6 @@
 # wants Debian's dpkg-dev too.
 
 PREFIX ?= /usr/local
-PROGRAM = crates/covcollect
 
 .PHONY: all run rows test check fmt install uninstall package package-check clean help toolchain
 
@@ -14,10 +13,9 @@ all: build/covcollect
 toolchain:
 	@command -v rt >/dev/null 2>&1 || { echo "covcollect: the Rattle toolchain's command 'rt' isn't on PATH (rattle-kit-13f is wanted)" >&2; exit 1; }
 
-# There is a line for each crate; the prover's own words go to build/log.
+# There is a line for each crate; the prover's own words go to build/log. After 'make test' has passed, the program is there.
 build/covcollect: toolchain
 	@scripts/build
-	@cmp -s $(PROGRAM)/out/covcollect $@ || cp $(PROGRAM)/out/covcollect $@
 
 ## make run: compiles the sources with checks on and runs the stored session; proves nothing, and takes a minute or two
 run: toolchain
