@@ -11,6 +11,7 @@
 
 load common
 load projects
+load builds
 
 # Three tests of a library in C++, with templates, lambdas, exceptions, markers, and names that have a comma or a quote when demangled.
 library() {
@@ -142,6 +143,40 @@ like_geninfo() { # WHAT FOLDER...
     says "$work/out" 'gcov-json.awk: markers=no leaves nothing out' DA:7,0 DA:9,4 BRDA:12,0,0,1 FNDA:0,_Z8left_outi
     call awk -v skip='^/usr/|/src/lib[.]h$' -f "$recipes/gcov-json.awk" counts.json
     holds 'gcov-json.awk: skip' [ "$(grep ^SF: "$work/out" | sort -u | sed 's|.*/||' | tr '\n' ' ')" = 'lib.cc t-1.cc t-3.cc ' ]
+}
+
+@test 'the bytes of geninfo, of many sources' {
+    many_sources .
+    for source in src/*.c tests/test_{1,2,40}.c; do echo "gcc --coverage -O0 -c -o ${source%.c}.o $source"; done | xargs -P 2 -I@ sh -c @
+    g++ --coverage -O0 -c -o src/unit_64.o src/unit_64.cc
+    for number in 1 2 40; do
+        g++ --coverage -o "test_$number" "tests/test_$number.o" src/*.o
+        "./test_$number"
+    done
+    like_geninfo 'many sources' src tests
+    holds 'gcov-json.awk: many sources: the sections are many' [ "$(wc -l <theirs)" -gt 60 ]
+    says "$work/out" 'gcov-json.awk: many sources, and by hand' FNDA:1,unit_1 FNDA:2,unit_2 FNDA:1,unit_44 FNDA:0,unit_60 FNDA:3,_Z4halfIiET_S0_
+    TIMEFORMAT='%U s'
+    theirs=$({ time of_geninfo t again.info src tests; } 2>&1)
+    ours=$({ time { find src tests -name '*.gcda' -print0 | xargs -0 gcov -b -j -t | mawk -v test=t -f "$recipes/gcov-json.awk" >again.info; }; } 2>&1)
+    told "time   gcov-json.awk: 67 objects, processor time: geninfo $theirs, gcov and gcov-json.awk (mawk) $ours"
+}
+
+@test 'a header with two paths' {
+    mkdir inc src
+    printf 'static int NAME(int x) {\n    return x + 1;\n}\n' >inc/x.h
+    printf '%s\n' '#define NAME one' '#include "../inc/x.h"' '#undef NAME' '#define NAME two' '#include "x.h"' \
+        'int main(void) {' '    return one(1) + two(2) == 5 ? 0 : 1;' '}' >src/a.c
+    gcc --coverage -O0 -I inc -c -o src/a.o src/a.c
+    gcc --coverage -o a src/a.o
+    ./a
+    of_geninfo t theirs.info src
+    # In a folder from which the two can't be seen to be one, as that of geninfo and of tests.mk.
+    (cd src && gcov -b -j -t a.gcda) >counts.json
+    holds 'gcov-json.awk: gcov names the header twice' [ "$(grep -o '"file": "[^"]*x.h"' counts.json | sort -u | wc -l)" -eq 2 ]
+    call mawk -v test=t -f "$recipes/gcov-json.awk" counts.json
+    says "$work/out" 'gcov-json.awk: both functions of a header with two paths stay' FNDA:1,one FNDA:1,two
+    holds 'gcov-json.awk: of which geninfo keeps one' [ "$(grep -cE '^FNDA:1,(one|two)$' theirs.info)" -eq 1 ]
 }
 
 @test 'documents by hand' {
