@@ -239,7 +239,7 @@ merger() { # WORDS...
         printf 'TN:t%d\nSF:/x.c\nDA:1,1\nDA:%d,%d\nend_of_record\n' $((number % 2)) $((number % 2 + 2)) "$number" >r/$number.dat
         echo "r/$number.dat"
     done >list
-    printf 'SF:/base.c\nend_of_record\n' >r/baseline_coverage.dat
+    printf 'SF:/base.c\nDA:1,0\nend_of_record\n' >r/baseline_coverage.dat
     printf 'r/baseline_coverage.dat\nr/empty.dat' >>list
     : >r/empty.dat
     merger --reports_file=list --output_file=out.dat
@@ -336,10 +336,10 @@ merger() { # WORDS...
         }
     }'
     alike 'a list of reports' --reports_file=list
-    TIMEFORMAT='%U s'
+    TIMEFORMAT='%U + %S s'
     theirs=$({ time "$top/java-merger" --reports_file=list --output_file=theirs.dat >"$work/log" 2>&1; } 2>&1)
     ours=$({ time beside/covcollect-bazel --reports_file=list --output_file=ours.dat; } 2>&1)
-    told "time   bazel: a list of 60 reports, 5 MB, processor time: Java $theirs, covcollect $ours"
+    show <<<"time   bazel: a list of 60 reports, 5 MB, processor time: Java $theirs, covcollect $ours"
 }
 
 @test 'on a worker with nothing but busybox' {

@@ -87,10 +87,10 @@ both() { # WHAT TRACEFILE CALLS COMMAND...: CALLS is how many calls merge or fil
     merges "$work/real.standin" >"$work/left"
     same /dev/null "$work/left" "$what: and none of these reaches the real lcov"
     holds "$what: which does the others" [ -s "$work/real.standin" ]
-    told "time   $what: $calls calls that merge or filter, processor time: real lcov $(seconds real), stand-in $(seconds standin)"
+    show <<<"time   $what: $calls calls that merge or filter, processor time: real lcov $(seconds real), stand-in $(seconds standin)"
 }
 merges() { grep -vE -- '-?-(capture|zerocounters|directory \. -z|c|z|version)( |$)' "$1" || true; } # FILE
-seconds() { merges "$work/calls.$1" | awk '{ sum += $1 + $2 } END { printf "%.1f s", sum }'; } # WHICH
+seconds() { merges "$work/calls.$1" | awk '{ sum += $1 + $2 } END { printf "%.2f s", sum }'; } # WHICH
 # Each record after its test and source, sorted, since lcov writes functions in any order; and without FNF:0 and FNH:0, which covcollect
 # doesn't write.
 even() { # FILE

@@ -156,10 +156,10 @@ like_geninfo() { # WHAT FOLDER...
     like_geninfo 'many sources' src tests
     holds 'gcov-json.awk: many sources: the sections are many' [ "$(wc -l <theirs)" -gt 60 ]
     says "$work/out" 'gcov-json.awk: many sources, and by hand' FNDA:1,unit_1 FNDA:2,unit_2 FNDA:1,unit_44 FNDA:0,unit_60 FNDA:3,_Z4halfIiET_S0_
-    TIMEFORMAT='%U s'
+    TIMEFORMAT='%U + %S s'
     theirs=$({ time of_geninfo t again.info src tests; } 2>&1)
     ours=$({ time { find src tests -name '*.gcda' -print0 | xargs -0 gcov -b -j -t | mawk -v test=t -f "$recipes/gcov-json.awk" >again.info; }; } 2>&1)
-    told "time   gcov-json.awk: 67 objects, processor time: geninfo $theirs, gcov and gcov-json.awk (mawk) $ours"
+    show <<<"time   gcov-json.awk: 67 objects, processor time: geninfo $theirs, gcov and gcov-json.awk (mawk) $ours"
 }
 
 @test 'a header with two paths' {
