@@ -1,0 +1,4 @@
+#include "extlib.h"
+int same(int n) {
+    return n;
+}

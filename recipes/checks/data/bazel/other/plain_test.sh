@@ -1,0 +1,3 @@
+#!/bin/sh
+# Leaves no coverage.
+exit 0

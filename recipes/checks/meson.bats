@@ -1,0 +1,46 @@
+#!/usr/bin/env bats
+# lcov, the stand-in, in what Meson makes of 'ninja coverage-html'.
+#
+# need gcc gcc
+# need g++ g++
+# need meson meson
+# need ninja-build ninja
+# need lcov geninfo
+
+load common
+load builds
+
+setup_file() {
+    cd "$BATS_FILE_TMPDIR" || return
+    many_sources project
+    cat >project/meson.build <<'END'
+project('tried', 'c', 'cpp')
+sources = []
+foreach number : range(1, 64)
+    sources += 'src/unit_@0@.c'.format(number)
+endforeach
+units = static_library('units', sources, 'src/unit_64.cc')
+foreach number : range(1, 41)
+    name = 'test_@0@'.format(number)
+    test(name, executable(name, 'tests' / name + '.c', link_with : units, link_language : 'cpp'))
+endforeach
+END
+    { meson setup -Db_coverage=true project/build project && ninja -C project/build -j 2 && meson test -C project/build --num-processes 2; } \
+        >log 2>&1 3>&- 4>&- </dev/null || { tail -n 20 log >&2; return 1; }
+}
+coverage_html() { # WHAT
+    both "$1" "$BATS_FILE_TMPDIR/project/build/meson-logs/coverage.info" 3 ninja -C "$BATS_FILE_TMPDIR/project/build" coverage-html
+    holds "$1: genhtml made pages" [ -f "$BATS_FILE_TMPDIR/project/build/meson-logs/coveragereport/index.html" ]
+    by_baseline "$1"
+    holds "$1: there are branches" grep -q '^BRDA:' "$work/standin.info"
+}
+
+@test 'coverage-html' {
+    coverage_html meson
+}
+
+@test 'coverage-html with a .lcovrc' {
+    printf '# of the project\ngenhtml_num_spaces = 4\nlcov_list_width=100\n' >"$BATS_FILE_TMPDIR/project/.lcovrc"
+    coverage_html 'meson with a .lcovrc'
+    holds 'meson with a .lcovrc: its calls have --config-file' [ "$(merges "$work/calls.standin" | grep -c -- '--config-file')" -eq 3 ]
+}
