@@ -10,8 +10,7 @@ load common
 
 # The XML by one awk, in the file xml. More than one call, since a crash may come once in several.
 cobertura() { # AWK FILE
-    local try
-    for try in 1 2 3; do
+    for _ in 1 2 3; do
         # shellcheck disable=SC2086 # busybox awk is two words
         call $1 -f "$recipes/cobertura.awk" "$2"
         [ "$status" -eq 0 ] || break
