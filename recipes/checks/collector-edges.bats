@@ -127,6 +127,10 @@ nobody=(setpriv --reuid=nobody --regid=nogroup --clear-groups)
     done
     call bash -c "{ echo 'give k 41'; cat a.info; } | ${nobody[*]} $collector answer $PWD/roots/spool"
     says "$work/out" 'collector: answer for it' missing
+    chmod 700 roots/spool
+    patient_give roots/spool --key k a.info
+    ended 2 'collector: the loop of README ends at a folder that others may not search'
+    says "$work/err" 'collector: and why' "collector: $PWD/roots/spool: no permission"
     call "$collector" give roots/spool --key k a.info
     says "$work/out" 'collector: its own user goes on' 'accepted k items 2 odd 0'
     quietly "$collector" stop roots/spool
