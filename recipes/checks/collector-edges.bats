@@ -116,6 +116,12 @@ nobody=(setpriv --reuid=nobody --regid=nogroup --clear-groups)
     ended 2 "collector: start where the folder can't be made"
     holds 'collector: and nothing is made' [ -z "$(ls -A roots)" ]
 
+    mkdir drop
+    chmod 1733 drop
+    serve_spool drop/spool "${nobody[@]}"
+    call "${nobody[@]}" "$collector" stop drop/spool
+    ended 0 'collector: a folder to write into, and not to read, is enough for a new spool'
+
     serve_spool roots/spool env
     as=("${nobody[@]}")
     patient_give roots/spool --key k a.info
