@@ -90,6 +90,20 @@ as=()
     quietly "$collector" stop spool
 }
 
+# find fails if a file that it is about to remove has gone, which a client may do at any time.
+@test "a file that goes while old ones are removed" {
+    one_file
+    mkdir tools
+    printf '#!/bin/sh\necho "find: no such file" >&2\nexit 1\n' >tools/find
+    chmod +x tools/find
+    serve_spool spool env PATH="$PWD/tools:$PATH"
+    call env COLLECTOR_WAIT=5 "$collector" give spool --key k a.info
+    says "$work/out" 'collector: takes a file all the same' 'accepted k items 2 odd 0'
+    call env COLLECTOR_WAIT=5 timeout 20 "$collector" stop spool
+    for _ in {1..50}; do [ ! -s spool.ended ] || break; sleep 0.1; done
+    holds 'collector: and never ended before it was stopped' [ "$(<spool.ended)" = 0 ]
+}
+
 # The folders above are mktemp's, which others may not search.
 open_up() {
     [ "$(id -u)" -eq 0 ] || return 1
