@@ -22,13 +22,16 @@ BEGIN {
     sub(/\/+$/, "", folder)
     if ((most timestamp) !~ /^[0-9]*$/)
         stop(2, "cobertura.awk: most and timestamp must be numbers")
-    # busybox awk compares a variable that was never set as a text.
+    # The key of the totals. No package has it: that of a file right below / is empty, and no path has a line feed.
+    all = "\n"
+    # busybox awk compares a variable that was never set as a text. gawk 5.2.1 (Debian 12) crashes if a function gets an element that was
+    # never set, so each gets + 0 there.
     files = lines = news = functions = branches = branches_hit = 0
 }
 
 /^DA:[0-9]+,[0-9]+(,[^,]+)?$/ && open { put_line(); next }
 /^BRDA:[0-9]+,[0-9]+,[0-9]+,(-|[0-9]+)$/ && open { put_branch(); next }
-/^FNDA:[0-9]+,./ && open { name = after_comma($0); called[name] = sum(called[name], substr($0, 6, index($0, ",") - 6)); next }
+/^FNDA:[0-9]+,./ && open { put_calls(); next }
 /^FN:[0-9]+,./ && open { put_function(); next }
 /^(LF|LH|FNF|FNH|BRF|BRH):[0-9]+$/ && open { next }
 /^TN:/ && !open { next }
@@ -103,6 +106,12 @@ function put_function(   start) {
         starts[name] = start
 }
 
+function put_calls(   count) {
+    count = substr($0, 6, index($0, ",") - 6)
+    name = after_comma($0)
+    called[name] = name in called ? sum(called[name], count) : count
+}
+
 function put_branch(   field, line, block) {
     split(substr($0, 6), field, ",")
     line = field[1]
@@ -171,13 +180,12 @@ function close_file(   path, package, hit, i, count) {
     count = ++files_of[package]
     file_of[package, count] = files
     add_total(package, hit)
-    add_total("", hit)
+    add_total(all, hit)
     lines = functions = branches = branches_hit = 0
     split("", hits); split("", list); split("", starts); split("", called); split("", taken)
     split("", branches_of); split("", hit_of); split("", blocks_of); split("", block_of)
 }
 
-# A package's name isn't empty, so the empty one is free for the totals of all.
 function add_total(package, hit) {
     total_lines[package] += lines
     total_lines_hit[package] += hit
@@ -209,10 +217,10 @@ function put_lines(   i, number, n, block) {
             continue
         }
         put("<line number=\"" number "\" hits=\"" at_most(hits[number]) "\" branch=\"true\" condition-coverage=\"" \
-            percent(hit_of[number], branches_of[number]) " (" hit_of[number] + 0 "/" branches_of[number] ")\">\n<conditions>\n")
+            percent(hit_of[number] + 0, branches_of[number]) " (" hit_of[number] + 0 "/" branches_of[number] ")\">\n<conditions>\n")
         for (n = 1; n <= blocks_of[number]; n++) {
             block = block_of[number "," n]
-            put("<condition number=\"" n - 1 "\" type=\"jump\" coverage=\"" percent(hit_of[block], branches_of[block]) "\"/>\n")
+            put("<condition number=\"" n - 1 "\" type=\"jump\" coverage=\"" percent(hit_of[block] + 0, branches_of[block]) "\"/>\n")
         }
         put("</conditions>\n</line>\n")
     }
@@ -234,8 +242,8 @@ function end_text() {
 
 function put_report(   i, n, k, file, package) {
     print "<?xml version=\"1.0\" encoding=\"UTF-8\"?>"
-    print "<coverage" all_rates("") " lines-covered=\"" total_lines_hit[""] "\" lines-valid=\"" total_lines[""] \
-        "\" branches-covered=\"" total_branches_hit[""] "\" branches-valid=\"" total_branches[""] \
+    print "<coverage" all_rates(all) " lines-covered=\"" total_lines_hit[all] "\" lines-valid=\"" total_lines[all] \
+        "\" branches-covered=\"" total_branches_hit[all] "\" branches-valid=\"" total_branches[all] \
         "\" version=\"covcollect\" timestamp=\"" timestamp + 0 "\">"
     print "<sources>\n<source>" (folder == "" ? "." : escaped(folder)) "</source>\n</sources>\n<packages>"
     for (i = 1; i <= package_count; i++) {

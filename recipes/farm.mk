@@ -100,7 +100,7 @@ $(TOTAL): $(SHARES)/machines $(machines:%=$(SHARES)/%.info)
 
 # The merge of one machine, of the files in its list. If they don't fit on one command line, xargs runs several merges. Their outputs
 # in a row are a tracefile too. Where they are to be checked, it is intake's copies that are merged.
-names = sed -z 's/^[^ ]* [^ ]* [^ ]* //' $<
+names = sed -z 's/^[^ ]* [^ ]* [^ ]* [^ ]* //' $<
 checked = rm -rf $@.files; mkdir $@.files; $(names) | bash $(intake) --empty $(CHECK) $@.files || { rm -rf $@.files; exit 1; }
 $(machines:%=$(SHARES)/%.info): $(SHARES)/%.info: $(SHARES)/%.list $(SHARES)/check
 	@echo 'farm.mk: makes $@' >&2
@@ -110,11 +110,13 @@ $(machines:%=$(SHARES)/%.info): $(SHARES)/%.info: $(SHARES)/%.list $(SHARES)/che
 	@rm -rf $@.files
 	@mv -f $@.new $@
 
-# A machine's list has the inode, size, time and name of each tracefile. It is always made, but replaced only if it differs, so the
-# merge is made again only then. The list of machines does the same for the total, and what CHECK says for all shares.
+# A machine's list has the inode, size, two times and name of each tracefile. The second time is that of the inode's last change: no
+# program can set it, while an archive that is unpacked over a file may leave all else as it was. The list is always made, but replaced
+# only if it differs, so the merge is made again only then. The list of machines does the same for the total, and what CHECK says for
+# all shares.
 replace = if cmp -s $@.new $@; then rm $@.new; else mv -f $@.new $@; fi
 $(machines:%=$(SHARES)/%.list): $(SHARES)/%.list: again | $(SHARES)/
-	@$(call tracefiles,$*) -printf '%i %s %T@ %p\0' | sort -z >$@.new
+	@$(call tracefiles,$*) -printf '%i %s %T@ %C@ %p\0' | sort -z >$@.new
 	@$(replace)
 
 $(SHARES)/check: again | $(SHARES)/
