@@ -10,6 +10,7 @@ pub mod Merged
 pub mod Once
 pub mod LogPlaces
 pub mod Checked
+pub mod Counted
 pub mod Gathered
 pub mod Causes
 pub mod Crossing

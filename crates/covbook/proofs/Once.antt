@@ -28,7 +28,7 @@ not_others entries job place (log ∷ logs) at differ of h = elim (In-parts (pla
   | inr there ↦ not_others entries job place logs at differ.1 of.1 there
 ]
 
-told_once : (entries : List EntryData) (logs : List LogData) → Differ (jobs_of logs) → AllByRecursion (IsLogOf entries) logs → (place : ℕ) → times place (places_in logs) ≤ 1
+pub told_once : (entries : List EntryData) (logs : List LogData) → Differ (jobs_of logs) → AllByRecursion (IsLogOf entries) logs → (place : ℕ) → times place (places_in logs) ≤ 1
 told_once entries [] differ of place = omega arith
 told_once entries (log ∷ logs) differ of place =
     let parts = times_append place (places_of log) (places_in logs) in

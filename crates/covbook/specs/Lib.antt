@@ -13,4 +13,5 @@ pub mod GatherFault
 pub mod Gather
 pub mod Cause
 pub mod GatherSteps
+pub mod Kept
 pub mod LogView

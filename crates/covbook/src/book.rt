@@ -2,6 +2,7 @@
 
 use crate::entry::{Entries, Entry, Receipt};
 use crate::history::History;
+use crate::keep::Keep;
 use crate::op::{Answer, Op};
 use crate::ready::{Change, Ready};
 use crate::shared::{SubRef, TextRef};
@@ -49,14 +50,16 @@ impl From<Memory> for BookFault {
 
 /// A table of counts with its history. Contracts see the history, which is legal at every moment; the table is the last
 /// one of its run. They also see what `finish` relies on: for how many entries there is room, and the model of the store.
+///
+/// `K` is what the book keeps of each entry: all of it, its answer, or nothing. Contracts see whole entries in any case.
 #[derive(Drop)]
-pub struct Book<A: Allocator = Global> {
+pub struct Book<A: Allocator = Global, K: Keep<Of = Entry<A>> = Entry<A>> {
     store: Store<A>,
     accepted: u64,
-    history: History<A>,
+    history: History<A, K>,
 }
 
-impl<A: Allocator> Model for Book<A> {
+impl<A: Allocator, K: Keep<Of = Entry<A>>> Model for Book<A, K> {
     ghost use Rattle.covbook.specs.Held.{BookData, IsBook};
 
     ghost Value = { BookData };
@@ -67,6 +70,31 @@ impl<A: Allocator> Model for Book<A> {
 }
 
 impl<A: Allocator + Copy> Book<A> {
+    ghost use Rattle.std.specs.Prelude.{◌≡◌, [], map};
+    ghost use Rattle.covstore.specs.Store.{StandsFor};
+    ghost use Rattle.covbook.specs.Op.{AreLawfulOps};
+    ghost use Rattle.covbook.specs.Step.{IsLegal, table_of, ops_in};
+    ghost use Rattle.covbook.specs.EntryView.{entry_data};
+
+    /// A book without entries, which keeps its entries whole. Takes no memory.
+    pub fn new(alloc: A) -> Book<A>
+        ensures { result.entries ≡ [] }
+    {
+        Book::keeping(alloc)
+    }
+
+    /// The history, in order. It is legal, each submission in it is lawful, and the store represents the last table of its run.
+    pub fn entries(&self) -> &[Entry<A>]
+        ensures entries { map entry_data result.now ≡ self.now.entries }
+        ensures legal { IsLegal self.now.entries }
+        ensures lawful { AreLawfulOps (ops_in self.now.entries) }
+        ensures stands { StandsFor self.now.store (table_of (ops_in self.now.entries)) }
+    {
+        self.history.get()
+    }
+}
+
+impl<A: Allocator + Copy, K: Keep<Of = Entry<A>>> Book<A, K> {
     ghost use Rattle.std.specs.Prelude.{◌≡◌, ◌↔◌, ◌+◌, ◌<◌, ◌++◌, [], ◌∷◌, length, IfOk, OnOk, OnErr, Err, map};
     ghost use Rattle.covstore.specs.Store.{SameContent, StandsFor};
     ghost use Rattle.covstore.specs.Totals.{AreTotals};
@@ -80,8 +108,8 @@ impl<A: Allocator + Copy> Book<A> {
     ghost use Rattle.covbook.specs.Held.{SameBook};
     ghost use Rattle.covbook.specs.Ready.{DropChange, HasRoom, HoldChange, RenameChange, IsNextOf, IsPlanned, IsAfter, IsReadyOf, IsReadyFor};
 
-    /// A book without entries. Takes no memory.
-    pub fn new(alloc: A) -> Book<A>
+    /// A book without entries, which keeps of its entries what `K` is. Takes no memory.
+    pub fn keeping(alloc: A) -> Book<A, K>
         ensures { result.entries ≡ [] }
     {
         Book {
@@ -91,12 +119,17 @@ impl<A: Allocator + Copy> Book<A> {
         }
     }
 
-    /// The history, in order. It is legal, each submission in it is lawful, and the store represents the last table of its run.
-    pub fn entries(&self) -> &[Entry<A>]
-        ensures entries { map entry_data result.now ≡ self.now.entries }
+    /// How many entries the history has. Takes no memory.
+    pub fn len(&self) -> u64
+        ensures { result ≡ length self.now.entries }
+    {
+        self.history.place()
+    }
+
+    /// What is kept of the history's entries, in order. The history is legal. Takes no memory.
+    pub fn kept(&self) -> &[K]
+        ensures entries { map (λ k. entry_data (K.shows k)) result.now ≡ self.now.entries }
         ensures legal { IsLegal self.now.entries }
-        ensures lawful { AreLawfulOps (ops_in self.now.entries) }
-        ensures stands { StandsFor self.now.store (table_of (ops_in self.now.entries)) }
     {
         self.history.get()
     }
@@ -398,8 +431,8 @@ impl<A: Allocator + Copy> Book<A> {
         self.history.append(entry);
     }
 
-    /// The text that an operation asks for.
-    fn text_of(&self, alloc: A, op: &Op<A>) -> Result<Bytes<A>, Memory>
+    /// The text that an operation asks for, by the table now. No entry is appended.
+    pub fn text_of(&self, alloc: A, op: &Op<A>) -> Result<Bytes<A>, Memory>
         requires { IsText (op_data op.now) }
         ensures { IfOk result (λ t. TextAnswer t ≡ answer_of (table_of (ops_in self.now.entries)) (op_data op.now)) }
     {
@@ -427,7 +460,7 @@ impl<A: Allocator> Book<A> {
         ensures entries { result ≡ self.entries }
         ensures lawful { AreLawfulOps (ops_in self.entries) }
     {
-        self.history.into_entries()
+        Entries::of(self.history.into_kept())
     }
 }
 

@@ -125,6 +125,13 @@ impl<A: Allocator> Receipts<A> {
         }
     }
 
+    /// The list of these receipts. Takes no memory.
+    pub fn of(receipts: Vec<Receipt<A>, A>) -> Receipts<A>
+        ensures { result ≡ map receipt_data receipts.items }
+    {
+        Receipts { receipts }
+    }
+
     /// Appends a receipt. On `Memory` the receipt is dropped and the list stays as it was.
     pub fn push(&mut self, receipt: Receipt<A>) -> Result<(), Memory>
         ensures ok { OnOk result (self.new ≡ self.old ++ receipt_data receipt ∷ []) }

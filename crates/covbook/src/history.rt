@@ -1,49 +1,50 @@
 //! The history of a book, and the room that it has.
 
-use crate::entry::{Entries, Entry, MAX_ENTRIES, Receipt};
+use crate::entry::{Entry, MAX_ENTRIES, Receipt};
+use crate::keep::Keep;
 use covline::Memory;
 use std::alloc::Allocator;
 use std::marker::Model;
 
 /// The entries of a book. Contracts see the entries as plain data, and for how many entries there is room.
 #[derive(Drop)]
-pub(crate) struct History<A: Allocator> {
-    entries: Vec<Entry<A>, A>,
+pub(crate) struct History<A: Allocator, K: Keep<Of = Entry<A>>> {
+    kept: Vec<K, A>,
 }
 
-impl<A: Allocator> Model for History<A> {
+impl<A: Allocator, K: Keep<Of = Entry<A>>> Model for History<A, K> {
     ghost use Rattle.std.specs.Prelude.{map, vec_capacity};
     ghost use Rattle.covbook.specs.EntryView.{entry_data};
     ghost use Rattle.covbook.specs.Held.{HistoryData};
 
     ghost Value = { HistoryData };
 
-    ghost view = { λ a. record { entries = map entry_data a.entries.items; room = vec_capacity a.entries } };
+    ghost view = { λ a. record { entries = map (λ k. entry_data (K.shows k)) a.kept.items; room = vec_capacity a.kept } };
 }
 
-impl<A: Allocator> History<A> {
+impl<A: Allocator, K: Keep<Of = Entry<A>>> History<A, K> {
     ghost use Rattle.std.specs.Prelude.{◌≡◌, ◌↔◌, ◌<◌, ◌++◌, [], ◌∷◌, length, IsTrue, OnOk, map};
     ghost use Rattle.covbook.specs.EntryView.{entry_data};
     ghost use Rattle.covbook.specs.Step.{max_entries};
 
     /// A history without entries.
-    pub(crate) fn new(alloc: A) -> History<A>
+    pub(crate) fn new(alloc: A) -> History<A, K>
         ensures { result.entries ≡ [] }
     {
         History {
-            entries: Vec::new(alloc),
+            kept: Vec::new(alloc),
         }
     }
 
-    /// The entries in order.
-    pub(crate) fn get(&self) -> &[Entry<A>]
-        ensures { map entry_data result.now ≡ self.now.entries }
+    /// What is kept of the entries, in order.
+    pub(crate) fn get(&self) -> &[K]
+        ensures { map (λ k. entry_data (K.shows k)) result.now ≡ self.now.entries }
     {
-        self.entries.as_slice()
+        self.kept.as_slice()
     }
 
     /// How many entries there are, which is the place of the next one.
-    fn place(&self) -> u64
+    pub(crate) fn place(&self) -> u64
         ensures { result ≡ length self.now.entries }
     {
         self.get().len() as u64
@@ -61,7 +62,7 @@ impl<A: Allocator> History<A> {
         ensures entries { self.new.entries ≡ self.old.entries }
         ensures room { OnOk result (length self.new.entries < self.new.room) }
     {
-        self.entries.reserve(1)?;
+        self.kept.reserve(1)?;
         Ok(())
     }
 
@@ -70,18 +71,18 @@ impl<A: Allocator> History<A> {
         requires { length self.old.entries < self.old.room }
         ensures { self.new.entries ≡ self.old.entries ++ entry_data entry ∷ [] }
     {
-        self.entries.push_reserved(entry);
+        self.kept.push_reserved(K::keep(entry));
     }
 
-    /// Consumes the history, and returns its entries.
-    pub(crate) fn into_entries(self) -> Entries<A>
-        ensures { result ≡ self.entries }
+    /// Consumes the history, and returns what it kept.
+    pub(crate) fn into_kept(self) -> Vec<K, A>
+        ensures { map (λ k. entry_data (K.shows k)) result.items ≡ self.entries }
     {
-        Entries::of(self.entries)
+        self.kept
     }
 }
 
-impl<A: Allocator + Copy> History<A> {
+impl<A: Allocator + Copy, K: Keep<Of = Entry<A>>> History<A, K> {
     ghost use Rattle.std.specs.Prelude.{◌≡◌, length, IfOk};
     ghost use Rattle.covbook.specs.EntryView.{entry_data, receipt_data};
     ghost use Rattle.covbook.specs.Step.{receipt_of};

@@ -1,13 +1,15 @@
 //! Laws of the definitions that this crate's contracts cite. The functions do nothing: the contract is the law.
 
-ghost use Rattle.std.specs.Prelude.{◌≡◌, ◌≢◌, ◌↔◌, ℕ, List, [], ◌∷◌, ◌++◌, map, Contains};
+ghost use Rattle.std.specs.Prelude.{◌≡◌, ◌≢◌, ◌↔◌, ◌+◌, ◌≤◌, ℕ, List, [], ◌∷◌, ◌++◌, length, map, Contains};
+ghost use Rattle.std.specs.List.{AllByRecursion, range_with_len};
 ghost use Rattle.covbook.specs.declared.gather_fault.GatherFault.{GatherFault};
 ghost use Rattle.covbook.specs.declared.gather_fault.GatherFault.TheVariants.{Stranger, Differs, Backwards, Missing, BadReading, SameJob};
 ghost use Rattle.covbook.specs.Cause.{IsBackwards, IsBadReading, IsDiffering, IsMissing, IsSameJob, IsStranger};
-ghost use Rattle.covbook.specs.Gather.{AllHold, IsGathered, IsGatherFault, IsMerge, LogData, gather_claims};
-ghost use Rattle.covbook.specs.Op.{EntryData, OpData, SubmitOp, ClashAnswer};
+ghost use Rattle.covbook.specs.Gather.{AllHold, AreReadingsOf, IsGathered, IsGatherFault, IsMerge, LogData, gather_claims, jobs_of};
+ghost use Rattle.covbook.specs.Kept.{AreBefore, IsKept, IsKeptWell, IsPrefix, KeptData, calls_kept, logs_kept, with_receipt};
+ghost use Rattle.covbook.specs.Op.{EntryData, OpData, ReceiptData, SubmitOp, ClashAnswer};
 ghost use Rattle.covbook.specs.Order.{submissions_in, AreTheSame, AreAgreeing, OnlySubmitsAndAsks};
-ghost use Rattle.covbook.specs.Step.{answer_of, answers_to, table_after, table_of, totals_at, totals_to};
+ghost use Rattle.covbook.specs.Step.{answer_of, answers_to, receipt_of, table_after, table_of, totals_at, totals_to};
 ghost use Rattle.covbook.specs.Texts.{IsText};
 ghost use Rattle.covline.specs.Row.{SubmissionData, rows_of};
 ghost use Rattle.covstore.specs.Clash.{ClashData, Agree, checksums_in};
@@ -67,4 +69,12 @@ pub fn each_fault_has_its_cause()
     ensures missing { (entries : List EntryData) (logs : List LogData) (place : ℕ) → IsGatherFault entries logs (Missing place) ↔ IsMissing entries logs place }
     ensures bad_reading { (entries : List EntryData) (logs : List LogData) (log index : ℕ) → IsGatherFault entries logs (BadReading log index) ↔ IsBadReading entries logs log index }
     ensures same_job { (entries : List EntryData) (logs : List LogData) (log : ℕ) → IsGatherFault entries logs (SameJob log) ↔ IsSameJob logs log }
+{}
+
+/// A job that keeps no history still has a log of the history of its latest news, after one more call too. If the jobs have as
+/// many calls together as a history has entries, and each job's latest news are of a beginning of it, the history is gathered from
+/// their logs: no two receipts have the same place, so there is one for each entry.
+pub fn calls_count_a_history()
+    ensures one_more { (log : LogData) (calls seen : ℕ) (latest before : List EntryData) (entry : EntryData) (told : ReceiptData) → IsKept log calls seen latest → entry.job ≡ log.job → receipt_of told.place entry ≡ told → length before ≡ told.place → seen ≤ told.place → IsPrefix latest (before ++ entry ∷ []) → IsKept (with_receipt log told) (calls + 1) (told.place + 1) (before ++ entry ∷ []) }
+    ensures gathered { (entries : List EntryData) (jobs : ℕ) (kept : List KeptData) → jobs_of (logs_kept kept) ≡ range_with_len 0 jobs → AllByRecursion IsKeptWell kept → AllByRecursion (AreReadingsOf entries) (logs_kept kept) → AreBefore entries kept → length entries ≡ calls_kept kept → IsGathered entries (logs_kept kept) }
 {}

@@ -10,6 +10,10 @@
 //! Several jobs that share a book keep their receipts and the totals that they read, each in a `JobLog`. `gather` checks that
 //! the history is a merge of these logs and that each reading has the right totals. Otherwise it returns the first fault.
 //!
+//! A book keeps its whole history by default. `Book::keeping` makes one that keeps less (`Keep`): the answers alone
+//! (`Answered`), or nothing (`Snapshot<Entry>`). Then the rest of its entries exists only in proofs. Each contract of `Book`
+//! is the same for all of them, since it speaks of whole entries.
+//!
 //! An example, proved and run in `covuses`: what a book answers to a submission of job 1, and then to a report of job 2. The
 //! first answer is `Answer::Accepted` or `Answer::Clash`, the second `Answer::Text`.
 //!
@@ -29,6 +33,7 @@ mod entry;
 mod gather_fault;
 mod gathering;
 mod history;
+mod keep;
 pub mod laws;
 mod log;
 mod op;
@@ -41,6 +46,7 @@ pub use book::{Book, BookFault};
 pub use entry::{Entries, Entry, MAX_ENTRIES, Receipt, Receipts};
 pub use gather_fault::GatherFault;
 pub use gathering::gather;
+pub use keep::{Answered, Keep};
 pub use log::{JobLog, Logs};
 pub use op::{Answer, Op};
 pub use reading::{Reading, Readings};

@@ -4,6 +4,7 @@ use std::test::*;
 
 mod gather;
 mod history;
+mod keeping;
 mod list;
 mod orders;
 mod said;

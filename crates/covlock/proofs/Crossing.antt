@@ -13,8 +13,8 @@ use Rattle.covnews.specs.declared.name.Name as Name
 use Rattle.covlock.specs.contracts.shared.Shared as Shared
 use Rattle.covlock.specs.contracts.shared_state.SharedState as SharedState
 
-state_send : (L : RattleType) (n : Name.Ghosts L.Denot) (l : Ledger.Ghosts L.Denot) → IsSend (SharedState.the_row L Heap.the_row n l ghosts)
-state_send L n l = search (sendable, heap.crosses, book_send, publisher.the_send, count.the_send, share.the_send) depth 40 fits 20000
+state_send : (L K : RattleType) (n : Name.Ghosts L.Denot) (l : Ledger.Ghosts L.Denot) (k : _) → IsSend K → IsSend (SharedState.the_row L Heap.the_row K n l ghosts k)
+state_send L K n l k s = search (sendable, heap.crosses, book_send, publisher.the_send, count.the_send, share.the_send) depth 40 fits 20000
 
-pub shared_sync : (L : RattleType) (n : Name.Ghosts L.Denot) (l : Ledger.Ghosts L.Denot) → IsSync (Shared.the_row L Heap.the_row n l ghosts)
-shared_sync L n l = search (sendable, heap.crosses, state_send) depth 40 fits 20000
+pub shared_sync : (L K : RattleType) (n : Name.Ghosts L.Denot) (l : Ledger.Ghosts L.Denot) (k : _) → IsSend K → IsSync (Shared.the_row L Heap.the_row K n l ghosts k)
+shared_sync L K n l k s = search (sendable, heap.crosses, state_send) depth 40 fits 20000

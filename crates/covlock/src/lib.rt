@@ -4,6 +4,9 @@
 //! (`Shared::perform`). Each step is taken while the book's lock is held. `Shared::close` takes all seats back and returns the
 //! history, which has exactly one entry for each call that succeeded.
 //!
+//! `open_book_keeping` makes a book that keeps less of its history (covbook's `Keep`), and `Shared::close_book` returns the book
+//! itself. Each contract speaks of the whole history, whatever is kept of it.
+//!
 //! A reader of the totals (`Shared::reader`, `Live`) takes no lock, so it waits for nobody. Each call of `perform` returns news,
 //! and so does `close`. A reader that learns news (`Live::learn`) then reports at least their entries.
 //!
@@ -25,5 +28,5 @@ pub use covbook::Reading;
 pub use covnews::{Live, Name, News, ReaderFault};
 pub use seat::Seat;
 pub use seat_list::Seats;
-pub use shared::{CloseFault, Done, MAX_READERS, Shared, open_book};
+pub use shared::{CloseFault, Done, MAX_READERS, Shared, open_book, open_book_keeping};
 pub use start::{MAX_JOBS, OpenFault, Start};

@@ -4,7 +4,7 @@ use crate::seat::Seat;
 use crate::seat_list::{Seats, seats_for};
 use crate::shared_state::SharedState;
 use crate::start::Start;
-use covbook::{BookFault, Entries, Op, Receipt};
+use covbook::{Book, BookFault, Entries, Entry, Keep, Op, Receipt};
 use covline::Memory;
 use covnews::{Live, Name, News, Publisher, ReaderFault};
 use std::alloc::{Allocator, Global};
@@ -16,14 +16,14 @@ use thiserror::Error;
 pub const MAX_READERS: u32 = 64;
 
 /// A book with a lock. Threads share it by reference. Contracts see how many jobs it is for. A book that is dropped without being
-/// closed never frees the memory that it shares with its readers (some 17 KB).
+/// closed never frees the memory that it shares with its readers (some 17 KB). `K` is what the book keeps of each entry.
 #[derive(Drop)]
-pub struct Shared<L: Name, A: Allocator = Global> {
+pub struct Shared<L: Name, A: Allocator = Global, K: Keep<Of = Entry<A>> = Entry<A>> {
     jobs: u32,
-    shared_state: Mutex<SharedState<L, A>>,
+    shared_state: Mutex<SharedState<L, A, K>>,
 }
 
-impl<L: Name, A: Allocator> Model for Shared<L, A> {
+impl<L: Name, A: Allocator, K: Keep<Of = Entry<A>>> Model for Shared<L, A, K> {
     ghost use Rattle.std.specs.Prelude.{◌≡◌};
     ghost use Rattle.covlock.specs.Shared.{SharedData};
 
@@ -77,15 +77,29 @@ pub fn open_book<L: Name, A: Allocator + Copy>(
     ensures jobs { IfOk result (λ r. r.0.jobs ≡ start.jobs) }
     ensures seats { IfOk result (λ r. r.1 ≡ first_seats start.jobs) }
 {
-    let (jobs, count, book, seed) = start.into_parts();
+    open_book_keeping(alloc, start)
+}
+
+/// As `open_book`, for a book that keeps of each entry what `K` is. Contracts see whole entries, whatever is kept.
+pub fn open_book_keeping<L: Name, A: Allocator + Copy, K: Keep<Of = Entry<A>>>(
+    alloc: A,
+    start: Start<A>,
+) -> Result<(Shared<L, A, K>, Seats<L, A>), Memory>
+    requires name { start.name ≡ L.name }
+    requires jobs { start.jobs ≡ L.parts }
+    requires book { start.book ≡ L.book }
+    ensures jobs { IfOk result (λ r. r.0.jobs ≡ start.jobs) }
+    ensures seats { IfOk result (λ r. r.1 ≡ first_seats start.jobs) }
+{
+    let (jobs, count, seed) = start.into_parts();
     let (count, mut all) = count.open::<L>();
     let seats = seats_for(alloc, jobs, &mut all)?;
     let publisher = Publisher::new(alloc, seed, MAX_READERS)?;
-    let shared_state = Mutex::new(SharedState::new(book, count, all, publisher));
+    let shared_state = Mutex::new(SharedState::new(Book::keeping(alloc), count, all, publisher));
     Ok((Shared { jobs, shared_state }, seats))
 }
 
-impl<L: Name, A: Allocator + Copy> Shared<L, A> {
+impl<L: Name, A: Allocator + Copy, K: Keep<Of = Entry<A>>> Shared<L, A, K> {
     ghost use Rattle.std.specs.Prelude.{◌≡◌, ◌≤◌, IfOk, MatchResult};
     ghost use Rattle.covbook.specs.View.{op_data};
     ghost use Rattle.covbook.specs.EntryView.{receipt_data};
@@ -116,7 +130,7 @@ impl<L: Name, A: Allocator + Copy> Shared<L, A> {
     }
 }
 
-impl<L: Name, A: Allocator> Shared<L, A> {
+impl<L: Name, A: Allocator, K: Keep<Of = Entry<A>>> Shared<L, A, K> {
     ghost use Rattle.std.specs.Prelude.{◌≡◌, length, IfOk, IfErr, MatchResult};
     ghost use Rattle.covbook.specs.Op.{AreLawfulOps};
     ghost use Rattle.covbook.specs.Step.{IsLegal, ops_in};
@@ -135,6 +149,34 @@ impl<L: Name, A: Allocator> Shared<L, A> {
         self.shared_state.lock(rt).reader()
     }
 
+    /// As `close`, but returns the book itself. It has the whole history, whatever it keeps of it, and the table of its counts.
+    pub fn close_book<R: Wait>(
+        self,
+        rt: &R,
+        seats: Seats<L, A>,
+    ) -> Result<(Book<A, K>, News<L>), (Shared<L, A, K>, Seats<L, A>, CloseFault)>
+        ensures seated { MatchResult result (λ _. AllAreSeated self.jobs seats) (λ back. IsLeastMissing self.jobs seats (told_job back.2)) }
+        ensures history { IfOk result (λ closed. IsLegal closed.0.entries) }
+        ensures lawful { IfOk result (λ closed. AreLawfulOps (ops_in closed.0.entries)) }
+        ensures calls { IfOk result (λ closed. length closed.0.entries ≡ calls_in seats) }
+        ensures news { IfOk result (λ closed. closed.1 ≡ closed.0.entries) }
+        ensures back { MatchResult result (λ _. Unit {0}) (λ back. (back.0 ≡ self) × (back.1 ≡ seats)) }
+    {
+        if let Some(job) = seats.missing(self.jobs) {
+            return Err((self, seats, CloseFault::Missing { job }));
+        }
+        Ok(self.shared_state.into_inner().close(rt, seats))
+    }
+}
+
+impl<L: Name, A: Allocator> Shared<L, A> {
+    ghost use Rattle.std.specs.Prelude.{◌≡◌, length, IfOk, MatchResult};
+    ghost use Rattle.covbook.specs.Op.{AreLawfulOps};
+    ghost use Rattle.covbook.specs.Step.{IsLegal, ops_in};
+    ghost use Rattle.covlock.specs.Seat.{calls_in};
+    ghost use Rattle.covlock.specs.Handed.{AllAreSeated, IsLeastMissing};
+    ghost use Rattle.covlock.specs.CloseFault.{told_job};
+
     /// Closes the book if the seat of each job is handed in. Returns the book's history, whose submissions are lawful, and news
     /// of it. If a seat is missing, returns the book and the seats, and the least job whose seat is missing. Takes no memory. May
     /// wait for readers that are inside a read. After the close, each reader reports the longest history that it saw or learned.
@@ -150,9 +192,9 @@ impl<L: Name, A: Allocator> Shared<L, A> {
         ensures news { IfOk result (λ closed. closed.1 ≡ closed.0) }
         ensures back { MatchResult result (λ _. Unit {0}) (λ back. (back.0 ≡ self) × (back.1 ≡ seats)) }
     {
-        if let Some(job) = seats.missing(self.jobs) {
-            return Err((self, seats, CloseFault::Missing { job }));
+        match self.close_book(rt, seats) {
+            Ok((book, news)) => Ok((book.into_entries(), news)),
+            Err(back) => Err(back),
         }
-        Ok(self.shared_state.into_inner().close(rt, seats))
     }
 }

@@ -2,7 +2,7 @@
 
 use crate::seat::Seat;
 use crate::seat_list::Seats;
-use covbook::{Book, BookFault, Entries, Op, Receipt};
+use covbook::{Book, BookFault, Entry, Keep, Op, Receipt};
 use covnews::{Live, Name, News, Publisher, ReaderFault};
 use std::alloc::Allocator;
 use std::marker::Model;
@@ -12,15 +12,15 @@ use std::sync::ledger::{Book as Count, Share};
 /// What the lock of a shared book guards: the book, the count of its calls, and the publisher of its history. The seats have the
 /// shares of the count. Contracts see the history.
 #[derive(Drop)]
-pub(crate) struct SharedState<L: Name, A: Allocator> {
-    book: Book<A>,
+pub(crate) struct SharedState<L: Name, A: Allocator, K: Keep<Of = Entry<A>>> {
+    book: Book<A, K>,
     count: Count<L>,
     /// A share that has no part of the count. `close` adds the shares of the seats to it.
     rest: Share<L>,
     publisher: Publisher<L, A>,
 }
 
-impl<L: Name, A: Allocator> Model for SharedState<L, A> {
+impl<L: Name, A: Allocator, K: Keep<Of = Entry<A>>> Model for SharedState<L, A, K> {
     ghost use Rattle.std.specs.Prelude.{List};
     ghost use Rattle.covbook.specs.Op.{EntryData};
     ghost use Rattle.covlock.specs.SharedState.{IsAtRest};
@@ -32,7 +32,7 @@ impl<L: Name, A: Allocator> Model for SharedState<L, A> {
     ghost invariant = { λ a. IsAtRest a.book.entries a.publisher.noted a.publisher.published a.count.total a.rest.parts a.rest.amount };
 }
 
-impl<L: Name, A: Allocator + Copy> SharedState<L, A> {
+impl<L: Name, A: Allocator + Copy, K: Keep<Of = Entry<A>>> SharedState<L, A, K> {
     ghost use Rattle.std.specs.Prelude.{◌≡◌, ◌↔◌, ◌⊎◌, ◌<◌, ◌≤◌, ◌++◌, [], ◌∷◌, length, IfOk, OnOk, OnErr, Err, MatchResult};
     ghost use Rattle.covbook.specs.declared.book.BookFault.TheVariants as faults;
     ghost use Rattle.covbook.specs.View.{op_data};
@@ -43,11 +43,11 @@ impl<L: Name, A: Allocator + Copy> SharedState<L, A> {
 
     /// The state of an empty book: no call is counted yet, and the history without entries is noted and published.
     pub(crate) fn new(
-        book: Book<A>,
+        book: Book<A, K>,
         count: Count<L>,
         rest: Share<L>,
         publisher: Publisher<L, A>,
-    ) -> SharedState<L, A>
+    ) -> SharedState<L, A, K>
         requires book { book.entries ≡ [] }
         requires count { count.total ≡ 0 }
         requires parts { rest.parts ≡ 0 }
@@ -83,7 +83,7 @@ impl<L: Name, A: Allocator + Copy> SharedState<L, A> {
         ensures refused { OnErr result (self.new ≡ self.old) }
         ensures full { (result ≡ Err faults.Full) ↔ ((length self.old ≡ max_entries) ⊎ (length self.old < seat.old.seen)) }
     {
-        if (self.book.entries().len() as u64) < seat.seen() {
+        if self.book.len() < seat.seen() {
             return Err(BookFault::Full);
         }
         let ready = self.book.ready(alloc, seat.job(), op)?;
@@ -99,7 +99,7 @@ impl<L: Name, A: Allocator + Copy> SharedState<L, A> {
     }
 }
 
-impl<L: Name, A: Allocator> SharedState<L, A> {
+impl<L: Name, A: Allocator, K: Keep<Of = Entry<A>>> SharedState<L, A, K> {
     ghost use Rattle.std.specs.Prelude.{◌≡◌, ◌≤◌, length, IfOk, IfErr};
     ghost use Rattle.covbook.specs.Op.{AreLawfulOps};
     ghost use Rattle.covbook.specs.Step.{IsLegal, ops_in};
@@ -116,10 +116,10 @@ impl<L: Name, A: Allocator> SharedState<L, A> {
         self.publisher.reader()
     }
 
-    /// Takes all seats back, and returns the history and news of it. Waits for readers that are inside a read.
-    pub(crate) fn close<R: Wait>(self, rt: &R, seats: Seats<L, A>) -> (Entries<A>, News<L>)
+    /// Takes all seats back, and returns the book and news of its history. Waits for readers that are inside a read.
+    pub(crate) fn close<R: Wait>(self, rt: &R, seats: Seats<L, A>) -> (Book<A, K>, News<L>)
         requires { L.parts ≤ length seats }
-        ensures history { result.0 ≡ self }
+        ensures history { result.0.entries ≡ self }
         ensures news { result.1 ≡ self }
         ensures legal { IsLegal self }
         ensures lawful { AreLawfulOps (ops_in self) }
@@ -133,6 +133,6 @@ impl<L: Name, A: Allocator> SharedState<L, A> {
         } = self;
         seats.give_shares(&mut rest);
         count.audit(&mut rest);
-        (book.into_entries(), publisher.close(rt))
+        (book, publisher.close(rt))
     }
 }

@@ -1,10 +1,9 @@
 //! What a shared book is made of.
 
-use covbook::Book;
 use covline::Memory;
 use covnews::HistorySeed;
 use std::alloc::{Allocator, Global};
-use std::marker::Model;
+use std::marker::{Model, PhantomData};
 use std::sync::ledger::Blank;
 use thiserror::Error;
 
@@ -45,14 +44,14 @@ impl From<Memory> for OpenFault {
     }
 }
 
-/// What a shared book is made of: an empty book, the count of its calls, and the seed of its published history. Contracts
-/// see the name of the count, how many jobs share the book, and the name of the book.
+/// What a shared book is made of: the count of its calls, and the seed of its published history. Contracts see the name of the
+/// count, how many jobs share the book, and the name of the book.
 #[derive(Drop)]
 pub struct Start<A: Allocator = Global> {
     jobs: u32,
     count: Blank,
-    book: Book<A>,
     seed: HistorySeed,
+    allocator: PhantomData<A>,
 }
 
 impl<A: Allocator> Model for Start<A> {
@@ -62,7 +61,7 @@ impl<A: Allocator> Model for Start<A> {
 
     ghost view = { λ a. record { name = a.count.name; jobs = a.jobs; book = a.seed.book } };
 
-    ghost invariant = { λ a. IsStart a.jobs a.count.parts a.book.entries };
+    ghost invariant = { λ a. IsStart a.jobs a.count.parts };
 }
 
 impl<A: Allocator + Copy> Start<A> {
@@ -70,9 +69,9 @@ impl<A: Allocator + Copy> Start<A> {
     ghost use Rattle.covlock.specs.declared.start.OpenFault.TheVariants as faults;
     ghost use Rattle.covlock.specs.Start.{AreJobs};
 
-    /// What a book for `jobs` jobs is made of. `BadJobs` if `jobs` isn't from 1 to 64. Takes no memory, so `Memory` isn't
+    /// What a book for `jobs` jobs in this allocator is made of. `BadJobs` if `jobs` isn't from 1 to 64. Takes no memory, so `Memory` isn't
     /// returned.
-    pub fn new(alloc: A, jobs: u32) -> Result<Start<A>, OpenFault>
+    pub fn new(_alloc: A, jobs: u32) -> Result<Start<A>, OpenFault>
         ensures jobs { IfOk result (λ s. s.jobs ≡ jobs) }
         ensures bad { (result ≡ Err faults.BadJobs) ↔ (AreJobs jobs → ⊥) }
     {
@@ -82,25 +81,24 @@ impl<A: Allocator + Copy> Start<A> {
         Ok(Start {
             jobs,
             count: Blank::new(u64::from(jobs)),
-            book: Book::new(alloc),
             seed: HistorySeed::new(),
+            allocator: PhantomData,
         })
     }
 }
 
 impl<A: Allocator> Start<A> {
-    ghost use Rattle.std.specs.Prelude.{◌≡◌, []};
+    ghost use Rattle.std.specs.Prelude.{◌≡◌};
     ghost use Rattle.covlock.specs.Start.{AreJobs};
 
-    /// The number of jobs, the count with no call yet, the empty book, and the seed of its published history.
-    pub(crate) fn into_parts(self) -> (u32, Blank, Book<A>, HistorySeed)
+    /// The number of jobs, the count with no call yet, and the seed of the book's published history.
+    pub(crate) fn into_parts(self) -> (u32, Blank, HistorySeed)
         ensures jobs { result.0 ≡ self.jobs }
         ensures bounds { AreJobs self.jobs }
         ensures name { result.1.name ≡ self.name }
         ensures parts { result.1.parts ≡ self.jobs }
-        ensures entries { result.2.entries ≡ [] }
-        ensures book { result.3.book ≡ self.book }
+        ensures book { result.2.book ≡ self.book }
     {
-        (self.jobs, self.count, self.book, self.seed)
+        (self.jobs, self.count, self.seed)
     }
 }

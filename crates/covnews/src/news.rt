@@ -97,7 +97,7 @@ impl<L: Name> News<L> {
 
     /// The news with the longer history, or `self` if both are as long. Since both are of one book, each history is a prefix of
     /// the longer one.
-    pub(crate) fn longer(&self, other: &News<L>) -> News<L>
+    pub fn longer(&self, other: &News<L>) -> News<L>
         ensures one { (result ≡ self.now) ⊎ (result ≡ other.now) }
         ensures this { IsPrefix self.now result }
         ensures that { IsPrefix other.now result }

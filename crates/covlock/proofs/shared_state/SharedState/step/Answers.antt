@@ -21,8 +21,7 @@ pub returns-clause-seen : goal.returns-clause-seen
 returns-clause-seen g c =
     let place : c.finish-receipt.result.place ≡ length c.ready.new.self.entries = ap (λ (r : ReceiptData). r.place) c.finish-receipt.ensures.receipt in
     let same : length c.ready.new.self.entries ≡ length c.self.inside.book.entries = ap (λ (xs : List EntryData). length xs) c.in_ok-ready.ensures.same.entries in
-    let shown : length (map (entry_data {A = g.row.A.Denot}) c.entries.result.now) ≡ length c.self.inside.book.entries = ap (λ (xs : List EntryData). length xs) c.entries.ensures.entries in
-    omega (arith, place, same, shown, length-map c.entries.result.now (entry_data {A = g.row.A.Denot}), c.seen.ensures, c.if-entries-seen.false)
+    omega (arith, place, same, c.len.ensures, c.seen.ensures, c.if-len-seen.false)
 
 pub count_call-requires-clause-few : goal.count_call-requires-clause-few
 count_call-requires-clause-few g c =
@@ -40,8 +39,8 @@ finish-receipt-requires g c = c.in_ok-ready.ensures.ready.ready
 pub returns-clause-seat : goal.returns-clause-seat
 returns-clause-seat g c = c.count_call.ensures.seat
 
-pub returns-then-entries-seen-clause-seat : goal.returns-then-entries-seen-clause-seat
-returns-then-entries-seen-clause-seat g c = refl
+pub returns-then-len-seen-clause-seat : goal.returns-then-len-seen-clause-seat
+returns-then-len-seen-clause-seat g c = refl
 
 pub returns-clause-told : goal.returns-clause-told
 returns-clause-told g c =
@@ -77,26 +76,23 @@ pub returns-clause-full : goal.returns-clause-full
 returns-clause-full g c =
     let lay : length c.self.inside.book.entries ≡ length c.args.self.now = ap (λ (xs : List EntryData). length xs) c.self.view_is in
     let same : length c.ready.new.self.entries ≡ length c.self.inside.book.entries = ap (λ (xs : List EntryData). length xs) c.in_ok-ready.ensures.same.entries in
-    let shown : length (map (entry_data {A = g.row.A.Denot}) c.entries.result.now) ≡ length c.self.inside.book.entries = ap (λ (xs : List EntryData). length xs) c.entries.ensures.entries in
     is_not_full _ faults.Full (length c.args.self.now) c.args.seat.now.seen (ok_is_no_err _ faults.Full)
     (omega (arith, lay, same, c.in_ok-ready.ensures.ready.ready.room.few))
-    (omega (arith, lay, shown, length-map c.entries.result.now (entry_data {A = g.row.A.Denot}), c.seen.ensures, c.if-entries-seen.false))
+    (omega (arith, lay, c.len.ensures, c.seen.ensures, c.if-len-seen.false))
 
 -- if the entry isn't noted, the fault isn't `Full`, and neither is the history full
 pub returns-in_default-clause-full : goal.returns-in_default-clause-full
 returns-in_default-clause-full g c =
     let lay : length c.self.inside.book.entries ≡ length c.args.self.now = ap (λ (xs : List EntryData). length xs) c.self.view_is in
     let same : length c.ready.new.self.entries ≡ length c.self.inside.book.entries = ap (λ (xs : List EntryData). length xs) c.in_ok-ready.ensures.same.entries in
-    let shown : length (map (entry_data {A = g.row.A.Denot}) c.entries.result.now) ≡ length c.self.inside.book.entries = ap (λ (xs : List EntryData). length xs) c.entries.ensures.entries in
     is_not_full _ faults.Full (length c.args.self.now) c.args.seat.now.seen no_room_is_not_full
     (omega (arith, lay, same, c.in_ok-ready.ensures.ready.ready.room.few))
-    (omega (arith, lay, shown, length-map c.entries.result.now (entry_data {A = g.row.A.Denot}), c.seen.ensures, c.if-entries-seen.false))
+    (omega (arith, lay, c.len.ensures, c.seen.ensures, c.if-len-seen.false))
 
-pub returns-then-entries-seen-clause-full : goal.returns-then-entries-seen-clause-full
-returns-then-entries-seen-clause-full g c =
+pub returns-then-len-seen-clause-full : goal.returns-then-len-seen-clause-full
+returns-then-len-seen-clause-full g c =
     let lay : length c.self.inside.book.entries ≡ length c.args.self.now = ap (λ (xs : List EntryData). length xs) c.self.view_is in
-    let shown : length (map (entry_data {A = g.row.A.Denot}) c.entries.result.now) ≡ length c.self.inside.book.entries = ap (λ (xs : List EntryData). length xs) c.entries.ensures.entries in
-    ((λ is. inr (omega (arith, lay, shown, length-map c.entries.result.now (entry_data {A = g.row.A.Denot}), c.seen.ensures, c.if-entries-seen.true))), (λ it. refl))
+    ((λ is. inr (omega (arith, lay, c.len.ensures, c.seen.ensures, c.if-len-seen.true))), (λ it. refl))
 
 pub invariant_of-self : goal.invariant_of-self
 invariant_of-self g c = record {

@@ -14,8 +14,5 @@ returns-clause-name g c = ap (λ (s : StartData). s.name) c.self.view_is
 pub returns-clause-parts : goal.returns-clause-parts
 returns-clause-parts g c = c.self.invariant.parts_are ∙ ap (λ (s : StartData). s.jobs) c.self.view_is
 
-pub returns-clause-entries : goal.returns-clause-entries
-returns-clause-entries g c = c.self.invariant.empty
-
 pub returns-clause-book : goal.returns-clause-book
 returns-clause-book g c = ap (λ (s : StartData). s.book) c.self.view_is

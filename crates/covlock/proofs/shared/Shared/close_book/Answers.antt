@@ -2,7 +2,7 @@ use Rattle.std.proofs.Common.{arith, subst}
 use Rattle.covlock.specs.Handed.{AllAreSeated}
 use Rattle.covlock.specs.Shared.{SharedData}
 use Rattle.covlock.proofs.Seated.{all_need_seats}
-use Rattle.covlock.proofs.shared.Shared.close.Goals as goal
+use Rattle.covlock.proofs.shared.Shared.close_book.Goals as goal
 
 -- there are at least as many seats as the count has parts, since each job has a seat
 pub close-requires : goal.close-requires
