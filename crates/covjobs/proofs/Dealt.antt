@@ -1,16 +1,17 @@
 -- How inputs come into the shares of jobs.
-use Rattle.std.proofs.Common.{◌≡◌, ◌∙◌, ℕ, zero, suc, ◌+◌, ◌<◌, ◌%◌, List, [], ◌∷◌, ◌++◌, length, map, replicate, Option, Some, Result, Ok, slice_get, get_or, set, ap, sym, refl, subst, arith}
-use Rattle.std.specs.List.{range_with_len}
+use Rattle.std.proofs.Common.{◌≡◌, ◌∙◌, ℕ, zero, suc, ◌+◌, ◌<◌, ◌%◌, List, [], ◌∷◌, ◌++◌, length, map, replicate, Option, Some, Result, slice_get, get_or, set, ap, sym, refl, subst, arith}
+use Rattle.std.specs.List.{AllByRecursion, range_with_len}
 use Rattle.std.proofs.lemmas.Bool.{eq-eqb, ne_eqb}
 use Rattle.std.proofs.lemmas.List.{append-nil, append_assoc, length-append}
 use Rattle.std.proofs.lemmas.List.FromFn.{length-map-range_with_len}
 use Rattle.std.proofs.lemmas.Nat.{mod_below}
-use Rattle.covbook.specs.declared.book.BookFault.{BookFault}
 use Rattle.covlock.specs.Seat.{SeatData, fresh_seat, first_seats}
 use Rattle.covjobs.specs.declared.shares.Placed.{Placed}
-use Rattle.covjobs.specs.Collect.{InputData, brought, places_of_job}
+use Rattle.covjobs.specs.declared.readers.Readers.{Readers}
+use Rattle.covjobs.specs.declared.stop.Stop.{Stop}
+use Rattle.covjobs.specs.Collect.{brought, places_of_job}
 use Rattle.covjobs.specs.Shares.{placed_at, share_of, shares_of}
-use Rattle.covjobs.specs.Work.{WorkerData, HaveDone, AreDoneIfWell, work_of}
+use Rattle.covjobs.specs.Work.{Chances, WorkerData, HaveEndedIfUnrefused, work_of}
 use Rattle.covjobs.proofs.Taken.{brought_more, brought_past}
 use Rattle.covjobs.proofs.Whole.{works_from}
 
@@ -104,9 +105,17 @@ share_for_each {X} inputs dealt jobs seats shares same seated are =
     ∙ ap (λ (xs : List X). map (λ (seat : SeatData). share_of xs jobs seat.job) (first_seats jobs)) (sym same)
     ∙ ap (λ (ss : List SeatData). map (λ (seat : SeatData). share_of dealt jobs seat.job) ss) (sym seated)
 
--- the seats are those of all jobs, so what their workers have done is the work of all jobs
-pub done_by_all : {X : Type 0} (says : X → InputData) (inputs dealt : List X) (jobs : ℕ) (seats : List SeatData) (ended : List (Result WorkerData BookFault)) (workers : List WorkerData) → dealt ≡ inputs → seats ≡ first_seats jobs
-    → AreDoneIfWell (map (work_of (map says dealt) jobs) seats) ended → map Ok workers ≡ ended → HaveDone (works_from (map says inputs) jobs 0 jobs) workers
-done_by_all {X} says inputs dealt jobs seats ended workers same seated done well =
-    subst (λ (xs : List X). HaveDone (works_from (map says xs) jobs 0 jobs) workers) same
-    (subst (λ (ss : List SeatData). HaveDone (map (work_of (map says dealt) jobs) ss) workers) seated (done workers well))
+-- the seats are those of all jobs, so how their workers ended is how the work of all jobs ended
+pub ended_for_all : {X : Type 0} (chances : Chances X) (readers : Readers) (inputs dealt : List X) (jobs : ℕ) (seats : List SeatData) (ended : List (Result WorkerData Stop)) → dealt ≡ inputs → seats ≡ first_seats jobs
+    → HaveEndedIfUnrefused chances (map (work_of dealt jobs readers) seats) ended → HaveEndedIfUnrefused chances (works_from inputs jobs readers 0 jobs) ended
+ended_for_all {X} chances readers inputs dealt jobs seats ended same seated done =
+    subst (λ (xs : List X). HaveEndedIfUnrefused chances (works_from xs jobs readers 0 jobs) ended) same
+    (subst (λ (ss : List SeatData). HaveEndedIfUnrefused chances (map (work_of dealt jobs readers) ss) ended) seated done)
+
+-- the seats of all jobs are fresh
+fresh_from : (from some : ℕ) → AllByRecursion (λ (seat : SeatData). seat ≡ fresh_seat seat.job) (map fresh_seat (range_with_len from some))
+fresh_from from zero = tt
+fresh_from from (suc some) = (refl, fresh_from (from + 1) some)
+
+pub all_fresh : (jobs : ℕ) (seats : List SeatData) → seats ≡ first_seats jobs → AllByRecursion (λ (seat : SeatData). seat ≡ fresh_seat seat.job) seats
+all_fresh jobs seats seated = subst (λ (ss : List SeatData). AllByRecursion (λ (seat : SeatData). seat ≡ fresh_seat seat.job) ss) (sym seated) (fresh_from 0 jobs)

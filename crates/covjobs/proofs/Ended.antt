@@ -1,53 +1,58 @@
--- How workers ended, as they are joined one after another, and what all have done if all ended well.
+-- How workers ended, as they are joined one after another, and what follows if none of them was refused anything.
 use Rattle.std.proofs.Common.{◌≡◌, ◌∙◌, Bool, true, false, IsTrue, refl, List, [], ◌∷◌, ◌++◌, map, Result, Ok, Err, sym, ap, subst}
 use Rattle.std.specs.Prelude.{IfOk}
+use Rattle.std.specs.List.{AllByRecursion}
 use Rattle.std.proofs.lemmas.List.{append-nil}
 use Rattle.covbook.specs.declared.book.BookFault.{BookFault}
-use Rattle.covjobs.specs.Work.{WorkerData, WorkData, HaveDone, AreDone, AreDoneIfWell}
+use Rattle.covjobs.specs.declared.stop.Stop.{Stop}
+use Rattle.covjobs.specs.declared.stop.Stop.TheVariants as stops
+use Rattle.covjobs.specs.Work.{Chances, WorkerData, WorkData, HaveDone, HaveEnded, HaveEndedIfUnrefused, IsUnrefused}
 
 abbrev pub End : Type 0
-End = Result WorkerData BookFault
+End = Result WorkerData Stop
 
 -- when no handle is left, the ends so far are those of all workers
-pub done_at_end : {H : Type 0} (work : H → WorkData) (handles left : List H) (ended : List End)
-    → ((rest : List End) → AreDone (map work left) rest → AreDone (map work handles) (ended ++ rest)) → left ≡ [] → AreDone (map work handles) ended
-done_at_end {H} work handles left ended so_far none =
-    subst (λ (ends : List End). AreDone (map work handles) ends) (append-nil ended) (so_far [] (subst (λ (hs : List H). AreDone (map work hs) []) (sym none) tt))
+pub ended_at_end : {H X : Type 0} (chances : Chances X) (work : H → WorkData X) (handles left : List H) (ended : List End)
+    → ((rest : List End) → HaveEnded chances (map work left) rest → HaveEnded chances (map work handles) (ended ++ rest)) → left ≡ [] → HaveEnded chances (map work handles) ended
+ended_at_end {H} {X} chances work handles left ended so_far none =
+    subst (λ (ends : List End). HaveEnded chances (map work handles) ends) (append-nil ended) (so_far [] (subst (λ (hs : List H). HaveEnded chances (map work hs) []) (sym none) tt))
 
-is_no_end : (worker : WorkerData) (fault : BookFault) → ◌≡◌ {A = End} (Ok worker) (Err fault) → ⊥
-is_no_end worker fault is = cc
+-- the last worker was refused something
+pub not_unrefused : (front : List End) (fault : BookFault) → AllByRecursion IsUnrefused (front ++ Err (stops.Refused fault) ∷ []) → ⊥
+not_unrefused [] fault all = all.0
+not_unrefused (end ∷ front) fault all = not_unrefused front fault all.1
 
--- if all workers ended well, the last end isn't a fault
-pub not_all_well : (workers : List WorkerData) (front : List End) (fault : BookFault) → ◌≡◌ {A = List End} (map Ok workers) (front ++ Err fault ∷ []) → ⊥
-not_all_well [] [] fault is = cc
-not_all_well [] (end ∷ front) fault is = cc
-not_all_well (worker ∷ workers) [] fault is = is_no_end worker fault cc
-not_all_well (worker ∷ workers) (end ∷ front) fault is = not_all_well workers front fault cc
+all_unrefused : (workers : List WorkerData) → AllByRecursion IsUnrefused (map Ok workers)
+all_unrefused [] = tt
+all_unrefused (worker ∷ workers) = (tt, all_unrefused workers)
 
-have_done : (works : List WorkData) (workers : List WorkerData) → AreDone works (map Ok workers) → HaveDone works workers
-have_done [] [] done = tt
-have_done [] (worker ∷ workers) done = absurd done
-have_done (work ∷ works) [] done = absurd done
-have_done (work ∷ works) (worker ∷ workers) done = (done.0, have_done works workers done.1)
+have_done : {X : Type 0} (chances : Chances X) (works : List (WorkData X)) (workers : List WorkerData) → HaveEnded chances works (map Ok workers) → HaveDone chances works workers
+have_done chances [] [] done = tt
+have_done chances [] (worker ∷ workers) done = absurd done
+have_done chances (work ∷ works) [] done = absurd done
+have_done chances (work ∷ works) (worker ∷ workers) done = (done.0, have_done chances works workers done.1)
 
-pub done_if_well : (works : List WorkData) (ended : List End) → AreDone works ended → AreDoneIfWell works ended
-done_if_well works ended done workers is = have_done works workers (subst (λ (ends : List End). AreDone works ends) (sym is) done)
+-- if all workers ended well, all work is done
+pub done_if_well : {X : Type 0} (chances : Chances X) (works : List (WorkData X)) (ended : List End) (workers : List WorkerData) → HaveEndedIfUnrefused chances works ended → map Ok workers ≡ ended → HaveDone chances works workers
+done_if_well chances works ended workers done is =
+    have_done chances works workers
+    (subst (λ (ends : List End). HaveEnded chances works ends) (sym is) (done (subst (λ (ends : List End). AllByRecursion IsUnrefused ends) is (all_unrefused workers))))
 
--- if all workers ended well, all work is done: a worker was started for each seat, since otherwise one end would be a fault
-pub ends_well : (works handled left : List WorkData) (started : Bool) (ended : List End) → (IsTrue started → handled ++ left ≡ works) → left ≡ [] → (IsTrue started → AreDone handled ended)
-    → (started ≡ false → (workers : List WorkerData) → map Ok workers ≡ ended → ⊥) → AreDoneIfWell works ended
-ends_well works handled left true ended all none done short =
-    done_if_well works ended (subst (λ (ws : List WorkData). AreDone ws ended) (sym (append-nil handled) ∙ sym (ap (λ (ws : List WorkData). handled ++ ws) none) ∙ all refl) (done refl))
-ends_well works handled left false ended all none done short = λ workers is. absurd (short refl workers is)
+-- if no worker was refused anything, one was started for each seat, since otherwise one end would be a refusal
+pub ends_unrefused : {X : Type 0} (chances : Chances X) (works handled left : List (WorkData X)) (started : Bool) (ended : List End) → (IsTrue started → handled ++ left ≡ works) → left ≡ []
+    → (IsTrue started → HaveEnded chances handled ended) → (started ≡ false → AllByRecursion IsUnrefused ended → ⊥) → HaveEndedIfUnrefused chances works ended
+ends_unrefused {X} chances works handled left true ended all none done short =
+    λ unrefused. subst (λ (ws : List (WorkData X)). HaveEnded chances ws ended) (sym (append-nil handled) ∙ sym (ap (λ (ws : List (WorkData X)). handled ++ ws) none) ∙ all refl) (done refl)
+ends_unrefused chances works handled left false ended all none done short = λ unrefused. absurd (short refl unrefused)
 
 -- after one more worker is started, the works of the handles and those left are together the same as before
-pub one_started : {H : Type 0} (work : H → WorkData) (handles : List H) (handle : H) (left : List WorkData) → map work (handles ++ handle ∷ []) ++ left ≡ map work handles ++ work handle ∷ left
+pub one_started : {H X : Type 0} (work : H → WorkData X) (handles : List H) (handle : H) (left : List (WorkData X)) → map work (handles ++ handle ∷ []) ++ left ≡ map work handles ++ work handle ∷ left
 one_started work [] handle left = refl
-one_started work (h ∷ handles) handle left = ap (λ (ws : List WorkData). work h ∷ ws) (one_started work handles handle left)
+one_started {H} {X} work (h ∷ handles) handle left = ap (λ (ws : List (WorkData X)). work h ∷ ws) (one_started work handles handle left)
 
 -- the same for a call that joins the workers, and may be refused
-pub ends_well_if_ok : {V E : Type 0} (items : V → List End) (result : Result V E) (works handled left : List WorkData) (started : Bool) → (IsTrue started → handled ++ left ≡ works) → left ≡ []
-    → IfOk result (λ ended. IsTrue started → AreDone handled (items ended)) → IfOk result (λ ended. started ≡ false → (workers : List WorkerData) → map Ok workers ≡ items ended → ⊥)
-    → IfOk result (λ ended. AreDoneIfWell works (items ended))
-ends_well_if_ok items (Ok ended) works handled left started all none done short = ends_well works handled left started (items ended) all none done short
-ends_well_if_ok items (Err refused) works handled left started all none done short = tt
+pub ends_if_ok : {V E X : Type 0} (chances : Chances X) (items : V → List End) (result : Result V E) (works handled left : List (WorkData X)) (started : Bool) → (IsTrue started → handled ++ left ≡ works) → left ≡ []
+    → IfOk result (λ ended. IsTrue started → HaveEnded chances handled (items ended)) → IfOk result (λ ended. started ≡ false → AllByRecursion IsUnrefused (items ended) → ⊥)
+    → IfOk result (λ ended. HaveEndedIfUnrefused chances works (items ended))
+ends_if_ok chances items (Ok ended) works handled left started all none done short = ends_unrefused chances works handled left started (items ended) all none done short
+ends_if_ok chances items (Err refused) works handled left started all none done short = tt

@@ -1,6 +1,7 @@
 pub mod AllSeated
 pub mod Ascending
 pub mod AskedLast
+pub mod Asking
 pub mod EachOnce
 pub mod Dealt
 pub mod Ended
@@ -12,8 +13,11 @@ pub mod LastEntry
 pub mod Places
 pub mod Underway
 pub mod ReadAfter
+pub mod Stopped
 pub mod Submitted
 pub mod Taken
 pub mod Together
+pub mod Unread
+pub mod SoFar
 pub mod Whole
 pub mod Written

@@ -9,8 +9,8 @@ use Rattle.covread.specs.declared.fault.ReadFault.{ReadFault}
 use Rattle.covread.specs.declared.fault.ReadFault.TheVariants as faults
 use Rattle.covbook.specs.Op.{OpData, SubmitOp, ReceiptData}
 use Rattle.covjobs.specs.declared.refused.RefusedInput.{RefusedInput}
-use Rattle.covjobs.specs.Collect.{InputData, IsOutcomeOf, submitted, refusal, brought, places_of_job, submissions_of, ops_in, HasTaken}
-use Rattle.covjobs.specs.Work.{Takes}
+use Rattle.covjobs.specs.Collect.{submitted, refusal, brought, places_of_job, submissions_of, ops_in}
+use Rattle.covjobs.specs.Work.{Takes, HasTaken}
 
 abbrev pub Outcome : Type 0
 Outcome = Result SubmissionData ReadFault
@@ -59,46 +59,46 @@ pub map_after : {X Y : Type 0} (f : X → Y) (xs ys : List X) → map f (xs ++ y
 map_after f [] ys = refl
 map_after {X} {Y} f (x ∷ xs) ys = ap (λ (rest : List Y). f x ∷ rest) (map_after f xs ys)
 
-pub none_taken : (inputs : List InputData) (jobs job : ℕ) (receipts : List ReceiptData) (refused : List RefusedInput) → receipts ≡ [] → refused ≡ []
-    → HasTaken inputs jobs job 0 receipts refused
-none_taken inputs jobs job receipts refused no_receipts none_refused =
+pub none_taken : {X : Type 0} (Gives : X → Outcome → Type 0) (inputs : List X) (jobs job : ℕ) (receipts : List ReceiptData) (refused : List RefusedInput) → receipts ≡ [] → refused ≡ []
+    → HasTaken Gives inputs jobs job 0 receipts refused
+none_taken {X} Gives inputs jobs job receipts refused no_receipts none_refused =
     record { outcome = λ index. Err faults.Memory; outcomes = λ index less own. absurd (omega (arith, less)); asked = ap (λ (rs : List ReceiptData). ops_in rs) no_receipts; are_refused = none_refused }
 
 is_below : (index count : ℕ) → index < count + 1 → (index ≡ count → ⊥) → index < count
 is_below index count less apart = omega (arith, less, apart)
 
-by_place : (inputs : List InputData) (meant : ℕ → Bool) (count : ℕ) (input : InputData) (new : Outcome) (old : ℕ → Outcome)
-    → ((index : ℕ) → index < count → IsTrue (meant index) → IsSomeAnd (slice_get inputs index) (λ input. IsOutcomeOf input (old index)))
-    → slice_get inputs count ≡ Some input → IsOutcomeOf input new
+by_place : {X : Type 0} (Gives : X → Outcome → Type 0) (inputs : List X) (meant : ℕ → Bool) (count : ℕ) (input : X) (new : Outcome) (old : ℕ → Outcome)
+    → ((index : ℕ) → index < count → IsTrue (meant index) → IsSomeAnd (slice_get inputs index) (λ input. Gives input (old index)))
+    → slice_get inputs count ≡ Some input → Gives input new
     → (index : ℕ) → index < count + 1 → IsTrue (meant index)
     → ((eqb index count ≡ true) × (index ≡ count)) ⊎ ((eqb index count ≡ false) × (index ≡ count → ⊥))
-    → IsSomeAnd (slice_get inputs index) (λ input. IsOutcomeOf input (put count new old index))
-by_place inputs meant count input new old before is is_outcome index less own (inl (_, same)) =
-    subst (λ (i : ℕ). IsSomeAnd (slice_get inputs i) (λ input. IsOutcomeOf input (put count new old i))) (sym same)
-    (subst (λ (f : Outcome). IsSomeAnd (slice_get inputs count) (λ input. IsOutcomeOf input f)) (sym (put_here count new old))
-    (subst (λ (found : Option InputData). IsSomeAnd found (λ input. IsOutcomeOf input new)) (sym is) is_outcome))
-by_place inputs meant count input new old before is is_outcome index less own (inr (_, differs)) =
-    subst (λ (f : Outcome). IsSomeAnd (slice_get inputs index) (λ input. IsOutcomeOf input f)) (sym (put_apart count new old index differs))
+    → IsSomeAnd (slice_get inputs index) (λ input. Gives input (put count new old index))
+by_place {X} Gives inputs meant count input new old before is is_outcome index less own (inl (_, same)) =
+    subst (λ (i : ℕ). IsSomeAnd (slice_get inputs i) (λ input. Gives input (put count new old i))) (sym same)
+    (subst (λ (f : Outcome). IsSomeAnd (slice_get inputs count) (λ input. Gives input f)) (sym (put_here count new old))
+    (subst (λ (found : Option X). IsSomeAnd found (λ input. Gives input new)) (sym is) is_outcome))
+by_place {X} Gives inputs meant count input new old before is is_outcome index less own (inr (_, differs)) =
+    subst (λ (f : Outcome). IsSomeAnd (slice_get inputs index) (λ input. Gives input f)) (sym (put_apart count new old index differs))
     (before index (is_below index count less differs) own)
 
-fates_put : (inputs : List InputData) (meant : ℕ → Bool) (count : ℕ) (input : InputData) (new : Outcome) (old : ℕ → Outcome)
-    → ((index : ℕ) → index < count → IsTrue (meant index) → IsSomeAnd (slice_get inputs index) (λ input. IsOutcomeOf input (old index)))
-    → slice_get inputs count ≡ Some input → IsOutcomeOf input new
-    → (index : ℕ) → index < count + 1 → IsTrue (meant index) → IsSomeAnd (slice_get inputs index) (λ input. IsOutcomeOf input (put count new old index))
-fates_put inputs meant count input new old before is is_outcome index less own =
-    by_place inputs meant count input new old before is is_outcome index less own (eqb_tells index count)
+fates_put : {X : Type 0} (Gives : X → Outcome → Type 0) (inputs : List X) (meant : ℕ → Bool) (count : ℕ) (input : X) (new : Outcome) (old : ℕ → Outcome)
+    → ((index : ℕ) → index < count → IsTrue (meant index) → IsSomeAnd (slice_get inputs index) (λ input. Gives input (old index)))
+    → slice_get inputs count ≡ Some input → Gives input new
+    → (index : ℕ) → index < count + 1 → IsTrue (meant index) → IsSomeAnd (slice_get inputs index) (λ input. Gives input (put count new old index))
+fates_put {X} Gives inputs meant count input new old before is is_outcome index less own =
+    by_place Gives inputs meant count input new old before is is_outcome index less own (eqb_tells index count)
 
-pub step_taken : (inputs : List InputData) (jobs job count : ℕ) (receipts after : List ReceiptData) (refused refuses : List RefusedInput) (input : InputData)
-    → HasTaken inputs jobs job count receipts refused → places_of_job jobs job count ≡ true → slice_get inputs count ≡ Some input
-    → Takes input count (ops_in receipts) (ops_in after) refused refuses → HasTaken inputs jobs job (count + 1) after refuses
-step_taken inputs jobs job count receipts after refused refuses input so_far own is takes =
+pub step_taken : {X : Type 0} (Gives : X → Outcome → Type 0) (inputs : List X) (jobs job count : ℕ) (receipts after : List ReceiptData) (refused refuses : List RefusedInput) (input : X)
+    → HasTaken Gives inputs jobs job count receipts refused → places_of_job jobs job count ≡ true → slice_get inputs count ≡ Some input
+    → Takes (Gives input) count (ops_in receipts) (ops_in after) refused refuses → HasTaken Gives inputs jobs job (count + 1) after refuses
+step_taken {X} Gives inputs jobs job count receipts after refused refuses input so_far own is takes =
     let meant = places_of_job jobs job in
     let old = so_far.outcome in
     let new = put count takes.outcome old in
     let here : new count ≡ takes.outcome = put_here count takes.outcome old in
     record {
       outcome = new;
-      outcomes = fates_put inputs meant count input takes.outcome old so_far.outcomes is takes.is_outcome;
+      outcomes = fates_put Gives inputs meant count input takes.outcome old so_far.outcomes is takes.is_outcome;
       asked = takes.submits
           ∙ ap (λ (ops : List OpData). ops ++ map SubmitOp (submitted takes.outcome)) so_far.asked
           ∙ sym (map_after SubmitOp (submissions_of meant old count) (submitted takes.outcome))
@@ -110,22 +110,22 @@ step_taken inputs jobs job count receipts after refused refuses input so_far own
           (λ index less. ap (λ (f : Outcome). refusal index f) (put_apart count takes.outcome old index (λ same. omega (arith, less, same)))) own (ap (λ (f : Outcome). refusal count f) here));
     }
 
-fates_past : (inputs : List InputData) (meant : ℕ → Bool) (count : ℕ) (old : ℕ → Outcome) → meant count ≡ false
-    → ((index : ℕ) → index < count → IsTrue (meant index) → IsSomeAnd (slice_get inputs index) (λ input. IsOutcomeOf input (old index)))
+fates_past : {X : Type 0} (Gives : X → Outcome → Type 0) (inputs : List X) (meant : ℕ → Bool) (count : ℕ) (old : ℕ → Outcome) → meant count ≡ false
+    → ((index : ℕ) → index < count → IsTrue (meant index) → IsSomeAnd (slice_get inputs index) (λ input. Gives input (old index)))
     → (index : ℕ) → index < count + 1 → IsTrue (meant index)
     → ((eqb index count ≡ true) × (index ≡ count)) ⊎ ((eqb index count ≡ false) × (index ≡ count → ⊥))
-    → IsSomeAnd (slice_get inputs index) (λ input. IsOutcomeOf input (old index))
-fates_past inputs meant count old apart before index less own (inl (_, same)) = absurd (false≢true (sym apart ∙ subst (λ (i : ℕ). meant i ≡ true) same own))
-fates_past inputs meant count old apart before index less own (inr (_, differs)) = before index (is_below index count less differs) own
+    → IsSomeAnd (slice_get inputs index) (λ input. Gives input (old index))
+fates_past {X} Gives inputs meant count old apart before index less own (inl (_, same)) = absurd (false≢true (sym apart ∙ subst (λ (i : ℕ). meant i ≡ true) same own))
+fates_past {X} Gives inputs meant count old apart before index less own (inr (_, differs)) = before index (is_below index count less differs) own
 
-pub step_past : (inputs : List InputData) (jobs job count : ℕ) (receipts : List ReceiptData) (refused : List RefusedInput)
-    → HasTaken inputs jobs job count receipts refused → places_of_job jobs job count ≡ false → HasTaken inputs jobs job (count + 1) receipts refused
-step_past inputs jobs job count receipts refused so_far apart =
+pub step_past : {X : Type 0} (Gives : X → Outcome → Type 0) (inputs : List X) (jobs job count : ℕ) (receipts : List ReceiptData) (refused : List RefusedInput)
+    → HasTaken Gives inputs jobs job count receipts refused → places_of_job jobs job count ≡ false → HasTaken Gives inputs jobs job (count + 1) receipts refused
+step_past {X} Gives inputs jobs job count receipts refused so_far apart =
     let meant = places_of_job jobs job in
     let old = so_far.outcome in
     record {
       outcome = old;
-      outcomes = λ index less own. fates_past inputs meant count old apart so_far.outcomes index less own (eqb_tells index count);
+      outcomes = λ index less own. fates_past Gives inputs meant count old apart so_far.outcomes index less own (eqb_tells index count);
       asked = so_far.asked ∙ sym (ap (λ (subs : List SubmissionData). map SubmitOp subs) (brought_past meant (λ index. submitted (old index)) count apart));
       are_refused = so_far.are_refused ∙ sym (brought_past meant (λ index. refusal index (old index)) count apart);
     }

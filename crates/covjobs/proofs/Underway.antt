@@ -1,14 +1,15 @@
 -- A worker's share is taken, one input after another.
-use Rattle.std.proofs.Common.{◌≡◌, ◌∙◌, ℕ, zero, suc, ◌+◌, Bool, true, false, if◌then◌else◌, List, [], ◌∷◌, ◌++◌, length, map, Option, None, Some, option_map, slice_get, get_or, ap, sym, refl, subst, arith}
+use Rattle.std.proofs.Common.{◌≡◌, ◌∙◌, ℕ, zero, suc, ◌+◌, Bool, true, false, if◌then◌else◌, List, [], ◌∷◌, ◌++◌, length, Option, None, Some, slice_get, get_or, ap, sym, refl, subst, arith}
+use Rattle.std.specs.Prelude.{IsSomeAnd}
 use Rattle.std.proofs.lemmas.List.{append_assoc}
-use Rattle.std.proofs.lemmas.Option.{slice_get-map, slice_get-get_or, none-some}
+use Rattle.std.proofs.lemmas.Option.{slice_get-get_or, none-some}
 use Rattle.covbook.specs.Op.{ReceiptData}
 use Rattle.covjobs.specs.declared.refused.RefusedInput.{RefusedInput}
 use Rattle.covjobs.specs.declared.shares.Placed.{Placed}
-use Rattle.covjobs.specs.Collect.{InputData, HasTaken, brought, places_of_job, ops_in}
+use Rattle.covjobs.specs.Collect.{brought, places_of_job, ops_in}
 use Rattle.covjobs.specs.Shares.{placed_at, share_of}
-use Rattle.covjobs.specs.Work.{Takes}
-use Rattle.covjobs.proofs.Taken.{none_taken, step_taken, step_past}
+use Rattle.covjobs.specs.Work.{Chances, Takes, HasTaken, IsUnreadAt}
+use Rattle.covjobs.proofs.Taken.{Outcome, none_taken, step_taken, step_past}
 
 -- what the meant ones among `more` places bring, from a place on
 abbrev pub brought_from : {X : Type 0} → (meant : ℕ → Bool) → (bring : ℕ → List X) → (from more : ℕ) → List X
@@ -43,16 +44,16 @@ brought_both {X} meant bring from (suc more) =
 
 -- where a worker is in its share: it has taken what it is to take of the first `count` inputs, and the rest of its share is what
 -- it is to take of the others
-pub record IsUnderway {X : Type 0} (says : X → InputData) (inputs : List X) (jobs job : ℕ) (rest : List (Placed X)) (receipts : List ReceiptData) (refused : List RefusedInput) : Type 0 where
+pub record IsUnderway {X : Type 0} (Gives : X → Outcome → Type 0) (inputs : List X) (jobs job : ℕ) (rest : List (Placed X)) (receipts : List ReceiptData) (refused : List RefusedInput) : Type 0 where
   pub count : ℕ
   pub more : ℕ
   pub all : count + more ≡ length inputs
   pub left : rest ≡ brought_from (places_of_job jobs job) (λ index. placed_at index (slice_get inputs index)) count more
-  pub taken : HasTaken (map says inputs) jobs job count receipts refused
+  pub taken : HasTaken Gives inputs jobs job count receipts refused
 
-pub none_underway : {X : Type 0} (says : X → InputData) (inputs : List X) (jobs job : ℕ) (share : List (Placed X)) (receipts : List ReceiptData) (refused : List RefusedInput)
-    → share ≡ share_of inputs jobs job → receipts ≡ [] → refused ≡ [] → IsUnderway says inputs jobs job share receipts refused
-none_underway {X} says inputs jobs job share receipts refused is no_receipts none_refused =
+pub none_underway : {X : Type 0} (Gives : X → Outcome → Type 0) (inputs : List X) (jobs job : ℕ) (share : List (Placed X)) (receipts : List ReceiptData) (refused : List RefusedInput)
+    → share ≡ share_of inputs jobs job → receipts ≡ [] → refused ≡ [] → IsUnderway Gives inputs jobs job share receipts refused
+none_underway {X} Gives inputs jobs job share receipts refused is no_receipts none_refused =
     let meant = places_of_job jobs job in
     let bring : ℕ → List (Placed X) = λ index. placed_at index (slice_get inputs index) in
     record {
@@ -60,7 +61,7 @@ none_underway {X} says inputs jobs job share receipts refused is no_receipts non
       more = length inputs;
       all = none_before (length inputs);
       left = is ∙ sym (ap (λ (n : ℕ). brought meant bring n) (none_before (length inputs))) ∙ brought_both meant bring 0 (length inputs);
-      taken = none_taken (map says inputs) jobs job receipts refused no_receipts none_refused;
+      taken = none_taken Gives inputs jobs job receipts refused no_receipts none_refused;
     }
 
 -- the head and the tail of a list
@@ -91,16 +92,16 @@ is_there [] count more all none = omega (arith, all)
 is_there {X} (x ∷ xs) count more all none = none-some (get_or (x ∷ xs) count x) (sym none ∙ slice_get-get_or (x ∷ xs) count x (omega (arith, all)))
 
 -- one place on: the place is the next of the share, or isn't of the job
-next_place : {X : Type 0} (says : X → InputData) (inputs : List X) (jobs job count more : ℕ) (placed : Placed X) (rest : List (Placed X)) (receipts after : List ReceiptData) (refused refuses : List RefusedInput)
+next_place : {X : Type 0} (Gives : X → Outcome → Type 0) (inputs : List X) (jobs job count more : ℕ) (placed : Placed X) (rest : List (Placed X)) (receipts after : List ReceiptData) (refused refuses : List RefusedInput)
     → (own : Bool) → places_of_job jobs job count ≡ own → (found : Option X) → slice_get inputs count ≡ found
     → count + suc more ≡ length inputs
     → placed ∷ rest ≡ (if own then placed_at count found else []) ++ brought_from (places_of_job jobs job) (λ index. placed_at index (slice_get inputs index)) (count + 1) more
-    → HasTaken (map says inputs) jobs job count receipts refused
-    → Takes (says placed.input) placed.index (ops_in receipts) (ops_in after) refused refuses
-    → (HasTaken (map says inputs) jobs job (count + 1) receipts refused → placed ∷ rest ≡ brought_from (places_of_job jobs job) (λ index. placed_at index (slice_get inputs index)) (count + 1) more → IsUnderway says inputs jobs job rest after refuses)
-    → IsUnderway says inputs jobs job rest after refuses
-next_place says inputs jobs job count more placed rest receipts after refused refuses true is_own None none all left taken takes later = absurd (is_there inputs count more all none)
-next_place {X} says inputs jobs job count more placed rest receipts after refused refuses true is_own (Some input) is all left taken takes later =
+    → HasTaken Gives inputs jobs job count receipts refused
+    → Takes (Gives placed.input) placed.index (ops_in receipts) (ops_in after) refused refuses
+    → (HasTaken Gives inputs jobs job (count + 1) receipts refused → placed ∷ rest ≡ brought_from (places_of_job jobs job) (λ index. placed_at index (slice_get inputs index)) (count + 1) more → IsUnderway Gives inputs jobs job rest after refuses)
+    → IsUnderway Gives inputs jobs job rest after refuses
+next_place Gives inputs jobs job count more placed rest receipts after refused refuses true is_own None none all left taken takes later = absurd (is_there inputs count more all none)
+next_place {X} Gives inputs jobs job count more placed rest receipts after refused refuses true is_own (Some input) is all left taken takes later =
     let here : Placed X = record { index = count; input = input } in
     let others : List (Placed X) = brought_from (places_of_job jobs job) (λ index. placed_at index (slice_get inputs index)) (count + 1) more in
     let same : placed ≡ here = head_is placed here rest others left in
@@ -109,62 +110,98 @@ next_place {X} says inputs jobs job count more placed rest receipts after refuse
       more = more;
       all = sym (one_later count more) ∙ all;
       left = tail_is placed here rest others left;
-      taken = step_taken (map says inputs) jobs job count receipts after refused refuses (says input) taken is_own
-          (slice_get-map says inputs count ∙ ap (λ (o : Option X). option_map says o) is)
-          (subst (λ (p : Placed X). Takes (says p.input) p.index (ops_in receipts) (ops_in after) refused refuses) same takes);
+      taken = step_taken Gives inputs jobs job count receipts after refused refuses input taken is_own is
+          (subst (λ (p : Placed X). Takes (Gives p.input) p.index (ops_in receipts) (ops_in after) refused refuses) same takes);
     }
-next_place says inputs jobs job count more placed rest receipts after refused refuses false apart found is all left taken takes later =
-    later (step_past (map says inputs) jobs job count receipts refused taken apart) left
+next_place Gives inputs jobs job count more placed rest receipts after refused refuses false apart found is all left taken takes later =
+    later (step_past Gives inputs jobs job count receipts refused taken apart) left
 
-taken_from : {X : Type 0} (says : X → InputData) (inputs : List X) (jobs job count more : ℕ) (placed : Placed X) (rest : List (Placed X)) (receipts after : List ReceiptData) (refused refuses : List RefusedInput)
+taken_from : {X : Type 0} (Gives : X → Outcome → Type 0) (inputs : List X) (jobs job count more : ℕ) (placed : Placed X) (rest : List (Placed X)) (receipts after : List ReceiptData) (refused refuses : List RefusedInput)
     → count + more ≡ length inputs
     → placed ∷ rest ≡ brought_from (places_of_job jobs job) (λ index. placed_at index (slice_get inputs index)) count more
-    → HasTaken (map says inputs) jobs job count receipts refused
-    → Takes (says placed.input) placed.index (ops_in receipts) (ops_in after) refused refuses
-    → IsUnderway says inputs jobs job rest after refuses
-taken_from says inputs jobs job count zero placed rest receipts after refused refuses all left taken takes = absurd (no_member placed rest left)
-taken_from says inputs jobs job count (suc more) placed rest receipts after refused refuses all left taken takes =
-    next_place says inputs jobs job count more placed rest receipts after refused refuses (places_of_job jobs job count) refl (slice_get inputs count) refl all left taken takes
-    (λ past left_past. taken_from says inputs jobs job (count + 1) more placed rest receipts after refused refuses (sym (one_later count more) ∙ all) left_past past takes)
+    → HasTaken Gives inputs jobs job count receipts refused
+    → Takes (Gives placed.input) placed.index (ops_in receipts) (ops_in after) refused refuses
+    → IsUnderway Gives inputs jobs job rest after refuses
+taken_from Gives inputs jobs job count zero placed rest receipts after refused refuses all left taken takes = absurd (no_member placed rest left)
+taken_from Gives inputs jobs job count (suc more) placed rest receipts after refused refuses all left taken takes =
+    next_place Gives inputs jobs job count more placed rest receipts after refused refuses (places_of_job jobs job count) refl (slice_get inputs count) refl all left taken takes
+    (λ past left_past. taken_from Gives inputs jobs job (count + 1) more placed rest receipts after refused refuses (sym (one_later count more) ∙ all) left_past past takes)
 
 -- the next input of the share is taken
-pub one_taken : {X : Type 0} (says : X → InputData) (inputs : List X) (jobs job : ℕ) (placed : Placed X) (rest : List (Placed X)) (receipts after : List ReceiptData) (refused refuses : List RefusedInput)
-    → IsUnderway says inputs jobs job (placed ∷ rest) receipts refused
-    → Takes (says placed.input) placed.index (ops_in receipts) (ops_in after) refused refuses
-    → IsUnderway says inputs jobs job rest after refuses
-one_taken says inputs jobs job placed rest receipts after refused refuses so_far takes =
-    taken_from says inputs jobs job so_far.count so_far.more placed rest receipts after refused refuses so_far.all so_far.left so_far.taken takes
+pub one_taken : {X : Type 0} (Gives : X → Outcome → Type 0) (inputs : List X) (jobs job : ℕ) (placed : Placed X) (rest : List (Placed X)) (receipts after : List ReceiptData) (refused refuses : List RefusedInput)
+    → IsUnderway Gives inputs jobs job (placed ∷ rest) receipts refused
+    → Takes (Gives placed.input) placed.index (ops_in receipts) (ops_in after) refused refuses
+    → IsUnderway Gives inputs jobs job rest after refuses
+one_taken Gives inputs jobs job placed rest receipts after refused refuses so_far takes =
+    taken_from Gives inputs jobs job so_far.count so_far.more placed rest receipts after refused refuses so_far.all so_far.left so_far.taken takes
+
+-- one place on: the place is that of the input that can't be read, or isn't of the job
+unread_place : {X : Type 0} (chances : Chances X) (inputs : List X) (jobs job count more : ℕ) (placed : Placed X) (rest : List (Placed X)) (receipts : List ReceiptData) (refused : List RefusedInput)
+    → (own : Bool) → places_of_job jobs job count ≡ own → (found : Option X) → slice_get inputs count ≡ found
+    → count + suc more ≡ length inputs
+    → placed ∷ rest ≡ (if own then placed_at count found else []) ++ brought_from (places_of_job jobs job) (λ index. placed_at index (slice_get inputs index)) (count + 1) more
+    → HasTaken chances.Gives inputs jobs job count receipts refused → chances.MayFail placed.input
+    → (HasTaken chances.Gives inputs jobs job (count + 1) receipts refused → placed ∷ rest ≡ brought_from (places_of_job jobs job) (λ index. placed_at index (slice_get inputs index)) (count + 1) more → IsUnreadAt chances inputs jobs job placed.index)
+    → IsUnreadAt chances inputs jobs job placed.index
+unread_place chances inputs jobs job count more placed rest receipts refused true is_own None none all left taken fails later = absurd (is_there inputs count more all none)
+unread_place {X} chances inputs jobs job count more placed rest receipts refused true is_own (Some input) is all left taken fails later =
+    let here : Placed X = record { index = count; input = input } in
+    let same : placed ≡ here = head_is placed here rest (brought_from (places_of_job jobs job) (λ index. placed_at index (slice_get inputs index)) (count + 1) more) left in
+    let fails_here : chances.MayFail input = subst (λ (p : Placed X). chances.MayFail p.input) same fails in
+    subst (λ (p : Placed X). IsUnreadAt chances inputs jobs job p.index) (sym same) (record {
+      own = is_own;
+      outcome = taken.outcome;
+      outcomes = taken.outcomes;
+      fails = subst (λ (o : Option X). IsSomeAnd o chances.MayFail) (sym is) fails_here;
+    })
+unread_place chances inputs jobs job count more placed rest receipts refused false apart found is all left taken fails later =
+    later (step_past chances.Gives inputs jobs job count receipts refused taken apart) left
+
+unread_from : {X : Type 0} (chances : Chances X) (inputs : List X) (jobs job count more : ℕ) (placed : Placed X) (rest : List (Placed X)) (receipts : List ReceiptData) (refused : List RefusedInput)
+    → count + more ≡ length inputs
+    → placed ∷ rest ≡ brought_from (places_of_job jobs job) (λ index. placed_at index (slice_get inputs index)) count more
+    → HasTaken chances.Gives inputs jobs job count receipts refused → chances.MayFail placed.input → IsUnreadAt chances inputs jobs job placed.index
+unread_from chances inputs jobs job count zero placed rest receipts refused all left taken fails = absurd (no_member placed rest left)
+unread_from chances inputs jobs job count (suc more) placed rest receipts refused all left taken fails =
+    unread_place chances inputs jobs job count more placed rest receipts refused (places_of_job jobs job count) refl (slice_get inputs count) refl all left taken fails
+    (λ past left_past. unread_from chances inputs jobs job (count + 1) more placed rest receipts refused (sym (one_later count more) ∙ all) left_past past fails)
+
+-- the next input of the share can't be read
+pub one_unread : {X : Type 0} (chances : Chances X) (inputs : List X) (jobs job : ℕ) (placed : Placed X) (rest : List (Placed X)) (receipts : List ReceiptData) (refused : List RefusedInput)
+    → IsUnderway chances.Gives inputs jobs job (placed ∷ rest) receipts refused → chances.MayFail placed.input → IsUnreadAt chances inputs jobs job placed.index
+one_unread chances inputs jobs job placed rest receipts refused so_far fails =
+    unread_from chances inputs jobs job so_far.count so_far.more placed rest receipts refused so_far.all so_far.left so_far.taken fails
 
 -- the places that are left aren't of the job
-past_place : {X : Type 0} (says : X → InputData) (inputs : List X) (jobs job count more : ℕ) (receipts : List ReceiptData) (refused : List RefusedInput)
+past_place : {X : Type 0} (Gives : X → Outcome → Type 0) (inputs : List X) (jobs job count more : ℕ) (receipts : List ReceiptData) (refused : List RefusedInput)
     → (own : Bool) → places_of_job jobs job count ≡ own → (found : Option X) → slice_get inputs count ≡ found
     → count + suc more ≡ length inputs
     → [] ≡ (if own then placed_at count found else []) ++ brought_from (places_of_job jobs job) (λ index. placed_at index (slice_get inputs index)) (count + 1) more
-    → HasTaken (map says inputs) jobs job count receipts refused
-    → (HasTaken (map says inputs) jobs job (count + 1) receipts refused → [] ≡ brought_from (places_of_job jobs job) (λ index. placed_at index (slice_get inputs index)) (count + 1) more → HasTaken (map says inputs) jobs job (length inputs) receipts refused)
-    → HasTaken (map says inputs) jobs job (length inputs) receipts refused
-past_place says inputs jobs job count more receipts refused true is_own None none all left taken later = absurd (is_there inputs count more all none)
-past_place {X} says inputs jobs job count more receipts refused true is_own (Some input) is all left taken later =
+    → HasTaken Gives inputs jobs job count receipts refused
+    → (HasTaken Gives inputs jobs job (count + 1) receipts refused → [] ≡ brought_from (places_of_job jobs job) (λ index. placed_at index (slice_get inputs index)) (count + 1) more → HasTaken Gives inputs jobs job (length inputs) receipts refused)
+    → HasTaken Gives inputs jobs job (length inputs) receipts refused
+past_place Gives inputs jobs job count more receipts refused true is_own None none all left taken later = absurd (is_there inputs count more all none)
+past_place {X} Gives inputs jobs job count more receipts refused true is_own (Some input) is all left taken later =
     absurd (no_member (record { index = count; input = input }) (brought_from (places_of_job jobs job) (λ index. placed_at index (slice_get inputs index)) (count + 1) more) (sym left))
-past_place says inputs jobs job count more receipts refused false apart found is all left taken later =
-    later (step_past (map says inputs) jobs job count receipts refused taken apart) left
+past_place Gives inputs jobs job count more receipts refused false apart found is all left taken later =
+    later (step_past Gives inputs jobs job count receipts refused taken apart) left
 
-past_from : {X : Type 0} (says : X → InputData) (inputs : List X) (jobs job count more : ℕ) (receipts : List ReceiptData) (refused : List RefusedInput)
+past_from : {X : Type 0} (Gives : X → Outcome → Type 0) (inputs : List X) (jobs job count more : ℕ) (receipts : List ReceiptData) (refused : List RefusedInput)
     → count + more ≡ length inputs
     → [] ≡ brought_from (places_of_job jobs job) (λ index. placed_at index (slice_get inputs index)) count more
-    → HasTaken (map says inputs) jobs job count receipts refused
-    → HasTaken (map says inputs) jobs job (length inputs) receipts refused
-past_from says inputs jobs job count zero receipts refused all left taken =
-    subst (λ (n : ℕ). HasTaken (map says inputs) jobs job n receipts refused) (none_after count ∙ all) taken
+    → HasTaken Gives inputs jobs job count receipts refused
+    → HasTaken Gives inputs jobs job (length inputs) receipts refused
+past_from Gives inputs jobs job count zero receipts refused all left taken =
+    subst (λ (n : ℕ). HasTaken Gives inputs jobs job n receipts refused) (none_after count ∙ all) taken
   where
     none_after : (count : ℕ) → count ≡ count + 0
     none_after count = omega arith
-past_from says inputs jobs job count (suc more) receipts refused all left taken =
-    past_place says inputs jobs job count more receipts refused (places_of_job jobs job count) refl (slice_get inputs count) refl all left taken
-    (λ past left_past. past_from says inputs jobs job (count + 1) more receipts refused (sym (one_later count more) ∙ all) left_past past)
+past_from Gives inputs jobs job count (suc more) receipts refused all left taken =
+    past_place Gives inputs jobs job count more receipts refused (places_of_job jobs job count) refl (slice_get inputs count) refl all left taken
+    (λ past left_past. past_from Gives inputs jobs job (count + 1) more receipts refused (sym (one_later count more) ∙ all) left_past past)
 
 -- nothing of the share is left, so all of it is taken
-pub all_taken : {X : Type 0} (says : X → InputData) (inputs : List X) (jobs job : ℕ) (rest : List (Placed X)) (receipts : List ReceiptData) (refused : List RefusedInput)
-    → IsUnderway says inputs jobs job rest receipts refused → rest ≡ [] → HasTaken (map says inputs) jobs job (length inputs) receipts refused
-all_taken says inputs jobs job rest receipts refused so_far none =
-    past_from says inputs jobs job so_far.count so_far.more receipts refused so_far.all (sym none ∙ so_far.left) so_far.taken
+pub all_taken : {X : Type 0} (Gives : X → Outcome → Type 0) (inputs : List X) (jobs job : ℕ) (rest : List (Placed X)) (receipts : List ReceiptData) (refused : List RefusedInput)
+    → IsUnderway Gives inputs jobs job rest receipts refused → rest ≡ [] → HasTaken Gives inputs jobs job (length inputs) receipts refused
+all_taken Gives inputs jobs job rest receipts refused so_far none =
+    past_from Gives inputs jobs job so_far.count so_far.more receipts refused so_far.all (sym none ∙ so_far.left) so_far.taken

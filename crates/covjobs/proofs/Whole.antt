@@ -9,23 +9,24 @@ use Rattle.std.proofs.lemmas.Nat.{mod_below}
 use Rattle.covline.specs.Row.{SubmissionData}
 use Rattle.covread.specs.declared.fault.ReadFault.TheVariants as faults
 use Rattle.covbook.specs.Op.{SubmitOp}
-use Rattle.covjobs.specs.Collect.{InputData, IsOutcomeOf, AreOutcomes, HasRead, submitted, refusal, places_of_job, submissions_of, refusals_of, ops_in}
+use Rattle.covjobs.specs.Collect.{HasRead, submitted, refusal, places_of_job, submissions_of, refusals_of, ops_in}
 use Rattle.covlock.specs.Seat.{fresh_seat}
-use Rattle.covjobs.specs.Work.{WorkerData, WorkData, HasDone, HaveDone, work_of}
+use Rattle.covjobs.specs.declared.readers.Readers.{Readers}
+use Rattle.covjobs.specs.Work.{Chances, WorkerData, WorkData, HasDone, HaveDone, work_of}
 use Rattle.covjobs.proofs.Taken.{Outcome}
 use Rattle.covjobs.proofs.Together.{brought_own}
 
 -- the work of `count` jobs, from the job `from` on
-abbrev pub works_from : List InputData → (jobs from count : ℕ) → List WorkData
-works_from inputs jobs from count = map (work_of inputs jobs) (map fresh_seat (range_with_len from count))
+abbrev pub works_from : {X : Type 0} → List X → (jobs : ℕ) → Readers → (from count : ℕ) → List (WorkData X)
+works_from inputs jobs readers from count = map (work_of inputs jobs readers) (map fresh_seat (range_with_len from count))
 
 -- the outcomes of the inputs by the k-th worker's own account, which is right for the inputs of its job
-abbrev outcomes_at : (works : List WorkData) (workers : List WorkerData) → HaveDone works workers → ℕ → ℕ → Outcome
-outcomes_at [] [] done k = λ index. Err faults.Memory
-outcomes_at [] (worker ∷ workers) done k = absurd done
-outcomes_at (work ∷ works) [] done k = absurd done
-outcomes_at (work ∷ works) (worker ∷ workers) done zero = done.0.taken.outcome
-outcomes_at (work ∷ works) (worker ∷ workers) done (suc k) = outcomes_at works workers done.1 k
+abbrev outcomes_at : {X : Type 0} (chances : Chances X) (works : List (WorkData X)) (workers : List WorkerData) → HaveDone chances works workers → ℕ → ℕ → Outcome
+outcomes_at chances [] [] done k = λ index. Err faults.Memory
+outcomes_at chances [] (worker ∷ workers) done k = absurd done
+outcomes_at chances (work ∷ works) [] done k = absurd done
+outcomes_at chances (work ∷ works) (worker ∷ workers) done zero = done.0.taken.outcome
+outcomes_at chances (work ∷ works) (worker ∷ workers) done (suc k) = outcomes_at chances works workers done.1 k
 
 -- a worker has submitted and refused what the outcomes say for its job's inputs. If it has a reader, it has read after each
 -- submit
@@ -34,9 +35,9 @@ pub record FollowsOutcomes (jobs count : ℕ) (outcome : ℕ → Outcome) (worke
   pub are_refused : worker.refused ≡ refusals_of (places_of_job jobs worker.seat.job) outcome count
   pub read : HasRead worker.has_reader worker.receipts worker.readings
 
-told : (inputs : List InputData) (jobs job : ℕ) (worker : WorkerData) (done : HasDone (record { inputs = inputs; jobs = jobs; job = job }) worker) (whole : ℕ → Outcome)
+told : {X : Type 0} (chances : Chances X) (readers : Readers) (inputs : List X) (jobs job : ℕ) (worker : WorkerData) (done : HasDone chances (record { inputs = inputs; jobs = jobs; job = job; readers = readers }) worker) (whole : ℕ → Outcome)
     → ((index : ℕ) → index % jobs ≡ job → whole index ≡ done.taken.outcome index) → FollowsOutcomes jobs (length inputs) whole worker
-told inputs jobs job worker done whole same =
+told chances readers inputs jobs job worker done whole same =
     let own = done.taken.outcome in
     let agree : (index : ℕ) → index < length inputs → places_of_job jobs job index ≡ true → whole index ≡ own index = λ index less meant. same index (is_own jobs job index meant) in
     record {
@@ -60,16 +61,16 @@ pub record AllFollowOutcomes (jobs from some count : ℕ) (outcome : ℕ → Out
   pub are : map (λ (w : WorkerData). w.seat.job) workers ≡ range_with_len from some
   pub each : AllByRecursion (FollowsOutcomes jobs count outcome) workers
 
-have_told : (inputs : List InputData) (jobs from some : ℕ) (workers : List WorkerData) (done : HaveDone (works_from inputs jobs from some) workers) (whole : ℕ → Outcome)
-    → ((k index : ℕ) → index % jobs ≡ from + k → whole index ≡ outcomes_at (works_from inputs jobs from some) workers done k index) → AllFollowOutcomes jobs from some (length inputs) whole workers
-have_told inputs jobs from zero [] done whole same = record { are = refl; each = tt }
-have_told inputs jobs from zero (worker ∷ workers) done whole same = absurd done
-have_told inputs jobs from (suc some) [] done whole same = absurd done
-have_told inputs jobs from (suc some) (worker ∷ workers) done whole same =
-    let rest = have_told inputs jobs (from + 1) some workers done.1 whole (λ k index is. same (suc k) index (is ∙ one_more from k)) in
+have_told : {X : Type 0} (chances : Chances X) (readers : Readers) (inputs : List X) (jobs from some : ℕ) (workers : List WorkerData) (done : HaveDone chances (works_from inputs jobs readers from some) workers) (whole : ℕ → Outcome)
+    → ((k index : ℕ) → index % jobs ≡ from + k → whole index ≡ outcomes_at chances (works_from inputs jobs readers from some) workers done k index) → AllFollowOutcomes jobs from some (length inputs) whole workers
+have_told chances readers inputs jobs from zero [] done whole same = record { are = refl; each = tt }
+have_told chances readers inputs jobs from zero (worker ∷ workers) done whole same = absurd done
+have_told chances readers inputs jobs from (suc some) [] done whole same = absurd done
+have_told chances readers inputs jobs from (suc some) (worker ∷ workers) done whole same =
+    let rest = have_told chances readers inputs jobs (from + 1) some workers done.1 whole (λ k index is. same (suc k) index (is ∙ one_more from k)) in
     record {
       are = ap (λ (job : ℕ). job ∷ map (λ (w : WorkerData). w.seat.job) workers) done.0.own ∙ ap (λ (jobs : List ℕ). from ∷ jobs) rest.are;
-      each = (told inputs jobs from worker done.0 whole (λ index is. same 0 index (is ∙ none_more from)), rest.each);
+      each = (told chances readers inputs jobs from worker done.0 whole (λ index is. same 0 index (is ∙ none_more from)), rest.each);
     }
   where
     one_more : (from k : ℕ) → from + 1 + k ≡ from + suc k
@@ -78,36 +79,40 @@ have_told inputs jobs from (suc some) (worker ∷ workers) done whole same =
     none_more : (from : ℕ) → from ≡ from + 0
     none_more from = omega arith
 
-holds_at : (inputs : List InputData) (jobs from some : ℕ) (workers : List WorkerData) (done : HaveDone (works_from inputs jobs from some) workers) (k index : ℕ)
-    → k < some → index < length inputs → index % jobs ≡ from + k → IsSomeAnd (slice_get inputs index) (λ input. IsOutcomeOf input (outcomes_at (works_from inputs jobs from some) workers done k index))
-holds_at inputs jobs from zero workers done k index below less is = absurd (omega (arith, below))
-holds_at inputs jobs from (suc some) [] done k index below less is = absurd done
-holds_at inputs jobs from (suc some) (worker ∷ workers) done zero index below less is = done.0.taken.outcomes index less (true_is (eq-eqb (index % jobs) from (is ∙ none_more from)))
+holds_at : {X : Type 0} (chances : Chances X) (readers : Readers) (inputs : List X) (jobs from some : ℕ) (workers : List WorkerData) (done : HaveDone chances (works_from inputs jobs readers from some) workers) (k index : ℕ)
+    → k < some → index < length inputs → index % jobs ≡ from + k → IsSomeAnd (slice_get inputs index) (λ input. chances.Gives input (outcomes_at chances (works_from inputs jobs readers from some) workers done k index))
+holds_at chances readers inputs jobs from zero workers done k index below less is = absurd (omega (arith, below))
+holds_at chances readers inputs jobs from (suc some) [] done k index below less is = absurd done
+holds_at chances readers inputs jobs from (suc some) (worker ∷ workers) done zero index below less is = done.0.taken.outcomes index less (true_is (eq-eqb (index % jobs) from (is ∙ none_more from)))
   where
     none_more : (from : ℕ) → from + 0 ≡ from
     none_more from = omega arith
 
     true_is : {b : Bool} → b ≡ true → IsTrue b
     true_is e = e
-holds_at inputs jobs from (suc some) (worker ∷ workers) done (suc k) index below less is = holds_at inputs jobs (from + 1) some workers done.1 k index (omega (arith, below)) less (is ∙ one_more from k)
+holds_at chances readers inputs jobs from (suc some) (worker ∷ workers) done (suc k) index below less is = holds_at chances readers inputs jobs (from + 1) some workers done.1 k index (omega (arith, below)) less (is ∙ one_more from k)
   where
     one_more : (from k : ℕ) → from + suc k ≡ from + 1 + k
     one_more from k = omega arith
 
+-- one function gives the outcomes of all inputs
+abbrev pub AllGive : {X : Type 0} → (X → Outcome → Type 0) → List X → (ℕ → Outcome) → Type 0
+AllGive Gives inputs outcome = (index : ℕ) → index < length inputs → IsSomeAnd (slice_get inputs index) (λ input. Gives input (outcome index))
+
 -- one function gives the outcomes of all inputs, and all that the workers have done follows from it
-pub record IsWhole (inputs : List InputData) (jobs : ℕ) (workers : List WorkerData) : Type 0 where
+pub record IsWhole {X : Type 0} (chances : Chances X) (inputs : List X) (jobs : ℕ) (workers : List WorkerData) : Type 0 where
   pub outcome : ℕ → Outcome
-  pub outcomes : AreOutcomes inputs outcome
+  pub outcomes : AllGive chances.Gives inputs outcome
   pub tell : AllFollowOutcomes jobs 0 jobs (length inputs) outcome workers
 
-pub whole_of : (inputs : List InputData) (jobs : ℕ) (workers : List WorkerData) → 0 < jobs → HaveDone (works_from inputs jobs 0 jobs) workers → IsWhole inputs jobs workers
-whole_of inputs jobs workers some done =
-    let at = outcomes_at (works_from inputs jobs 0 jobs) workers done in
+pub whole_of : {X : Type 0} (chances : Chances X) (readers : Readers) (inputs : List X) (jobs : ℕ) (workers : List WorkerData) → 0 < jobs → HaveDone chances (works_from inputs jobs readers 0 jobs) workers → IsWhole chances inputs jobs workers
+whole_of chances readers inputs jobs workers some done =
+    let at = outcomes_at chances (works_from inputs jobs readers 0 jobs) workers done in
     let whole : ℕ → Outcome = λ index. at (index % jobs) index in
     record {
       outcome = whole;
-      outcomes = λ index less. holds_at inputs jobs 0 jobs workers done (index % jobs) index (mod_below index jobs some) less (sym (none_before (index % jobs)));
-      tell = have_told inputs jobs 0 jobs workers done whole (λ k index is. ap (λ (j : ℕ). at j index) (is ∙ none_before k));
+      outcomes = λ index less. holds_at chances readers inputs jobs 0 jobs workers done (index % jobs) index (mod_below index jobs some) less (sym (none_before (index % jobs)));
+      tell = have_told chances readers inputs jobs 0 jobs workers done whole (λ k index is. ap (λ (j : ℕ). at j index) (is ∙ none_before k));
     }
   where
     none_before : (k : ℕ) → 0 + k ≡ k

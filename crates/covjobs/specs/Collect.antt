@@ -1,6 +1,6 @@
 -- What workers collect. Each input is read; each job submits what its inputs are read as; and after all submissions there is one
 -- last operation (lcov(1), --add-tracefile, for many files at once).
-use Rattle.std.specs.Prelude.{◌≡◌, ◌⊎◌, ◌==◌, ℕ, zero, suc, ◌<◌, ◌≤◌, ◌%◌, if◌then◌else◌, Bool, true, false, IsTrue, List, [], ◌∷◌, ◌++◌, length, map, slice_get, IsSomeAnd, Result, Ok, Err}
+use Rattle.std.specs.Prelude.{◌≡◌, ◌⊎◌, ◌==◌, ℕ, zero, suc, ◌<◌, ◌≤◌, ◌%◌, if◌then◌else◌, Bool, true, false, List, [], ◌∷◌, ◌++◌, length, map, slice_get, IsSomeAnd, Result, Ok, Err}
 use Rattle.std.specs.List.{AllByRecursion, range_with_len}
 use Rattle.covline.specs.Lawful.{IsGoodTest}
 use Rattle.covline.specs.Row.{SubmissionData}
@@ -134,11 +134,3 @@ pub record IsCollected (inputs : List InputData) (jobs : ℕ) (last : OpData) (e
   pub read : AllByRecursion (HasReadings last) logs
   pub are_refused : refused ≡ refusals_of all_places outcome (length inputs)
   pub ends : EndsWith (submissions_of all_places outcome (length inputs)) last entries
-
--- what a job has done with those of the first `count` inputs that are its own: its receipts are those of the submits of what was
--- read, and the inputs that weren't read are refused
-pub record HasTaken (inputs : List InputData) (jobs job count : ℕ) (receipts : List ReceiptData) (refused : List RefusedInput) : Type 0 where
-  pub outcome : ℕ → Result SubmissionData ReadFault
-  pub outcomes : (index : ℕ) → index < count → IsTrue (places_of_job jobs job index) → IsSomeAnd (slice_get inputs index) (λ input. IsOutcomeOf input (outcome index))
-  pub asked : ops_in receipts ≡ map SubmitOp (submissions_of (places_of_job jobs job) outcome count)
-  pub are_refused : refused ≡ refusals_of (places_of_job jobs job) outcome count

@@ -10,3 +10,6 @@ pub mod Collect
 pub mod InputView
 pub mod Shares
 pub mod Work
+pub mod Late
+pub mod Stops
+pub mod Latest

@@ -1,20 +1,26 @@
 -- One step of a worker, and what all workers have done.
-use Rattle.std.specs.Prelude.{◌≡◌, ℕ, ◌+◌, ◌≤◌, Bool, true, false, List, [], ◌∷◌, ◌++◌, length, map, Result, Ok, Err, IfOk}
-use Rattle.std.specs.List.{flat_map}
+use Rattle.std.specs.Prelude.{◌≡◌, ℕ, ◌+◌, ◌<◌, ◌≤◌, Bool, true, false, IsTrue, List, [], ◌∷◌, ◌++◌, length, map, slice_get, IsSomeAnd, Result, Ok, Err}
+use Rattle.std.specs.List.{AllByRecursion, Contains, flat_map}
 use Rattle.covline.specs.Row.{SubmissionData}
 use Rattle.covread.specs.declared.fault.ReadFault.{ReadFault}
 use Rattle.covbook.specs.declared.book.BookFault.{BookFault}
 use Rattle.covbook.specs.declared.reading.Reading.{Reading}
 use Rattle.covbook.specs.Gather.{LogData}
-use Rattle.covbook.specs.Op.{OpData, SubmitOp, ReceiptData}
+use Rattle.covbook.specs.Kept.{KeptData}
+use Rattle.covbook.specs.Op.{OpData, SubmitOp, EntryData, ReceiptData}
 use Rattle.covjobs.specs.declared.refused.RefusedInput.{RefusedInput}
-use Rattle.covjobs.specs.Collect.{InputData, IsOutcomeOf, submitted, refusal, HasRead, HasTaken}
+use Rattle.covjobs.specs.declared.readers.Readers.{Readers}
+use Rattle.covjobs.specs.declared.readers.Readers.TheVariants as readers
+use Rattle.covjobs.specs.declared.stop.Stop.{Stop}
+use Rattle.covjobs.specs.declared.stop.Stop.TheVariants as stops
+use Rattle.covjobs.specs.Collect.{submitted, refusal, places_of_job, submissions_of, refusals_of, ops_in, HasRead}
 use Rattle.covlock.specs.Seat.{SeatData}
 
--- an input is taken: what becomes of it comes after what was submitted and what was refused before
-pub record Takes (input : InputData) (index : ℕ) (asked asks : List OpData) (refused refuses : List RefusedInput) : Type 0 where
+-- an input is taken: what becomes of it comes after what was submitted and what was refused before. `Gives` says which outcomes
+-- the input may have
+pub record Takes (Gives : Result SubmissionData ReadFault → Type 0) (index : ℕ) (asked asks : List OpData) (refused refuses : List RefusedInput) : Type 0 where
   pub outcome : Result SubmissionData ReadFault
-  pub is_outcome : IsOutcomeOf input outcome
+  pub is_outcome : Gives outcome
   pub submits : asks ≡ asked ++ map SubmitOp (submitted outcome)
   pub tells : refuses ≡ refused ++ refusal index outcome
 
@@ -30,49 +36,109 @@ abbrev pub ReadsOn : (has_reader : Bool) → (least : ℕ) → (readings after :
 ReadsOn true least readings after = (reading : Reading) × (after ≡ readings ++ reading ∷ []) × (least ≤ reading.upto)
 ReadsOn false least readings after = after ≡ readings
 
--- what a worker has: its seat, what it keeps of its calls, whether it has a reader, what it read of the totals, and which of
--- its inputs are refused
+-- what a worker has: its seat, its receipts, the history of the latest news of its calls, whether it has a reader, what it read of
+-- the totals, and which of its inputs are refused
 pub record WorkerData : Type 0 where
   pub seat : SeatData
   pub receipts : List ReceiptData
+  pub latest : List EntryData
   pub has_reader : Bool
   pub readings : List Reading
   pub refused : List RefusedInput
 
--- the work of one of `jobs` jobs: its share of the inputs
-pub record WorkData : Type 0 where
-  pub inputs : List InputData
+-- what is known of a worker's calls without a history in memory
+abbrev pub kept_of : WorkerData → KeptData
+kept_of worker = record { log = record { job = worker.seat.job; receipts = worker.receipts; readings = [] }; calls = worker.seat.calls; seen = worker.seat.seen; latest = worker.latest }
+
+-- a worker may have a reader; without readers it has none
+abbrev pub MayHaveReader : Readers → Bool → Type 0
+MayHaveReader readers.ForEachJob has_reader = Unit {0}
+MayHaveReader readers.None has_reader = has_reader ≡ false
+
+-- the work of one of `jobs` jobs: its share of the inputs, with a reader or without
+pub record WorkData (X : Type 0) : Type 0 where
+  pub inputs : List X
   pub jobs : ℕ
   pub job : ℕ
+  pub readers : Readers
 
-abbrev pub work_of : (inputs : List InputData) → (jobs : ℕ) → SeatData → WorkData
-work_of inputs jobs seat = record { inputs = inputs; jobs = jobs; job = seat.job }
+abbrev pub work_of : {X : Type 0} → (inputs : List X) → (jobs : ℕ) → Readers → SeatData → WorkData X
+work_of inputs jobs readers seat = record { inputs = inputs; jobs = jobs; job = seat.job; readers = readers }
+
+-- which outcomes an input may have, and whether it may turn out that it can't be read
+pub record Chances (X : Type 0) : Type 1 where
+  pub Gives : X → Result SubmissionData ReadFault → Type 0
+  pub MayFail : X → Type 0
+
+-- what a job has done with those of the first `count` inputs that are its own: its receipts are those of the submits of what was
+-- read, and the inputs that weren't accepted are refused
+pub record HasTaken {X : Type 0} (Gives : X → Result SubmissionData ReadFault → Type 0) (inputs : List X) (jobs job count : ℕ) (receipts : List ReceiptData) (refused : List RefusedInput) : Type 0 where
+  pub outcome : ℕ → Result SubmissionData ReadFault
+  pub outcomes : (index : ℕ) → index < count → IsTrue (places_of_job jobs job index) → IsSomeAnd (slice_get inputs index) (λ input. Gives input (outcome index))
+  pub asked : ops_in receipts ≡ map SubmitOp (submissions_of (places_of_job jobs job) outcome count)
+  pub are_refused : refused ≡ refusals_of (places_of_job jobs job) outcome count
 
 -- a worker has this job, and has done its work
-pub record HasDone (work : WorkData) (worker : WorkerData) : Type 0 where
+pub record HasDone {X : Type 0} (chances : Chances X) (work : WorkData X) (worker : WorkerData) : Type 0 where
   pub own : worker.seat.job ≡ work.job
-  pub taken : HasTaken work.inputs work.jobs work.job (length work.inputs) worker.receipts worker.refused
+  pub taken : HasTaken chances.Gives work.inputs work.jobs work.job (length work.inputs) worker.receipts worker.refused
   pub read : HasRead worker.has_reader worker.receipts worker.readings
+  pub reader : MayHaveReader work.readers worker.has_reader
+
+-- a worker's input at this place can't be read, and its inputs at all places before it were read
+pub record IsUnreadAt {X : Type 0} (chances : Chances X) (inputs : List X) (jobs job index : ℕ) : Type 0 where
+  pub own : IsTrue (places_of_job jobs job index)
+  pub outcome : ℕ → Result SubmissionData ReadFault
+  pub outcomes : (before : ℕ) → before < index → IsTrue (places_of_job jobs job before) → IsSomeAnd (slice_get inputs before) (λ input. chances.Gives input (outcome before))
+  pub fails : IsSomeAnd (slice_get inputs index) chances.MayFail
+
+-- how a worker ended: it has done its work; or one of its inputs can't be read; or the book refused a call or memory ran out
+abbrev pub HasEnded : {X : Type 0} → Chances X → WorkData X → Result WorkerData Stop → Type 0
+HasEnded chances work (Ok worker) = HasDone chances work worker
+HasEnded chances work (Err (stops.Unread index)) = IsUnreadAt chances work.inputs work.jobs work.job index
+HasEnded chances work (Err (stops.Refused fault)) = Unit {0}
 
 -- each worker has done the work at its place, and there is one for each
-abbrev pub HaveDone : List WorkData → List WorkerData → Type 0
-HaveDone [] [] = Unit {0}
-HaveDone (work ∷ works) (worker ∷ workers) = HasDone work worker × HaveDone works workers
-HaveDone works workers = ⊥
+abbrev pub HaveDone : {X : Type 0} → Chances X → List (WorkData X) → List WorkerData → Type 0
+HaveDone chances [] [] = Unit {0}
+HaveDone chances (work ∷ works) (worker ∷ workers) = HasDone chances work worker × HaveDone chances works workers
+HaveDone chances works workers = ⊥
 
--- each worker that ended well has done the work at its place
-abbrev pub AreDone : List WorkData → List (Result WorkerData BookFault) → Type 0
-AreDone [] [] = Unit {0}
-AreDone (work ∷ works) (end ∷ ended) = IfOk end (HasDone work) × AreDone works ended
-AreDone works ended = ⊥
+-- each worker ended so with the work at its place, and there is one for each
+abbrev pub HaveEnded : {X : Type 0} → Chances X → List (WorkData X) → List (Result WorkerData Stop) → Type 0
+HaveEnded chances [] [] = Unit {0}
+HaveEnded chances (work ∷ works) (end ∷ ended) = HasEnded chances work end × HaveEnded chances works ended
+HaveEnded chances works ended = ⊥
 
--- if all workers ended well, all is done
-abbrev pub AreDoneIfWell : List WorkData → List (Result WorkerData BookFault) → Type 0
-AreDoneIfWell works ended = (workers : List WorkerData) → map Ok workers ≡ ended → HaveDone works workers
+-- the book refused no call, and memory sufficed
+abbrev pub IsUnrefused : Result WorkerData Stop → Type 0
+IsUnrefused (Ok worker) = Unit {0}
+IsUnrefused (Err (stops.Unread index)) = Unit {0}
+IsUnrefused (Err (stops.Refused fault)) = ⊥
 
--- the first worker that didn't end well has this fault
-abbrev pub IsFirstFault : List (Result WorkerData BookFault) → BookFault → Type 0
-IsFirstFault ended fault = (before : List WorkerData) × (after : List (Result WorkerData BookFault)) × (ended ≡ map Ok before ++ Err fault ∷ after)
+-- if no worker was refused anything, each has ended with the work at its place
+abbrev pub HaveEndedIfUnrefused : {X : Type 0} → Chances X → List (WorkData X) → List (Result WorkerData Stop) → Type 0
+HaveEndedIfUnrefused chances works ended = AllByRecursion IsUnrefused ended → HaveEnded chances works ended
+
+-- the worker that was refused something first has this fault: all before it ended well, or at an input that can't be read
+abbrev pub IsFirstFault : List (Result WorkerData Stop) → BookFault → Type 0
+IsFirstFault ended fault = (before : List (Result WorkerData Stop)) × (after : List (Result WorkerData Stop))
+    × AllByRecursion IsUnrefused before × (ended ≡ before ++ Err (stops.Refused fault) ∷ after)
+
+-- an end that is neither refused anything nor at an input before this place
+abbrev pub IsNotBefore : ℕ → Result WorkerData Stop → Type 0
+IsNotBefore index (Ok worker) = Unit {0}
+IsNotBefore index (Err (stops.Unread other)) = index ≤ other
+IsNotBefore index (Err (stops.Refused fault)) = ⊥
+
+-- no worker was refused anything, and this is the least place of an input that can't be read
+abbrev pub IsLeastUnread : List (Result WorkerData Stop) → ℕ → Type 0
+IsLeastUnread ended index = AllByRecursion (IsNotBefore index) ended × Contains ended (Err (stops.Unread index))
+
+-- which end of all workers is returned if not all ended well
+abbrev pub IsWorstEnd : List (Result WorkerData Stop) → Stop → Type 0
+IsWorstEnd ended (stops.Refused fault) = IsFirstFault ended fault
+IsWorstEnd ended (stops.Unread index) = IsLeastUnread ended index
 
 -- what all workers hand in: their seats, their logs, and all that they refused, in the order of the places
 abbrev pub log_of : WorkerData → LogData

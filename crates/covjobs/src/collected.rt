@@ -1,16 +1,18 @@
 //! Collecting: many texts into one history, by jobs that work at once.
 
+use crate::book_fault::IntoBookFault;
 use crate::collect_fault::CollectFault;
+use crate::done::{all_done, ask_last};
 use crate::gate::Gate;
-use crate::input::{Input, OneRead};
+use crate::input::Input;
+use crate::late::LateInput;
+use crate::readers::Readers;
 use crate::refused::Refused;
-use crate::shares::{Dealt, deal};
 use crate::worker::Worker;
-use crate::workers::work_at_once;
 use covbook::laws::{a_run_goes_on, order_does_not_matter};
-use covbook::{BookFault, Entries, Logs, Op, gather};
+use covbook::{Entries, Logs, Op, gather};
 use covline::Memory;
-use covlock::{Name, Seats, Shared, Start, open_book};
+use covlock::{Name, Seats, Start, open_book};
 use std::alloc::Global;
 use std::marker::Brand;
 use std::sync::Wait;
@@ -27,10 +29,10 @@ pub struct Collected {
     pub refused: Refused,
 }
 
-ghost use Rattle.std.specs.Prelude.{◌≡◌, ◌↔◌, ◌⊎◌, ◌<◌, Ok, Err, IfOk, IfErr, length, map};
+ghost use Rattle.std.specs.Prelude.{◌≡◌, ◌↔◌, ◌<◌, List, Err, IfOk, IfErr, map};
 ghost use Rattle.covbook.specs.View.{op_data};
 ghost use Rattle.covjobs.specs.declared.collect_fault.CollectFault.TheVariants as faults;
-ghost use Rattle.covjobs.specs.Collect.{IsCollected};
+ghost use Rattle.covjobs.specs.Collect.{InputData, IsCollected};
 ghost use Rattle.covjobs.specs.InputView.{input_data};
 ghost use Rattle.covlock.specs.Start.{AreJobs};
 
@@ -54,7 +56,12 @@ pub fn collect<R: Threads + Wait + Sync, G: Gate + Sync>(
 {
     let start = Start::new(alloc, jobs)?;
     let inputs = lent(alloc, inputs)?;
-    collect_named::<R, G, Brand, &Input>(rt, alloc, inputs, last, jobs, gate, start)
+    match collect_named::<R, G, Brand, &Input>(rt, alloc, inputs, last, jobs, gate, start) {
+        Ok(collected) => Ok(collected),
+        Err(IntoBookFault::Collect(fault)) => Err(fault),
+        // An input in memory can be read.
+        Err(IntoBookFault::Unread { index: _ }) => unreachable!(),
+    }
 }
 
 /// As `collect`, for inputs that nobody needs any more: each text is freed once it is read, before what was read is submitted.
@@ -70,7 +77,12 @@ pub fn collect_owned<R: Threads + Wait + Sync, G: Gate + Sync>(
     ensures bad { (result ≡ Err faults.BadJobs) ↔ (AreJobs jobs → ⊥) }
 {
     let start = Start::new(alloc, jobs)?;
-    collect_named::<R, G, Brand, Input>(rt, alloc, inputs, last, jobs, gate, start)
+    match collect_named::<R, G, Brand, Input>(rt, alloc, inputs, last, jobs, gate, start) {
+        Ok(collected) => Ok(collected),
+        Err(IntoBookFault::Collect(fault)) => Err(fault),
+        // An input in memory can be read.
+        Err(IntoBookFault::Unread { index: _ }) => unreachable!(),
+    }
 }
 
 /// The inputs, lent one by one.
@@ -84,12 +96,15 @@ fn lent(alloc: Global, inputs: &[Input]) -> Result<Vec<&Input>, Memory>
     Ok(lent)
 }
 
-/// As `collect_owned`, in the book that the start is made for.
+ghost use Rattle.covjobs.specs.declared.book_fault.IntoBookFault.TheVariants as into_book;
+ghost use Rattle.covjobs.specs.Late.{IsIntoBookFault, TurnedOut};
+
+/// As `collect_owned`, for inputs that are read late, in the book that the start is made for.
 fn collect_named<
     R: Threads + Wait + Sync,
     G: Gate + Sync,
     L: Name + Send + Sync,
-    T: OneRead<Global> + Send,
+    T: LateInput<Global> + Send,
 >(
     rt: &R,
     alloc: Global,
@@ -98,21 +113,26 @@ fn collect_named<
     jobs: u32,
     gate: &G,
     start: Start,
-) -> Result<Collected, CollectFault>
+) -> Result<Collected, IntoBookFault>
     requires name { start.name ≡ L.name }
     requires parts { start.jobs ≡ L.parts }
     requires book { start.book ≡ L.book }
     requires jobs { start.jobs ≡ jobs }
     requires some { 0 < jobs }
-    ensures collected { IfOk result (λ c. IsCollected (map T.says inputs.items) jobs (op_data last.now) c.entries c.logs c.refused) }
-    ensures jobs_are_good { result ≡ Err faults.BadJobs → ⊥ }
+    ensures collected { IfOk result (λ c. (read : List InputData) × TurnedOut T.may_be inputs.items read × IsCollected read jobs (op_data last.now) c.entries c.logs c.refused) }
+    ensures unread { IfErr result (IsIntoBookFault T.may_be T.may_fail inputs.items) }
+    ensures jobs_are_good { result ≡ Err (into_book.Collect faults.BadJobs) → ⊥ }
 {
     let (book, seats) = open_book::<L, Global>(alloc, start)?;
-    let dealt = deal(alloc, inputs, jobs)?;
-    let Dealt { inputs, shares } = dealt;
-    let mut workers = all_well(
+    let mut workers = all_done(
+        rt,
         alloc,
-        work_at_once(rt, alloc, &book, gate, seats, jobs, &inputs, shares)?,
+        &book,
+        gate,
+        seats,
+        jobs,
+        Readers::ForEachJob,
+        inputs,
     )?;
     let end = ask_last(rt, alloc, &book, &mut workers, last)?;
     let (seats, logs, refused) = hand_in(alloc, workers)?;
@@ -123,7 +143,7 @@ fn collect_named<
     };
     gather(entries.get(), logs.get())?;
     if entries.get().len() as u64 != end {
-        return Err(CollectFault::NotLast);
+        return Err(IntoBookFault::Collect(CollectFault::NotLast));
     }
     a_run_goes_on();
     order_does_not_matter();
@@ -134,46 +154,9 @@ fn collect_named<
     })
 }
 
-ghost use Rattle.covbook.specs.declared.book.BookFault.TheVariants as book_faults;
-ghost use Rattle.covjobs.specs.Work.{FirstAsks, IsFirstFault, seats_in, logs_in, refused_in};
+ghost use Rattle.covjobs.specs.Work.{seats_in, logs_in, refused_in};
 ghost use Rattle.std.specs.List.Sorted.{IsPermutation, IsNonDecreasingBy};
 ghost use Rattle.covjobs.specs.declared.refused.RefusedInput.{RefusedInput};
-
-/// The workers, if all of them ended well. Otherwise the fault of the first that didn't, or `Memory` if there is no room for
-/// the list.
-fn all_well<L: Name>(
-    alloc: Global,
-    ended: Vec<Result<Worker<L>, BookFault>>,
-) -> Result<Vec<Worker<L>>, BookFault>
-    ensures workers { IfOk result (λ workers. map Ok workers.items ≡ ended.items) }
-    ensures fault { IfErr result (λ fault. IsFirstFault ended.items fault ⊎ (fault ≡ book_faults.Memory)) }
-{
-    let mut workers = Vec::with_capacity(alloc, ended.len()).map_err(|_| BookFault::Memory)?;
-    for worker in ended {
-        workers.push(worker?).map_err(|_| BookFault::Memory)?;
-    }
-    Ok(workers)
-}
-
-/// Has job 0 perform the last operation, and returns the number of entries up to its own.
-fn ask_last<R: Wait, L: Name>(
-    rt: &R,
-    alloc: Global,
-    book: &Shared<L>,
-    workers: &mut Vec<Worker<L>>,
-    last: &Op,
-) -> Result<u64, BookFault>
-    requires { 0 < length workers.old.items }
-    ensures { IfOk result (λ end. FirstAsks workers.old.items workers.new.items end (op_data last.now)) }
-{
-    match workers.first_mut() {
-        Some(worker) => {
-            worker.ask(rt, alloc, book, last)?;
-            Ok(worker.seen())
-        },
-        None => unreachable!(),
-    }
-}
 
 /// The seats, the logs, and the refused inputs in their order.
 fn hand_in<L: Name>(

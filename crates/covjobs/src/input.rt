@@ -18,9 +18,10 @@ impl<A: Allocator + Copy> Input<A> {
     ghost use Rattle.covjobs.specs.Collect.{IsOutcomeOf};
     ghost use Rattle.covjobs.specs.InputView.{input_data};
 
-    /// What the text is read as, to be submitted, or why it isn't read.
+    /// What the text is read as, to be submitted, or why it isn't read. The fault is also `Memory` if there is no room for the
+    /// submission that several owners can share.
     #[tactic(auto, using(crate::proofs::Outcomes::late_outcome))]
-    fn read(&self, alloc: A) -> Result<SubRef<A>, ReadFault>
+    pub fn read(&self, alloc: A) -> Result<SubRef<A>, ReadFault>
         ensures { IsOutcomeOf (input_data self.now) result }
     {
         Ok(SubRef::of(alloc, self.submission(alloc)?)?)
@@ -35,37 +36,5 @@ impl<A: Allocator + Copy> Input<A> {
             Input::Trace(text) => read_trace(alloc, text.get()),
             Input::Gcov { test, text } => read_gcov(alloc, test.get(), text.get()),
         }
-    }
-}
-
-/// A text that is read once, and is used up then: one that is owned is freed, one that is lent goes back to its owner.
-pub(crate) trait OneRead<A: Allocator>: Drop {
-    ghost use Rattle.covjobs.specs.Collect.{InputData, IsOutcomeOf};
-
-    /// What there is to read.
-    ghost says: { Self → InputData };
-
-    /// What the text is read as, to be submitted, or why it isn't read.
-    fn read_once(self, alloc: A) -> Result<SubRef<A>, ReadFault>
-        ensures { IsOutcomeOf (says self) result };
-}
-
-impl<A: Allocator + Copy> OneRead<A> for Input<A> {
-    ghost use Rattle.covjobs.specs.InputView.{input_data};
-
-    ghost says = { input_data };
-
-    fn read_once(self, alloc: A) -> Result<SubRef<A>, ReadFault> {
-        self.read(alloc)
-    }
-}
-
-impl<'a, A: Allocator + Copy> OneRead<A> for &'a Input<A> {
-    ghost use Rattle.covjobs.specs.InputView.{input_data};
-
-    ghost says = { λ text. input_data text.now };
-
-    fn read_once(self, alloc: A) -> Result<SubRef<A>, ReadFault> {
-        Input::read(self, alloc)
     }
 }

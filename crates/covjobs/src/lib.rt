@@ -9,7 +9,8 @@
 //!
 //! `collect` does all of this for texts that are already in memory. It opens a book, and starts a thread for each job, which
 //! reads its share of the inputs and submits them. Then it performs a last operation, closes the book, and gathers the history
-//! from the jobs' logs. `collect_owned` does the same, and frees each text once it is read.
+//! from the jobs' logs. `collect_owned` does the same, and frees each text once it is read. `collect_into_book` keeps no history
+//! and no logs: it returns the book. Its inputs are read when their turn comes (`LateInput`).
 //!
 //! This crate also re-exports what a thread asks (`Op`) and what it keeps (`Receipt` and `Reading`, in a `JobLog`), and `gather`,
 //! which checks that the logs fit the closed history (`Entries`). All of this is covbook's. So a user needs only this crate.
@@ -34,24 +35,35 @@
 //! ```
 #![tactic(auto)]
 
+mod book_fault;
 mod collect_fault;
 mod collected;
+mod done;
 mod gate;
 mod input;
+mod into_book;
+mod late;
+mod late_fault;
+mod readers;
 mod refused;
 mod shares;
+mod stop;
 mod worker;
 mod workers;
 
+pub use book_fault::IntoBookFault;
 pub use collect_fault::CollectFault;
 pub use collected::{Collected, collect, collect_owned};
 // `gather` can also check the readings of a reader that isn't a job. They are given as a log without receipts, with a job number
 // that no seat has.
-pub use covbook::{BookFault, Entries, JobLog, Op, Reading, Receipt, gather};
+pub use covbook::{Answered, Book, BookFault, Entries, JobLog, Keep, Op, Reading, Receipt, gather};
 pub use covlock::{
     CloseFault, Done, Live, MAX_JOBS, MAX_READERS, Name, News, OpenFault, ReaderFault, Seat, Seats,
-    Shared, Start, open_book,
+    Shared, Start, open_book, open_book_keeping,
 };
 pub use gate::{Gate, NoGate};
 pub use input::Input;
+pub use into_book::{CollectedBook, collect_into_book};
+pub use late::LateInput;
+pub use late_fault::LateFault;
 pub use refused::{Refused, RefusedInput};

@@ -1,46 +1,60 @@
 //! One job's worker.
 
 use crate::gate::Gate;
-use crate::input::OneRead;
+use crate::late::LateInput;
+use crate::late_fault::LateFault;
+use crate::readers::Readers;
 use crate::refused::{Refused, RefusedInput};
 use crate::shares::Placed;
-use covbook::{BookFault, JobLog, Op, Readings, Receipts, SubRef};
+use crate::stop::Stop;
+use covbook::{BookFault, Entry, JobLog, Keep, Op, Readings, Receipt, Receipts, SubRef};
 use covline::Memory;
-use covlock::{Live, Name, News, ReaderFault, Seat, Shared};
+use covlock::{Done, Live, Name, News, ReaderFault, Seat, Shared};
 use std::alloc::{Allocator, Global};
 use std::marker::Model;
 use std::snapshot::Snapshot;
 use std::sync::Wait;
 
-/// A job at work: its seat, what it keeps of its calls, what it read of the totals, and which of its inputs are refused. Contracts
-/// see all four, and whether it has a reader.
+/// A job at work: its seat, what it keeps of its receipts (`P`), the latest news of its calls, what it read of the totals, and which
+/// of its inputs are refused. Contracts see whole receipts, whatever is kept of them, the history of the latest news, and whether
+/// the job has a reader. The receipts are a log of that history.
 #[derive(Drop)]
-pub(crate) struct Worker<L: Name, A: Allocator = Global> {
+pub(crate) struct Worker<L: Name, A: Allocator = Global, P: Keep<Of = Receipt<A>> = Receipt<A>> {
     seat: Seat<L>,
-    receipts: Receipts<A>,
+    receipts: Vec<P, A>,
+    latest: Option<News<L>>,
     readings: Readings<A>,
     refused: Refused<A>,
     live: Option<Live<L, A>>,
 }
 
-impl<L: Name, A: Allocator> Model for Worker<L, A> {
-    ghost use Rattle.std.specs.Prelude.{is_some};
+impl<L: Name, A: Allocator, P: Keep<Of = Receipt<A>>> Model for Worker<L, A, P> {
+    ghost use Rattle.std.specs.Prelude.{[], is_some, map};
+    ghost use Rattle.covbook.specs.EntryView.{receipt_data};
+    ghost use Rattle.covbook.specs.Kept.{IsKept};
+    ghost use Rattle.covjobs.specs.Latest.{history_of};
     ghost use Rattle.covjobs.specs.Work.{WorkerData};
 
     ghost Value = { WorkerData };
 
-    ghost view = { λ a. record { seat = a.seat; receipts = a.receipts; has_reader = is_some a.live; readings = a.readings; refused = a.refused } };
+    ghost view = { λ a. record { seat = a.seat; receipts = map (λ p. receipt_data (P.shows p)) a.receipts.items; latest = history_of a.latest; has_reader = is_some a.live; readings = a.readings; refused = a.refused } };
+
+    ghost invariant = { λ a. IsKept (record { job = a.seat.job; receipts = map (λ p. receipt_data (P.shows p)) a.receipts.items; readings = [] }) a.seat.calls a.seat.seen (history_of a.latest) };
 }
 
-impl<L: Name, A: Allocator + Copy> Worker<L, A> {
-    ghost use Rattle.std.specs.Prelude.{◌≡◌, ◌++◌, [], ◌∷◌, IfOk, is_some, length};
+impl<L: Name, A: Allocator + Copy, P: Keep<Of = Receipt<A>>> Worker<L, A, P> {
+    ghost use Rattle.std.specs.Prelude.{◌≡◌, ◌++◌, [], ◌∷◌, IfOk, IfErr, is_some, length};
     ghost use Rattle.covbook.specs.Op.{SubmitOp};
     ghost use Rattle.covbook.specs.View.{op_data};
     ghost use Rattle.covjobs.specs.Collect.{ops_in, HasRead};
+    ghost use Rattle.covjobs.specs.Late.{MayGive};
+    ghost use Rattle.covjobs.specs.Stops.{IsUnreadOf};
     ghost use Rattle.covjobs.specs.Work.{Takes, Asks, ReadsOn};
+    ghost use Rattle.covlock.specs.Seat.{fresh_seat};
 
     /// The job's worker, which has done nothing yet.
-    fn new(alloc: A, seat: Seat<L>, live: Option<Live<L, A>>) -> Worker<L, A>
+    fn new(alloc: A, seat: Seat<L>, live: Option<Live<L, A>>) -> Worker<L, A, P>
+        requires { seat ≡ fresh_seat seat.job }
         ensures seat { result.seat ≡ seat }
         ensures receipts { result.receipts ≡ [] }
         ensures reader { result.has_reader ≡ is_some live }
@@ -49,40 +63,57 @@ impl<L: Name, A: Allocator + Copy> Worker<L, A> {
     {
         Worker {
             seat,
-            receipts: Receipts::new(alloc),
+            receipts: Vec::new(alloc),
+            latest: None,
             readings: Readings::new(alloc),
             refused: Refused::new(alloc),
             live,
         }
     }
 
-    /// Takes the input: submits what it is read as, or refuses it if it isn't read. It is used up before anything is submitted.
-    fn take<R: Wait, G: Gate, T: OneRead<A>>(
+    /// Takes the input: submits what it is read as, or refuses it if its text is refused. It is used up before anything is
+    /// submitted.
+    fn take<R: Wait, G: Gate, T: LateInput<A>, K: Keep<Of = Entry<A>>>(
         &mut self,
         rt: &R,
         alloc: A,
-        book: &Shared<L, A>,
+        book: &Shared<L, A, K>,
         gate: &G,
         placed: Placed<T>,
-    ) -> Result<(), BookFault>
+    ) -> Result<(), Stop>
         ensures job { self.new.seat.job ≡ self.old.seat.job }
-        ensures taken { IfOk result (λ _. Takes (T.says placed.input) placed.index (ops_in self.old.receipts) (ops_in self.new.receipts) self.old.refused self.new.refused) }
+        ensures taken { IfOk result (λ _. Takes (MayGive (T.may_be placed.input)) placed.index (ops_in self.old.receipts) (ops_in self.new.receipts) self.old.refused self.new.refused) }
+        ensures unread { IfErr result (IsUnreadOf placed.index (T.may_fail placed.input)) }
         ensures read { IfOk result (λ _. HasRead self.old.has_reader self.old.receipts self.old.readings → HasRead self.new.has_reader self.new.receipts self.new.readings) }
         ensures reader { self.new.has_reader ≡ self.old.has_reader }
     {
         let Placed { index, input } = placed;
-        match input.read_once(alloc) {
-            Ok(submission) => self.submit(rt, alloc, book, gate, submission),
-            Err(fault) => Ok(self.refused.push(RefusedInput { index, fault })?),
+        match input.read_late(alloc) {
+            Ok(submission) => Ok(self.submit(rt, alloc, book, gate, submission)?),
+            Err(LateFault::Refused(fault)) => Ok(self.refuse(RefusedInput { index, fault })?),
+            Err(LateFault::Unreadable) => Err(Stop::Unread(index)),
+            Err(LateFault::Memory) => Err(Stop::Refused(BookFault::Memory)),
         }
     }
 
+    /// Notes that this input is refused.
+    fn refuse(&mut self, input: RefusedInput) -> Result<(), Memory>
+        ensures seat { self.new.seat ≡ self.old.seat }
+        ensures receipts { self.new.receipts ≡ self.old.receipts }
+        ensures reader { self.new.has_reader ≡ self.old.has_reader }
+        ensures readings { self.new.readings ≡ self.old.readings }
+        ensures refused { IfOk result (λ _. self.new.refused ≡ self.old.refused ++ input ∷ []) }
+    {
+        self.refused.push(input)?;
+        Ok(())
+    }
+
     /// Submits, between the two calls of the gate, and keeps the receipt and then a reading, if the job has a reader.
-    fn submit<R: Wait, G: Gate>(
+    fn submit<R: Wait, G: Gate, K: Keep<Of = Entry<A>>>(
         &mut self,
         rt: &R,
         alloc: A,
-        book: &Shared<L, A>,
+        book: &Shared<L, A, K>,
         gate: &G,
         submission: SubRef<A>,
     ) -> Result<(), BookFault>
@@ -101,12 +132,12 @@ impl<L: Name, A: Allocator + Copy> Worker<L, A> {
     }
 
     /// Performs the operation, and keeps the receipt; the job has then seen the place after the receipt's. Returns news
-    /// of the history up to that place.
-    pub(crate) fn ask<R: Wait>(
+    /// of the history up to that place. Makes room for the receipt first, so each call that succeeds is kept.
+    pub(crate) fn ask<R: Wait, K: Keep<Of = Entry<A>>>(
         &mut self,
         rt: &R,
         alloc: A,
-        book: &Shared<L, A>,
+        book: &Shared<L, A, K>,
         op: &Op<A>,
     ) -> Result<News<L>, BookFault>
         ensures job { self.new.seat.job ≡ self.old.seat.job }
@@ -116,9 +147,11 @@ impl<L: Name, A: Allocator + Copy> Worker<L, A> {
         ensures readings { self.new.readings ≡ self.old.readings }
         ensures refused { self.new.refused ≡ self.old.refused }
     {
-        let done = book.perform(rt, alloc, &mut self.seat, op)?;
-        self.receipts.push(done.receipt)?;
-        Ok(done.news)
+        self.receipts.reserve(1).map_err(|_| BookFault::Memory)?;
+        let Done { receipt, news } = book.perform(rt, alloc, &mut self.seat, op)?;
+        self.receipts.push_reserved(P::keep(receipt));
+        self.latest = Some(later(&self.latest, &news));
+        Ok(news)
     }
 
     /// Keeps one reading that is at least as late as the news, if the job has a reader.
@@ -137,8 +170,27 @@ impl<L: Name, A: Allocator + Copy> Worker<L, A> {
     }
 }
 
-impl<L: Name, A: Allocator> Worker<L, A> {
+ghost use Rattle.std.specs.Prelude.{◌≡◌, ◌<◌, IfOk, length};
+ghost use Rattle.covbook.specs.Kept.{IsPrefix};
+ghost use Rattle.covjobs.specs.Latest.{history_of};
+
+/// The news, which are of a longer history than the latest news before: that history goes on to the one of the news.
+fn later<L: Name>(latest: &Option<News<L>>, news: &News<L>) -> News<L>
+    requires { length (history_of latest.now) < length news.now }
+    ensures same { result ≡ news.now }
+    ensures onward { IsPrefix (history_of latest.now) result }
+{
+    match latest {
+        Some(latest) => latest.longer(news),
+        None => news.copy(),
+    }
+}
+
+impl<L: Name, A: Allocator, P: Keep<Of = Receipt<A>>> Worker<L, A, P> {
     ghost use Rattle.std.specs.Prelude.{◌≡◌};
+    ghost use Rattle.covbook.specs.Kept.{IsKeptWell};
+    ghost use Rattle.covjobs.specs.Latest.{history_of};
+    ghost use Rattle.covjobs.specs.Work.{kept_of};
 
     /// The place after that of the job's last call.
     pub(crate) fn seen(&self) -> u64
@@ -146,6 +198,28 @@ impl<L: Name, A: Allocator> Worker<L, A> {
     {
         self.seat.seen()
     }
+
+    /// The job's seat, the latest news of its calls, and which of its inputs are refused.
+    pub(crate) fn into_news(self) -> (Seat<L>, Option<News<L>>, Refused<A>)
+        ensures seat { result.0 ≡ self.seat }
+        ensures latest { history_of result.1 ≡ self.latest }
+        ensures refused { result.2 ≡ self.refused }
+        ensures kept { IsKeptWell (kept_of self) }
+    {
+        let Worker {
+            seat,
+            receipts: _,
+            latest,
+            readings: _,
+            refused,
+            live: _,
+        } = self;
+        (seat, latest, refused)
+    }
+}
+
+impl<L: Name, A: Allocator> Worker<L, A> {
+    ghost use Rattle.std.specs.Prelude.{◌≡◌};
 
     /// The job's seat, its log, and which of its inputs are refused.
     pub(crate) fn into_parts(self) -> (Seat<L>, JobLog<A>, Refused<A>)
@@ -158,6 +232,7 @@ impl<L: Name, A: Allocator> Worker<L, A> {
         let Worker {
             seat,
             receipts,
+            latest: _,
             readings,
             refused,
             live: _,
@@ -165,35 +240,45 @@ impl<L: Name, A: Allocator> Worker<L, A> {
         let job = seat.job();
         let log = JobLog {
             job,
-            receipts,
+            receipts: Receipts::of(receipts),
             readings,
         };
         (seat, log, refused)
     }
 }
 
-ghost use Rattle.std.specs.Prelude.{◌≡◌, IfOk, length, map};
-ghost use Rattle.covjobs.specs.Collect.{HasRead, HasTaken};
+ghost use Rattle.std.specs.Prelude.{is_some};
+ghost use Rattle.covjobs.specs.Late.{chances_of};
 ghost use Rattle.covjobs.specs.Shares.{share_of};
+ghost use Rattle.covjobs.specs.Work.{HasEnded, MayHaveReader, work_of};
+ghost use Rattle.covlock.specs.Seat.{fresh_seat};
 
 /// Does the work of one of `jobs` jobs: takes its share of the inputs, in order. Ends at the first fault. If there is no place
 /// for one more reader, the job has no readings.
-pub(crate) fn work<R: Wait, G: Gate, L: Name, A: Allocator + Copy, T: OneRead<A>>(
+pub(crate) fn work<
+    R: Wait,
+    G: Gate,
+    L: Name,
+    A: Allocator + Copy,
+    T: LateInput<A>,
+    K: Keep<Of = Entry<A>>,
+    P: Keep<Of = Receipt<A>>,
+>(
     rt: &R,
     alloc: A,
-    book: &Shared<L, A>,
+    book: &Shared<L, A, K>,
     gate: &G,
     seat: Seat<L>,
     jobs: u32,
+    readers: Readers,
     inputs: &Snapshot<Vec<T>>,
     share: Vec<Placed<T>>,
-) -> Result<Worker<L, A>, BookFault>
-    requires { share.items ≡ share_of inputs.now.value.items jobs seat.job }
-    ensures job { IfOk result (λ w. w.seat.job ≡ seat.job) }
-    ensures taken { IfOk result (λ w. HasTaken (map T.says inputs.now.value.items) jobs seat.job (length inputs.now.value.items) w.receipts w.refused) }
-    ensures read { IfOk result (λ w. HasRead w.has_reader w.receipts w.readings) }
+) -> Result<Worker<L, A, P>, Stop>
+    requires share { share.items ≡ share_of inputs.now.value.items jobs seat.job }
+    requires fresh { seat ≡ fresh_seat seat.job }
+    ensures { HasEnded (chances_of T.may_be T.may_fail) (work_of inputs.now.value.items jobs readers seat) result }
 {
-    let live = reader_of(rt, book)?;
+    let live = reader_of(rt, book, readers)?;
     let mut worker = Worker::new(alloc, seat, live);
     for placed in share {
         worker.take(rt, alloc, book, gate, placed)?;
@@ -201,15 +286,21 @@ pub(crate) fn work<R: Wait, G: Gate, L: Name, A: Allocator + Copy, T: OneRead<A>
     Ok(worker)
 }
 
-/// A reader of the book, if there is a place for one.
-fn reader_of<R: Wait, L: Name, A: Allocator>(
+/// A reader of the book, if jobs have readers and there is a place for one.
+fn reader_of<R: Wait, L: Name, A: Allocator, K: Keep<Of = Entry<A>>>(
     rt: &R,
-    book: &Shared<L, A>,
-) -> Result<Option<Live<L, A>>, BookFault> {
-    match book.reader(rt) {
-        Ok(live) => Ok(Some(live)),
-        Err(ReaderFault::NoPlace) => Ok(None),
-        // A reader takes no memory, so this doesn't happen.
-        Err(ReaderFault::Memory) => Err(BookFault::Memory),
+    book: &Shared<L, A, K>,
+    readers: Readers,
+) -> Result<Option<Live<L, A>>, BookFault>
+    ensures { IfOk result (λ live. MayHaveReader readers (is_some live)) }
+{
+    match readers {
+        Readers::None => Ok(None),
+        Readers::ForEachJob => match book.reader(rt) {
+            Ok(live) => Ok(Some(live)),
+            Err(ReaderFault::NoPlace) => Ok(None),
+            // A reader takes no memory, so this doesn't happen.
+            Err(ReaderFault::Memory) => Err(BookFault::Memory),
+        },
     }
 }

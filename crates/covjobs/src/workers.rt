@@ -1,15 +1,21 @@
 //! The workers of all jobs, each in a thread of its own.
 
-ghost use Rattle.std.specs.Prelude.{◌≡◌, Ok, Err, IfOk, IsTrue, false, map, Contains};
+ghost use Rattle.std.specs.Prelude.{◌≡◌, Err, IfOk, IsTrue, false, map, Contains};
+ghost use Rattle.std.specs.List.{AllByRecursion};
 ghost use Rattle.covbook.specs.declared.book.BookFault.TheVariants as book_faults;
+ghost use Rattle.covjobs.specs.declared.stop.Stop.TheVariants as stops;
+ghost use Rattle.covjobs.specs.Late.{chances_of};
 ghost use Rattle.covjobs.specs.Shares.{share_of};
-ghost use Rattle.covjobs.specs.Work.{HasDone, AreDone, AreDoneIfWell, work_of};
+ghost use Rattle.covjobs.specs.Work.{HasEnded, HaveEnded, HaveEndedIfUnrefused, IsUnrefused, work_of};
+ghost use Rattle.covlock.specs.Seat.{fresh_seat, first_seats};
 
 use crate::gate::Gate;
-use crate::input::OneRead;
+use crate::late::LateInput;
+use crate::readers::Readers;
 use crate::shares::Placed;
+use crate::stop::Stop;
 use crate::worker::{Worker, work};
-use covbook::BookFault;
+use covbook::{BookFault, Entry, Keep, Receipt};
 use covline::Memory;
 use covlock::{Name, Seats, Shared};
 use std::alloc::Global;
@@ -19,53 +25,60 @@ use std::sync::Wait;
 use std::thread;
 use std::thread::{Promise, PromisedHandle, Threads};
 
-/// What a worker that ends well has done.
+/// How a worker ends.
 #[derive(Drop)]
-struct WorkPromise<T: OneRead<Global>> {
+struct WorkPromise<T: LateInput<Global>> {
     job: u32,
     jobs: u32,
+    readers: Readers,
     inputs: Snapshot<Snapshot<Vec<T>>>,
 }
 
-impl<T: OneRead<Global>> Model for WorkPromise<T> {
-    ghost use Rattle.std.specs.Prelude.{map};
+impl<T: LateInput<Global>> Model for WorkPromise<T> {
     ghost use Rattle.covjobs.specs.Work.{WorkData};
 
-    ghost Value = { WorkData };
+    ghost Value = { WorkData T };
 
-    ghost view = { λ a. record { inputs = map T.says a.inputs.value.value.items; jobs = a.jobs; job = a.job } };
+    ghost view = { λ a. record { inputs = a.inputs.value.value.items; jobs = a.jobs; job = a.job; readers = a.readers } };
 }
 
-impl<L: Name, T: OneRead<Global>> Promise<Result<Worker<L>, BookFault>> for WorkPromise<T> {
-    ghost kept_by = { λ p r. IfOk r (λ w. HasDone p w) };
+impl<L: Name, T: LateInput<Global>, P: Keep<Of = Receipt>> Promise<
+    Result<Worker<L, Global, P>, Stop>,
+> for WorkPromise<T> {
+    ghost kept_by = { λ p r. HasEnded (chances_of T.may_be T.may_fail) p r };
 }
 
-/// Starts a worker for each seat, with its share of the inputs, waits until all have ended, and returns what each has done, in the
+/// Starts a worker for each seat, with its share of the inputs, waits until all have ended, and returns how each ended, in the
 /// order of the seats. If a worker can't be started, memory ran out for it, and no further one is started.
 pub(crate) fn work_at_once<
     R: Threads + Wait + Sync,
     G: Gate + Sync,
     L: Name + Send + Sync,
-    T: OneRead<Global> + Send,
+    T: LateInput<Global> + Send,
+    K: Keep<Of = Entry> + Send,
+    P: Keep<Of = Receipt> + Send,
 >(
     rt: &R,
     alloc: Global,
-    book: &Shared<L>,
+    book: &Shared<L, Global, K>,
     gate: &G,
     seats: Seats<L>,
     jobs: u32,
+    readers: Readers,
     inputs: &Snapshot<Vec<T>>,
     shares: Vec<Vec<Placed<T>>>,
-) -> Result<Vec<Result<Worker<L>, BookFault>>, Memory>
-    requires { map (λ share. share.items) shares.items ≡ map (λ seat. share_of inputs.now.value.items jobs seat.job) seats }
-    ensures { IfOk result (λ ended. AreDoneIfWell (map (work_of (map T.says inputs.now.value.items) jobs) seats) ended.items) }
+) -> Result<Vec<Result<Worker<L, Global, P>, Stop>>, Memory>
+    requires shares { map (λ share. share.items) shares.items ≡ map (λ seat. share_of inputs.now.value.items jobs seat.job) seats }
+    requires fresh { AllByRecursion (λ seat. seat ≡ fresh_seat seat.job) seats }
+    ensures { IfOk result (λ ended. HaveEndedIfUnrefused (chances_of T.may_be T.may_fail) (map (work_of inputs.now.value.items jobs readers) seats) ended.items) }
 {
     thread::scope(
         thread::scope_env(),
         rt,
-        |scope| -> Result<Vec<Result<Worker<L>, BookFault>>, Memory>
-            requires { map (λ share. share.items) shares.items ≡ map (λ seat. share_of inputs.now.value.items jobs seat.job) seats }
-            ensures { IfOk result (λ ended. AreDoneIfWell (map (work_of (map T.says inputs.entry.now.value.items) jobs) seats) ended.items) }
+        |scope| -> Result<Vec<Result<Worker<L, Global, P>, Stop>>, Memory>
+            requires shares { map (λ share. share.items) shares.items ≡ map (λ seat. share_of inputs.now.value.items jobs seat.job) seats }
+            requires fresh { AllByRecursion (λ seat. seat ≡ fresh_seat seat.job) seats }
+            ensures { IfOk result (λ ended. HaveEndedIfUnrefused (chances_of T.may_be T.may_fail) (map (work_of inputs.entry.now.value.items jobs readers) seats) ended.items) }
         {
             let seats = seats.into_vec();
             let mut shares = shares.into_iter();
@@ -80,15 +93,17 @@ pub(crate) fn work_at_once<
                 let promise = WorkPromise {
                     job: seat.job(),
                     jobs,
+                    readers,
                     inputs: Snapshot::of(inputs),
                 };
                 if all_started {
                     match scope.spawn_with(
                         promise,
-                        move || -> Result<Worker<L>, BookFault>
-                            requires { share.items ≡ share_of inputs.now.value.items jobs seat.job }
-                            ensures { IfOk result (λ w. HasDone (work_of (map T.says inputs.entry.now.value.items) jobs seat) w) }
-                        { work(rt, alloc, book, gate, seat, jobs, inputs, share) },
+                        move || -> Result<Worker<L, Global, P>, Stop>
+                            requires share { share.items ≡ share_of inputs.now.value.items jobs seat.job }
+                            requires fresh { seat ≡ fresh_seat seat.job }
+                            ensures { HasEnded (chances_of T.may_be T.may_fail) (work_of inputs.entry.now.value.items jobs readers seat) result }
+                        { work(rt, alloc, book, gate, seat, jobs, readers, inputs, share) },
                     ) {
                         Ok(handle) => handles.push(handle)?,
                         Err(_refused) => all_started = false,
@@ -101,30 +116,30 @@ pub(crate) fn work_at_once<
 }
 
 /// Waits until all workers have ended, and returns how each did. If not all were started, memory ran out for the next one.
-fn end_all<R: Threads, L: Name, T: OneRead<Global>>(
+fn end_all<R: Threads, L: Name, T: LateInput<Global>, P: Keep<Of = Receipt>>(
     rt: &R,
     alloc: Global,
-    handles: Vec<PromisedHandle<Result<Worker<L>, BookFault>, WorkPromise<T>>>,
+    handles: Vec<PromisedHandle<Result<Worker<L, Global, P>, Stop>, WorkPromise<T>>>,
     all_started: bool,
-) -> Result<Vec<Result<Worker<L>, BookFault>>, Memory>
-    ensures done { IfOk result (λ ended. IsTrue all_started → AreDone (map (λ h. h.promise) handles.items) ended.items) }
-    ensures short { IfOk result (λ ended. all_started ≡ false → (workers : _) → map Ok workers ≡ ended.items → ⊥) }
-    ensures untold { IfOk result (λ ended. all_started ≡ false → Contains ended.items (Err book_faults.Memory)) }
+) -> Result<Vec<Result<Worker<L, Global, P>, Stop>>, Memory>
+    ensures ended { IfOk result (λ ended. IsTrue all_started → HaveEnded (chances_of T.may_be T.may_fail) (map (λ h. h.promise) handles.items) ended.items) }
+    ensures short { IfOk result (λ ended. all_started ≡ false → AllByRecursion IsUnrefused ended.items → ⊥) }
+    ensures untold { IfOk result (λ ended. all_started ≡ false → Contains ended.items (Err (stops.Refused book_faults.Memory))) }
 {
     let mut ended = join_all(rt, alloc, handles)?;
     if !all_started {
-        ended.push(Err(BookFault::Memory))?;
+        ended.push(Err(Stop::Refused(BookFault::Memory)))?;
     }
     Ok(ended)
 }
 
 /// Waits until all workers have ended, and returns how each did.
-fn join_all<R: Threads, L: Name, T: OneRead<Global>>(
+fn join_all<R: Threads, L: Name, T: LateInput<Global>, P: Keep<Of = Receipt>>(
     rt: &R,
     alloc: Global,
-    handles: Vec<PromisedHandle<Result<Worker<L>, BookFault>, WorkPromise<T>>>,
-) -> Result<Vec<Result<Worker<L>, BookFault>>, Memory>
-    ensures { IfOk result (λ ended. AreDone (map (λ h. h.promise) handles.items) ended.items) }
+    handles: Vec<PromisedHandle<Result<Worker<L, Global, P>, Stop>, WorkPromise<T>>>,
+) -> Result<Vec<Result<Worker<L, Global, P>, Stop>>, Memory>
+    ensures { IfOk result (λ ended. HaveEnded (chances_of T.may_be T.may_fail) (map (λ h. h.promise) handles.items) ended.items) }
 {
     let mut ended = Vec::with_capacity(alloc, handles.len())?;
     for handle in handles {

@@ -8,6 +8,7 @@ mod books;
 mod closing;
 mod collecting;
 mod gates;
+mod into_book;
 mod jobs;
 mod kept;
 mod readers;

@@ -91,7 +91,7 @@ fn a_rename_at_the_end(rt: HostRuntime) -> Result<(), Fail> {
 }
 
 /// Whether the only refused input is the one at this place, since its first line is a record outside of any section.
-fn is_outside(refused: &[RefusedInput], index: usize) -> bool {
+pub(super) fn is_outside(refused: &[RefusedInput], index: usize) -> bool {
     match refused.split_first() {
         Some((first, [])) => {
             first.index == index && first.fault == ReadFault::Outside { at: 1 }
@@ -136,7 +136,7 @@ fn check_last(rt: &impl Abort, entries: &[Entry], wanted: &[u8]) {
 }
 
 /// A line that SMALL has too, one that it doesn't have, and another test.
-const OTHERS: &[u8] = b"\
+pub(super) const OTHERS: &[u8] = b"\
 TN:t
 SF:/a.c
 DA:1,3
@@ -149,7 +149,7 @@ end_of_record
 ";
 
 /// SMALL twice and OTHERS, added up: 2 + 3 + 2 of line 1.
-const ADDED_UP: &[u8] = b"\
+pub(super) const ADDED_UP: &[u8] = b"\
 TN:t
 SF:/a.c
 DA:1,7

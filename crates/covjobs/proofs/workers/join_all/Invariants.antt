@@ -1,8 +1,11 @@
 use Rattle.std.specs.Prelude.{◌++◌, List, Result, map}
-use Rattle.covbook.specs.declared.book.BookFault.{BookFault}
-use Rattle.covjobs.specs.Work.{WorkerData, AreDone}
+use Rattle.covjobs.specs.declared.stop.Stop.{Stop}
+use Rattle.covjobs.specs.Late.{chances_of}
+use Rattle.covjobs.specs.Work.{WorkerData, HaveEnded}
 use Rattle.covjobs.proofs.workers.join_all.Given as goal
 
 -- the ends so far are those of the first workers: if any ends of the workers left follow them, these are the ends of all workers
 abbrev pub invariant-loop-handle : goal.invariant-loop-handle
-invariant-loop-handle g l = (rest : List (Result WorkerData BookFault)) → AreDone (map (λ h. h.promise) l.handle-iterator.rest.items) rest → AreDone (map (λ h. h.promise) l.fn.handles.items) (l.ended.items ++ rest)
+invariant-loop-handle g l =
+    (rest : List (Result WorkerData Stop)) → HaveEnded (chances_of g.T.LateInput.may_be g.T.LateInput.may_fail) (map (λ h. h.promise) l.handle-iterator.rest.items) rest
+    → HaveEnded (chances_of g.T.LateInput.may_be g.T.LateInput.may_fail) (map (λ h. h.promise) l.fn.handles.items) (l.ended.items ++ rest)

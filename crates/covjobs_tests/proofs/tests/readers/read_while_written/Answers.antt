@@ -1,6 +1,7 @@
 use borrow.Author.Rules.{rules}
 use denote.Param.Send.{IsSync, sendable}
 use Rattle.std.proofs.Crossing as heap
+use Rattle.covbook.proofs.entry.Entry.TheSendSync as entry
 use Rattle.covlock.proofs.Crossing.{shared_sync}
 use Rattle.covlock.proofs.seat.Seat.TheSendSync as seat
 use Rattle.covjobs_tests.proofs.tests.readers.read_while_written.Goals as goal
@@ -9,4 +10,4 @@ use Rattle.covjobs_tests.proofs.tests.readers.read_while_written.Goals as goal
 pub join-told-requires-send-F : goal.join-told-requires-send-F
 join-told-requires-send-F g c κs within =
     let runtime : IsSync g.row.R = search (rules, c.requires) parts 8 in
-    search (sendable, heap.crosses, shared_sync, seat.the_send) depth 60 fits 20000
+    search (sendable, heap.crosses, shared_sync, entry.the_send, seat.the_send) depth 60 fits 20000

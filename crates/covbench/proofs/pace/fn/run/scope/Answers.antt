@@ -2,6 +2,7 @@ use borrow.Author.Rules.{rules}
 use denote.Param.Send.{IsSync, sendable}
 use Rattle.std.proofs.Crossing as heap
 use Rattle.covbook.proofs.op.Op.TheSendSync as op
+use Rattle.covbook.proofs.entry.Entry.TheSendSync as entry
 use Rattle.covlock.proofs.Crossing.{shared_sync}
 use Rattle.covbench.proofs.pace.Submitter.TheSendSync as submitter
 use Rattle.covbench.proofs.pace.fn.run.scope.Goals as goal
@@ -10,4 +11,4 @@ use Rattle.covbench.proofs.pace.fn.run.scope.Goals as goal
 pub spawn-started-requires-send-F : goal.spawn-started-requires-send-F
 spawn-started-requires-send-F g c κs within =
     let runtime : IsSync g.row.R = search (rules, c.requires) parts 8 in
-    search (sendable, heap.crosses, shared_sync, op.the_sync, submitter.the_send) depth 60 fits 20000
+    search (sendable, heap.crosses, shared_sync, entry.the_send, op.the_sync, submitter.the_send) depth 60 fits 20000

@@ -7,21 +7,23 @@ use Rattle.std.proofs.lemmas.List.{nil_from_length}
 use Rattle.covlock.proofs.Crossing.{shared_sync}
 use Rattle.covlock.proofs.seat.Seat.TheSendSync as seat
 use Rattle.covlock.specs.Seat.{SeatData}
+use Rattle.covjobs.specs.Late.{chances_of}
 use Rattle.covjobs.specs.Work.{WorkData, work_of}
-use Rattle.covjobs.proofs.Ended.{ends_well_if_ok}
+use Rattle.covjobs.proofs.Ended.{ends_if_ok}
 use Rattle.covjobs.proofs.shares.Placed.TheSendSync as placed
 use Rattle.covjobs.proofs.workers.fn.work_at_once.scope.Goals as goal
 
 -- after the loop no seat is left
 pub returns : goal.returns
 returns g c =
-    let work : SeatData → WorkData = work_of (map g.T.OneRead.says c.captures.inputs.now.value.items) c.captures.jobs in
+    let Work = WorkData g.row.T.Denot in
+    let work : SeatData → Work = work_of c.captures.inputs.now.value.items c.captures.jobs c.captures.readers in
     let rest = c.loop-seat.seat-iterator.rest in
-    let handled : List WorkData = map (λ h. h.promise) c.loop-seat.handles.items in
+    let handled : List Work = map (λ h. h.promise) c.loop-seat.handles.items in
     let all : IsTrue c.loop-seat.all_started → handled ++ map work rest.items ≡ map work c.captures.seats =
     λ started. c.loop-seat.invariant.0 started ∙ ap (λ (seats : List SeatData). map work seats) (c.into_iter-seat-iterator.ensures.into_iter_gives.0 ∙ c.into_vec-seats.ensures) in
     let none : map work rest.items ≡ [] = ap (λ (seats : List SeatData). map work seats) (nil_from_length rest.items (omega (arith, c.in-None.ensures.steps.0, rest.ok.0))) in
-    ends_well_if_ok (λ v. v.items) c.end_all.result (map work c.captures.seats) handled (map work rest.items) c.loop-seat.all_started all none c.end_all.ensures.done c.end_all.ensures.short
+    ends_if_ok (chances_of g.T.LateInput.may_be g.T.LateInput.may_fail) (λ v. v.items) c.end_all.result (map work c.captures.seats) handled (map work rest.items) c.loop-seat.all_started all none c.end_all.ensures.ended c.end_all.ensures.short
 
 -- the closure may go to another thread, since threads may share the book
 pub spawn_with-requires-send-F : goal.spawn_with-requires-send-F
@@ -29,4 +31,5 @@ spawn_with-requires-send-F g c κs within =
     let runtime : IsSync g.row.R = search (rules, c.requires) parts 8 in
     let gate : IsSync g.row.G = search (rules, c.requires) parts 8 in
     let text : IsSend (param 3 g.row.T) = search (rules, c.requires) parts 8 in
+    let kept : IsSend (param 4 g.row.K) = search (rules, c.requires) parts 8 in
     search (sendable, heap.crosses, shared_sync, seat.the_send, placed.the_send) depth 60 fits 20000

@@ -1,0 +1,166 @@
+-- The least place of an input that can't be read: all inputs before it were read, each by its own worker.
+use Rattle.std.proofs.Common.{◌≡◌, ◌∙◌, ◌⊎◌, inl, inr, ap, ℕ, zero, suc, ◌+◌, ◌<◌, ◌%◌, Bool, true, IsTrue, List, [], ◌∷◌, length, map, take, Ok, Err, slice_get, sym, refl, subst, arith}
+use Rattle.std.specs.Prelude.{IsSomeAnd}
+use Rattle.std.specs.List.{AllByRecursion, Contains}
+use Rattle.std.proofs.lemmas.Bool.{eq-eqb}
+use Rattle.std.proofs.lemmas.Nat.{mod_below}
+use Rattle.covbook.specs.declared.book.BookFault.TheVariants as book
+use Rattle.covjobs.specs.declared.book_fault.IntoBookFault.TheVariants as into_book
+use Rattle.covjobs.specs.declared.collect_fault.CollectFault.TheVariants as collects
+use Rattle.covjobs.specs.declared.readers.Readers.{Readers}
+use Rattle.covjobs.specs.declared.stop.Stop.{Stop}
+use Rattle.covjobs.specs.declared.stop.Stop.TheVariants as stops
+use Rattle.covjobs.specs.Collect.{InputData, IsOutcomeOf, AreOutcomes}
+use Rattle.covjobs.specs.Late.{MayGive, TurnedOut, IsFirstUnread, IsIntoBookFault, chances_of}
+use Rattle.covjobs.specs.Stops.{of_stop}
+use Rattle.covjobs.specs.Work.{Chances, WorkData, HasEnded, HaveEnded, IsUnreadAt, IsUnrefused, IsNotBefore, IsLeastUnread, IsWorstEnd}
+use Rattle.covjobs.proofs.Ended.{End}
+use Rattle.covjobs.proofs.Taken.{Outcome}
+use Rattle.covjobs.proofs.Whole.{AllGive, works_from}
+
+-- ---- what inputs that were read turned out to be
+
+-- an input has an outcome
+abbrev HasOutcome : {X : Type 0} → (X → Outcome → Type 0) → X → Type 0
+HasOutcome Gives input = (outcome : Outcome) × Gives input outcome
+
+-- the inputs before a place turned out to be something
+pub before_turned_out : {X : Type 0} (MayBe : X → InputData → Type 0) (inputs : List X) (index : ℕ)
+    → ((place : ℕ) → place < index → place < length inputs → IsSomeAnd (slice_get inputs place) (HasOutcome (λ late. MayGive (MayBe late))))
+    → (before : List InputData) × TurnedOut MayBe (take index inputs) before
+before_turned_out MayBe inputs zero each = ([], tt)
+before_turned_out MayBe [] (suc index) each = ([], tt)
+before_turned_out {X} MayBe (late ∷ inputs) (suc index) each =
+    let here : HasOutcome (λ (l : X). MayGive (MayBe l)) late = each 0 (omega arith) (omega arith) in
+    let rest = before_turned_out MayBe inputs index (λ place less within. each (suc place) (omega (arith, less)) (omega (arith, within))) in
+    (here.1.0 ∷ rest.0, (here.1.1, rest.1))
+
+-- what all inputs turned out to be, if each has an outcome
+pub record AllTurnedOut {X : Type 0} (MayBe : X → InputData → Type 0) (inputs : List X) (outcome : ℕ → Outcome) : Type 0 where
+  pub read : List InputData
+  pub turned : TurnedOut MayBe inputs read
+  pub outcomes : AreOutcomes read outcome
+  pub long : length read ≡ length inputs
+
+pub all_turned_out : {X : Type 0} (MayBe : X → InputData → Type 0) (inputs : List X) (outcome : ℕ → Outcome) → AllGive (λ late. MayGive (MayBe late)) inputs outcome → AllTurnedOut MayBe inputs outcome
+all_turned_out MayBe [] outcome each = record { read = []; turned = tt; outcomes = λ index less. absurd (omega (arith, less)); long = refl }
+all_turned_out {X} MayBe (late ∷ inputs) outcome each =
+    let here : MayGive (MayBe late) (outcome 0) = each 0 (omega arith) in
+    let rest = all_turned_out MayBe inputs (λ index. outcome (suc index)) (λ index less. each (suc index) (omega (arith, less))) in
+    record {
+      read = here.0 ∷ rest.read;
+      turned = (here.1, rest.turned);
+      outcomes = outcome_at here.0 rest.read outcome here.2 rest.outcomes;
+      long = one_longer here.0 late rest.read inputs rest.long;
+    }
+  where
+    outcome_at : (input : InputData) (read : List InputData) (outcome : ℕ → Outcome) → IsOutcomeOf input (outcome 0) → AreOutcomes read (λ index. outcome (suc index)) → AreOutcomes (input ∷ read) outcome
+    outcome_at input read outcome first rest zero less = first
+    outcome_at input read outcome first rest (suc index) less = rest index (omega (arith, less))
+
+    one_longer : {X : Type 0} (input : InputData) (late : X) (read : List InputData) (inputs : List X) → length read ≡ length inputs → length (input ∷ read) ≡ length (late ∷ inputs)
+    one_longer input late read inputs long = omega (arith, long)
+
+-- ---- the least place
+
+-- an end that isn't before a place is no refusal
+unrefused : (index : ℕ) (end : End) → IsNotBefore index end → IsUnrefused end
+unrefused index (Ok worker) is = tt
+unrefused index (Err (stops.Unread other)) is = tt
+unrefused index (Err (stops.Refused fault)) is = absurd is
+
+all_unrefused : (index : ℕ) (ended : List End) → AllByRecursion (IsNotBefore index) ended → AllByRecursion IsUnrefused ended
+all_unrefused index [] all = tt
+all_unrefused index (end ∷ ended) all = (unrefused index end all.0, all_unrefused index ended all.1)
+
+true_is : {b : Bool} → b ≡ true → IsTrue b
+true_is e = e
+
+some_outcome : {X : Type 0} (chances : Chances X) (inputs : List X) (place : ℕ) (outcome : Outcome) → IsSomeAnd (slice_get inputs place) (λ input. chances.Gives input outcome) → IsSomeAnd (slice_get inputs place) (HasOutcome chances.Gives)
+some_outcome chances [] place outcome is = absurd is
+some_outcome chances (x ∷ inputs) zero outcome is = (outcome, is)
+some_outcome chances (x ∷ inputs) (suc place) outcome is = some_outcome chances inputs place outcome is
+
+-- a worker that ended so has read its inputs before the place
+read_by : {X : Type 0} (chances : Chances X) (readers : Readers) (inputs : List X) (jobs job index place : ℕ) (end : End) → HasEnded chances (record { inputs = inputs; jobs = jobs; job = job; readers = readers }) end
+    → IsNotBefore index end → place < index → place < length inputs → place % jobs ≡ job → IsSomeAnd (slice_get inputs place) (HasOutcome chances.Gives)
+read_by {X} chances readers inputs jobs job index place (Ok worker) done not_before less within own =
+    some_outcome chances inputs place (done.taken.outcome place) (done.taken.outcomes place within (true_is (eq-eqb (place % jobs) job own)))
+read_by {X} chances readers inputs jobs job index place (Err (stops.Unread other)) stopped not_before less within own =
+    some_outcome chances inputs place (stopped.outcome place) (stopped.outcomes place (omega (arith, less, not_before)) (true_is (eq-eqb (place % jobs) job own)))
+read_by chances readers inputs jobs job index place (Err (stops.Refused fault)) ended not_before less within own = absurd not_before
+
+-- the worker of a place's job has read the input at the place
+read_at : {X : Type 0} (chances : Chances X) (readers : Readers) (inputs : List X) (jobs from some : ℕ) (ended : List End) (index place k : ℕ) → HaveEnded chances (works_from inputs jobs readers from some) ended
+    → AllByRecursion (IsNotBefore index) ended → k < some → place < index → place < length inputs → place % jobs ≡ from + k → IsSomeAnd (slice_get inputs place) (HasOutcome chances.Gives)
+read_at chances readers inputs jobs from zero ended index place k done all below less within own = absurd (omega (arith, below))
+read_at chances readers inputs jobs from (suc some) [] index place k done all below less within own = absurd done
+read_at chances readers inputs jobs from (suc some) (end ∷ ended) index place zero done all below less within own =
+    read_by chances readers inputs jobs from index place end done.0 all.0 less within (own ∙ none_more from)
+  where
+    none_more : (from : ℕ) → from + 0 ≡ from
+    none_more from = omega arith
+read_at chances readers inputs jobs from (suc some) (end ∷ ended) index place (suc k) done all below less within own =
+    read_at chances readers inputs jobs (from + 1) some ended index place k done.1 all.1 (omega (arith, below)) less within (own ∙ one_more from k)
+  where
+    one_more : (from k : ℕ) → from + suc k ≡ from + 1 + k
+    one_more from k = omega arith
+
+-- a worker that stopped at an input that can't be read
+fails_by : {X : Type 0} (chances : Chances X) (works : List (WorkData X)) (inputs : List X) (ended : List End) (index : ℕ) → AllByRecursion (λ (work : WorkData X). work.inputs ≡ inputs) works → HaveEnded chances works ended
+    → Contains ended (Err (stops.Unread index)) → IsSomeAnd (slice_get inputs index) chances.MayFail
+fails_by chances [] inputs [] index same done there = absurd (omega (arith, there.1))
+fails_by chances [] inputs (end ∷ ended) index same done there = absurd done
+fails_by chances (work ∷ works) inputs [] index same done there = absurd done
+fails_by {X} chances (work ∷ works) inputs (end ∷ ended) index same done (zero, less, is) =
+    let stopped : IsUnreadAt chances work.inputs work.jobs work.job index = subst (λ (e : End). HasEnded chances work e) is done.0 in
+    subst (λ (xs : List X). IsSomeAnd (slice_get xs index) chances.MayFail) same.0 stopped.fails
+fails_by chances (work ∷ works) inputs (end ∷ ended) index same done (suc k, less, is) = fails_by chances works inputs ended index same.1 done.1 (k, omega (arith, less), is)
+
+same_inputs : {X : Type 0} (readers : Readers) (inputs : List X) (jobs from some : ℕ) → AllByRecursion (λ (work : WorkData X). work.inputs ≡ inputs) (works_from inputs jobs readers from some)
+same_inputs readers inputs jobs from zero = tt
+same_inputs readers inputs jobs from (suc some) = (refl, same_inputs readers inputs jobs (from + 1) some)
+
+-- the least place of an input that can't be read is that of the first such input
+pub first_unread : {X : Type 0} (MayBe : X → InputData → Type 0) (MayFail : X → Type 0) (readers : Readers) (inputs : List X) (jobs : ℕ) (ended : List End) (index : ℕ) → 0 < jobs
+    → (AllByRecursion IsUnrefused ended → HaveEnded (chances_of MayBe MayFail) (works_from inputs jobs readers 0 jobs) ended)
+    → IsLeastUnread ended index → IsFirstUnread MayBe MayFail inputs index
+first_unread {X} MayBe MayFail readers inputs jobs ended index some if_unrefused least =
+    let done = if_unrefused (all_unrefused index ended least.0) in (
+      fails_by (chances_of MayBe MayFail) (works_from inputs jobs readers 0 jobs) inputs ended index (same_inputs readers inputs jobs 0 jobs) done least.1,
+      before_turned_out MayBe inputs index
+          (λ place less within. read_at (chances_of MayBe MayFail) readers inputs jobs 0 jobs ended index place (place % jobs) done least.0 (mod_below place jobs some) less within (sym (none_before (place % jobs)))),
+    )
+  where
+    none_before : (k : ℕ) → 0 + k ≡ k
+    none_before k = omega arith
+
+-- ---- which fault is returned
+
+pub fault_is : {X : Type 0} (MayBe : X → InputData → Type 0) (MayFail : X → Type 0) (readers : Readers) (inputs : List X) (jobs : ℕ) (ended : List End) (stop : Stop) → 0 < jobs
+    → (AllByRecursion IsUnrefused ended → HaveEnded (chances_of MayBe MayFail) (works_from inputs jobs readers 0 jobs) ended)
+    → IsWorstEnd ended stop ⊎ (stop ≡ stops.Refused book.Memory) → IsIntoBookFault MayBe MayFail inputs (of_stop stop)
+fault_is MayBe MayFail readers inputs jobs ended (stops.Unread index) some done (inl least) = first_unread MayBe MayFail readers inputs jobs ended index some done least
+fault_is MayBe MayFail readers inputs jobs ended (stops.Unread index) some done (inr is) = absurd cc
+fault_is MayBe MayFail readers inputs jobs ended (stops.Refused fault) some done worst = tt
+
+pub no_bad_jobs : (stop : Stop) → of_stop stop ≡ into_book.Collect collects.BadJobs → ⊥
+no_bad_jobs (stops.Unread index) is = cc
+no_bad_jobs (stops.Refused book.Full) is = cc
+no_bad_jobs (stops.Refused book.Memory) is = cc
+
+-- ---- inputs in memory
+
+-- an input in memory is what it is
+pub turned_is : {X : Type 0} (says : X → InputData) (inputs : List X) (read : List InputData) → TurnedOut (λ late input. input ≡ says late) inputs read → read ≡ map says inputs
+turned_is says [] [] turned = refl
+turned_is says [] (input ∷ read) turned = absurd turned
+turned_is says (late ∷ inputs) [] turned = absurd turned
+turned_is says (late ∷ inputs) (input ∷ read) turned =
+    ap (λ (i : InputData). i ∷ read) turned.0 ∙ ap (λ (is : List InputData). says late ∷ is) (turned_is says inputs read turned.1)
+
+-- no input in memory can't be read
+pub no_unread : {X : Type 0} (inputs : List X) (index : ℕ) → IsSomeAnd (slice_get inputs index) (λ (late : X). ⊥) → ⊥
+no_unread [] index is = is
+no_unread (late ∷ inputs) zero is = is
+no_unread (late ∷ inputs) (suc index) is = no_unread inputs index is

@@ -1,0 +1,41 @@
+use Rattle.std.proofs.Common.{rules, ◌∙◌, IsTrue, ℕ, List, Option, ap, subst}
+use Rattle.std.specs.List.{AllByRecursion}
+use Rattle.covbook.specs.Kept.{IsPrefix}
+use Rattle.covbook.specs.Op.{EntryData}
+use Rattle.covlock.specs.CloseFault.{told_job}
+use Rattle.covlock.specs.Handed.{IsLeastMissing}
+use Rattle.covlock.specs.Seat.{SeatData, calls_in}
+use Rattle.covjobs.specs.declared.readers.Readers.TheVariants as readers
+use Rattle.covjobs.specs.Late.{chances_of}
+use Rattle.covjobs.specs.Latest.{history_of}
+use Rattle.covjobs.specs.Work.{seats_in}
+use Rattle.covjobs.proofs.AllSeated.{none_missing_yet}
+use Rattle.covjobs.proofs.SoFar.{AreClosed, latest_before, so_far}
+use Rattle.covjobs.proofs.into_book.collect_named.Goals as goal
+
+pub returns-clause-collected : goal.returns-clause-collected
+returns-clause-collected g c =
+    let workers = c.in_ok-workers.workers.items in
+    let entries : List EntryData = c.in-Ok.book.entries in
+    let yes : IsTrue c.are_before.result = search rules in
+    let latest : List (Option (List EntryData)) = c.in_ok-seats.latest.items in
+    let told : AllByRecursion (λ (own : Option (List EntryData)). IsPrefix (history_of own) c.in-Ok.news) latest =
+    subst (λ (owns : List (Option (List EntryData))). AllByRecursion (λ (own : Option (List EntryData)). IsPrefix (history_of own) c.in-Ok.news) owns) c.as_slice.ensures.value (c.are_before.ensures yes) in
+    let closed : AreClosed workers entries = record {
+      kept = c.in_ok-seats.ensures.kept;
+      before = latest_before latest workers entries c.in_ok-seats.ensures.latest (subst (λ (es : List EntryData). AllByRecursion (λ (own : Option (List EntryData)). IsPrefix (history_of own) es) latest) c.in-Ok.ensures.news told);
+      calls = c.in-Ok.ensures.calls ∙ ap calls_in c.in_ok-seats.ensures.seats;
+      legal = c.in-Ok.ensures.history;
+      lawful = c.in-Ok.ensures.lawful;
+    } in
+    so_far g.T.LateInput.may_be g.T.LateInput.may_fail c.args.inputs.items c.args.jobs workers entries c.in_ok-seats.refused c.requires.some c.in_ok-workers.ensures.done closed c.in_ok-seats.ensures.refused
+    c.in_ok-seats.ensures.ascending c.a_run_goes_on.ensures.answers c.a_run_goes_on.ensures.totals c.order_does_not_matter.ensures.texts c.calls_count_a_history.ensures.one_more c.calls_count_a_history.ensures.gathered
+
+-- no seat is missing, since each worker hands in its own
+pub unreachable-requires : goal.unreachable-requires
+unreachable-requires g c =
+    let workers = c.in_ok-workers.workers.items in
+    let job = told_job c.in-Err._back.2 in
+    none_missing_yet (chances_of g.T.LateInput.may_be g.T.LateInput.may_fail) readers.None c.args.inputs.items c.args.jobs workers c.in_ok-workers.ensures.done job
+    (subst (λ (n : ℕ). IsLeastMissing n (seats_in workers) job) (c.in_ok-book.ensures.jobs ∙ c.requires.jobs)
+    (subst (λ (seats : List SeatData). IsLeastMissing c.in_ok-book.book.jobs seats job) c.in_ok-seats.ensures.seats c.in-Err.ensures.seated))

@@ -1,0 +1,171 @@
+//! Collecting into a book that keeps the answers of its history alone.
+
+use crate::book_fault::IntoBookFault;
+use crate::collect_fault::CollectFault;
+use crate::done::all_done;
+use crate::gate::Gate;
+use crate::late::LateInput;
+use crate::readers::Readers;
+use crate::refused::Refused;
+use crate::worker::Worker;
+use covbook::laws::{a_run_goes_on, calls_count_a_history, order_does_not_matter};
+use covbook::{Answered, Book, MAX_ENTRIES, Receipt};
+use covline::Memory;
+use covlock::{Name, News, Seats, Start, open_book_keeping};
+use std::alloc::Global;
+use std::marker::Brand;
+use std::snapshot::Snapshot;
+use std::sync::Wait;
+use std::thread::Threads;
+
+/// What `collect_into_book` returns.
+#[derive(Drop)]
+pub struct CollectedBook {
+    /// The book. Its table has the counts of all inputs that were accepted. Of its history it keeps the answers: the rest exists
+    /// only in proofs.
+    pub book: Book<Global, Answered>,
+    /// The inputs that aren't in the history, in their order.
+    pub refused: Refused,
+}
+
+ghost use Rattle.std.specs.Prelude.{◌≡◌, ◌↔◌, ◌<◌, List, Err, IfOk, IfErr, IsTrue, length, map};
+ghost use Rattle.std.specs.List.{AllByRecursion};
+ghost use Rattle.std.specs.List.Sorted.{IsPermutation, IsNonDecreasingBy};
+ghost use Rattle.covbook.specs.Kept.{IsKeptWell, IsPrefix};
+ghost use Rattle.covbook.specs.Step.{max_entries};
+ghost use Rattle.covjobs.specs.declared.book_fault.IntoBookFault.TheVariants as into_book;
+ghost use Rattle.covjobs.specs.declared.collect_fault.CollectFault.TheVariants as faults;
+ghost use Rattle.covjobs.specs.declared.refused.RefusedInput.{RefusedInput};
+ghost use Rattle.covjobs.specs.Collect.{InputData};
+ghost use Rattle.covjobs.specs.Late.{IsCollectedSoFar, IsIntoBookFault, TurnedOut};
+ghost use Rattle.covjobs.specs.Latest.{history_of};
+ghost use Rattle.covjobs.specs.Work.{kept_of, seats_in, refused_in};
+ghost use Rattle.covlock.specs.Start.{AreJobs};
+
+/// Collects inputs as `collect` does, but keeps no history and no logs in memory, and no job reads the totals. Each worker reads
+/// an input when its turn comes, and frees it before it submits what was read.
+///
+/// What `collect` promises holds of the book's history, with a text as the last operation: there are logs of the jobs so that the
+/// history with this last entry is collected, whichever text job 0 asks for next. There is room for that entry. `Book::text_of`
+/// prints the text.
+///
+/// Faults: those of `collect` but for `Gather`, and `Unread` with the first input that can't be read. `NotLast` is returned if a
+/// worker knows of more entries than the closed book has, which doesn't happen.
+pub fn collect_into_book<R: Threads + Wait + Sync, G: Gate + Sync, T: LateInput<Global> + Send>(
+    rt: &R,
+    alloc: Global,
+    inputs: Vec<T>,
+    jobs: u32,
+    gate: &G,
+) -> Result<CollectedBook, IntoBookFault>
+    ensures collected { IfOk result (λ c. (read : List InputData) × TurnedOut T.may_be inputs.items read × IsCollectedSoFar read jobs c.book.entries c.refused) }
+    ensures room { IfOk result (λ c. length c.book.entries < max_entries) }
+    ensures unread { IfErr result (IsIntoBookFault T.may_be T.may_fail inputs.items) }
+    ensures bad { (result ≡ Err (into_book.Collect faults.BadJobs)) ↔ (AreJobs jobs → ⊥) }
+{
+    let start = Start::new(alloc, jobs)?;
+    collect_named::<R, G, Brand, T>(rt, alloc, inputs, jobs, gate, start)
+}
+
+/// As `collect_into_book`, in the book that the start is made for.
+fn collect_named<
+    R: Threads + Wait + Sync,
+    G: Gate + Sync,
+    L: Name + Send + Sync,
+    T: LateInput<Global> + Send,
+>(
+    rt: &R,
+    alloc: Global,
+    inputs: Vec<T>,
+    jobs: u32,
+    gate: &G,
+    start: Start,
+) -> Result<CollectedBook, IntoBookFault>
+    requires name { start.name ≡ L.name }
+    requires parts { start.jobs ≡ L.parts }
+    requires book { start.book ≡ L.book }
+    requires jobs { start.jobs ≡ jobs }
+    requires some { 0 < jobs }
+    ensures collected { IfOk result (λ c. (read : List InputData) × TurnedOut T.may_be inputs.items read × IsCollectedSoFar read jobs c.book.entries c.refused) }
+    ensures room { IfOk result (λ c. length c.book.entries < max_entries) }
+    ensures unread { IfErr result (IsIntoBookFault T.may_be T.may_fail inputs.items) }
+    ensures jobs_are_good { result ≡ Err (into_book.Collect faults.BadJobs) → ⊥ }
+{
+    let (book, seats) = open_book_keeping::<L, Global, Answered>(alloc, start)?;
+    let workers: Vec<Worker<L, Global, Snapshot<Receipt>>> = all_done(
+        rt,
+        alloc,
+        &book,
+        gate,
+        seats,
+        jobs,
+        Readers::None,
+        inputs,
+    )?;
+    let (seats, latest, refused) = hand_in_news(alloc, workers)?;
+    let (book, news) = match book.close_book(rt, seats) {
+        Ok((book, news)) => (book, news),
+        // No seat is missing: each worker hands its own in.
+        Err(_back) => unreachable!(),
+    };
+    if !are_before(latest.as_slice(), &news) {
+        return Err(IntoBookFault::Collect(CollectFault::NotLast));
+    }
+    if book.len() >= MAX_ENTRIES {
+        return Err(IntoBookFault::Collect(CollectFault::Full));
+    }
+    calls_count_a_history();
+    a_run_goes_on();
+    order_does_not_matter();
+    Ok(CollectedBook { book, refused })
+}
+
+/// The seats, the latest news of each job, and the refused inputs in their order.
+fn hand_in_news<L: Name>(
+    alloc: Global,
+    workers: Vec<Worker<L, Global, Snapshot<Receipt>>>,
+) -> Result<(Seats<L>, Vec<Option<News<L>>>, Refused), Memory>
+    ensures seats { IfOk result (λ r. r.0 ≡ seats_in workers.items) }
+    ensures latest { IfOk result (λ r. map history_of r.1.items ≡ map (λ w. w.latest) workers.items) }
+    ensures refused { IfOk result (λ r. IsPermutation (refused_in workers.items) r.2) }
+    ensures ascending { IfOk result (λ r. IsNonDecreasingBy (λ (i : RefusedInput). i.index) r.2) }
+    ensures kept { IfOk result (λ _. AllByRecursion (λ w. IsKeptWell (kept_of w)) workers.items) }
+{
+    let mut seats = Seats::new(alloc);
+    let mut latest = Vec::new(alloc);
+    let mut refused = Refused::new(alloc);
+    for worker in workers {
+        let (seat, own_latest, own_refused) = worker.into_news();
+        seats.push(seat)?;
+        latest.push(own_latest)?;
+        refused.append(own_refused)?;
+    }
+    refused.sort();
+    Ok((seats, latest, refused))
+}
+
+/// Whether none of the latest news is of a longer history than these news. So each is of a beginning of it.
+fn are_before<L: Name>(latest: &[Option<News<L>>], news: &News<L>) -> bool
+    ensures { IsTrue result → AllByRecursion (λ own. IsPrefix (history_of own) news.now) latest.now }
+{
+    for own in latest {
+        if !is_before(own, news) {
+            return false;
+        }
+    }
+    true
+}
+
+/// Whether the latest news aren't of a longer history than these news.
+fn is_before<L: Name>(latest: &Option<News<L>>, news: &News<L>) -> bool
+    ensures { IsTrue result → IsPrefix (history_of latest.now) news.now }
+{
+    match latest {
+        Some(latest) => {
+            // Proof only: one of the two histories is a beginning of the other.
+            let _longer = latest.longer(news);
+            latest.reading().upto <= news.reading().upto
+        }
+        None => true,
+    }
+}

@@ -1,0 +1,188 @@
+//! Inputs that jobs collect into a book, each read when its turn comes.
+
+use super::check_bytes;
+use super::collecting::{ADDED_UP, OTHERS, is_outside, trace};
+use super::turns::SMALL;
+use covbook::{Answer, Answered, Op, SubRef};
+use covjobs::{
+    CollectFault, CollectedBook, Input, IntoBookFault, LateFault, LateInput, NoGate,
+    collect_into_book,
+};
+use covline::Memory;
+use std::alloc::Global;
+use std::process::Abort;
+use std::sync::Wait;
+use std::test::*;
+use std::thread::Threads;
+
+/// An input that may turn out not to be readable.
+#[derive(Drop)]
+enum Late {
+    Readable(Input),
+    Unreadable,
+}
+
+impl LateInput<Global> for Late {
+    ghost may_be = { λ late input. Unit {0} };
+
+    ghost may_fail = { λ late. Unit {0} };
+
+    fn read_late(self, alloc: Global) -> Result<SubRef, LateFault> {
+        match self {
+            Late::Readable(input) => match input.read(alloc) {
+                Ok(submission) => Ok(submission),
+                Err(fault) => Err(LateFault::Refused(fault)),
+            },
+            Late::Unreadable => Err(LateFault::Unreadable),
+        }
+    }
+}
+
+/// An input of this text, or one that can't be read in place of an empty text.
+fn late_of(alloc: Global, text: &[u8]) -> Result<Late, Memory> {
+    if text.is_empty() {
+        return Ok(Late::Unreadable);
+    }
+    Ok(Late::Readable(trace(alloc, text)?))
+}
+
+/// These texts as inputs, of which empty ones can't be read.
+fn lates(alloc: Global, texts: &[&[u8]]) -> Result<Vec<Late>, Fail> {
+    let mut inputs = Vec::new(alloc);
+    for text in texts {
+        inputs.push(late_of(alloc, text)?)?;
+    }
+    Ok(inputs)
+}
+
+/// What `jobs` jobs collect into a book.
+fn answered<R: Threads + Wait + Sync + AllocGlobal>(
+    rt: &R,
+    inputs: Vec<Late>,
+    jobs: u32,
+) -> Result<CollectedBook, IntoBookFault> {
+    collect_into_book(rt, rt.alloc(), inputs, jobs, &NoGate)
+}
+
+/// What `jobs` jobs collect into a book. Panics at a fault.
+fn collected_of<R: Threads + Wait + Sync + AllocGlobal + Abort>(
+    rt: &R,
+    inputs: Vec<Late>,
+    jobs: u32,
+) -> CollectedBook {
+    match answered(rt, inputs, jobs) {
+        Ok(collected) => collected,
+        Err(_fault) => panic!(rt; "nothing is collected"),
+    }
+}
+
+/// Checks the report that the book prints.
+fn check_report<R: AllocGlobal + Abort>(rt: &R, collected: &CollectedBook, wanted: &[u8]) {
+    match collected.book.text_of(rt.alloc(), &Op::Report) {
+        Ok(text) => check_bytes(rt, text.get(), wanted),
+        Err(_refused) => panic!(rt; "no memory for the report"),
+    }
+}
+
+/// The second of four inputs is refused. Job 0 has two of the others.
+fn by_three<R: Threads + Wait + Sync + AllocGlobal + Abort>(rt: &R) -> Result<(), Fail> {
+    let inputs = lates(rt.alloc(), &[SMALL, b"DA:1,1", OTHERS, SMALL])?;
+    let collected = collected_of(rt, inputs, 3);
+    assert!(rt; is_outside(collected.refused.get(), 1));
+    assert_eq!(rt; collected.book.kept().len(), 3);
+    check_report(rt, &collected, ADDED_UP);
+    Ok(())
+}
+
+#[test]
+fn collected_into_a_book(rt: HostRuntime) -> Result<(), Fail> {
+    by_three(&rt)
+}
+
+/// Whether the answer is that a submission was accepted, with this number.
+fn is_accepted(answer: Option<&Answered>, wanted: u64) -> bool {
+    match answer {
+        Some(kept) => match &kept.answer {
+            Answer::Accepted { number, .. } => *number == wanted,
+            _ => false,
+        },
+        None => false,
+    }
+}
+
+/// Whether the answer is a clash of this line.
+fn is_clash(answer: Option<&Answered>, wanted: u64) -> bool {
+    match answer {
+        Some(kept) => match &kept.answer {
+            Answer::Clash { line, .. } => *line == wanted,
+            _ => false,
+        },
+        None => false,
+    }
+}
+
+/// The same line with two checksums: the second input clashes with the first.
+fn two_versions<R: Threads + Wait + Sync + AllocGlobal + Abort>(rt: &R) -> Result<(), Fail> {
+    let texts: [&[u8]; 2] = [
+        b"TN:t\nSF:/a.c\nDA:7,1,one\nend_of_record\n",
+        b"TN:t\nSF:/a.c\nDA:7,1,two\nend_of_record\n",
+    ];
+    let inputs = lates(rt.alloc(), &texts)?;
+    let collected = collected_of(rt, inputs, 1);
+    let kept = collected.book.kept();
+    assert_eq!(rt; kept.len(), 2);
+    assert!(rt; is_accepted(kept.first(), 1));
+    assert!(rt; is_clash(kept.get(1), 7));
+    Ok(())
+}
+
+#[test]
+fn the_answers_are_kept(rt: HostRuntime) -> Result<(), Fail> {
+    two_versions(&rt)
+}
+
+/// Whether this number of jobs stops at the input at this place, of five of which the second and the fourth can't be read.
+fn stops_at<R: Threads + Wait + Sync + AllocGlobal>(
+    rt: &R,
+    jobs: u32,
+    wanted: usize,
+) -> Result<bool, Fail> {
+    let inputs = lates(rt.alloc(), &[SMALL, b"", b"DA:1,1", b"", SMALL])?;
+    match answered(rt, inputs, jobs) {
+        Ok(_collected) => Ok(false),
+        Err(fault) => Ok(fault == IntoBookFault::Unread { index: wanted }),
+    }
+}
+
+/// The first input that can't be read is told, whichever jobs come to the others first.
+#[test]
+fn the_first_unread_input(rt: HostRuntime) -> Result<(), Fail> {
+    assert!(rt; stops_at(&rt, 1, 1)?);
+    assert!(rt; stops_at(&rt, 2, 1)?);
+    assert!(rt; stops_at(&rt, 3, 1)?);
+    assert!(rt; stops_at(&rt, 64, 1)?);
+    Ok(())
+}
+
+/// Whether nothing is collected, since this number of jobs isn't allowed.
+fn are_bad<R: Threads + Wait + Sync + AllocGlobal>(rt: &R, jobs: u32) -> bool {
+    match answered(rt, Vec::new(rt.alloc()), jobs) {
+        Ok(_collected) => false,
+        Err(fault) => fault == IntoBookFault::Collect(CollectFault::BadJobs),
+    }
+}
+
+#[test]
+fn jobs_to_collect_into_a_book(rt: HostRuntime) {
+    assert!(rt; are_bad(&rt, 0));
+    assert!(rt; !are_bad(&rt, 1));
+    assert!(rt; !are_bad(&rt, 64));
+    assert!(rt; are_bad(&rt, 65));
+}
+
+#[test]
+fn numbers_of_faults_of_a_book(rt: HostRuntime) {
+    assert_eq!(rt; IntoBookFault::Collect(CollectFault::BadJobs).number(), 1);
+    assert_eq!(rt; IntoBookFault::Collect(CollectFault::NotLast).number(), 5);
+    assert_eq!(rt; IntoBookFault::Unread { index: 3 }.number(), 6);
+}
