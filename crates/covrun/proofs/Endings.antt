@@ -1,46 +1,128 @@
 -- How a call that collects files ends, from the results of its steps.
-use Rattle.std.proofs.Common.{◌≡◌, inl, inr, ℕ, List, ◌++◌, Option, Ok, Err, map, codes, refl, sym, subst, ap, ◌∙◌}
+use Rattle.std.proofs.Common.{◌≡◌, inl, inr, ℕ, ◌-◌, Bool, false, if◌then◌else◌, List, [], ◌∷◌, ◌++◌, length, slice_get, Option, Some, Ok, Err, flat_map, codes, refl, sym, subst, ap, ◌∙◌, append-nil, length-append, arith}
+use Rattle.std.proofs.lemmas.List.{flat_map_more}
 use Rattle.std.specs.Io.KnownBytes.{Appends}
-use Rattle.covsession.specs.Session.{said}
-use Rattle.covbook.specs.Op.{EntryData}
-use Rattle.covbook.specs.Gather.{LogData}
+use Rattle.covsession.specs.Session.{said, clash_text}
+use Rattle.covsession.specs.declared.session.fault.SessionFault.TheVariants as faults
+use Rattle.covbook.specs.Op.{OpData, SubmitOp, DropTestOp, RenameOp, ReportOp, ExtractOp, RemoveOp, SummaryOp, TextAnswer, EntryData}
+use Rattle.covbook.specs.Step.{answer_of, next_entry, ops_in, table_of}
+use Rattle.covbook.specs.Texts.{IsText}
 use Rattle.covjobs.specs.Collect.{InputData, IsCollected}
+use Rattle.covjobs.specs.Late.{IsCollectedSoFar}
 use Rattle.covjobs.specs.Start.{AreJobs}
 use Rattle.covjobs.specs.declared.collect_fault.CollectFault.{CollectFault}
 use Rattle.covjobs.specs.declared.collect_fault.CollectFault.TheVariants as collects
 use Rattle.covjobs.specs.declared.refused.RefusedInput.{RefusedInput}
 use Rattle.covcommand.specs.declared.asked.Command.{Command}
+use Rattle.covcommand.specs.declared.asked.Command.TheVariants as commands
 use Rattle.covrun.specs.WorkFault.{IsRefusal, of_work}
 use Rattle.covrun.specs.declared.work.WorkFault.{WorkFault}
 use Rattle.covrun.specs.declared.work.WorkFault.TheVariants.{Words, Memory}
 use Rattle.covcommand.specs.declared.fault.CommandFault.{CommandFault}
-use Rattle.covrun.specs.Call.{StopsEarly, AreTexts, WorkEnds, IsTaskDone, IsEndingPrinted, of_line}
+use Rattle.covrun.specs.Call.{StopsEarly, AreTexts, IsUnreadable, WorkEnds, IsTaskDone, IsEndingPrinted, of_line}
 use Rattle.covrun.specs.Check.{IsCheck}
 use Rattle.covrun.specs.Folder.{FolderData}
 use Rattle.covrun.specs.Streams.{SourceData, SinksData, sinks}
-use Rattle.covrun.specs.Ending.{EndingData, Unreadable, of_collect, of_collected}
-use Rattle.covrun.specs.Work.{WorkData, TaskData, Collects, Checks, input_of}
+use Rattle.covrun.specs.Ending.{EndingData, Prints, Unreadable, Stopped, of_collect, of_collected, complaints, refusal_line, ran_out, text_in, text_at, last_text, unless_any}
+use Rattle.covrun.specs.Work.{WorkData, TaskData, Serves, Collects, Checks, task_of}
 use Rattle.covcommand.specs.declared.asked.TextFormat.{TextFormat}
+use Rattle.covrun.proofs.Reading.{ReadTexts, texts_held}
 
 -- the texts were collected, and the call ends with the ending for what was collected
-pub ends_collected : (folder : FolderData) (work : WorkData) (files : List (List ℕ)) → files ≡ work.files → (inputs slice : List InputData) → slice ≡ inputs → (entries : List EntryData) (logs : List LogData) (refused : List RefusedInput) (ending : EndingData)
-    → (texts : List (List ℕ)) × AreTexts folder files texts × (inputs ≡ map (input_of work.test) texts)
-    → IsCollected slice work.jobs work.last entries logs refused → ending ≡ of_collected files entries refused → WorkEnds folder work ending
-ends_collected folder work files named inputs slice same entries logs refused ending (texts, are, from) collected is =
+pub ends_collected : (folder : FolderData) (work : WorkData) (files : List (List ℕ)) → files ≡ work.files → (inputs : List InputData) (entries : List EntryData) (refused : List RefusedInput) (ending : EndingData)
+    → ReadTexts folder work.test files inputs → IsText work.last → IsCollectedSoFar inputs work.jobs entries refused
+    → ending ≡ of_collected files (entries ++ next_entry entries 0 work.last ∷ []) refused → WorkEnds folder work ending
+ends_collected folder work files named inputs entries refused ending (texts, are, from) asks collected is =
+    let last = collected work.last asks in
+    let all = entries ++ next_entry entries 0 work.last ∷ [] in
     inr (inr (
       texts,
-      Ok (record { entries = entries; logs = logs; refused = refused }),
+      Ok (record { entries = all; logs = last.0; refused = refused }),
       subst (λ (fs : List (List ℕ)). AreTexts folder fs texts) named are,
-      subst (λ (xs : List InputData). IsCollected xs work.jobs work.last entries logs refused) (same ∙ from) collected,
-      is ∙ ap (λ (fs : List (List ℕ)). of_collected fs entries refused) named,
+      subst (λ (xs : List InputData). IsCollected xs work.jobs work.last all last.0 refused) from last.1,
+      is ∙ ap (λ (fs : List (List ℕ)). of_collected fs all refused) named,
     ))
 
 -- the texts weren't collected, and the call ends with the ending for the fault
-pub ends_uncollected : (folder : FolderData) (work : WorkData) (files : List (List ℕ)) → files ≡ work.files → (inputs : List InputData) (fault : CollectFault) (ending : EndingData)
-    → (texts : List (List ℕ)) × AreTexts folder files texts × (inputs ≡ map (input_of work.test) texts)
+pub ends_uncollected : (folder : FolderData) (work : WorkData) (fault : CollectFault) (ending : EndingData)
     → (fault ≡ collects.BadJobs → AreJobs work.jobs → ⊥) → ending ≡ of_collect fault → WorkEnds folder work ending
-ends_uncollected folder work files named inputs fault ending (texts, are, from) bad is =
-    inr (inr (texts, Err fault, subst (λ (fs : List (List ℕ)). AreTexts folder fs texts) named are, bad, is))
+ends_uncollected folder work fault ending bad is =
+    let held = texts_held folder work.files in
+    inr (inr (held.0, Err fault, held.1, bad, is))
+
+-- a file can't be read, and the call ends with that
+pub ends_unreadable : (folder : FolderData) (work : WorkData) (files : List (List ℕ)) → files ≡ work.files → (name : List ℕ) (ending : EndingData)
+    → IsUnreadable folder files name → ending ≡ Unreadable name → WorkEnds folder work ending
+ends_unreadable folder work files named name ending unread is =
+    inr (inl (name, is, subst (λ (fs : List (List ℕ)). IsUnreadable folder fs name) named unread))
+
+-- ---- what was collected
+
+-- the last operation isn't answered by a clash
+text_unclashed : (ops : List OpData) (last : OpData) → IsText last → clash_text (answer_of (table_of ops) last) ≡ []
+text_unclashed ops ReportOp asks = refl
+text_unclashed ops (ExtractOp patterns) asks = refl
+text_unclashed ops (RemoveOp patterns) asks = refl
+text_unclashed ops SummaryOp asks = refl
+text_unclashed ops (SubmitOp submission) asks = absurd asks
+text_unclashed ops (DropTestOp test) asks = absurd asks
+text_unclashed ops (RenameOp old new) asks = absurd asks
+
+-- the last operation adds no complaint
+complaints_same : (files : List (List ℕ)) (refused : List RefusedInput) (entries : List EntryData) (last : OpData) → IsText last
+    → complaints files refused (entries ++ next_entry entries 0 last ∷ []) ≡ complaints files refused entries
+complaints_same files refused entries last asks =
+    let entry = next_entry entries 0 last in
+    let clashes = flat_map (λ (e : EntryData). clash_text e.answer) in
+    let none : clash_text entry.answer ≡ [] = text_unclashed (ops_in entries) last asks in
+    ap (λ (lines : List ℕ). flat_map (refusal_line files) refused ++ lines)
+    (sym (flat_map_more (λ (e : EntryData). clash_text e.answer) [] entries entry)
+    ∙ ap (λ (lines : List ℕ). clashes entries ++ lines) none ∙ append-nil (clashes entries))
+
+-- the last entry is found by its place
+last_at : (entries : List EntryData) (entry : EntryData) → slice_get (entries ++ entry ∷ []) (length entries) ≡ Some entry
+last_at [] entry = refl
+last_at (e ∷ entries) entry = last_at entries entry
+
+last_text_of : (entries : List EntryData) (entry : EntryData) → last_text (entries ++ entry ∷ []) ≡ text_in entry.answer
+last_text_of entries entry =
+    let place : length (entries ++ entry ∷ []) - 1 ≡ length entries = omega (arith, length-append entries (entry ∷ [])) in
+    ap text_at (ap (λ (n : ℕ). slice_get (entries ++ entry ∷ []) n) place ∙ last_at entries entry)
+
+-- no input was refused and nothing clashed, so the text of the last operation is printed
+pub ends_with_text : (files : List (List ℕ)) (entries : List EntryData) (refused : List RefusedInput) (last : OpData) (lines text : List ℕ) → IsText last
+    → ran_out refused ≡ false → lines ≡ complaints files refused entries → lines ≡ [] → TextAnswer text ≡ answer_of (table_of (ops_in entries)) last
+    → Prints text ≡ of_collected files (entries ++ next_entry entries 0 last ∷ []) refused
+ends_with_text files entries refused last lines text asks ran are none is =
+    let entry = next_entry entries 0 last in
+    let all = entries ++ entry ∷ [] in
+    let unrefused : [] ≡ complaints files refused all = sym none ∙ are ∙ sym (complaints_same files refused entries last asks) in
+    (λ k. unless_any (unrefused k) (text_in (is k)))
+    ∙ ap (λ (printed : List ℕ). unless_any (complaints files refused all) printed) (sym (last_text_of entries entry))
+    ∙ ap (λ (b : Bool). if b then Stopped faults.Memory else unless_any (complaints files refused all) (last_text all)) (sym ran)
+
+-- ---- what the subcommands ask
+
+-- if the task is to collect files, a text is asked after them
+abbrev AsksText : TaskData → Type 0
+AsksText Serves = Unit {0}
+AsksText (Collects work) = IsText work.last
+AsksText (Checks format files) = Unit {0}
+
+asks_text_of : (command : Command) → AsksText (task_of command)
+asks_text_of commands.Session = tt
+asks_text_of (commands.Merge jobs names) = tt
+asks_text_of (commands.Summary names) = tt
+asks_text_of (commands.Extract names) = tt
+asks_text_of (commands.Remove names) = tt
+asks_text_of (commands.Gcov test names) = tt
+asks_text_of (commands.Check format names) = tt
+
+-- each subcommand that collects files asks a text after them
+pub asks_text : (command : Command) (work : WorkData) → Collects work ≡ task_of command → IsText work.last
+asks_text command work is = subst AsksText (sym is) (asks_text_of command)
+
+-- ---- how a call ends
 
 -- if the ending of the work was reported, the task of collecting is done
 pub told_work : (folder : FolderData) (work : WorkData) (task : TaskData) (ending : EndingData) (status : ℕ) (before after : SourceData) (old new : SinksData)

@@ -1,49 +1,128 @@
--- Files that are read one after another.
-use Rattle.std.proofs.Common.{◌≡◌, ℕ, suc, ◌+◌, ◌<◌, ◌≤◌, List, [], ◌∷◌, ◌++◌, length, get_or, take, drop, map, sym, ap, ◌∙◌, length-append, subst}
-use Rattle.std.proofs.lemmas.List.{take_more, map-append, take-append-drop, drop_more}
+-- Files that are read when their turn comes.
+use Rattle.std.proofs.Common.{◌≡◌, ℕ, zero, suc, ◌≤◌, List, [], ◌∷◌, length, take, map, Option, Some, None, Result, Ok, Err, slice_get, refl, ap, subst, arith}
+use Rattle.std.proofs.lemmas.List.{length-take}
+use Rattle.std.specs.List.{AllByRecursion}
 use Rattle.covread.specs.Outcome.{max_bytes}
 use Rattle.covjobs.specs.Collect.{InputData}
+use Rattle.covjobs.specs.Late.{IsFirstUnread, IsIntoBookFault, IsLateOutcome, TurnedOut}
+use Rattle.covjobs.specs.declared.book_fault.IntoBookFault.{IntoBookFault}
+use Rattle.covjobs.specs.declared.book_fault.IntoBookFault.TheVariants as into_book
+use Rattle.covjobs.specs.declared.late_fault.LateFault.{LateFault}
+use Rattle.covjobs.specs.declared.late_fault.LateFault.TheVariants as late
+use Rattle.covline.specs.Row.{SubmissionData}
 use Rattle.covrun.specs.Call.{AreTexts, IsUnreadable}
-use Rattle.covrun.specs.Files.{IsFileFault, IsUnread}
-use Rattle.covrun.specs.Folder.{FolderData, IsTextOf, AreTextsOf}
-use Rattle.covrun.specs.declared.files.FileFault.{FileFault}
-use Rattle.covrun.specs.declared.files.FileFault.TheVariants.{Unreadable, Memory}
-use Rattle.covrun.proofs.Places.{all_more, pairs_more}
+use Rattle.covrun.specs.Ending.{name_at}
+use Rattle.covrun.specs.Files.{MayBeRead}
+use Rattle.covrun.specs.Folder.{FolderData, IsTextAtMost, IsTextOf}
+use Rattle.covrun.specs.Work.{input_of}
 
--- one more file is read
-pub texts_more : {X Y : Type 0} (folder : FolderData) (name : X → List ℕ) (seen : Y → InputData) (input : List ℕ → InputData) (files : List X) (i : ℕ) (default : X) → i < length files
-    → (file : List ℕ) → file ≡ name (get_or files i default)
-    → (inputs after : List Y) (y : Y) (text : List ℕ) → after ≡ inputs ++ y ∷ [] → length text ≤ suc max_bytes → IsTextOf (folder.holds file) text → seen y ≡ input text
-    → (texts : List (List ℕ)) × AreTexts folder (map name (take i files)) texts × (map seen inputs ≡ map input texts)
-    → (texts : List (List ℕ)) × AreTexts folder (map name (take (i + 1) files)) texts × (map seen after ≡ map input texts)
-texts_more {X} {Y} folder name seen input files i default within file file_is inputs after y text pushed short fits is (texts, (long, all, of), from) =
-    let files_more : map name (take (i + 1) files) ≡ map name (take i files) ++ file ∷ []
-    = ap (map name) (take_more files i default within) ∙ map-append name (take i files) (get_or files i default ∷ [])
-    ∙ ap (λ (f : List ℕ). map name (take i files) ++ f ∷ []) (sym file_is) in (
-      texts ++ text ∷ [],
-      (
-        length-append texts (text ∷ []) ∙ ap (λ (n : ℕ). n + 1) long ∙ sym (length-append (map name (take i files)) (file ∷ [])) ∙ ap (λ (xs : List (List ℕ)). length xs) (sym files_more),
-        all_more (λ (t : List ℕ). length t ≤ suc max_bytes) texts text all short,
-        subst (λ (fs : List (List ℕ)). AreTextsOf folder fs (texts ++ text ∷ [])) (sym files_more)
-            (pairs_more (λ (f : List ℕ × List ℕ). IsTextOf (folder.holds f.0) f.1) (map name (take i files)) [] texts file text long of fits),
-      ),
-      ap (map seen) pushed ∙ map-append seen inputs (y ∷ []) ∙ (λ k. from k ++ is k ∷ []) ∙ sym (map-append input texts (text ∷ [])),
-    )
+-- a late input is this file of the folder: what it turns out to be is what the file may be read as, and it fails only if the file
+-- may fail to be read
+pub record IsFile (folder : FolderData) (test : Option (List ℕ)) (file : List ℕ) (may_be : InputData → Type 0) (may_fail : Type 0) : Type 0 where
+  pub reads : (input : InputData) → may_be input → MayBeRead (folder.holds file) test input
+  pub fails : may_fail → folder.MayFail file
 
--- the next file can't be read
-pub unreadable_at : {X Y : Type 0} (folder : FolderData) (name : X → List ℕ) (seen : Y → InputData) (input : List ℕ → InputData) (files : List X) (i : ℕ) (default : X) → i < length files
-    → (inputs : List Y) (found : List ℕ) → found ≡ name (get_or files i default)
-    → (texts : List (List ℕ)) × AreTexts folder (map name (take i files)) texts × (map seen inputs ≡ map input texts)
-    → folder.MayFail found → IsUnreadable folder (map name files) found
-unreadable_at {X} {Y} folder name seen input files i default within inputs found is (texts, are, from) fails =
-    let cut : map name files ≡ map name (take i files) ++ map name (drop i files)
-    = ap (map name) (sym (take-append-drop i files)) ∙ map-append name (take i files) (drop i files) in
-    let rest : map name (drop i files) ≡ found ∷ map name (drop (i + 1) files)
-    = ap (map name) (drop_more files i default within) ∙ ap (λ (x : List ℕ). x ∷ map name (drop (i + 1) files)) (sym is) in
-    (map name (take i files), map name (drop (i + 1) files), texts, cut ∙ ap (λ (xs : List (List ℕ)). map name (take i files) ++ xs) rest, are, fails)
+-- each late input is the file of its name
+abbrev pub AreFiles : {X : Type 0} → FolderData → Option (List ℕ) → (name : X → List ℕ) → (MayBe : X → InputData → Type 0) → (MayFail : X → Type 0) → List X → Type 0
+AreFiles folder test name MayBe MayFail lates = AllByRecursion (λ one. IsFile folder test (name one) (MayBe one) (MayFail one)) lates
 
--- if the next file has a fault, this is the fault of the files
-pub fault_at : (folder : FolderData) (files : List (List ℕ)) (name : List ℕ) (fault : FileFault) → IsUnread folder name fault
-    → (folder.MayFail name → IsUnreadable folder files name) → IsFileFault folder files fault
-fault_at folder files name (Unreadable found) (is, fails) unreadable = subst (λ (n : List ℕ). IsUnreadable folder files n) (sym is) (unreadable fails)
-fault_at folder files name Memory is unreadable = tt
+-- the texts of some files, read as these inputs
+abbrev pub ReadTexts : FolderData → Option (List ℕ) → (files : List (List ℕ)) → List InputData → Type 0
+ReadTexts folder test files inputs = (texts : List (List ℕ)) × AreTexts folder files texts × (inputs ≡ map (input_of test) texts)
+
+-- what the text of a file is read as is what the file may be read as
+pub file_outcome : (held test : Option (List ℕ)) (text : List ℕ) (may_fail : Type 0) (answer : Result SubmissionData LateFault)
+    → length text ≤ suc max_bytes → IsTextOf held text → IsLateOutcome (λ input. input ≡ input_of test text) ⊥ answer
+    → IsLateOutcome (MayBeRead held test) may_fail answer
+file_outcome held test text may_fail (Ok submission) short fits (input, is, outcome) = (input, (text, short, fits, is), outcome)
+file_outcome held test text may_fail (Err (late.Refused fault)) short fits (input, is, outcome) = (input, (text, short, fits, is), outcome)
+file_outcome held test text may_fail (Err late.Unreadable) short fits none = absurd none
+file_outcome held test text may_fail (Err late.Memory) short fits told = tt
+
+-- one more file, in front of the others
+text_in_front : (folder : FolderData) (test : Option (List ℕ)) (file : List ℕ) (files : List (List ℕ)) (input : InputData) (inputs : List InputData)
+    → MayBeRead (folder.holds file) test input → ReadTexts folder test files inputs → ReadTexts folder test (file ∷ files) (input ∷ inputs)
+text_in_front folder test file files input inputs (text, short, fits, is) (texts, (long, all, of), from) =
+    (text ∷ texts, (ap suc long, (short, all), (fits, of)), λ k. is k ∷ from k)
+
+-- late inputs that are files turned out to be texts of these files
+texts_of : {X : Type 0} (folder : FolderData) (test : Option (List ℕ)) (name : X → List ℕ) (MayBe : X → InputData → Type 0) (MayFail : X → Type 0)
+    → (lates : List X) (inputs : List InputData) → AreFiles folder test name MayBe MayFail lates → TurnedOut MayBe lates inputs
+    → ReadTexts folder test (map name lates) inputs
+texts_of folder test name MayBe MayFail [] [] are turned = ([], (refl, tt, tt), refl)
+texts_of folder test name MayBe MayFail [] (input ∷ inputs) are turned = absurd turned
+texts_of folder test name MayBe MayFail (one ∷ lates) [] are turned = absurd turned
+texts_of folder test name MayBe MayFail (one ∷ lates) (input ∷ inputs) are turned =
+    text_in_front folder test (name one) (map name lates) input inputs (are.0.reads input turned.0)
+    (texts_of folder test name MayBe MayFail lates inputs are.1 turned.1)
+
+-- if a file can't be read after some files, it can't after one more file that was read before
+unreadable_behind : (folder : FolderData) (test : Option (List ℕ)) (file : List ℕ) (files : List (List ℕ)) (found : List ℕ) (input : InputData)
+    → MayBeRead (folder.holds file) test input → IsUnreadable folder files found → IsUnreadable folder (file ∷ files) found
+unreadable_behind folder test file files found input (text, short, fits, is) (before, after, texts, cut, (long, all, of), fails) =
+    (file ∷ before, after, text ∷ texts, ap (λ (fs : List (List ℕ)). file ∷ fs) cut, (ap suc long, (short, all), (fits, of)), fails)
+
+-- the first late input that can't be read is the first such file
+unreadable_first : {X : Type 0} (folder : FolderData) (test : Option (List ℕ)) (name : X → List ℕ) (MayBe : X → InputData → Type 0) (MayFail : X → Type 0)
+    → (lates : List X) (index : ℕ) → AreFiles folder test name MayBe MayFail lates → IsFirstUnread MayBe MayFail lates index
+    → IsUnreadable folder (map name lates) (name_at (slice_get (map name lates) index))
+unreadable_first folder test name MayBe MayFail [] index are (fails, read) = absurd fails
+unreadable_first folder test name MayBe MayFail (one ∷ lates) zero are (fails, read) =
+    ([], map name lates, [], refl, (refl, tt, tt), are.0.fails fails)
+unreadable_first folder test name MayBe MayFail (one ∷ lates) (suc index) are (fails, ([], turned)) = absurd turned
+unreadable_first folder test name MayBe MayFail (one ∷ lates) (suc index) are (fails, (input ∷ inputs, turned)) =
+    unreadable_behind folder test (name one) (map name lates) (name_at (slice_get (map name lates) index)) input (are.0.reads input turned.0)
+    (unreadable_first folder test name MayBe MayFail lates index are.1 (fails, (inputs, turned.1)))
+
+-- ---- inputs that are files of one folder
+
+-- inputs that are of this folder and this test are its files
+are_files : {X Folder : Type 0} (lates : List X) (at : Folder) (test : Option (List ℕ)) (of : Folder → FolderData) (own : X → Folder) (name : X → List ℕ) (test_of : X → Option (List ℕ))
+    → AllByRecursion (λ one. (own one ≡ at) × (test_of one ≡ test)) lates
+    → AreFiles (of at) test name (λ one input. MayBeRead ((of (own one)).holds (name one)) (test_of one) input) (λ one. (of (own one)).MayFail (name one)) lates
+are_files [] at test of own name test_of all = tt
+are_files {X} {Folder} (one ∷ lates) at test of own name test_of all = (
+  record {
+    reads = λ input may_be. subst (λ (f : Folder). MayBeRead ((of f).holds (name one)) test input) all.0.0
+        (subst (λ (t : Option (List ℕ)). MayBeRead ((of (own one)).holds (name one)) t input) all.0.1 may_be);
+    fails = λ may_fail. subst (λ (f : Folder). (of f).MayFail (name one)) all.0.0 may_fail;
+  },
+  are_files lates at test of own name test_of all.1,
+)
+
+-- what they turned out to be is what texts of the files are read as
+pub texts_read : {X Folder : Type 0} (lates : List X) (at : Folder) (test : Option (List ℕ)) (of : Folder → FolderData) (own : X → Folder) (name : X → List ℕ) (test_of : X → Option (List ℕ))
+    → (files : List (List ℕ)) (inputs : List InputData) → map name lates ≡ files → AllByRecursion (λ one. (own one ≡ at) × (test_of one ≡ test)) lates
+    → TurnedOut (λ one input. MayBeRead ((of (own one)).holds (name one)) (test_of one) input) lates inputs → ReadTexts (of at) test files inputs
+texts_read lates at test of own name test_of files inputs named all turned =
+    subst (λ (fs : List (List ℕ)). ReadTexts (of at) test fs inputs) named
+    (texts_of (of at) test name (λ one input. MayBeRead ((of (own one)).holds (name one)) (test_of one) input) (λ one. (of (own one)).MayFail (name one))
+    lates inputs (are_files lates at test of own name test_of all) turned)
+
+-- the first of them that can't be read is the first file that can't be read
+pub unreadable_read : {X Folder : Type 0} (lates : List X) (at : Folder) (test : Option (List ℕ)) (of : Folder → FolderData) (own : X → Folder) (name : X → List ℕ) (test_of : X → Option (List ℕ))
+    → (files : List (List ℕ)) (index : ℕ) (fault : IntoBookFault) → map name lates ≡ files → AllByRecursion (λ one. (own one ≡ at) × (test_of one ≡ test)) lates
+    → fault ≡ into_book.Unread index
+    → IsIntoBookFault (λ one input. MayBeRead ((of (own one)).holds (name one)) (test_of one) input) (λ one. (of (own one)).MayFail (name one)) lates fault
+    → IsUnreadable (of at) files (name_at (slice_get files index))
+unreadable_read {X} lates at test of own name test_of files index fault named all is unread =
+    let MayBe : X → InputData → Type 0 = λ one input. MayBeRead ((of (own one)).holds (name one)) (test_of one) input in
+    let MayFail : X → Type 0 = λ one. (of (own one)).MayFail (name one) in
+    subst (λ (fs : List (List ℕ)). IsUnreadable (of at) fs (name_at (slice_get fs index))) named
+    (unreadable_first (of at) test name MayBe MayFail lates index (are_files lates at test of own name test_of all)
+    (subst (λ (f : IntoBookFault). IsIntoBookFault MayBe MayFail lates f) is unread))
+
+-- ---- texts of files that aren't read
+
+-- a text that a file with these bytes has, at most this long
+text_held : (most : ℕ) (held : Option (List ℕ)) → (text : List ℕ) × (length text ≤ most) × IsTextAtMost most held text
+text_held most None = ([], omega arith, tt)
+text_held most (Some bytes) = (take most bytes, omega (arith, length-take most bytes), refl)
+
+-- each file has a text
+pub texts_held : (folder : FolderData) (files : List (List ℕ)) → (texts : List (List ℕ)) × AreTexts folder files texts
+texts_held folder [] = ([], (refl, tt, tt))
+texts_held folder (file ∷ files) =
+    let this : (text : List ℕ) × (length text ≤ suc max_bytes) × IsTextOf (folder.holds file) text = text_held (suc max_bytes) (folder.holds file) in
+    let others : (texts : List (List ℕ)) × AreTexts folder files texts = texts_held folder files in
+    (this.0 ∷ others.0, (ap suc others.1.0, (this.1, others.1.1), (this.2, others.1.2)))

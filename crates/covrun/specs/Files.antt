@@ -2,8 +2,9 @@
 use Rattle.std.specs.Io.KnownBytes.{Consumes, IsAtEnd}
 use Rattle.std.specs.Prelude.{◌≡◌, ◌⊎◌, ◌<◌, ◌≤◌, ℕ, suc, List, ◌++◌, length, Option}
 use Rattle.covread.specs.Outcome.{max_bytes}
-use Rattle.covrun.specs.Call.{IsUnreadable}
-use Rattle.covrun.specs.Folder.{FolderData}
+use Rattle.covjobs.specs.Collect.{InputData}
+use Rattle.covrun.specs.Folder.{FolderData, IsTextOf}
+use Rattle.covrun.specs.Work.{input_of}
 use Rattle.covsession.specs.declared.session.fault.SessionFault.{SessionFault}
 use Rattle.covsession.specs.declared.session.fault.SessionFault.TheVariants as faults
 use Rattle.covrun.specs.declared.files.FileFault.{FileFault}
@@ -30,12 +31,11 @@ IsReadFault left left_after failed failed_after faults.Memory = Unit {0}
 IsReadFault left left_after failed failed_after faults.Write = ⊥
 IsReadFault left left_after failed failed_after faults.Full = ⊥
 
--- why the files aren't read: the first file that can't be read, or memory ran out
-abbrev pub IsFileFault : FolderData → List (List ℕ) → FileFault → Type 0
-IsFileFault folder files (Unreadable name) = IsUnreadable folder files name.now
-IsFileFault folder files Memory = Unit {0}
-
 -- the file of this name can't be read, or memory ran out
 abbrev pub IsUnread : FolderData → List ℕ → FileFault → Type 0
 IsUnread folder name (Unreadable file) = (file.now ≡ name) × folder.MayFail name
 IsUnread folder name Memory = Unit {0}
+
+-- a file with these bytes, if they are known, may be read as this input: that of a text which is read of it
+abbrev pub MayBeRead : (held test : Option (List ℕ)) → InputData → Type 0
+MayBeRead held test input = (text : List ℕ) × (length text ≤ suc max_bytes) × IsTextOf held text × (input ≡ input_of test text)

@@ -1,75 +1,90 @@
-//! A subcommand's work: reads its files, collects them, and decides how the call ends.
+//! A subcommand's work: collects its files, and decides how the call ends.
 
-ghost use Rattle.std.specs.Prelude.{◌≡◌, ◌++◌, ◌≤◌, List, Option, length, map, slice_get, IfOk, OnOk, IfErr};
+ghost use Rattle.std.specs.Prelude.{◌≡◌, ◌++◌, [], ◌∷◌, map, slice_get, IfOk, OnOk, IfErr};
 ghost use Rattle.std.specs.List.{flat_map};
 ghost use Rattle.std.specs.String.{string_bytes};
 ghost use Rattle.covbook.specs.EntryView.{entry_data};
-ghost use Rattle.covbook.specs.View.{answer_data};
+ghost use Rattle.covbook.specs.Step.{next_entry};
+ghost use Rattle.covbook.specs.Texts.{IsText};
+ghost use Rattle.covbook.specs.View.{answer_data, op_data};
 ghost use Rattle.covsession.specs.Session.{clash_text};
 ghost use Rattle.covsession.specs.declared.session.fault.SessionFault.TheVariants as session_faults;
 ghost use Rattle.covrun.specs.Call.{WorkEnds};
-ghost use Rattle.covrun.specs.Ending.{of_collected, complaints, refusal_line, ran_out, last_text, name_at, text_in};
+ghost use Rattle.covrun.specs.Ending.{of_collected, complaints, refusal_line, ran_out, name_at};
 ghost use Rattle.covrun.specs.Folder.{folder_data};
 ghost use Rattle.covrun.specs.View.{ending_data, work_data};
 
 use crate::ending::{Ending, ending_of_collect};
-use crate::files::FileFault;
+use crate::file_input::file_inputs;
 use crate::folder::Folder;
-use crate::inputs::read_files;
 use crate::work::Work;
-use covbook::{Answer, Entry, TextRef};
-use covjobs::{Collected, NoGate, RefusedInput, collect_owned};
-use covline::Bytes;
+use covbook::{Answer, Answered, Op};
+use covjobs::{CollectedBook, IntoBookFault, NoGate, RefusedInput, collect_into_book};
 use covsession::{SessionFault, clash_line, refused_line};
 use std::alloc::Global;
 use std::sync::Wait;
 use std::thread::Threads;
 
-/// Does the work, and returns the call's ending. Each text is freed once it is read.
-pub(crate) fn ending_of<'a, R: Threads + Wait + Sync, F: Folder>(
+/// Does the work, and returns the call's ending. A job reads each of its files when its turn comes, and frees the text once it is
+/// read. The book is freed too.
+pub(crate) fn ending_of<'a, R: Threads + Wait + Sync, F: Folder<File: Send> + Sync>(
     rt: &R,
     folder: &F,
     alloc: Global,
     work: &'a Work,
 ) -> Ending<'a>
+    requires { IsText (op_data work.now.last) }
     ensures { WorkEnds (folder_data (F.holds folder.now) (F.may_refuse folder.now) F.File.left F.File.failed_reads) (work_data work.now) (ending_data result) }
 {
     let files = work.files.get();
-    let inputs = match read_files(folder, alloc, &work.test, files) {
-        Ok(inputs) => inputs,
-        Err(FileFault::Unreadable(name)) => return Ending::Unreadable(name),
-        Err(FileFault::Memory) => return Ending::Stopped(SessionFault::Memory),
+    let Ok(inputs) = file_inputs(folder, alloc, &work.test, files) else {
+        return Ending::Stopped(SessionFault::Memory);
     };
-    match collect_owned(rt, alloc, inputs, &work.last, work.jobs, &NoGate) {
-        Ok(collected) => match ending_of_collected(alloc, files, &collected) {
+    match collect_into_book(rt, alloc, inputs, work.jobs, &NoGate) {
+        Ok(collected) => match ending_of_collected(alloc, files, &work.last, &collected) {
             Ok(ending) => ending,
             Err(fault) => Ending::Stopped(fault),
         },
-        Err(fault) => ending_of_collect(fault),
+        Err(IntoBookFault::Unread { index }) => Ending::Unreadable(file_name(files, index)),
+        Err(IntoBookFault::Collect(fault)) => ending_of_collect(fault),
     }
 }
 
-/// The call's ending for what was collected.
+/// The call's ending for what was collected before the last operation, which is answered by a text.
 fn ending_of_collected<'a>(
     alloc: Global,
     files: &[String],
-    collected: &Collected,
+    last: &Op,
+    collected: &CollectedBook,
 ) -> Result<Ending<'a>, SessionFault>
-    ensures ending { IfOk result (λ ending. ending_data ending ≡ of_collected (map string_bytes files.now) collected.now.entries collected.now.refused) }
+    requires { IsText (op_data last.now) }
+    ensures ending { IfOk result (λ ending. ending_data ending ≡ of_collected (map string_bytes files.now)
+        (collected.now.book.entries ++ next_entry collected.now.book.entries 0 (op_data last.now) ∷ []) collected.now.refused) }
     ensures fault { IfErr result (λ fault. fault ≡ session_faults.Memory) }
 {
-    let refused = collected.refused.get();
-    if has_run_out(refused) {
+    if has_run_out(collected.refused.get()) {
         return Ok(Ending::Stopped(SessionFault::Memory));
     }
-    let entries = collected.entries.get();
-    let mut lines = Vec::new(alloc);
-    add_refusals(alloc, files, refused, &mut lines)?;
-    add_clashes(alloc, entries, &mut lines)?;
+    let lines = complaint_lines(alloc, files, collected)?;
     if lines.is_empty() {
-        return Ok(Ending::Done(text_at_end(alloc, entries)?));
+        return Ok(Ending::Done(collected.book.text_of(alloc, last)?));
     }
     Ok(Ending::Refused(lines))
+}
+
+/// The lines of the refused inputs, and then of the clashes.
+fn complaint_lines(
+    alloc: Global,
+    files: &[String],
+    collected: &CollectedBook,
+) -> Result<Vec<u8>, SessionFault>
+    ensures lines { IfOk result (λ lines. lines.items ≡ complaints (map string_bytes files.now) collected.now.refused collected.now.book.entries) }
+    ensures fault { IfErr result (λ fault. fault ≡ session_faults.Memory) }
+{
+    let mut lines = Vec::new(alloc);
+    add_refusals(alloc, files, collected.refused.get(), &mut lines)?;
+    add_clashes(alloc, collected.book.kept(), &mut lines)?;
+    Ok(lines)
 }
 
 /// Whether an input was refused because memory ran out.
@@ -100,13 +115,13 @@ fn add_refusals(
     Ok(())
 }
 
-/// The name of the file with this index.
-fn file_name(files: &[String], index: usize) -> &[u8]
+/// The name of the file with this index; an empty one if there is no such file.
+fn file_name(files: &[String], index: usize) -> &str
     ensures { result.now ≡ name_at (slice_get (map string_bytes files.now) index) }
 {
     match files.get(index) {
-        Some(name) => name.as_bytes(),
-        None => b"",
+        Some(name) => name.as_str(),
+        None => "",
     }
 }
 
@@ -120,7 +135,7 @@ fn add_refusal(
     ensures added { OnOk result (lines.new.items ≡ lines.old.items ++ refusal_line (map string_bytes files.now) input) }
     ensures fault { IfErr result (λ fault. fault ≡ session_faults.Memory) }
 {
-    lines.extend_from_slice(file_name(files, input.index))?;
+    lines.extend_from_slice(file_name(files, input.index).as_bytes())?;
     lines.extend_from_slice(b": ")?;
     let line = refused_line(alloc, input.fault)?;
     lines.extend_from_slice(line.as_slice())?;
@@ -128,12 +143,13 @@ fn add_refusal(
 }
 
 /// Appends the line of each clash.
-fn add_clashes(alloc: Global, entries: &[Entry], lines: &mut Vec<u8>) -> Result<(), SessionFault>
-    ensures added { OnOk result (lines.new.items ≡ lines.old.items ++ flat_map (λ e. clash_text e.answer) (map entry_data entries.now)) }
+fn add_clashes(alloc: Global, answers: &[Answered], lines: &mut Vec<u8>) -> Result<(), SessionFault>
+    ensures added { OnOk result (lines.new.items ≡ lines.old.items ++ flat_map (λ e. clash_text e.answer)
+        (map (λ k. entry_data (record k.entry.value { answer = k.answer })) answers.now)) }
     ensures fault { IfErr result (λ fault. fault ≡ session_faults.Memory) }
 {
-    for entry in entries {
-        add_clash(alloc, &entry.answer, lines)?;
+    for answered in answers {
+        add_clash(alloc, &answered.answer, lines)?;
     }
     Ok(())
 }
@@ -146,30 +162,4 @@ fn add_clash(alloc: Global, answer: &Answer, lines: &mut Vec<u8>) -> Result<(), 
     let text = clash_line(alloc, answer)?;
     lines.extend_from_slice(text.as_slice())?;
     Ok(())
-}
-
-/// The text of the last entry.
-fn text_at_end(alloc: Global, entries: &[Entry]) -> Result<TextRef, SessionFault>
-    ensures text { IfOk result (λ text. text ≡ last_text (map entry_data entries.now)) }
-    ensures fault { IfErr result (λ fault. fault ≡ session_faults.Memory) }
-{
-    match entries.last() {
-        Some(entry) => text_of_answer(alloc, &entry.answer),
-        None => Ok(TextRef::of(alloc, Bytes::new(alloc))?),
-    }
-}
-
-/// The text of an answer; an empty one if the answer has no text.
-fn text_of_answer(alloc: Global, answer: &Answer) -> Result<TextRef, SessionFault>
-    ensures text { IfOk result (λ text. text ≡ text_in (answer_data answer.now)) }
-    ensures fault { IfErr result (λ fault. fault ≡ session_faults.Memory) }
-{
-    match answer {
-        Answer::Text(text) => Ok(text.copy()?),
-        Answer::Accepted { .. }
-        | Answer::Clash { .. }
-        | Answer::Dropped { .. }
-        | Answer::Renamed { .. }
-        | Answer::NoSuchTest => Ok(TextRef::of(alloc, Bytes::new(alloc))?),
-    }
 }

@@ -8,16 +8,16 @@ ghost use Rattle.covrun.specs.WorkFault.{of_work};
 
 use crate::argument_fault::ArgumentFault;
 use crate::work::WorkFault;
-use covbook::TextRef;
 use covcommand::CommandFault;
 use covjobs::CollectFault;
+use covline::Bytes;
 use covsession::SessionFault;
 
 /// How a call with a subcommand ends: this decides its exit status and what it writes.
 #[derive(Drop)]
 pub(crate) enum Ending<'a> {
-    /// The text of the last entry is printed.
-    Done(TextRef),
+    /// This text, the answer to the last operation, is printed.
+    Done(Bytes),
     /// Help, or the version, is printed.
     Help(String),
     /// The words don't fit the command line.

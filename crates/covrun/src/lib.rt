@@ -1,9 +1,10 @@
 //! The program as a function: its words, files and streams in, its exit status out.
 //!
 //! `run` parses the command line (covcommand), and makes a `Task` of the command. Without a subcommand, the task is a session
-//! (covsession). For `check`, each file is read and reported by itself (`checked`). Any other subcommand is `Work`: its files are
-//! read (`files`) and collected by covjobs, and the result becomes an `Ending`. `report_ending` reports this by an exit status and
-//! on the two output streams. Files are read from a `Folder`; `FromFiles` makes one of std's files.
+//! (covsession). For `check`, each file is read and reported by itself (`checked`). Any other subcommand is `Work`: covjobs
+//! collects its files in a book, and a job reads each file when its turn comes (`FileInput`). So at most one text for each job is
+//! in memory. What was collected becomes an `Ending`, which `report_ending` reports by an exit status and on the two output
+//! streams. Files are read from a `Folder` (`files`); `FromFiles` makes one of std's files.
 //!
 //! A sketch: the program's main function.
 //!
@@ -25,9 +26,9 @@ mod check_verdict;
 mod checked;
 mod collecting;
 mod ending;
+mod file_input;
 mod files;
 mod folder;
-mod inputs;
 mod output;
 mod program;
 mod work;

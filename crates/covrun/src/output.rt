@@ -25,7 +25,7 @@ pub(crate) fn report_ending<O: Sink, E: Sink>(
         (sinks (O.written output.new) (O.failed_writes output.new) (E.written faults.new) (E.failed_writes faults.new)) }
 {
     match ending {
-        Ending::Done(text) => print(text.get().get(), output, faults),
+        Ending::Done(text) => print(text.get(), output, faults),
         Ending::Help(text) => print(text.as_bytes(), output, faults),
         Ending::Line(text) => complain(b"", text.as_bytes(), 2, faults),
         Ending::Words(fault) => complain(b"", fault.line(), 2, faults),

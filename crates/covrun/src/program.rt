@@ -21,10 +21,10 @@ use std::thread::Threads;
 /// Runs the program, and returns its exit status. The first of the words is the program's name.
 ///
 /// A call that collects files looks for faults in this order, given here with their exit statuses: the command line (2); the
-/// patterns, or the test's name of `gcov` (2); the first file that can't be read (1); a fault of collecting (3); a text for which
-/// memory ran out (3); refused texts and clashes (4); a failed write to the output (1). `out of memory` (3) may end the call at
-/// any point. Only help, the version, or the text of a call that succeeds goes to the output; if a write fails, a
-/// beginning of that text does.
+/// patterns, or the test's name of `gcov` (2); a full history (3); the first file that can't be read (1); another fault of
+/// collecting (3); a text for which memory ran out (3); refused texts and clashes (4); a failed write to the output (1). `out of
+/// memory` (3) may end the call at any point. Only help, the version, or the text of a call that succeeds goes to the output; if a
+/// write fails, a beginning of that text does.
 ///
 /// A call that checks files checks one after another. It writes a line to the output for each file that can be read, and
 /// complains about a file that can't be read or has no item. Its status is 1 if a file can't be read, else 4 if one is refused,
@@ -34,14 +34,13 @@ use std::thread::Threads;
 ///
 /// Only a session reads the input. The output is flushed; `faults` isn't. Without a subcommand, the call is a session over the
 /// input and the output. `run` returns only after all jobs have ended.
-pub fn run<R: AllocGlobal + Threads + Wait + Sync, F: Folder, I: Source, O: Sink, E: Sink>(
-    rt: &R,
-    folder: &F,
-    words: &[String],
-    input: &mut I,
-    output: &mut O,
-    faults: &mut E,
-) -> u8
+pub fn run<
+    R: AllocGlobal + Threads + Wait + Sync,
+    F: Folder<File: Send> + Sync,
+    I: Source,
+    O: Sink,
+    E: Sink,
+>(rt: &R, folder: &F, words: &[String], input: &mut I, output: &mut O, faults: &mut E) -> u8
     requires reads { I.reads input.old < 2 ^ 62 }
     requires failed_reads { I.failed_reads input.old < 2 ^ 62 }
     requires failed_writes { O.failed_writes output.old < 2 ^ 62 }
@@ -59,7 +58,7 @@ pub fn run<R: AllocGlobal + Threads + Wait + Sync, F: Folder, I: Source, O: Sink
 }
 
 /// Does what the command asks for, and returns the exit status.
-fn run_command<R: Threads + Wait + Sync, F: Folder, I: Source, O: Sink, E: Sink>(
+fn run_command<R: Threads + Wait + Sync, F: Folder<File: Send> + Sync, I: Source, O: Sink, E: Sink>(
     rt: &R,
     folder: &F,
     alloc: Global,

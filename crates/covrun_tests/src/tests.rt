@@ -24,13 +24,12 @@ mod limits;
 
 /// Makes a call, and returns its exit status. This function promises nothing: a test looks at what a call does, and is proved
 /// more quickly this way.
-fn called<R: Files + AllocGlobal + Threads + Wait + Sync, I: Source, O: Sink, E: Sink>(
-    rt: &R,
-    words: &[String],
-    input: &mut I,
-    output: &mut O,
-    faults: &mut E,
-) -> u8
+fn called<
+    R: Files<File: Send, Dir: Send> + AllocGlobal + Threads + Wait + Sync,
+    I: Source,
+    O: Sink,
+    E: Sink,
+>(rt: &R, words: &[String], input: &mut I, output: &mut O, faults: &mut E) -> u8
     requires reads { I.reads input.old < 2 ^ 62 }
     requires failed_reads { I.failed_reads input.old < 2 ^ 62 }
     requires failed_writes { O.failed_writes output.old < 2 ^ 62 }
@@ -48,7 +47,7 @@ struct Told {
 }
 
 /// Makes a call of these words, with this input.
-fn call<R: Files + AllocGlobal + Threads + Wait + Sync>(
+fn call<R: Files<File: Send, Dir: Send> + AllocGlobal + Threads + Wait + Sync>(
     rt: &R,
     words: &[String],
     input: &[u8],
@@ -83,7 +82,7 @@ struct Said {
 /// that begin with `! ` are what it has to write to the stream for faults. If the last of these lines ends in `...`, only what
 /// is before the `...` has to be there. A line `% HEX` appends these bytes to the text, without a line feed. Every other line is
 /// appended to the text. In words, outputs and faults `~` is the folder.
-fn play<R: Files + AllocGlobal + Threads + Wait + Abort + Sync>(
+fn play<R: Files<File: Send, Dir: Send> + AllocGlobal + Threads + Wait + Abort + Sync>(
     rt: &R,
     process: u32,
     script: &str,
@@ -103,7 +102,7 @@ fn play<R: Files + AllocGlobal + Threads + Wait + Abort + Sync>(
 }
 
 /// Does what a line of a script says.
-fn play_line<R: Files + AllocGlobal + Threads + Wait + Abort + Sync>(
+fn play_line<R: Files<File: Send, Dir: Send> + AllocGlobal + Threads + Wait + Abort + Sync>(
     rt: &R,
     folder: &str,
     line: &str,
@@ -140,7 +139,7 @@ fn make_file<R: Files + AllocGlobal>(
 }
 
 /// Makes a call, and checks its status and what it wrote.
-fn make_call<R: Files + AllocGlobal + Threads + Wait + Abort + Sync>(
+fn make_call<R: Files<File: Send, Dir: Send> + AllocGlobal + Threads + Wait + Abort + Sync>(
     rt: &R,
     folder: &str,
     asked: &str,

@@ -29,11 +29,15 @@ use crate::session::submit::{Given, answer_given, take_text};
 use crate::session::text::{LineEnd, Text};
 use crate::stream::{Sink, Source};
 pub use answers::{clash_line, refused_line};
-use covbook::Book;
+use covbook::{Book, Entry};
 pub use fault::SessionFault;
 pub use output::put_bytes;
 use std::alloc::Allocator;
 use std::mem;
+use std::snapshot::Snapshot;
+
+// The book of a session. Nobody asks a session for its history, so the book keeps nothing of its entries: they exist in proofs alone.
+pub(crate) type SessionBook<A> = Book<A, Snapshot<Entry<A>>>;
 
 // The format of the text that follows a line with this word and this ending, or `None` if no text follows it.
 fn text_following(word: Word<'_>, ending: LineEnd) -> Option<Format<'_>>
@@ -78,7 +82,7 @@ fn names_after(word: Word<'_>, ending: LineEnd) -> bool
 // is collected in `room`.
 fn answer_command<I: Source, O: Sink, A: Allocator + Copy>(
     alloc: A,
-    book: &mut Book<A>,
+    book: &mut SessionBook<A>,
     input: &mut SessionInput<'_, I, A>,
     output: &mut Output<'_, O, A>,
     room: &mut Vec<u8, A>,
@@ -118,7 +122,7 @@ fn answer_all<I: Source, O: Sink, A: Allocator + Copy>(
     ensures broken { IfErr result (λ f. IsBroken (moment input.old output.old) (moment input.new output.new) f) }
 {
     let mut room = Vec::new(alloc);
-    let mut book = Book::new(alloc);
+    let mut book = SessionBook::keeping(alloc);
     loop {
         match answer_command(alloc, &mut book, input, output, &mut room)? {
             LineEnd::Feed => {}

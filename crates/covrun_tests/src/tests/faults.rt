@@ -136,7 +136,7 @@ impl Sink for Closed {
 }
 
 /// The exit status of a call with such an output, and what the call writes to the stream for faults.
-fn call_closed<R: Files + AllocGlobal + Threads + Wait + Sync>(
+fn call_closed<R: Files<File: Send, Dir: Send> + AllocGlobal + Threads + Wait + Sync>(
     rt: &R,
     asked: &str,
     takes: bool,
@@ -160,7 +160,7 @@ fn call_closed<R: Files + AllocGlobal + Threads + Wait + Sync>(
 }
 
 /// Checks that a call with such an output ends with status 1, and writes `told` to the stream for faults.
-fn check_closed<R: Files + AllocGlobal + Threads + Wait + Abort + Sync>(
+fn check_closed<R: Files<File: Send, Dir: Send> + AllocGlobal + Threads + Wait + Abort + Sync>(
     rt: &R,
     asked: &str,
     takes: bool,
@@ -286,7 +286,7 @@ impl Source for Broken {
 }
 
 /// The exit status of a call with such an input, and how often the input was read.
-fn call_broken<R: Files + AllocGlobal + Threads + Wait + Sync>(
+fn call_broken<R: Files<File: Send, Dir: Send> + AllocGlobal + Threads + Wait + Sync>(
     rt: &R,
     asked: &str,
 ) -> Result<(u8, u64), Fail> {
@@ -309,7 +309,7 @@ fn call_broken<R: Files + AllocGlobal + Threads + Wait + Sync>(
 }
 
 /// Checks the exit status of a call with such an input, and how often the input was read.
-fn check_broken<R: Files + AllocGlobal + Threads + Wait + Abort + Sync>(
+fn check_broken<R: Files<File: Send, Dir: Send> + AllocGlobal + Threads + Wait + Abort + Sync>(
     rt: &R,
     asked: &str,
     status: u8,

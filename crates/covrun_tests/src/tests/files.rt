@@ -24,7 +24,7 @@ fn merged(alloc: Global, path: &str, times: usize) -> Result<Vec<String>, Fail> 
 }
 
 /// Checks how a call ends that merges a file of these bytes `times` times.
-fn check<R: Files + AllocGlobal + Threads + Wait + Abort + Sync>(
+fn check<R: Files<File: Send, Dir: Send> + AllocGlobal + Threads + Wait + Abort + Sync>(
     rt: &R,
     path: &str,
     text: &[u8],

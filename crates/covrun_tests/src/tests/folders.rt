@@ -12,7 +12,7 @@ use std::test::*;
 use std::thread::Threads;
 
 /// Makes a call of these words, with this folder.
-fn call_over<R: AllocGlobal + Threads + Wait + Sync, F: Folder>(
+fn call_over<R: AllocGlobal + Threads + Wait + Sync, F: Folder<File: Send> + Sync>(
     rt: &R,
     folder: &F,
     words: &[String],
@@ -34,7 +34,7 @@ fn call_over<R: AllocGlobal + Threads + Wait + Sync, F: Folder>(
 }
 
 /// Checks that a call with this folder ends with status 1, and writes `output` and `faults`.
-fn check_over<R: AllocGlobal + Threads + Wait + Abort + Sync, F: Folder>(
+fn check_over<R: AllocGlobal + Threads + Wait + Abort + Sync, F: Folder<File: Send> + Sync>(
     rt: &R,
     folder: &F,
     asked: &str,

@@ -33,7 +33,7 @@ fn chosen_by(alloc: Global, patterns: usize, bytes: usize) -> Result<Vec<String>
 }
 
 /// Checks that a call of these words ends with this status and these faults, and has no output.
-fn check<R: Files + AllocGlobal + Threads + Wait + Abort + Sync>(
+fn check<R: Files<File: Send, Dir: Send> + AllocGlobal + Threads + Wait + Abort + Sync>(
     rt: &R,
     words: &[String],
     status: u8,

@@ -13,11 +13,12 @@ ghost use Rattle.covsession.specs.declared.session.fault.SessionFault.TheVariant
 
 mod word;
 
+use crate::session::SessionBook;
 use crate::session::answers::say_answer;
 use crate::session::fault::SessionFault;
 use crate::session::output::Output;
 use crate::stream::Sink;
-use covbook::{Book, Op};
+use covbook::Op;
 use covline::Bytes;
 use covreport::{PatternFault, Patterns};
 use std::alloc::Allocator;
@@ -29,7 +30,7 @@ const SESSION_JOB: u32 = 0;
 /// Performs one step of the book, as job 0, and says the answer.
 pub fn step<O: Sink, A: Allocator + Copy>(
     alloc: A,
-    book: &mut Book<A>,
+    book: &mut SessionBook<A>,
     op: &Op<A>,
     output: &mut Output<'_, O, A>,
 ) -> Result<(), SessionFault>
@@ -86,7 +87,7 @@ fn drop_op<A: Allocator>(alloc: A, test: &[u8]) -> Result<Op<A>, SessionFault>
 /// Answers a command that is one line. A line that a text or two names should follow is answered as unfinished.
 pub fn answer_word<O: Sink, A: Allocator + Copy>(
     alloc: A,
-    book: &mut Book<A>,
+    book: &mut SessionBook<A>,
     word: Word<'_>,
     output: &mut Output<'_, O, A>,
 ) -> Result<(), SessionFault>

@@ -10,13 +10,14 @@ ghost use Rattle.covsession.specs.Rename.{LacksName, IsThere, TakesName, TakesNa
 ghost use Rattle.covsession.specs.Run.{TakesAfter};
 ghost use Rattle.covsession.specs.declared.session.fault.SessionFault.TheVariants as session_faults;
 
+use crate::session::SessionBook;
 use crate::session::command::step;
 use crate::session::fault::SessionFault;
 use crate::session::input::SessionInput;
 use crate::session::output::Output;
 use crate::session::text::{LineEnd, Text};
 use crate::stream::{Sink, Source};
-use covbook::{Book, Op};
+use covbook::Op;
 use covline::{Bytes, without_returns};
 use std::alloc::Allocator;
 
@@ -95,7 +96,7 @@ fn rename_op<A: Allocator>(old: Bytes<A>, new: Bytes<A>) -> Op<A>
 /// Takes the names after a line `rename`, and answers the rename.
 pub fn answer_rename<I: Source, O: Sink, A: Allocator + Copy>(
     alloc: A,
-    book: &mut Book<A>,
+    book: &mut SessionBook<A>,
     input: &mut SessionInput<'_, I, A>,
     output: &mut Output<'_, O, A>,
 ) -> Result<LineEnd, SessionFault>

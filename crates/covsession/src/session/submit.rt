@@ -13,6 +13,7 @@ ghost use Rattle.covsession.specs.Streams.{moment, CanCall, Says, TakesPieces};
 ghost use Rattle.covsession.specs.Text.{asked_for, AnswersAs, IsAnsweredAs, IsTaken, IsNotMemory, IsReported};
 ghost use Rattle.covsession.specs.declared.session.fault.SessionFault.TheVariants as session_faults;
 
+use crate::session::SessionBook;
 use crate::session::answers::refused_line;
 use crate::session::command::{Format, step};
 use crate::session::fault::SessionFault;
@@ -20,7 +21,7 @@ use crate::session::input::SessionInput;
 use crate::session::output::Output;
 use crate::session::text::{CollectedText, LineEnd, Text};
 use crate::stream::{Sink, Source};
-use covbook::{Book, Op, SubRef};
+use covbook::{Op, SubRef};
 use covline::Submission;
 use covread::{MAX_BYTES, ReadFault, read_gcov, read_trace};
 use std::alloc::Allocator;
@@ -100,7 +101,7 @@ fn read_as<A: Allocator + Copy>(
 // Submits the submission that was read, or answers why the text is refused.
 fn submit<O: Sink, A: Allocator + Copy>(
     alloc: A,
-    book: &mut Book<A>,
+    book: &mut SessionBook<A>,
     read: Result<Submission<A>, ReadFault>,
     output: &mut Output<'_, O, A>,
 ) -> Result<(), SessionFault>
@@ -144,7 +145,7 @@ fn keep_room<A: Allocator>(room: &mut Vec<u8, A>, text: Vec<u8, A>) {
 /// Answers what was taken of a text. As soon as a whole text is read, its room is kept for the next text, or freed.
 pub fn answer_given<O: Sink, A: Allocator + Copy>(
     alloc: A,
-    book: &mut Book<A>,
+    book: &mut SessionBook<A>,
     given: Given<'_, A>,
     room: &mut Vec<u8, A>,
     output: &mut Output<'_, O, A>,

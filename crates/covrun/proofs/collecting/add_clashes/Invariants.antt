@@ -5,6 +5,6 @@ use Rattle.covbook.specs.Op.{EntryData}
 use Rattle.covsession.specs.Session.{clash_text}
 use Rattle.covrun.proofs.collecting.add_clashes.Given as goal
 
--- the lines of the clashes among the entries so far are appended
-abbrev pub invariant-loop-entry : goal.invariant-loop-entry
-invariant-loop-entry l = l.lines.items ≡ l.initial.lines.items ++ flat_map (λ (e : EntryData). clash_text e.answer) (map entry_data (take l.entry-index l.entries))
+-- the lines of the clashes among the answers so far are appended
+abbrev pub invariant-loop-answered : goal.invariant-loop-answered
+invariant-loop-answered l = l.lines.items ≡ l.initial.lines.items ++ flat_map (λ (e : EntryData). clash_text e.answer) (map (λ k. entry_data (record k.entry.value { answer = k.answer })) (take l.answered-index l.answers))

@@ -1,8 +1,14 @@
+use denote.Param.Send.{sendable}
 use Rattle.std.proofs.Common.{inl, inr, refl, sym, ap, ◌∙◌}
 use Rattle.covrun.specs.Folder.{folder_data}
 use Rattle.covrun.specs.View.{task_data, work_data, ending_data}
-use Rattle.covrun.proofs.Endings.{stops_early, told_check, told_work}
+use Rattle.covrun.proofs.Endings.{asks_text, stops_early, told_check, told_work}
 use Rattle.covrun.proofs.program.run_command.Goals as goal
+
+pub ending_of-requires : goal.ending_of-requires
+ending_of-requires g c =
+    let asks = asks_text c.args.asked (work_data c.in-Ok-Collect.work) (ap task_data (sym c.in-Ok-Collect.field-0-is) ∙ c.in-Ok-Collect.ensures.task) in
+    (search sendable, (search sendable, (search sendable, asks)))
 
 pub returns-in-Ok-Collect : goal.returns-in-Ok-Collect
 returns-in-Ok-Collect g c =

@@ -13,7 +13,7 @@ use Rattle.covsession.proofs.session.answer_all.Goals as goal
 
 pub loop-book-init : goal.loop-book-init
 loop-book-init g c =
-    so_far_none (moment c.args.input.now c.args.output.now) (ops_in c.new-book.result.entries) (ap ops_in c.new-book.ensures)
+    so_far_none (moment c.args.input.now c.args.output.now) (ops_in c.keeping-book.result.entries) (ap ops_in c.keeping-book.ensures)
 
 pub loop-book-preserved : goal.loop-book-preserved
 loop-book-preserved g c =
