@@ -12,6 +12,7 @@
                  again
     rename-one   so many files of three lines of one test, and one file of another test; then this other test is renamed 200 times
     rename-all   so many files of three lines of one test; then 10 times the test is renamed
+    reports      20 tracefiles of about a megabyte that add up, then so many reports
 
 A session hands in its tracefiles one after another and asks for a report at the end. Each tracefile is written to the folder
 too, named by its number; those that are handed in again after a drop are written once. Renames go there and back. The last line on standard output is
@@ -85,7 +86,12 @@ def rename_all(size):
         yield rename("system", "unit")
 
 
-KINDS = {kind.__name__.replace("_", "-"): kind for kind in (adding, own_tests, ascending, shuffled, small_files, one_line, drop_one, drop_all, rename_one, rename_all)}
+def reports(size):
+    yield from adding(20)
+    yield from ["report"] * (size - 1)
+
+
+KINDS = {kind.__name__.replace("_", "-"): kind for kind in (adding, own_tests, ascending, shuffled, small_files, one_line, drop_one, drop_all, rename_one, rename_all, reports)}
 
 
 def main():
@@ -96,7 +102,7 @@ def main():
     is_again = False
     with open(session, "w", encoding="ascii") as to:
         for text in KINDS[kind](size):
-            if text.startswith(("drop ", "rename\n")):
+            if text.startswith(("drop ", "rename\n", "report")):
                 to.write(f"{text}\n")
                 is_again = True
                 continue
