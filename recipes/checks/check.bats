@@ -107,7 +107,7 @@ SUITE
         number=$((128 + $(kill -l $signal)))
         mkdir $signal
         export PIDS=$PWD/$signal
-        daemon env TMPDIR="$PWD/tmp" ./check "$COVCOLLECT" waits >$signal/told 2>&1
+        daemon env --default-signal=INT TMPDIR="$PWD/tmp" ./check "$COVCOLLECT" waits >$signal/told 2>&1
         until [ -s $signal/scenario ]; do sleep 0.1; done
         kill -$signal "${daemons[-1]}"
         status=0
