@@ -24,6 +24,7 @@
 
 mod bytes;
 mod checks;
+pub mod fields;
 mod item;
 mod iter;
 pub mod laws;

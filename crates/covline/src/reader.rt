@@ -16,7 +16,7 @@ use crate::trace_line::{LineFault, TotalKind, TraceLine};
 
 /// The number that digits say. The variant shows how large it is.
 #[derive(Clone, Copy)]
-enum Number {
+pub enum Number {
     /// A number below 2^64. Most numbers are.
     Value(u64),
     /// A number of at least 2^64 and below 2^128.
@@ -37,7 +37,7 @@ impl Number {
     }
 
     /// The number if it fits 64 bits, else `NumberTooLarge`.
-    fn fit(self) -> Result<u64, LineFault>
+    pub fn fit(self) -> Result<u64, LineFault>
         ensures { result ≡ fit self }
     {
         match self {
@@ -47,7 +47,7 @@ impl Number {
     }
 
     /// The number if it fits the 128 bits of a count, else `NumberTooLarge`.
-    fn fit_count(self) -> Result<u128, LineFault>
+    pub fn fit_count(self) -> Result<u128, LineFault>
         ensures { result ≡ fit_count self }
     {
         match self {
@@ -135,7 +135,7 @@ fn read_more_digits(front: Number, text: &[u8]) -> (Number, &[u8])
 }
 
 /// The number at the front of the text, and what follows it. `None` if the text doesn't begin with a digit.
-fn read_number(text: &[u8]) -> Option<(Number, &[u8])>
+pub fn read_number(text: &[u8]) -> Option<(Number, &[u8])>
     ensures { option_map (λ front. (front.0, front.1.now)) result ≡ number_at text.now }
 {
     match text {
@@ -145,7 +145,7 @@ fn read_number(text: &[u8]) -> Option<(Number, &[u8])>
 }
 
 /// The number that the text is, or `None` if the text isn't one or more digits.
-fn read_whole(text: &[u8]) -> Option<Number>
+pub fn read_whole(text: &[u8]) -> Option<Number>
     ensures { result ≡ number_of text.now }
 {
     match read_number(text)? {
@@ -156,7 +156,7 @@ fn read_whole(text: &[u8]) -> Option<Number>
 
 /// The execution count at the front of the text, and what follows it. A count with a minus is 0, whatever its digits.
 #[inline]
-fn read_count(text: &[u8]) -> Option<(Number, &[u8])>
+pub fn read_count(text: &[u8]) -> Option<(Number, &[u8])>
     ensures { option_map (λ front. (front.0, front.1.now)) result ≡ count_at text.now }
 {
     let [b'-', digits @ ..] = text else {
@@ -167,7 +167,7 @@ fn read_count(text: &[u8]) -> Option<(Number, &[u8])>
 }
 
 /// The number, and what follows the comma at the front of `rest`. `None` if `rest` doesn't begin with a comma.
-fn split_comma(number: Number, rest: &[u8]) -> Option<(Number, &[u8])>
+pub fn split_comma(number: Number, rest: &[u8]) -> Option<(Number, &[u8])>
     ensures { option_map (λ front. (front.0, front.1.now)) result ≡ before_comma number rest.now }
 {
     match rest {
@@ -177,7 +177,7 @@ fn split_comma(number: Number, rest: &[u8]) -> Option<(Number, &[u8])>
 }
 
 /// The number at the front of the text, and what follows the comma after it.
-fn read_field(text: &[u8]) -> Option<(Number, &[u8])>
+pub fn read_field(text: &[u8]) -> Option<(Number, &[u8])>
     ensures { option_map (λ front. (front.0, front.1.now)) result ≡ field_at text.now }
 {
     let (number, rest) = read_number(text)?;
@@ -185,7 +185,7 @@ fn read_field(text: &[u8]) -> Option<(Number, &[u8])>
 }
 
 /// How often a branch was taken: `Some(None)` for `-`, and `None` if the text is neither `-` nor a number.
-fn read_taken(text: &[u8]) -> Option<Option<Number>>
+pub fn read_taken(text: &[u8]) -> Option<Option<Number>>
     ensures { result ≡ taken_of text.now }
 {
     match text {
@@ -454,7 +454,7 @@ fn read_after(first: u8, rest: &[u8]) -> Result<TraceLine<'_>, LineFault>
 
 /// Reads a line. An empty line says nothing.
 #[tactic(auto, unfolding(crate::specs::Reading::read_of))]
-fn read_any(line: &[u8]) -> Result<TraceLine<'_>, LineFault>
+pub fn read_any(line: &[u8]) -> Result<TraceLine<'_>, LineFault>
     ensures { Gives result (read_of line.now) }
 {
     match line {
@@ -486,7 +486,7 @@ fn after_count_key(text: &[u8]) -> Option<&[u8]>
 }
 
 /// What follows a line feed, if the text begins with one.
-fn after_feed(text: &[u8]) -> Option<&[u8]>
+pub fn after_feed(text: &[u8]) -> Option<&[u8]>
     ensures { option_map (λ rest. rest.now) result ≡ after_key (line_feed ∷ []) text.now }
 {
     match text {
@@ -586,7 +586,7 @@ pub struct BranchLine<'a> {
 }
 
 /// The number at the front of the text, if it is below 2^64, and what follows the comma after it.
-fn small_field(text: &[u8]) -> Option<(u64, &[u8])>
+pub fn small_field(text: &[u8]) -> Option<(u64, &[u8])>
     ensures { option_map (λ front. (front.0, front.1.now)) result ≡ small_front (field_at text.now) }
 {
     let (number, rest) = read_field(text)?;
@@ -594,7 +594,7 @@ fn small_field(text: &[u8]) -> Option<(u64, &[u8])>
 }
 
 /// The number at the front of the text, if it is below 2^64, and what follows it.
-fn small_number(text: &[u8]) -> Option<(u64, &[u8])>
+pub fn small_number(text: &[u8]) -> Option<(u64, &[u8])>
     ensures { option_map (λ front. (front.0, front.1.now)) result ≡ small_front (number_at text.now) }
 {
     let (number, rest) = read_number(text)?;
@@ -603,7 +603,7 @@ fn small_number(text: &[u8]) -> Option<(u64, &[u8])>
 
 /// The field at the front of the text that says how often a branch was taken, and what follows it. The field is `-`, which
 /// gives `None`, or a number below 2^64.
-fn front_taken(text: &[u8]) -> Option<(Option<u64>, &[u8])>
+pub fn front_taken(text: &[u8]) -> Option<(Option<u64>, &[u8])>
     ensures { option_map (λ front. (front.0, front.1.now)) result ≡ taken_front text.now }
 {
     if let [b'-', rest @ ..] = text {

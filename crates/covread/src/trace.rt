@@ -11,4 +11,6 @@ mod settle;
 mod tally;
 
 pub use laws::each_text_has_one_outcome;
-pub use read::read_trace;
+pub use placement_fault::PlacementFault;
+pub use read::{fault_at, read_trace, take_branch, take_line_count};
+pub use reader::{OpenSection, Reader};

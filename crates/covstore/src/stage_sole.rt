@@ -11,7 +11,8 @@ use crate::sums::{PointAddend, PointSum};
 use covmap::{Key, Query, StagedMap};
 use std::alloc::{AllocError, Allocator};
 
-/// Stages what an item adds to a point of a kind. Returns the test's sum before. If memory is refused, forgets what is staged.
+/// Stages what an item adds to a point of a kind. Returns the test's sum before. If memory is refused, the caller has to roll back
+/// the map.
 pub(crate) fn stage_sole_addend<
     K: Key + Drop,
     S: PointSum,
@@ -47,7 +48,7 @@ pub(crate) fn stage_sole_addend<
     Ok(added.before)
 }
 
-/// Stages a run of items. If memory is refused, forgets what is staged.
+/// Stages a run of items. If memory is refused, the caller has to roll back the map.
 pub(crate) fn stage_sole_run<
     K: Key + Drop,
     S: PointSum,

@@ -82,7 +82,7 @@ fn take_first<'a, A: Allocator + Copy>(
 
 /// Takes the count of a source line. `at` is the number of the tracefile's line that says it.
 #[inline]
-fn take_line_count<A: Allocator + Copy>(
+pub fn take_line_count<A: Allocator + Copy>(
     reader: &mut Reader<'_, A>,
     alloc: A,
     at: u64,
@@ -101,7 +101,7 @@ fn take_line_count<A: Allocator + Copy>(
 
 /// Takes how often a branch was taken. `at` is the number of the tracefile's line that says it.
 #[inline]
-fn take_branch<A: Allocator + Copy>(
+pub fn take_branch<A: Allocator + Copy>(
     reader: &mut Reader<'_, A>,
     at: u64,
     point: BranchPoint,
@@ -137,7 +137,7 @@ fn take_line<'a, A: Allocator + Copy>(
 }
 
 /// The text's fault if the line with this number isn't taken for this reason.
-fn fault_at(why: PlacementFault, at: u64) -> ReadFault
+pub fn fault_at(why: PlacementFault, at: u64) -> ReadFault
     ensures { result ≡ fault_at why at }
 {
     match why {

@@ -1,0 +1,7 @@
+//! The fields of a line, for the reader of a format that has some of this one's lines: numbers at the front of a text, and what
+//! follows them.
+
+pub use crate::reader::{
+    Number, after_feed, front_taken, read_any, read_count, read_field, read_number, read_taken,
+    read_whole, small_field, small_number, split_comma,
+};
