@@ -7,7 +7,7 @@ use crate::op::{Answer, Op};
 use crate::ready::{Change, Ready};
 use crate::shared::{SubRef, TextRef};
 use covline::{Bytes, Memory};
-use covreport::{Choice, summary_text, trace_text};
+use covreport::{Choice, Printing, summary_text, trace_text};
 use covstore::laws::renaming_keeps_totals;
 use covstore::{Plan, Refuse, Renaming, Store, Totals};
 use std::alloc::{Allocator, Global};
@@ -446,6 +446,28 @@ impl<A: Allocator + Copy, K: Keep<Of = Entry<A>>> Book<A, K> {
                 trace_text(alloc, &self.store, &Choice::Remove(patterns.copy(alloc)?))
             }
             Op::Summary => summary_text(alloc, &self.store.totals()),
+        }
+    }
+
+    /// The text that an operation asks for, by the table now, ready to be printed. No entry is appended. All memory that printing
+    /// takes is there, so nothing is printed if memory is refused.
+    pub fn printing(&self, alloc: A, op: &Op<A>) -> Result<Printing<'_, A>, Memory>
+        requires { IsText (op_data op.now) }
+        ensures { IfOk result (λ p. TextAnswer p ≡ answer_of (table_of (ops_in self.now.entries)) (op_data op.now)) }
+    {
+        match op {
+            Op::Submit(_) | Op::DropTest(_) | Op::Rename { .. } => unreachable!(),
+            Op::Report => Printing::of_store(alloc, &self.store, Choice::All),
+            Op::Extract(patterns) => {
+                Printing::of_store(alloc, &self.store, Choice::Extract(patterns.copy(alloc)?))
+            }
+            Op::Remove(patterns) => {
+                Printing::of_store(alloc, &self.store, Choice::Remove(patterns.copy(alloc)?))
+            }
+            Op::Summary => {
+                let text = summary_text(alloc, &self.store.totals())?;
+                Ok(Printing::of_text(text))
+            }
         }
     }
 }

@@ -16,13 +16,19 @@
 
 mod choice;
 pub mod laws;
+mod noted;
 mod pattern;
 mod patterns;
+mod printer;
+mod printing;
 mod summary;
 mod tracefile;
 
 pub use choice::Choice;
+pub use noted::Noted;
 pub use pattern::matches;
 pub use patterns::{MAX_PATTERN_BYTES, MAX_PATTERNS, PatternFault, Patterns};
+pub use printer::Printer;
+pub use printing::Printing;
 pub use summary::{summary_text, tenths};
 pub use tracefile::trace_text;
