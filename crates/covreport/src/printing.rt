@@ -64,8 +64,8 @@ impl<'s, A: Allocator + Copy> Printing<'s, A> {
 
     /// Prints the text. Between sections, printing stops if the printer wants no more. Takes no memory.
     pub fn print<P: Printer>(self, printer: &mut P)
-        ensures begun { (rest : List ℕ) × (P.text printer.new ++ rest ≡ P.text printer.old ++ self) }
-        ensures whole { P.is_open printer.new ≡ true → P.text printer.new ≡ P.text printer.old ++ self }
+        ensures begun { (rest : List ℕ) × (P.text printer.new ++ rest ≡ P.text printer.old ++ self.entry) }
+        ensures whole { P.is_open printer.new ≡ true → P.text printer.new ≡ P.text printer.old ++ self.entry }
     {
         match self.from {
             PrintedFrom::Sections(tracefile) => tracefile.print(printer),

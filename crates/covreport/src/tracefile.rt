@@ -1,6 +1,6 @@
 //! The merged tracefile as text (geninfo(1), section FILES). It has a section for each pair of a file and a test that have a row.
 
-ghost use Rattle.std.specs.Prelude.{◌≡◌, ◌≢◌, ◌≤◌, ◌++◌, ℕ, List, true, [], ◌∷◌, length, IfOk, OnErr, vec_capacity};
+ghost use Rattle.std.specs.Prelude.{◌≡◌, ◌≢◌, ◌≤◌, ◌++◌, ℕ, List, true, false, [], ◌∷◌, length, IfOk, OnErr, vec_capacity};
 ghost use Rattle.covreport.specs.ChoiceView.{choice_data};
 ghost use Rattle.covreport.specs.Report.{section_text, report_text};
 ghost use Rattle.covreport.specs.Room.{most_functions};
@@ -84,8 +84,8 @@ impl<'s, A: Allocator + Copy> Tracefile<'s, A> {
 
     /// Prints the text. Between sections, printing stops if the printer wants no more. Takes no memory.
     pub(crate) fn print<P: Printer>(self, out: &mut P)
-        ensures begun { (rest : List ℕ) × (P.text out.new ++ rest ≡ P.text out.old ++ self) }
-        ensures whole { P.is_open out.new ≡ true → P.text out.new ≡ P.text out.old ++ self }
+        ensures begun { (rest : List ℕ) × (P.text out.new ++ rest ≡ P.text out.old ++ self.entry) }
+        ensures whole { P.is_open out.new ≡ true → P.text out.new ≡ P.text out.old ++ self.entry }
     {
         let Tracefile {
             store,
@@ -97,7 +97,7 @@ impl<'s, A: Allocator + Copy> Tracefile<'s, A> {
 }
 
 /// Puts the sections of all chosen files, as long as the printer wants more. `functions` has room for those of each section.
-fn put_chosen<'s, A: Allocator, P: Printer>(
+fn put_chosen<'s, A: Allocator + Copy, P: Printer>(
     store: &'s Store<A>,
     choice: &Choice<A>,
     functions: &mut Vec<PrintedFunction<'s>, A>,
@@ -108,11 +108,30 @@ fn put_chosen<'s, A: Allocator, P: Printer>(
     ensures whole { P.is_open out.new ≡ true → P.text out.new ≡ P.text out.old ++ report_text (choice_data choice.now) store.now.sections }
 {
     for section in store.sections() {
-        if !out.is_open() {
+        if !put_if_wanted(&section, choice, functions, out) {
             return;
         }
-        put_if_chosen(&section, choice, functions, out);
     }
+}
+
+/// Puts a section if its file is chosen, unless the printer wants no more. Whether the printer wanted more.
+fn put_if_wanted<'s, A: Allocator, P: Printer>(
+    section: &Section<'s, A>,
+    choice: &Choice<A>,
+    functions: &mut Vec<PrintedFunction<'s>, A>,
+    out: &mut P,
+) -> bool
+    requires { most_functions (choice_data choice.now) (section.now ∷ []) ≤ vec_capacity functions.old }
+    ensures text { result ≡ true → P.text out.new ≡ P.text out.old ++ report_text (choice_data choice.now) (section.now ∷ []) }
+    ensures same { result ≡ false → P.text out.new ≡ P.text out.old }
+    ensures closed { result ≡ false → P.is_open out.new ≡ false }
+    ensures room { vec_capacity functions.new ≡ vec_capacity functions.old }
+{
+    if !out.is_open() {
+        return false;
+    }
+    put_if_chosen(section, choice, functions, out);
+    true
 }
 
 /// Puts a section if its file is chosen.

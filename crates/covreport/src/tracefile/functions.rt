@@ -1,6 +1,6 @@
 //! The functions of a section.
 
-ghost use Rattle.std.specs.Prelude.{◌≡◌, ◌<◌, ◌≤◌, ◌^◌, ◌++◌, length, map, vec_capacity};
+ghost use Rattle.std.specs.Prelude.{◌≡◌, ◌<◌, ◌≤◌, ◌^◌, ◌++◌, [], length, map, vec_capacity, vec_len};
 ghost use Rattle.std.specs.List.{flat_map};
 ghost use Rattle.covline.specs.Printed.{printed};
 ghost use Rattle.covreport.specs.FunctionView.{printed_function};
@@ -64,10 +64,22 @@ fn sort_by_start_line<'a, A: Allocator>(
     ensures room { vec_capacity functions.new ≡ vec_capacity functions.old }
 {
     functions.clear();
+    collect(section, functions);
+    functions.sort_unstable();
+}
+
+/// Fills the list with the functions of a section. There is room for them.
+fn collect<'a, A: Allocator>(section: &Section<'a, A>, functions: &mut Vec<PrintedFunction<'a>, A>)
+    requires empty { functions.old.items ≡ [] }
+    requires none { vec_len functions.old ≡ 0 }
+    requires room { length section.now.functions ≤ vec_capacity functions.old }
+    ensures all { map printed_function functions.new.items ≡ section.now.functions }
+    ensures few { length section.now.functions < 2 ^ 64 }
+    ensures room { vec_capacity functions.new ≡ vec_capacity functions.old }
+{
     for function in section.functions() {
         functions.push_reserved(PrintedFunction::of(function));
     }
-    functions.sort_unstable();
 }
 
 /// Puts the start lines of functions.

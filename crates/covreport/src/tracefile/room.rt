@@ -11,7 +11,7 @@ use covstore::{Section, Store};
 use std::alloc::Allocator;
 
 /// Room for the functions of any one section of the chosen files. If these have no functions, it allocates nothing.
-pub(super) fn room_for_functions<'s, A: Allocator>(
+pub(super) fn room_for_functions<'s, A: Allocator + Copy>(
     alloc: A,
     store: &'s Store<A>,
     choice: &Choice<A>,
@@ -23,7 +23,7 @@ pub(super) fn room_for_functions<'s, A: Allocator>(
 }
 
 /// The most functions that one section of the chosen files has.
-fn most_functions<A: Allocator>(store: &Store<A>, choice: &Choice<A>) -> usize
+fn most_functions<A: Allocator + Copy>(store: &Store<A>, choice: &Choice<A>) -> usize
     ensures { result ≡ most_functions_of (choice_data choice.now) store.now.sections }
 {
     let mut most = 0;
