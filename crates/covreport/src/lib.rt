@@ -1,6 +1,9 @@
 //! Prints what a store holds: the merged tracefile (geninfo(1), FILES), of all files or of those that patterns choose
 //! (lcov(1), `--extract` and `--remove`), and the summary of totals (lcov(1), `--summary`).
 //!
+//! `trace_text` makes the whole text of a tracefile. A `Printing` doesn't: once it is there, it prints the text piece by piece to
+//! a `Printer` of the caller's own, and takes no more memory.
+//!
 //! An example, proved and run in `covuses`: the merged tracefile of the files that match a pattern, and the summary of all files.
 //!
 //! ```text
