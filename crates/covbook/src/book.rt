@@ -7,7 +7,7 @@ use crate::op::{Answer, Op};
 use crate::ready::{Change, Ready};
 use crate::shared::{SubRef, TextRef};
 use covline::{Bytes, Memory};
-use covreport::{Choice, summary_text, trace_text};
+use covreport::{Choice, Printing, summary_text, trace_text};
 use covstore::laws::renaming_keeps_totals;
 use covstore::{Plan, Refuse, Renaming, Store, Totals};
 use std::alloc::{Allocator, Global};
@@ -95,7 +95,7 @@ impl<A: Allocator + Copy> Book<A> {
 }
 
 impl<A: Allocator + Copy, K: Keep<Of = Entry<A>>> Book<A, K> {
-    ghost use Rattle.std.specs.Prelude.{◌≡◌, ◌↔◌, ◌+◌, ◌<◌, ◌++◌, [], ◌∷◌, length, IfOk, OnOk, OnErr, Err, map};
+    ghost use Rattle.std.specs.Prelude.{◌≡◌, ◌↔◌, ◌+◌, ◌<◌, ◌≤◌, ◌++◌, [], ◌∷◌, length, IsTrue, IfOk, OnOk, OnErr, Err, map};
     ghost use Rattle.covstore.specs.Store.{SameContent, StandsFor};
     ghost use Rattle.covstore.specs.Totals.{AreTotals};
     ghost use Rattle.covstore.specs.Without.{sections_of_test, without_test};
@@ -126,10 +126,21 @@ impl<A: Allocator + Copy, K: Keep<Of = Entry<A>>> Book<A, K> {
         self.history.place()
     }
 
-    /// What is kept of the history's entries, in order. The history is legal. Takes no memory.
+    /// Whether the history takes no more entries: `step` would return `Full`. Takes no memory.
+    pub fn is_full(&self) -> bool
+        ensures full { IsTrue result ↔ (length self.now.entries ≡ max_entries) }
+        ensures few { length self.now.entries ≤ max_entries }
+    {
+        self.history.is_full()
+    }
+
+    /// What is kept of the history's entries, in order. The history is legal, each submission in it is lawful, and the store
+    /// represents the last table of its run. Takes no memory.
     pub fn kept(&self) -> &[K]
         ensures entries { map (λ k. entry_data (K.shows k)) result.now ≡ self.now.entries }
         ensures legal { IsLegal self.now.entries }
+        ensures lawful { AreLawfulOps (ops_in self.now.entries) }
+        ensures stands { StandsFor self.now.store (table_of (ops_in self.now.entries)) }
     {
         self.history.get()
     }
@@ -446,6 +457,28 @@ impl<A: Allocator + Copy, K: Keep<Of = Entry<A>>> Book<A, K> {
                 trace_text(alloc, &self.store, &Choice::Remove(patterns.copy(alloc)?))
             }
             Op::Summary => summary_text(alloc, &self.store.totals()),
+        }
+    }
+
+    /// The text that an operation asks for, by the table now, ready to be printed. No entry is appended. All memory that printing
+    /// takes is there, so nothing is printed if memory is refused.
+    pub fn printing(&self, alloc: A, op: &Op<A>) -> Result<Printing<'_, A>, Memory>
+        requires { IsText (op_data op.now) }
+        ensures { IfOk result (λ p. TextAnswer p ≡ answer_of (table_of (ops_in self.now.entries)) (op_data op.now)) }
+    {
+        match op {
+            Op::Submit(_) | Op::DropTest(_) | Op::Rename { .. } => unreachable!(),
+            Op::Report => Printing::of_store(alloc, &self.store, Choice::All),
+            Op::Extract(patterns) => {
+                Printing::of_store(alloc, &self.store, Choice::Extract(patterns.copy(alloc)?))
+            }
+            Op::Remove(patterns) => {
+                Printing::of_store(alloc, &self.store, Choice::Remove(patterns.copy(alloc)?))
+            }
+            Op::Summary => {
+                let text = summary_text(alloc, &self.store.totals())?;
+                Ok(Printing::of_text(text))
+            }
         }
     }
 }

@@ -1,5 +1,5 @@
 -- The functions of a section in the order of their start lines.
-use Rattle.std.proofs.Common.{◌≡◌, ℕ, ◌+◌, ◌<◌, List, [], ◌∷◌, ◌++◌, length, map, refl, sym, ap, ◌∙◌, append_assoc, subst, arith}
+use Rattle.std.proofs.Common.{◌≡◌, ℕ, ◌+◌, ◌<◌, ◌≤◌, List, [], ◌∷◌, ◌++◌, length, map, refl, sym, ap, ◌∙◌, append_assoc, subst, arith}
 use Rattle.std.specs.Cmp.{IsTotalOrder}
 use Rattle.std.specs.Cmp.Lexicographic.{slice_cmp}
 use Rattle.std.specs.declared.cmp.Ordering.{Ordering}
@@ -7,7 +7,7 @@ use Rattle.std.specs.declared.cmp.Ordering.TheVariants.{Less, Equal, Greater}
 use Rattle.std.specs.List.Sorted.{IsSorted, IsPermutation}
 use Rattle.std.specs.Ordering.{nat_cmp, ordering_then}
 use Rattle.std.proofs.lemmas.Cmp.{nat_cmp_total, nat_list_cmp_total, on_total, then_total}
-use Rattle.std.proofs.lemmas.List.{append-nil, get_or-map, length-map, map_push}
+use Rattle.std.proofs.lemmas.List.{append-nil, get_or-map, length-append, length-map, map_push}
 use Rattle.std.proofs.lemmas.List.Sorted.{IsPermutation-map, length_permutation, sum_by-IsPermutation}
 use Rattle.std.proofs.lemmas.Map.Lookups.{CmpEqualImpliesEq, exact_unsigned, exact_bytes}
 use Rattle.covreport.specs.Report.{by_start, function_cmp, functions_hit}
@@ -69,6 +69,11 @@ module _ {X Y : Type 0} (f : X → Y) (given : List Y) where
       ∙ append_assoc (map f xs) (f x ∷ []) more
       ∙ ap (λ (ys : List Y). map f xs ++ ys) (sym next)
       ∙ so_far
+
+  -- one more fits where all fit
+  pub fits_one_more : (xs : List X) (y : Y) (left more : List Y) → left ≡ y ∷ more → map f xs ++ left ≡ given → length xs + 1 ≤ length given
+  fits_one_more xs y left more next so_far =
+      omega (arith, length-map xs f, length-append (map f xs) left, ap length next, ap length so_far)
 
   pub collected : (xs : List X) (left : List Y) → left ≡ [] → map f xs ++ left ≡ given → map f xs ≡ given
   collected xs left none so_far = sym (append-nil (map f xs)) ∙ ap (λ (ys : List Y). map f xs ++ ys) (sym none) ∙ so_far

@@ -6,4 +6,5 @@ pub mod Sets
 pub mod ByStart
 pub mod Sorting
 pub mod Texts
+pub mod Room
 pub mod Rates

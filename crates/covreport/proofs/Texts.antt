@@ -1,5 +1,5 @@
 -- A text that is printed part by part while points are counted, and the parts of a section.
-use Rattle.std.proofs.Common.{◌≡◌, ℕ, ◌+◌, ◌^◌, ◌<◌, ◌≤◌, Bool, true, false, cond, List, [], ◌∷◌, ◌++◌, length, map, filter, count_by, refl, sym, ap, ◌∙◌, append_assoc, arith, ◌≢◌}
+use Rattle.std.proofs.Common.{◌≡◌, ℕ, ◌+◌, ◌^◌, ◌<◌, ◌≤◌, Bool, true, false, cond, List, [], ◌∷◌, ◌++◌, length, map, filter, count_by, refl, sym, ap, ◌∙◌, append_assoc, arith}
 use Rattle.std.specs.List.{flat_map}
 use Rattle.std.proofs.lemmas.List.{append-nil}
 use Rattle.std.proofs.lemmas.List.Concat.{flat_map-append}
@@ -100,17 +100,9 @@ section_is s t t1 t2 t3 t4 t5 t6 e1 e2 e3 e4 e5 e6 =
 
 -- ---- the sections of the chosen files
 
-tail_none : (t x : List ℕ) → t ++ x ≡ [] → x ≡ []
-tail_none [] x e = e
-tail_none (a ∷ t) x e = absurd cc
-
--- the text of a section is not empty, whatever follows it
-section_there : (s : SectionData) (x : List ℕ) → section_text s ++ x ≡ [] → ⊥
-section_there s x e = cc
-
-module _ (choice : ChoiceData) (all : List SectionData) (text : List ℕ) where
-  pub report_goes_on : (new : List ℕ) (s : SectionData) (left more : List SectionData) → left ≡ s ∷ more → text ++ report_text choice left ≡ report_text choice all
-      → new ≡ text ++ report_text choice (s ∷ []) → new ++ report_text choice more ≡ report_text choice all
+module _ (choice : ChoiceData) (whole text : List ℕ) where
+  pub report_goes_on : (new : List ℕ) (s : SectionData) (left more : List SectionData) → left ≡ s ∷ more → text ++ report_text choice left ≡ whole
+      → new ≡ text ++ report_text choice (s ∷ []) → new ++ report_text choice more ≡ whole
   report_goes_on new s left more next so_far put =
       ap (λ (t : List ℕ). t ++ report_text choice more) put
       ∙ append_assoc text (report_text choice (s ∷ [])) (report_text choice more)
@@ -122,17 +114,8 @@ module _ (choice : ChoiceData) (all : List SectionData) (text : List ℕ) where
           ap (flat_map section_text) (filter-append (λ (s : SectionData). is_chosen choice s.key.file) (s ∷ []) more)
           ∙ flat_map-append section_text (filter (λ (s : SectionData). is_chosen choice s.key.file) (s ∷ [])) (filter (λ (s : SectionData). is_chosen choice s.key.file) more)
 
-  pub report_ends : (left : List SectionData) → left ≡ [] → text ++ report_text choice left ≡ report_text choice all → text ≡ report_text choice all
+  pub report_ends : (left : List SectionData) → left ≡ [] → text ++ report_text choice left ≡ whole → text ≡ whole
   report_ends left none so_far = sym (append-nil text) ∙ ap (λ (s : List SectionData). text ++ report_text choice s) (sym none) ∙ so_far
-
-  -- if the file of a section is chosen, the printed text is not empty
-  pub report_there : (s : SectionData) (left more : List SectionData) → left ≡ s ∷ more → text ++ report_text choice left ≡ report_text choice all → is_chosen choice s.key.file ≡ true → report_text choice all ≢ []
-  report_there s left more next so_far chosen none =
-      let rest = filter (λ (s : SectionData). is_chosen choice s.key.file) more in
-      let here : report_text choice (s ∷ more) ≡ section_text s ++ report_text choice more =
-      ap (λ (b : Bool). flat_map section_text (cond b (s ∷ rest) rest)) chosen in
-      section_there s (report_text choice more)
-      (sym here ∙ ap (report_text choice) (sym next) ∙ tail_none text (report_text choice left) (so_far ∙ none))
 
 -- one section, whose file is chosen or isn't
 module _ (choice : ChoiceData) (s : SectionData) (file : List ℕ) (takes : Bool) (text : List ℕ) (is : file ≡ s.key.file) (test : takes ≡ is_chosen choice file) where

@@ -3,7 +3,9 @@ pub mod Choice
 pub mod ChoiceView
 pub mod PatternFault
 pub mod Report
+pub mod Room
 pub mod FunctionView
+pub mod PrintingView
 pub mod Summary
 pub mod PatternParts
 pub mod PatternSteps

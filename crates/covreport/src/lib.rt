@@ -1,6 +1,9 @@
 //! Prints what a store holds: the merged tracefile (geninfo(1), FILES), of all files or of those that patterns choose
 //! (lcov(1), `--extract` and `--remove`), and the summary of totals (lcov(1), `--summary`).
 //!
+//! `trace_text` makes the whole text of a tracefile. A `Printing` doesn't: once it is there, it prints the text piece by piece to
+//! a `Printer` of the caller's own, and takes no more memory.
+//!
 //! An example, proved and run in `covuses`: the merged tracefile of the files that match a pattern, and the summary of all files.
 //!
 //! ```text
@@ -16,13 +19,19 @@
 
 mod choice;
 pub mod laws;
+mod noted;
 mod pattern;
 mod patterns;
+mod printer;
+mod printing;
 mod summary;
 mod tracefile;
 
 pub use choice::Choice;
+pub use noted::Noted;
 pub use pattern::matches;
 pub use patterns::{MAX_PATTERN_BYTES, MAX_PATTERNS, PatternFault, Patterns};
+pub use printer::Printer;
+pub use printing::Printing;
 pub use summary::{summary_text, tenths};
 pub use tracefile::trace_text;

@@ -1,25 +1,34 @@
 //! The merged tracefile as text (geninfo(1), section FILES). It has a section for each pair of a file and a test that have a row.
 
-ghost use Rattle.std.specs.Prelude.{◌≡◌, ◌≢◌, ◌++◌, true, [], ◌∷◌, IfOk, OnOk, OnErr};
-ghost use Rattle.covreport.specs.Choice.{is_chosen};
+ghost use Rattle.std.specs.Prelude.{◌≡◌, ◌≢◌, ◌≤◌, ◌++◌, ℕ, List, true, false, [], ◌∷◌, length, IfOk, OnErr, vec_capacity};
 ghost use Rattle.covreport.specs.ChoiceView.{choice_data};
 ghost use Rattle.covreport.specs.Report.{section_text, report_text};
+ghost use Rattle.covreport.specs.Room.{most_functions};
 
 mod branches;
+mod front;
 mod functions;
+mod grown;
 mod lines;
+mod record;
+mod room;
 mod totals;
 
 use self::branches::put_branches;
-use self::functions::put_functions;
+use self::functions::{PrintedFunction, put_functions};
+use self::grown::Grown;
 use self::lines::put_lines;
+use self::record::{put_end, put_path, put_test};
+use self::room::room_for_functions;
 use crate::choice::Choice;
-use covline::{Bytes, Memory, TraceLine, put_line};
+use crate::printer::Printer;
+use covline::{Bytes, Memory};
 use covstore::{Section, Store};
 use std::alloc::Allocator;
+use std::marker::Model;
 
-/// The text of the sections of all chosen files, in order. It allocates this text and, while it prints a section, a list of the
-/// section's functions. If no section is chosen, it allocates nothing.
+/// The text of the sections of all chosen files, in order. It allocates this text, and room for the functions of one section. If
+/// no section is chosen, it allocates nothing.
 pub fn trace_text<A: Allocator + Copy>(
     alloc: A,
     store: &Store<A>,
@@ -28,41 +37,134 @@ pub fn trace_text<A: Allocator + Copy>(
     ensures text { IfOk result (λ t. t ≡ report_text (choice_data choice.now) store.now.sections) }
     ensures refused { OnErr result (report_text (choice_data choice.now) store.now.sections ≢ []) }
 {
-    let mut text = Bytes::new(alloc);
-    for section in store.sections() {
-        put_chosen(alloc, &section, choice, &mut text)?;
-    }
-    Ok(text)
+    let mut functions = room_for_functions(alloc, store, choice)?;
+    let mut text = Grown::new(alloc);
+    put_chosen(store, choice, &mut functions, &mut text);
+    text.into_text()
 }
 
-/// Appends a section if its file is chosen.
-fn put_chosen<A: Allocator + Copy>(
-    alloc: A,
-    section: &Section<'_, A>,
+/// The text of the sections of chosen files, ready to be printed: there is room for the functions of each of them. Contracts see
+/// the text.
+#[derive(Drop)]
+pub(crate) struct Tracefile<'s, A: Allocator> {
+    store: &'s Store<A>,
+    choice: Choice<A>,
+    functions: Vec<PrintedFunction<'s>, A>,
+}
+
+impl<'s, A: Allocator> Model for Tracefile<'s, A> {
+    ghost use Rattle.std.specs.Prelude.{List, ℕ, ◌≤◌, vec_capacity};
+    ghost use Rattle.covreport.specs.ChoiceView.{choice_data};
+    ghost use Rattle.covreport.specs.Report.{report_text};
+    ghost use Rattle.covreport.specs.Room.{most_functions};
+
+    ghost Value = { List ℕ };
+
+    ghost view = { λ t. report_text (choice_data t.choice) t.store.now.sections };
+
+    ghost invariant = { λ t. most_functions (choice_data t.choice) t.store.now.sections ≤ vec_capacity t.functions };
+}
+
+impl<'s, A: Allocator + Copy> Tracefile<'s, A> {
+    /// The text of the sections of all chosen files, in order.
+    pub(crate) fn of(
+        alloc: A,
+        store: &'s Store<A>,
+        choice: Choice<A>,
+    ) -> Result<Tracefile<'s, A>, Memory>
+        ensures { IfOk result (λ t. t ≡ report_text (choice_data choice) store.now.sections) }
+    {
+        let functions = room_for_functions(alloc, store, &choice)?;
+        Ok(Tracefile {
+            store,
+            choice,
+            functions,
+        })
+    }
+
+    /// Prints the text. Between sections, printing stops if the printer wants no more. Takes no memory.
+    pub(crate) fn print<P: Printer>(self, out: &mut P)
+        ensures begun { (rest : List ℕ) × (P.text out.new ++ rest ≡ P.text out.old ++ self.entry) }
+        ensures whole { P.is_open out.new ≡ true → P.text out.new ≡ P.text out.old ++ self.entry }
+    {
+        let Tracefile {
+            store,
+            choice,
+            mut functions,
+        } = self;
+        put_chosen(store, &choice, &mut functions, out);
+    }
+}
+
+/// Puts the sections of all chosen files, as long as the printer wants more. `functions` has room for those of each section.
+fn put_chosen<'s, A: Allocator + Copy, P: Printer>(
+    store: &'s Store<A>,
     choice: &Choice<A>,
-    text: &mut Bytes<A>,
-) -> Result<(), Memory>
-    ensures ok { OnOk result (text.new ≡ text.old ++ report_text (choice_data choice.now) (section.now ∷ [])) }
-    ensures refused { OnErr result (is_chosen (choice_data choice.now) section.now.key.file ≡ true) }
+    functions: &mut Vec<PrintedFunction<'s>, A>,
+    out: &mut P,
+)
+    requires { most_functions (choice_data choice.now) store.now.sections ≤ vec_capacity functions.old }
+    ensures begun { (rest : List ℕ) × (P.text out.new ++ rest ≡ P.text out.old ++ report_text (choice_data choice.now) store.now.sections) }
+    ensures whole { P.is_open out.new ≡ true → P.text out.new ≡ P.text out.old ++ report_text (choice_data choice.now) store.now.sections }
+{
+    for section in store.sections() {
+        if !put_if_wanted(&section, choice, functions, out) {
+            return;
+        }
+    }
+}
+
+/// Puts a section if its file is chosen, unless the printer wants no more. Whether the printer wanted more.
+fn put_if_wanted<'s, A: Allocator, P: Printer>(
+    section: &Section<'s, A>,
+    choice: &Choice<A>,
+    functions: &mut Vec<PrintedFunction<'s>, A>,
+    out: &mut P,
+) -> bool
+    requires { most_functions (choice_data choice.now) (section.now ∷ []) ≤ vec_capacity functions.old }
+    ensures text { result ≡ true → P.text out.new ≡ P.text out.old ++ report_text (choice_data choice.now) (section.now ∷ []) }
+    ensures same { result ≡ false → P.text out.new ≡ P.text out.old }
+    ensures closed { result ≡ false → P.is_open out.new ≡ false }
+    ensures room { vec_capacity functions.new ≡ vec_capacity functions.old }
+{
+    if !out.is_open() {
+        return false;
+    }
+    put_if_chosen(section, choice, functions, out);
+    true
+}
+
+/// Puts a section if its file is chosen.
+fn put_if_chosen<'s, A: Allocator, P: Printer>(
+    section: &Section<'s, A>,
+    choice: &Choice<A>,
+    functions: &mut Vec<PrintedFunction<'s>, A>,
+    out: &mut P,
+)
+    requires { most_functions (choice_data choice.now) (section.now ∷ []) ≤ vec_capacity functions.old }
+    ensures text { P.text out.new ≡ P.text out.old ++ report_text (choice_data choice.now) (section.now ∷ []) }
+    ensures room { vec_capacity functions.new ≡ vec_capacity functions.old }
 {
     if !choice.takes(section.file()) {
-        return Ok(());
+        return;
     }
-    put_section(alloc, section, text)
+    put_section(section, functions, out);
 }
 
-/// Appends a section.
-fn put_section<A: Allocator + Copy>(
-    alloc: A,
-    section: &Section<'_, A>,
-    text: &mut Bytes<A>,
-) -> Result<(), Memory>
-    ensures { OnOk result (text.new ≡ text.old ++ section_text section.now) }
+/// Puts a section.
+fn put_section<'s, A: Allocator, P: Printer>(
+    section: &Section<'s, A>,
+    functions: &mut Vec<PrintedFunction<'s>, A>,
+    out: &mut P,
+)
+    requires { length section.now.functions ≤ vec_capacity functions.old }
+    ensures text { P.text out.new ≡ P.text out.old ++ section_text section.now }
+    ensures room { vec_capacity functions.new ≡ vec_capacity functions.old }
 {
-    put_line(&TraceLine::Test(section.test()), text)?;
-    put_line(&TraceLine::Path(section.file()), text)?;
-    put_functions(alloc, section, text)?;
-    put_branches(section, text)?;
-    put_lines(section, text)?;
-    put_line(&TraceLine::End, text)
+    put_test(section.test(), out);
+    put_path(section.file(), out);
+    put_functions(section, functions, out);
+    put_branches(section, out);
+    put_lines(section, out);
+    put_end(out);
 }

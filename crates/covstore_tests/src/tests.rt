@@ -9,6 +9,7 @@ mod images;
 mod maps;
 mod patterns;
 mod plans;
+mod printing;
 mod renames;
 mod runs;
 mod shuffled;

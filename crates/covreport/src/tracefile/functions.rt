@@ -1,24 +1,26 @@
 //! The functions of a section.
 
-ghost use Rattle.std.specs.Prelude.{◌≡◌, ◌<◌, ◌^◌, ◌++◌, IfOk, OnOk, length, map};
+ghost use Rattle.std.specs.Prelude.{◌≡◌, ◌<◌, ◌≤◌, ◌^◌, ◌++◌, [], length, map, vec_capacity, vec_len};
 ghost use Rattle.std.specs.List.{flat_map};
 ghost use Rattle.covline.specs.Printed.{printed};
 ghost use Rattle.covreport.specs.FunctionView.{printed_function};
 ghost use Rattle.covreport.specs.Report.{by_start, start_record, call_record, function_records, functions_hit};
 ghost use Rattle.covstore.specs.ValuesView.{function_data};
 
+use super::record::{put_call, put_start};
 use super::totals::put_totals_if_any;
-use covline::{Bytes, Memory, Tally, TotalKind, TraceLine, put_line};
+use crate::printer::Printer;
+use covline::{Tally, TotalKind};
 use covstore::{FunctionValue, Section};
 use std::alloc::Allocator;
 
 /// A function as it is printed. Its order is that of printing: by start line, then by the name's bytes. Counts come last
 /// and decide nothing, since the functions of a section differ in their names.
 #[derive(Clone, Copy, PartialEq, Eq, PartialOrd, Ord)]
-struct PrintedFunction<'a> {
-    line: u64,
-    name: &'a [u8],
-    count: u128,
+pub(super) struct PrintedFunction<'a> {
+    pub(super) line: u64,
+    pub(super) name: &'a [u8],
+    pub(super) count: u128,
 }
 
 impl<'a> PrintedFunction<'a> {
@@ -34,72 +36,72 @@ impl<'a> PrintedFunction<'a> {
     }
 }
 
-/// Appends the functions of a section and their totals. It allocates a list of the functions while it runs.
-pub(super) fn put_functions<A: Allocator>(
-    alloc: A,
-    section: &Section<'_, A>,
-    text: &mut Bytes<A>,
-) -> Result<(), Memory>
-    ensures { OnOk result (text.new ≡ text.old ++ flat_map printed (function_records section.now.functions)) }
-{
-    let sorted = by_start_line(alloc, section)?;
-    let functions = sorted.as_slice();
-    put_starts(functions, text)?;
-    let tally = put_counts(functions, text)?;
-    put_totals_if_any(TotalKind::FuncFound, TotalKind::FuncHit, tally, text)
-}
-
-/// The functions of a section in the order that they are printed in.
-fn by_start_line<'a, A: Allocator>(
-    alloc: A,
+/// Puts the functions of a section and their totals. `functions` has room for them; what it had before is dropped.
+pub(super) fn put_functions<'a, A: Allocator, P: Printer>(
     section: &Section<'a, A>,
-) -> Result<Vec<PrintedFunction<'a>, A>, Memory>
-    ensures all { IfOk result (λ v. map printed_function v.items ≡ by_start section.now.functions) }
-    ensures few { IfOk result (λ v. length v.items < 2 ^ 64) }
+    functions: &mut Vec<PrintedFunction<'a>, A>,
+    out: &mut P,
+)
+    requires { length section.now.functions ≤ vec_capacity functions.old }
+    ensures text { P.text out.new ≡ P.text out.old ++ flat_map printed (function_records section.now.functions) }
+    ensures room { vec_capacity functions.new ≡ vec_capacity functions.old }
 {
-    let mut sorted = Vec::new(alloc);
-    for function in section.functions() {
-        sorted.push(PrintedFunction::of(function))?;
-    }
-    sorted.sort_unstable();
-    Ok(sorted)
+    sort_by_start_line(section, functions);
+    let sorted = functions.as_slice();
+    put_starts(sorted, out);
+    let tally = put_calls(sorted, out);
+    put_totals_if_any(TotalKind::FuncFound, TotalKind::FuncHit, tally, out);
 }
 
-/// Appends the start lines of functions.
-fn put_starts<A: Allocator>(
-    functions: &[PrintedFunction<'_>],
-    text: &mut Bytes<A>,
-) -> Result<(), Memory>
-    ensures { OnOk result (text.new ≡ text.old ++ flat_map (λ f. printed (start_record f)) (map printed_function functions.now)) }
+/// Replaces the functions by those of a section, in the order that they are printed in. There is room for them.
+fn sort_by_start_line<'a, A: Allocator>(
+    section: &Section<'a, A>,
+    functions: &mut Vec<PrintedFunction<'a>, A>,
+)
+    requires { length section.now.functions ≤ vec_capacity functions.old }
+    ensures all { map printed_function functions.new.items ≡ by_start section.now.functions }
+    ensures few { length functions.new.items < 2 ^ 64 }
+    ensures room { vec_capacity functions.new ≡ vec_capacity functions.old }
+{
+    functions.clear();
+    collect(section, functions);
+    functions.sort_unstable();
+}
+
+/// Fills the list with the functions of a section. There is room for them.
+fn collect<'a, A: Allocator>(section: &Section<'a, A>, functions: &mut Vec<PrintedFunction<'a>, A>)
+    requires empty { functions.old.items ≡ [] }
+    requires none { vec_len functions.old ≡ 0 }
+    requires room { length section.now.functions ≤ vec_capacity functions.old }
+    ensures all { map printed_function functions.new.items ≡ section.now.functions }
+    ensures few { length section.now.functions < 2 ^ 64 }
+    ensures room { vec_capacity functions.new ≡ vec_capacity functions.old }
+{
+    for function in section.functions() {
+        functions.push_reserved(PrintedFunction::of(function));
+    }
+}
+
+/// Puts the start lines of functions.
+fn put_starts<P: Printer>(functions: &[PrintedFunction<'_>], out: &mut P)
+    ensures { P.text out.new ≡ P.text out.old ++ flat_map (λ f. printed (start_record f)) (map printed_function functions.now) }
 {
     for function in functions {
-        let says = TraceLine::FuncStart {
-            line: function.line,
-            name: function.name,
-        };
-        put_line(&says, text)?;
+        put_start(function, out);
     }
-    Ok(())
 }
 
-/// Appends the counts of functions. Returns how many functions there are, and how many have a count above 0.
-fn put_counts<A: Allocator>(
-    functions: &[PrintedFunction<'_>],
-    text: &mut Bytes<A>,
-) -> Result<Tally, Memory>
+/// Puts the counts of functions. Returns how many functions there are, and how many have a count above 0.
+fn put_calls<P: Printer>(functions: &[PrintedFunction<'_>], out: &mut P) -> Tally
     requires { length functions.now < 2 ^ 64 }
-    ensures text { OnOk result (text.new ≡ text.old ++ flat_map (λ f. printed (call_record f)) (map printed_function functions.now)) }
-    ensures found { IfOk result (λ t. t.found ≡ length functions.now) }
-    ensures hit { IfOk result (λ t. t.hit ≡ functions_hit (map printed_function functions.now)) }
+    ensures text { P.text out.new ≡ P.text out.old ++ flat_map (λ f. printed (call_record f)) (map printed_function functions.now) }
+    ensures found { result.found ≡ length functions.now }
+    ensures hit { result.hit ≡ functions_hit (map printed_function functions.now) }
 {
     let mut tally = Tally::NONE;
     for function in functions {
-        let says = TraceLine::FuncCount {
-            count: function.count,
-            name: function.name,
-        };
-        put_line(&says, text)?;
+        put_call(function, out);
         tally = tally.and(function.count > 0);
     }
-    Ok(tally)
+    tally
 }

@@ -9,4 +9,4 @@ use Rattle.covreport.proofs.tracefile.functions.put_starts.Given as goal
 abbrev pub invariant-loop-function : goal.invariant-loop-function
 invariant-loop-function g l =
     let part = λ (f : FunctionValueData). printed (start_record f) in
-    l.text ++ flat_map part (map printed_function (drop l.function-index l.functions)) ≡ l.fn.text ++ flat_map part (map printed_function l.functions)
+    g.P.Printer.text l.out ++ flat_map part (map printed_function (drop l.function-index l.functions)) ≡ g.P.Printer.text l.fn.out ++ flat_map part (map printed_function l.functions)

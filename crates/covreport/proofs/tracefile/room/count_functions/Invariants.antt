@@ -1,0 +1,5 @@
+use Rattle.std.proofs.Common.{◌≡◌, ◌+◌, length}
+use Rattle.covreport.proofs.tracefile.room.count_functions.Given as goal
+
+abbrev pub invariant-loop-function : goal.invariant-loop-function
+invariant-loop-function g l = l.count + length l._function-iterator ≡ length l.fn.section.functions

@@ -1,0 +1,75 @@
+//! Texts that are ready to be printed.
+
+use crate::choice::Choice;
+use crate::printer::Printer;
+use crate::tracefile::Tracefile;
+use covline::{Bytes, Memory};
+use covstore::Store;
+use std::alloc::{Allocator, Global};
+use std::marker::Model;
+
+/// What a text is printed from.
+#[derive(Drop)]
+enum PrintedFrom<'s, A: Allocator> {
+    /// The sections of a store.
+    Sections(Tracefile<'s, A>),
+    /// The text itself.
+    Text(Bytes<A>),
+}
+
+/// A text that is ready to be printed: all memory that printing takes is there. Contracts see the text. The text of a store's
+/// sections is made only when it is printed, piece by piece.
+#[derive(Drop)]
+pub struct Printing<'s, A: Allocator = Global> {
+    from: PrintedFrom<'s, A>,
+}
+
+impl<'s, A: Allocator> Model for Printing<'s, A> {
+    ghost use Rattle.std.specs.Prelude.{List, ℕ};
+    ghost use Rattle.covreport.specs.PrintingView.{text_from};
+
+    ghost Value = { List ℕ };
+
+    ghost view = { λ p. text_from p.from };
+}
+
+impl<'s, A: Allocator + Copy> Printing<'s, A> {
+    ghost use Rattle.std.specs.Prelude.{◌≡◌, ◌++◌, ℕ, List, true, IfOk};
+    ghost use Rattle.covreport.specs.ChoiceView.{choice_data};
+    ghost use Rattle.covreport.specs.Report.{report_text};
+
+    /// The text of the sections of all chosen files, in order. It allocates room for the functions of one section, if a chosen
+    /// section has functions.
+    pub fn of_store(
+        alloc: A,
+        store: &'s Store<A>,
+        choice: Choice<A>,
+    ) -> Result<Printing<'s, A>, Memory>
+        ensures { IfOk result (λ p. p ≡ report_text (choice_data choice) store.now.sections) }
+    {
+        let tracefile = Tracefile::of(alloc, store, choice)?;
+        Ok(Printing {
+            from: PrintedFrom::Sections(tracefile),
+        })
+    }
+
+    /// A text that is there already. Takes no memory.
+    pub fn of_text(text: Bytes<A>) -> Printing<'s, A>
+        ensures { result ≡ text }
+    {
+        Printing {
+            from: PrintedFrom::Text(text),
+        }
+    }
+
+    /// Prints the text. Between sections, printing stops if the printer wants no more. Takes no memory.
+    pub fn print<P: Printer>(self, printer: &mut P)
+        ensures begun { (rest : List ℕ) × (P.text printer.new ++ rest ≡ P.text printer.old ++ self.entry) }
+        ensures whole { P.is_open printer.new ≡ true → P.text printer.new ≡ P.text printer.old ++ self.entry }
+    {
+        match self.from {
+            PrintedFrom::Sections(tracefile) => tracefile.print(printer),
+            PrintedFrom::Text(text) => printer.put(text.get()),
+        }
+    }
+}

@@ -1,0 +1,105 @@
+//! The numbers of a record, put together so that a record is printed in few pieces.
+
+ghost use Rattle.std.specs.Prelude.{◌≡◌, ◌+◌, ◌<◌, ◌≤◌, ◌++◌, [], ◌∷◌, decimal, length};
+ghost use Rattle.covline.specs.Spells.{comma};
+
+use itoa::{Buffer, write_digits};
+use std::marker::Model;
+
+/// How many bytes there is room for. A record has at most a key of 5 bytes, three numbers of 64 bits and one of 128, and a byte
+/// after each.
+const ROOM: usize = 112;
+
+/// Bytes that come before others, put together from the last to the first. Contracts see the bytes.
+#[derive(Drop)]
+pub(super) struct Front {
+    bytes: [u8; ROOM],
+    start: usize,
+    ghost within: { start ≤ 112 },
+}
+
+impl Model for Front {
+    ghost use Rattle.std.specs.Prelude.{List, ℕ, drop};
+
+    ghost Value = { List ℕ };
+
+    ghost view = { λ front. drop front.start front.bytes };
+}
+
+impl Front {
+    /// One byte.
+    #[inline]
+    pub(super) fn of(last: u8) -> Front
+        ensures { result ≡ last ∷ [] }
+    {
+        let mut bytes = [0; ROOM];
+        bytes[ROOM - 1] = last;
+        Front {
+            bytes,
+            start: ROOM - 1,
+        }
+    }
+
+    /// The bytes.
+    #[inline]
+    pub(super) fn get(&self) -> &[u8]
+        ensures { result.now ≡ self.now }
+    {
+        &self.bytes[self.start..]
+    }
+
+    /// Puts a byte before the others.
+    #[inline]
+    pub(super) fn put(&mut self, byte: u8)
+        requires { length self.old < 112 }
+        ensures { self.new ≡ byte ∷ self.old }
+    {
+        self.start -= 1;
+        self.bytes[self.start] = byte;
+    }
+
+    /// Puts a text before the others.
+    #[inline]
+    pub(super) fn put_text(&mut self, text: &[u8])
+        requires { length text.now + length self.old ≤ 112 }
+        ensures { self.new ≡ text.now ++ self.old }
+    {
+        let end = self.start;
+        self.start -= text.len();
+        self.bytes[self.start..end].copy_from_slice(text);
+    }
+
+    /// Puts a number in decimal before the others.
+    #[inline]
+    pub(super) fn put_number(&mut self, number: u64)
+        requires { length self.old + 20 ≤ 112 }
+        ensures text { self.new ≡ decimal number ++ self.old }
+        ensures size { length self.new ≤ length self.old + 20 }
+    {
+        self.start = write_digits(number, &mut self.bytes, self.start);
+    }
+
+    /// Puts a number of 128 bits in decimal before the others.
+    #[inline]
+    pub(super) fn put_count(&mut self, count: u128)
+        requires { length self.old + 39 ≤ 112 }
+        ensures text { self.new ≡ decimal count ++ self.old }
+        ensures size { length self.new ≤ length self.old + 39 }
+    {
+        match u64::try_from(count) {
+            Ok(number) => self.put_number(number),
+            Err(_) => self.put_text(Buffer::new().format(count).as_bytes()),
+        }
+    }
+
+    /// Puts a number and a comma before the others.
+    #[inline]
+    pub(super) fn put_field(&mut self, number: u64)
+        requires { length self.old + 21 ≤ 112 }
+        ensures text { self.new ≡ decimal number ++ comma ∷ self.old }
+        ensures size { length self.new ≤ length self.old + 21 }
+    {
+        self.put(b',');
+        self.put_number(number);
+    }
+}

@@ -1,0 +1,141 @@
+//! The records of a tracefile, one function for each.
+
+ghost use Rattle.std.specs.Prelude.{◌≡◌, ◌++◌, ◌∷◌, [], ◌+◌, ◌≤◌, codes, decimal, length};
+ghost use Rattle.covline.specs.Lines.{line_feed};
+ghost use Rattle.covline.specs.Printed.{printed, taken_text};
+ghost use Rattle.covline.specs.Spells.{Test, Path, Total, End, comma, key_of};
+ghost use Rattle.covreport.specs.FunctionView.{printed_function};
+ghost use Rattle.covreport.specs.Report.{branch_record, call_record, line_record, start_record};
+ghost use Rattle.covstore.specs.ValuesView.{branch_data, line_data};
+
+use super::front::Front;
+use super::functions::PrintedFunction;
+use crate::printer::Printer;
+use covline::TotalKind;
+use covstore::{BranchValue, LineValue};
+
+/// Puts the name of a test.
+pub(super) fn put_test<P: Printer>(name: &[u8], out: &mut P)
+    ensures { P.text out.new ≡ P.text out.old ++ printed (Test name.now) }
+{
+    out.put(b"TN:");
+    out.put(name);
+    out.put(b"\n");
+}
+
+/// Puts the path of a file.
+pub(super) fn put_path<P: Printer>(path: &[u8], out: &mut P)
+    ensures { P.text out.new ≡ P.text out.old ++ printed (Path path.now) }
+{
+    out.put(b"SF:");
+    out.put(path);
+    out.put(b"\n");
+}
+
+/// Puts the start line of a function.
+pub(super) fn put_start<P: Printer>(function: &PrintedFunction<'_>, out: &mut P)
+    ensures { P.text out.new ≡ P.text out.old ++ printed (start_record (printed_function function.now)) }
+{
+    let mut front = Front::of(b',');
+    front.put_number(function.line);
+    front.put_text(b"FN:");
+    out.put(front.get());
+    out.put(function.name);
+    out.put(b"\n");
+}
+
+/// Puts the count of a function.
+pub(super) fn put_call<P: Printer>(function: &PrintedFunction<'_>, out: &mut P)
+    ensures { P.text out.new ≡ P.text out.old ++ printed (call_record (printed_function function.now)) }
+{
+    let mut front = Front::of(b',');
+    front.put_count(function.count);
+    front.put_text(b"FNDA:");
+    out.put(front.get());
+    out.put(function.name);
+    out.put(b"\n");
+}
+
+/// Puts a branch with its value.
+pub(super) fn put_branch<P: Printer>(branch: &BranchValue, out: &mut P)
+    ensures { P.text out.new ≡ P.text out.old ++ printed (branch_record (branch_data branch.now)) }
+{
+    let mut record = taken_front(branch.taken);
+    record.put_field(branch.branch);
+    record.put_field(branch.block);
+    record.put_field(branch.line);
+    record.put_text(b"BRDA:");
+    out.put(record.get());
+}
+
+/// How often a branch was taken, and a line feed.
+#[inline]
+fn taken_front(taken: Option<u128>) -> Front
+    ensures text { result ≡ taken_text taken ++ line_feed ∷ [] }
+    ensures size { length result ≤ 40 }
+{
+    let mut front = Front::of(b'\n');
+    match taken {
+        Some(taken) => front.put_count(taken),
+        None => front.put(b'-'),
+    }
+    front
+}
+
+/// Puts a line with its values.
+pub(super) fn put_count<P: Printer>(line: &LineValue<'_>, out: &mut P)
+    ensures { P.text out.new ≡ P.text out.old ++ printed (line_record (line_data line.now)) }
+{
+    match line.checksum {
+        Some(checksum) => {
+            out.put(count_front(line.line, line.count, b',').get());
+            out.put(checksum);
+            out.put(b"\n");
+        }
+        None => out.put(count_front(line.line, line.count, b'\n').get()),
+    }
+}
+
+/// The key of a line's record, the line, its count, and the byte `end` after the count.
+#[inline]
+fn count_front(line: u64, count: u128, end: u8) -> Front
+    ensures { result ≡ codes "DA:" ++ decimal line ++ comma ∷ decimal count ++ end ∷ [] }
+{
+    let mut front = Front::of(end);
+    front.put_count(count);
+    front.put_field(line);
+    front.put_text(b"DA:");
+    front
+}
+
+/// Puts one total.
+pub(super) fn put_total<P: Printer>(kind: TotalKind, value: u64, out: &mut P)
+    ensures { P.text out.new ≡ P.text out.old ++ printed (Total kind value) }
+{
+    let mut record = Front::of(b'\n');
+    record.put_number(value);
+    record.put_text(key(kind));
+    out.put(record.get());
+}
+
+/// What the record of a total begins with.
+fn key(kind: TotalKind) -> &'static [u8]
+    ensures value { result.now ≡ key_of kind }
+    ensures size { length result.now ≤ 4 }
+{
+    match kind {
+        TotalKind::FuncFound => b"FNF:",
+        TotalKind::FuncHit => b"FNH:",
+        TotalKind::BranchFound => b"BRF:",
+        TotalKind::BranchHit => b"BRH:",
+        TotalKind::LineFound => b"LF:",
+        TotalKind::LineHit => b"LH:",
+    }
+}
+
+/// Puts the end of a section.
+pub(super) fn put_end<P: Printer>(out: &mut P)
+    ensures { P.text out.new ≡ P.text out.old ++ printed End }
+{
+    out.put(b"end_of_record\n");
+}
