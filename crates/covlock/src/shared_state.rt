@@ -89,12 +89,12 @@ impl<L: Name, A: Allocator + Copy, K: Keep<Of = Entry<A>>> SharedState<L, A, K> 
         let ready = self.book.ready(alloc, seat.job(), op)?;
         // `None` doesn't happen, since no other publisher has this history; no contract says so. Nothing is changed yet, so the
         // step is refused. It isn't refused as `Full`, which has a cause that callers can see.
-        let Some(news) = self.publisher.note(ready.entry()) else {
+        let Some(_noted) = self.publisher.note(ready.entry()) else {
             return Err(BookFault::Memory);
         };
         let receipt = self.book.finish(ready);
         seat.count_call(&mut self.count, receipt.place);
-        self.publisher.publish(rt);
+        let news = self.publisher.publish(rt);
         Ok((receipt, news))
     }
 }

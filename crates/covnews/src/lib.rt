@@ -4,8 +4,7 @@
 //! it shows readers how many entries there are and the totals after them (`Publisher::publish`). A reader (`Live`) asks for these
 //! totals at any time, without a lock or a wait: `left_right` keeps two copies of what is shown.
 //!
-//! `News` have the length of a noted history and the totals after it. `note` returns news, which are handed out after `publish`.
-//! A reader that learns news never again reports fewer entries than they have, even if it wasn't shown these entries, and even
+//! `News` have the length of a published history and the totals after it. `publish` returns them. A reader that learns news never again reports fewer entries than they have, even if it wasn't shown these entries, and even
 //! after the book is closed.
 //!
 //! What is published is a legal history (covbook's `IsLegal`) that only grows at its end. So of any two histories that were
@@ -23,12 +22,11 @@
 //!     let mut publisher = Publisher::<L>::new(alloc, seed, 64)?;
 //!     let mut live = publisher.reader()?; // may go to another thread
 //!     let ready = book.ready(alloc, 0, &Op::Summary)?;
-//!     let Some(news) = publisher.note(ready.entry()) else {
+//!     let Some(_noted) = publisher.note(ready.entry()) else {
 //!         return Err(..); // nothing has changed, and dropping `ready` cancels the step
 //!     };
 //!     book.finish(ready);
-//!     publisher.publish(rt);
-//!     live.learn(&news);
+//!     live.learn(&publisher.publish(rt));
 //!     assert_eq!(live.totals().upto, 1);
 //!     live.learn(&publisher.close(rt));
 //!     Ok(())

@@ -11,7 +11,7 @@ use std::alloc::Allocator;
 use std::marker::{Model, PhantomData};
 
 /// How many entries the noted history had at one time, and the totals after the last of them. Contracts see these entries, which
-/// are a legal history. Hand news out only after their history is published.
+/// are a legal history. Callers get news only of a history that is published: from `Publisher::publish` and `close`, and copies.
 #[derive(Drop)]
 pub struct News<L: Name> {
     snapshot: Snapshot,

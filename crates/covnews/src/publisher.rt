@@ -67,27 +67,26 @@ impl<L: Name, A: Allocator> Publisher<L, A> {
     ghost use Rattle.covbook.specs.Step.{ComesNext, max_entries};
     ghost use Rattle.covnews.specs.declared.fault.ReaderFault.TheVariants as faults;
 
-    /// Notes the next entry of the history, which `publish` then publishes. Returns news of the history with this entry: hand
-    /// them out only after `publish`. On `None` nothing has changed. `None` isn't returned if no other publisher has this
-    /// history; the types ensure this, but no contract says so. Takes no memory.
-    pub fn note(&mut self, entry: &Entry<A>) -> Option<News<L>>
+    /// Notes the next entry of the history, which `publish` then publishes and gives news of. On `None` nothing has changed. `None`
+    /// isn't returned if no other publisher has this history; the types ensure this, but no contract says so. Takes no memory.
+    pub fn note(&mut self, entry: &Entry<A>) -> Option<()>
         requires few { length self.old.noted < max_entries }
         requires next { ComesNext self.old.noted (entry_data entry.now) }
-        ensures news { IfSome result (λ news. news ≡ self.old.noted ++ entry_data entry.now ∷ []) }
-        ensures noted { IfSome result (λ news. self.new ≡ record self.old { noted = news }) }
+        ensures noted { IfSome result (λ _. self.new ≡ record self.old { noted = self.old.noted ++ entry_data entry.now ∷ [] }) }
         ensures none { IfNone result (self.new ≡ self.old) }
     {
-        let news = self.noted.appended(&self.history, entry)?;
-        self.noted = news.copy();
-        Some(news)
+        self.noted = self.noted.appended(&self.history, entry)?;
+        Some(())
     }
 
-    /// Publishes the noted history. Nothing is refused. Waits for readers that are still inside a read of what was shown before
-    /// the last `publish`.
-    pub fn publish<R: Wait>(&mut self, rt: &R)
-        ensures { self.new ≡ record self.old { published = self.old.noted } }
+    /// Publishes the noted history, and returns news of it. So there are no news of an entry that readers aren't shown. Nothing is
+    /// refused. Waits for readers that are still inside a read of what was shown before the last `publish`.
+    pub fn publish<R: Wait>(&mut self, rt: &R) -> News<L>
+        ensures published { self.new ≡ record self.old { published = self.old.noted } }
+        ensures news { result ≡ self.old.noted }
     {
         self.snapshot_cell.show(rt, &self.noted);
+        self.noted.copy()
     }
 
     /// Makes one more reader, which begins with the published history. `NoPlace` if no place is left: each reader takes one, and

@@ -50,12 +50,11 @@ fn step<L: Name, R: Wait + Abort>(
     let Ok(ready) = book.ready(alloc, 0, &Op::Summary) else {
         panic!(rt; "no step");
     };
-    let Some(news) = publisher.note(ready.entry()) else {
+    let Some(_noted) = publisher.note(ready.entry()) else {
         panic!(rt; "other entries");
     };
     book.finish(ready);
-    publisher.publish(rt);
-    news
+    publisher.publish(rt)
 }
 
 /// Checks how many entries the reader reports.

@@ -1,5 +1,5 @@
-use Rattle.std.proofs.Common.{◌≡◌, ◌∙◌, inr, List, [], ◌∷◌, ◌++◌, length, map, arith, ap, sym, refl, subst}
-use Rattle.std.proofs.lemmas.List.{length-map, length-append}
+use Rattle.std.proofs.Common.{◌≡◌, ◌∙◌, inr, List, [], ◌∷◌, ◌++◌, length, arith, ap, sym, refl, subst}
+use Rattle.std.proofs.lemmas.List.{length-append}
 use Rattle.std.proofs.lemmas.Result.{err_from_is_err_and}
 use Rattle.covbook.specs.declared.book.BookFault.TheVariants as faults
 use Rattle.covbook.specs.Op.{EntryData, ReceiptData}
@@ -128,12 +128,13 @@ invariant_of-self-in_default g c = record {
 
 pub returns-clause-published : goal.returns-clause-published
 returns-clause-published g c =
-    noted_is c.self.inside.publisher.noted c.ready.new.self.entries c.finish-receipt.new.self.entries c.in-Some.news (entry_data c.entry.result.now) c.in_ok-ready.ready.entry
-    (c.self.invariant.all_noted ∙ sym c.in_ok-ready.ensures.same.entries) c.entry.ensures c.in_ok-ready.ensures.ready.ready.next c.finish-receipt.ensures.entry c.in-Some.ensures.news
+    noted_is c.self.inside.publisher.noted c.ready.new.self.entries c.finish-receipt.new.self.entries c.publish-news.result (entry_data c.entry.result.now) c.in_ok-ready.ready.entry
+    (c.self.invariant.all_noted ∙ sym c.in_ok-ready.ensures.same.entries) c.entry.ensures c.in_ok-ready.ensures.ready.ready.next c.finish-receipt.ensures.entry
+    (c.publish-news.ensures.news ∙ ap (λ (p : PublisherData). p.noted) c.in-Some.ensures.noted)
 
 pub returns-clause-news : goal.returns-clause-news
 returns-clause-news g c =
-    news_of c.args.seat.now.job (op_data c.args.op.now) (receipt_data c.finish-receipt.result) c.args.self.now c.finish-receipt.new.self.entries c.in-Some.news
+    news_of c.args.seat.now.job (op_data c.args.op.now) (receipt_data c.finish-receipt.result) c.args.self.now c.finish-receipt.new.self.entries c.publish-news.result
     (returns-clause-published g c) c.finish-receipt.ensures.legal (returns-clause-entry g c) (returns-clause-told g c).receipt
 
 pub invariant_of-self-2 : goal.invariant_of-self-2
@@ -142,11 +143,11 @@ invariant_of-self-2 g c =
     let behind = next_entry c.ready.new.self.entries made.entry.job made.entry.op ∷ [] in
     let same : length c.ready.new.self.entries ≡ length c.self.inside.book.entries = ap (λ (xs : List EntryData). length xs) c.in_ok-ready.ensures.same.entries in
     let grown : length c.finish-receipt.new.self.entries ≡ length (c.ready.new.self.entries ++ behind) = ap (λ (xs : List EntryData). length xs) c.finish-receipt.ensures.entry in
-    let noted : c.note.new.self.noted ≡ c.finish-receipt.new.self.entries = ap (λ (p : PublisherData). p.noted) c.in-Some.ensures.noted ∙ returns-clause-published g c in
+    let noted : c.note.new.self.noted ≡ c.finish-receipt.new.self.entries = sym c.publish-news.ensures.news ∙ returns-clause-published g c in
     record {
       legal = c.finish-receipt.ensures.legal;
-      all_noted = ap (λ (p : PublisherData). p.noted) c.publish.ensures ∙ noted;
-      all_published = ap (λ (p : PublisherData). p.published) c.publish.ensures ∙ noted;
+      all_noted = ap (λ (p : PublisherData). p.noted) c.publish-news.ensures.published ∙ noted;
+      all_published = ap (λ (p : PublisherData). p.published) c.publish-news.ensures.published ∙ noted;
       counted = omega (arith, same, grown, length-append c.ready.new.self.entries behind, c.self.invariant.counted, c.count_call.ensures.total);
       no_part = c.self.invariant.no_part;
       no_amount = c.self.invariant.no_amount;
