@@ -1,5 +1,6 @@
--- What a job knows of its calls if it keeps no history: its log is of the history of its latest news. Jobs whose calls are as many
--- as the last history is long have gathered it.
+-- What a job knows of its calls, whatever is kept of the history in memory: its log is of the history of its latest news. If the
+-- latest news of each job are of a beginning of the last history, and all calls are as many as this history is long, the logs of the
+-- jobs have gathered it.
 use Rattle.std.specs.Prelude.{◌≡◌, ℕ, ◌+◌, List, [], ◌∷◌, ◌++◌, length, map}
 use Rattle.std.specs.List.{AllByRecursion, sum_by, range_with_len}
 use Rattle.covbook.specs.Op.{EntryData, ReceiptData}
@@ -7,8 +8,8 @@ use Rattle.covbook.specs.Step.{receipt_of}
 use Rattle.covbook.specs.Gather.{LogData, IsLogOf, AreReadingsOf, jobs_of}
 pub use mathlib.Core.List.{IsPrefix}
 
--- a job's log is of the history of its latest news, and has a receipt for each of its calls. This history ends at the place that
--- the job has seen
+-- a job's log is of the history of its latest news, and has a receipt for each of its calls. This history has the entries before the
+-- place that the job has seen
 pub record IsKept (log : LogData) (calls seen : ℕ) (latest : List EntryData) : Type 0 where
   pub log_of : IsLogOf latest log
   pub counted : length log.receipts ≡ calls

@@ -95,7 +95,7 @@ impl<A: Allocator + Copy> Book<A> {
 }
 
 impl<A: Allocator + Copy, K: Keep<Of = Entry<A>>> Book<A, K> {
-    ghost use Rattle.std.specs.Prelude.{◌≡◌, ◌↔◌, ◌+◌, ◌<◌, ◌++◌, [], ◌∷◌, length, IfOk, OnOk, OnErr, Err, map};
+    ghost use Rattle.std.specs.Prelude.{◌≡◌, ◌↔◌, ◌+◌, ◌<◌, ◌≤◌, ◌++◌, [], ◌∷◌, length, IsTrue, IfOk, OnOk, OnErr, Err, map};
     ghost use Rattle.covstore.specs.Store.{SameContent, StandsFor};
     ghost use Rattle.covstore.specs.Totals.{AreTotals};
     ghost use Rattle.covstore.specs.Without.{sections_of_test, without_test};
@@ -126,10 +126,21 @@ impl<A: Allocator + Copy, K: Keep<Of = Entry<A>>> Book<A, K> {
         self.history.place()
     }
 
-    /// What is kept of the history's entries, in order. The history is legal. Takes no memory.
+    /// Whether the history takes no more entries: `step` would return `Full`. Takes no memory.
+    pub fn is_full(&self) -> bool
+        ensures full { IsTrue result ↔ (length self.now.entries ≡ max_entries) }
+        ensures few { length self.now.entries ≤ max_entries }
+    {
+        self.history.is_full()
+    }
+
+    /// What is kept of the history's entries, in order. The history is legal, each submission in it is lawful, and the store
+    /// represents the last table of its run. Takes no memory.
     pub fn kept(&self) -> &[K]
         ensures entries { map (λ k. entry_data (K.shows k)) result.now ≡ self.now.entries }
         ensures legal { IsLegal self.now.entries }
+        ensures lawful { AreLawfulOps (ops_in self.now.entries) }
+        ensures stands { StandsFor self.now.store (table_of (ops_in self.now.entries)) }
     {
         self.history.get()
     }
