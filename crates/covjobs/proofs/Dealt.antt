@@ -11,7 +11,7 @@ use Rattle.covjobs.specs.declared.readers.Readers.{Readers}
 use Rattle.covjobs.specs.declared.stop.Stop.{Stop}
 use Rattle.covjobs.specs.Collect.{brought, places_of_job}
 use Rattle.covjobs.specs.Shares.{placed_at, share_of, shares_of}
-use Rattle.covjobs.specs.Work.{Chances, WorkerData, HaveEndedIfUnrefused, work_of}
+use Rattle.covjobs.specs.Work.{Chances, WorkerData, HaveEndedIfStarted, work_of}
 use Rattle.covjobs.proofs.Taken.{brought_more, brought_past}
 use Rattle.covjobs.proofs.Whole.{works_from}
 
@@ -107,10 +107,10 @@ share_for_each {X} inputs dealt jobs seats shares same seated are =
 
 -- the seats are those of all jobs, so how their workers ended is how the work of all jobs ended
 pub ended_for_all : {X : Type 0} (chances : Chances X) (readers : Readers) (inputs dealt : List X) (jobs : ℕ) (seats : List SeatData) (ended : List (Result WorkerData Stop)) → dealt ≡ inputs → seats ≡ first_seats jobs
-    → HaveEndedIfUnrefused chances (map (work_of dealt jobs readers) seats) ended → HaveEndedIfUnrefused chances (works_from inputs jobs readers 0 jobs) ended
+    → HaveEndedIfStarted chances (map (work_of dealt jobs readers) seats) ended → HaveEndedIfStarted chances (works_from inputs jobs readers 0 jobs) ended
 ended_for_all {X} chances readers inputs dealt jobs seats ended same seated done =
-    subst (λ (xs : List X). HaveEndedIfUnrefused chances (works_from xs jobs readers 0 jobs) ended) same
-    (subst (λ (ss : List SeatData). HaveEndedIfUnrefused chances (map (work_of dealt jobs readers) ss) ended) seated done)
+    subst (λ (xs : List X). HaveEndedIfStarted chances (works_from xs jobs readers 0 jobs) ended) same
+    (subst (λ (ss : List SeatData). HaveEndedIfStarted chances (map (work_of dealt jobs readers) ss) ended) seated done)
 
 -- the seats of all jobs are fresh
 fresh_from : (from some : ℕ) → AllByRecursion (λ (seat : SeatData). seat ≡ fresh_seat seat.job) (map fresh_seat (range_with_len from some))

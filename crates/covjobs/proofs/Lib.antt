@@ -8,6 +8,7 @@ pub mod Ended
 pub mod Everything
 pub mod Outcomes
 pub mod Gathered
+pub mod GoingOn
 pub mod Histories
 pub mod LastEntry
 pub mod Places

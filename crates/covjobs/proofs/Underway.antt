@@ -8,7 +8,7 @@ use Rattle.covjobs.specs.declared.refused.RefusedInput.{RefusedInput}
 use Rattle.covjobs.specs.declared.shares.Placed.{Placed}
 use Rattle.covjobs.specs.Collect.{brought, places_of_job, ops_in}
 use Rattle.covjobs.specs.Shares.{placed_at, share_of}
-use Rattle.covjobs.specs.Work.{Chances, Takes, HasTaken, IsUnreadAt}
+use Rattle.covjobs.specs.Work.{Takes, HasTaken}
 use Rattle.covjobs.proofs.Taken.{Outcome, none_taken, step_taken, step_past}
 
 -- what the meant ones among `more` places bring, from a place on
@@ -135,42 +135,42 @@ pub one_taken : {X : Type 0} (Gives : X → Outcome → Type 0) (inputs : List X
 one_taken Gives inputs jobs job placed rest receipts after refused refuses so_far takes =
     taken_from Gives inputs jobs job so_far.count so_far.more placed rest receipts after refused refuses so_far.all so_far.left so_far.taken takes
 
--- one place on: the place is that of the input that can't be read, or isn't of the job
-unread_place : {X : Type 0} (chances : Chances X) (inputs : List X) (jobs job count more : ℕ) (placed : Placed X) (rest : List (Placed X)) (receipts : List ReceiptData) (refused : List RefusedInput)
+-- the next input of a share is at a place of the job, and what the job is to take of the inputs before it is taken
+pub record IsNext {X : Type 0} (Gives : X → Outcome → Type 0) (inputs : List X) (jobs job : ℕ) (placed : Placed X) (receipts : List ReceiptData) (refused : List RefusedInput) : Type 0 where
+  pub own : places_of_job jobs job placed.index ≡ true
+  pub is : slice_get inputs placed.index ≡ Some placed.input
+  pub taken : HasTaken Gives inputs jobs job placed.index receipts refused
+
+-- one place on: the place is that of the next input, or isn't of the job
+next_at : {X : Type 0} (Gives : X → Outcome → Type 0) (inputs : List X) (jobs job count more : ℕ) (placed : Placed X) (rest : List (Placed X)) (receipts : List ReceiptData) (refused : List RefusedInput)
     → (own : Bool) → places_of_job jobs job count ≡ own → (found : Option X) → slice_get inputs count ≡ found
     → count + suc more ≡ length inputs
     → placed ∷ rest ≡ (if own then placed_at count found else []) ++ brought_from (places_of_job jobs job) (λ index. placed_at index (slice_get inputs index)) (count + 1) more
-    → HasTaken chances.Gives inputs jobs job count receipts refused → chances.MayFail placed.input
-    → (HasTaken chances.Gives inputs jobs job (count + 1) receipts refused → placed ∷ rest ≡ brought_from (places_of_job jobs job) (λ index. placed_at index (slice_get inputs index)) (count + 1) more → IsUnreadAt chances inputs jobs job placed.index)
-    → IsUnreadAt chances inputs jobs job placed.index
-unread_place chances inputs jobs job count more placed rest receipts refused true is_own None none all left taken fails later = absurd (is_there inputs count more all none)
-unread_place {X} chances inputs jobs job count more placed rest receipts refused true is_own (Some input) is all left taken fails later =
+    → HasTaken Gives inputs jobs job count receipts refused
+    → (HasTaken Gives inputs jobs job (count + 1) receipts refused → placed ∷ rest ≡ brought_from (places_of_job jobs job) (λ index. placed_at index (slice_get inputs index)) (count + 1) more → IsNext Gives inputs jobs job placed receipts refused)
+    → IsNext Gives inputs jobs job placed receipts refused
+next_at Gives inputs jobs job count more placed rest receipts refused true is_own None none all left taken later = absurd (is_there inputs count more all none)
+next_at {X} Gives inputs jobs job count more placed rest receipts refused true is_own (Some input) is all left taken later =
     let here : Placed X = record { index = count; input = input } in
     let same : placed ≡ here = head_is placed here rest (brought_from (places_of_job jobs job) (λ index. placed_at index (slice_get inputs index)) (count + 1) more) left in
-    let fails_here : chances.MayFail input = subst (λ (p : Placed X). chances.MayFail p.input) same fails in
-    subst (λ (p : Placed X). IsUnreadAt chances inputs jobs job p.index) (sym same) (record {
-      own = is_own;
-      outcome = taken.outcome;
-      outcomes = taken.outcomes;
-      fails = subst (λ (o : Option X). IsSomeAnd o chances.MayFail) (sym is) fails_here;
-    })
-unread_place chances inputs jobs job count more placed rest receipts refused false apart found is all left taken fails later =
-    later (step_past chances.Gives inputs jobs job count receipts refused taken apart) left
+    let next : IsNext Gives inputs jobs job here receipts refused = record { own = is_own; is = is; taken = taken } in
+    subst (λ (p : Placed X). IsNext Gives inputs jobs job p receipts refused) (sym same) next
+next_at Gives inputs jobs job count more placed rest receipts refused false apart found is all left taken later =
+    later (step_past Gives inputs jobs job count receipts refused taken apart) left
 
-unread_from : {X : Type 0} (chances : Chances X) (inputs : List X) (jobs job count more : ℕ) (placed : Placed X) (rest : List (Placed X)) (receipts : List ReceiptData) (refused : List RefusedInput)
+next_from : {X : Type 0} (Gives : X → Outcome → Type 0) (inputs : List X) (jobs job count more : ℕ) (placed : Placed X) (rest : List (Placed X)) (receipts : List ReceiptData) (refused : List RefusedInput)
     → count + more ≡ length inputs
     → placed ∷ rest ≡ brought_from (places_of_job jobs job) (λ index. placed_at index (slice_get inputs index)) count more
-    → HasTaken chances.Gives inputs jobs job count receipts refused → chances.MayFail placed.input → IsUnreadAt chances inputs jobs job placed.index
-unread_from chances inputs jobs job count zero placed rest receipts refused all left taken fails = absurd (no_member placed rest left)
-unread_from chances inputs jobs job count (suc more) placed rest receipts refused all left taken fails =
-    unread_place chances inputs jobs job count more placed rest receipts refused (places_of_job jobs job count) refl (slice_get inputs count) refl all left taken fails
-    (λ past left_past. unread_from chances inputs jobs job (count + 1) more placed rest receipts refused (sym (one_later count more) ∙ all) left_past past fails)
+    → HasTaken Gives inputs jobs job count receipts refused → IsNext Gives inputs jobs job placed receipts refused
+next_from Gives inputs jobs job count zero placed rest receipts refused all left taken = absurd (no_member placed rest left)
+next_from Gives inputs jobs job count (suc more) placed rest receipts refused all left taken =
+    next_at Gives inputs jobs job count more placed rest receipts refused (places_of_job jobs job count) refl (slice_get inputs count) refl all left taken
+    (λ past left_past. next_from Gives inputs jobs job (count + 1) more placed rest receipts refused (sym (one_later count more) ∙ all) left_past past)
 
--- the next input of the share can't be read
-pub one_unread : {X : Type 0} (chances : Chances X) (inputs : List X) (jobs job : ℕ) (placed : Placed X) (rest : List (Placed X)) (receipts : List ReceiptData) (refused : List RefusedInput)
-    → IsUnderway chances.Gives inputs jobs job (placed ∷ rest) receipts refused → chances.MayFail placed.input → IsUnreadAt chances inputs jobs job placed.index
-one_unread chances inputs jobs job placed rest receipts refused so_far fails =
-    unread_from chances inputs jobs job so_far.count so_far.more placed rest receipts refused so_far.all so_far.left so_far.taken fails
+pub next_of : {X : Type 0} (Gives : X → Outcome → Type 0) (inputs : List X) (jobs job : ℕ) (placed : Placed X) (rest : List (Placed X)) (receipts : List ReceiptData) (refused : List RefusedInput)
+    → IsUnderway Gives inputs jobs job (placed ∷ rest) receipts refused → IsNext Gives inputs jobs job placed receipts refused
+next_of Gives inputs jobs job placed rest receipts refused so_far =
+    next_from Gives inputs jobs job so_far.count so_far.more placed rest receipts refused so_far.all so_far.left so_far.taken
 
 -- the places that are left aren't of the job
 past_place : {X : Type 0} (Gives : X → Outcome → Type 0) (inputs : List X) (jobs job count more : ℕ) (receipts : List ReceiptData) (refused : List RefusedInput)

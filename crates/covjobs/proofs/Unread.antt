@@ -1,37 +1,38 @@
 -- The least place of an input that can't be read: all inputs before it were read, each by its own worker.
 use Rattle.std.proofs.Common.{◌≡◌, ◌∙◌, ◌⊎◌, inl, inr, ap, ℕ, zero, suc, ◌+◌, ◌<◌, ◌%◌, Bool, true, IsTrue, List, [], ◌∷◌, length, map, take, Ok, Err, slice_get, sym, refl, subst, arith}
-use Rattle.std.specs.Prelude.{IsSomeAnd}
+use Rattle.std.specs.Prelude.{IsSomeAnd, ◌≤◌, if◌then◌else◌, nat_lt, false}
 use Rattle.std.specs.List.{AllByRecursion, Contains}
-use Rattle.std.proofs.lemmas.Bool.{eq-eqb}
+use Rattle.std.proofs.lemmas.Bool.{eq-eqb, ltb-false}
 use Rattle.std.proofs.lemmas.Nat.{mod_below}
+use Rattle.covbook.specs.declared.book.BookFault.{BookFault}
 use Rattle.covbook.specs.declared.book.BookFault.TheVariants as book
+use Rattle.covbook.specs.Step.{max_entries}
+use Rattle.covjobs.specs.declared.book_fault.IntoBookFault.{IntoBookFault}
 use Rattle.covjobs.specs.declared.book_fault.IntoBookFault.TheVariants as into_book
+use Rattle.covjobs.specs.declared.collect_fault.CollectFault.{CollectFault}
 use Rattle.covjobs.specs.declared.collect_fault.CollectFault.TheVariants as collects
 use Rattle.covjobs.specs.declared.readers.Readers.{Readers}
 use Rattle.covjobs.specs.declared.stop.Stop.{Stop}
 use Rattle.covjobs.specs.declared.stop.Stop.TheVariants as stops
 use Rattle.covjobs.specs.Collect.{InputData, IsOutcomeOf, AreOutcomes}
-use Rattle.covjobs.specs.Late.{MayGive, TurnedOut, IsFirstUnread, IsIntoBookFault, chances_of}
-use Rattle.covjobs.specs.Stops.{of_stop}
-use Rattle.covjobs.specs.Work.{Chances, WorkData, HasEnded, HaveEnded, IsUnreadAt, IsUnrefused, IsNotBefore, IsLeastUnread, IsWorstEnd}
+use Rattle.covjobs.specs.Late.{MayCome, MayGive, TurnedOut, IsFirstUnread, IsIntoBookFault, IsUnreadFault, chances_of}
+use Rattle.covjobs.specs.Stops.{no_memory, of_refused, of_stop}
+use Rattle.covjobs.specs.Work.{Chances, WorkData, HasEnded, HasOutcome, HaveEnded, IsStarted, IsUnreadAt, IsNotBefore, IsLeastUnread, IsWorstEnd}
 use Rattle.covjobs.proofs.Ended.{End}
+use Rattle.covjobs.proofs.GoingOn.{read_of}
 use Rattle.covjobs.proofs.Taken.{Outcome}
 use Rattle.covjobs.proofs.Whole.{AllGive, works_from}
 
 -- ---- what inputs that were read turned out to be
 
--- an input has an outcome
-abbrev HasOutcome : {X : Type 0} → (X → Outcome → Type 0) → X → Type 0
-HasOutcome Gives input = (outcome : Outcome) × Gives input outcome
-
 -- the inputs before a place turned out to be something
 pub before_turned_out : {X : Type 0} (MayBe : X → InputData → Type 0) (inputs : List X) (index : ℕ)
-    → ((place : ℕ) → place < index → place < length inputs → IsSomeAnd (slice_get inputs place) (HasOutcome (λ late. MayGive (MayBe late))))
+    → ((place : ℕ) → place < index → place < length inputs → IsSomeAnd (slice_get inputs place) (λ late. HasOutcome (MayGive (MayBe late))))
     → (before : List InputData) × TurnedOut MayBe (take index inputs) before
 before_turned_out MayBe inputs zero each = ([], tt)
 before_turned_out MayBe [] (suc index) each = ([], tt)
 before_turned_out {X} MayBe (late ∷ inputs) (suc index) each =
-    let here : HasOutcome (λ (l : X). MayGive (MayBe l)) late = each 0 (omega arith) (omega arith) in
+    let here : HasOutcome (MayGive (MayBe late)) = each 0 (omega arith) (omega arith) in
     let rest = before_turned_out MayBe inputs index (λ place less within. each (suc place) (omega (arith, less)) (omega (arith, within))) in
     (here.1.0 ∷ rest.0, (here.1.1, rest.1))
 
@@ -63,36 +64,32 @@ all_turned_out {X} MayBe (late ∷ inputs) outcome each =
 
 -- ---- the least place
 
--- an end that isn't before a place is no refusal
-unrefused : (index : ℕ) (end : End) → IsNotBefore index end → IsUnrefused end
-unrefused index (Ok worker) is = tt
-unrefused index (Err (stops.Unread other)) is = tt
-unrefused index (Err (stops.Refused fault)) is = absurd is
+-- a worker that has read its inputs before a place was started
+started : (index : ℕ) (end : End) → IsNotBefore index end → IsStarted end
+started index (Ok worker) is = tt
+started index (Err (stops.Unread other)) is = tt
+started index (Err (stops.Refused refusal)) is = omega (arith, is)
 
-all_unrefused : (index : ℕ) (ended : List End) → AllByRecursion (IsNotBefore index) ended → AllByRecursion IsUnrefused ended
-all_unrefused index [] all = tt
-all_unrefused index (end ∷ ended) all = (unrefused index end all.0, all_unrefused index ended all.1)
+all_started : (index : ℕ) (ended : List End) → AllByRecursion (IsNotBefore index) ended → AllByRecursion IsStarted ended
+all_started index [] all = tt
+all_started index (end ∷ ended) all = (started index end all.0, all_started index ended all.1)
 
 true_is : {b : Bool} → b ≡ true → IsTrue b
 true_is e = e
 
-some_outcome : {X : Type 0} (chances : Chances X) (inputs : List X) (place : ℕ) (outcome : Outcome) → IsSomeAnd (slice_get inputs place) (λ input. chances.Gives input outcome) → IsSomeAnd (slice_get inputs place) (HasOutcome chances.Gives)
-some_outcome chances [] place outcome is = absurd is
-some_outcome chances (x ∷ inputs) zero outcome is = (outcome, is)
-some_outcome chances (x ∷ inputs) (suc place) outcome is = some_outcome chances inputs place outcome is
-
 -- a worker that ended so has read its inputs before the place
 read_by : {X : Type 0} (chances : Chances X) (readers : Readers) (inputs : List X) (jobs job index place : ℕ) (end : End) → HasEnded chances (record { inputs = inputs; jobs = jobs; job = job; readers = readers }) end
-    → IsNotBefore index end → place < index → place < length inputs → place % jobs ≡ job → IsSomeAnd (slice_get inputs place) (HasOutcome chances.Gives)
-read_by {X} chances readers inputs jobs job index place (Ok worker) done not_before less within own =
-    some_outcome chances inputs place (done.taken.outcome place) (done.taken.outcomes place within (true_is (eq-eqb (place % jobs) job own)))
-read_by {X} chances readers inputs jobs job index place (Err (stops.Unread other)) stopped not_before less within own =
-    some_outcome chances inputs place (stopped.outcome place) (stopped.outcomes place (omega (arith, less, not_before)) (true_is (eq-eqb (place % jobs) job own)))
-read_by chances readers inputs jobs job index place (Err (stops.Refused fault)) ended not_before less within own = absurd not_before
+    → IsNotBefore index end → place < index → place < length inputs → place % jobs ≡ job → IsSomeAnd (slice_get inputs place) (λ input. HasOutcome (chances.Gives input))
+read_by chances readers inputs jobs job index place (Ok worker) done not_before less within own =
+    read_of chances inputs jobs job (length inputs) worker.receipts worker.refused done.taken place within within (true_is (eq-eqb (place % jobs) job own))
+read_by chances readers inputs jobs job index place (Err (stops.Unread other)) stopped not_before less within own =
+    stopped.before place (omega (arith, less, not_before)) within (true_is (eq-eqb (place % jobs) job own))
+read_by chances readers inputs jobs job index place (Err (stops.Refused refusal)) read not_before less within own =
+    read place (omega (arith, less, not_before)) within (true_is (eq-eqb (place % jobs) job own))
 
 -- the worker of a place's job has read the input at the place
 read_at : {X : Type 0} (chances : Chances X) (readers : Readers) (inputs : List X) (jobs from some : ℕ) (ended : List End) (index place k : ℕ) → HaveEnded chances (works_from inputs jobs readers from some) ended
-    → AllByRecursion (IsNotBefore index) ended → k < some → place < index → place < length inputs → place % jobs ≡ from + k → IsSomeAnd (slice_get inputs place) (HasOutcome chances.Gives)
+    → AllByRecursion (IsNotBefore index) ended → k < some → place < index → place < length inputs → place % jobs ≡ from + k → IsSomeAnd (slice_get inputs place) (λ input. HasOutcome (chances.Gives input))
 read_at chances readers inputs jobs from zero ended index place k done all below less within own = absurd (omega (arith, below))
 read_at chances readers inputs jobs from (suc some) [] index place k done all below less within own = absurd done
 read_at chances readers inputs jobs from (suc some) (end ∷ ended) index place zero done all below less within own =
@@ -123,10 +120,10 @@ same_inputs readers inputs jobs from (suc some) = (refl, same_inputs readers inp
 
 -- the least place of an input that can't be read is that of the first such input
 pub first_unread : {X : Type 0} (MayBe : X → InputData → Type 0) (MayFail : X → Type 0) (readers : Readers) (inputs : List X) (jobs : ℕ) (ended : List End) (index : ℕ) → 0 < jobs
-    → (AllByRecursion IsUnrefused ended → HaveEnded (chances_of MayBe MayFail) (works_from inputs jobs readers 0 jobs) ended)
+    → (AllByRecursion IsStarted ended → HaveEnded (chances_of MayBe MayFail) (works_from inputs jobs readers 0 jobs) ended)
     → IsLeastUnread ended index → IsFirstUnread MayBe MayFail inputs index
-first_unread {X} MayBe MayFail readers inputs jobs ended index some if_unrefused least =
-    let done = if_unrefused (all_unrefused index ended least.0) in (
+first_unread {X} MayBe MayFail readers inputs jobs ended index some if_started least =
+    let done = if_started (all_started index ended least.0) in (
       fails_by (chances_of MayBe MayFail) (works_from inputs jobs readers 0 jobs) inputs ended index (same_inputs readers inputs jobs 0 jobs) done least.1,
       before_turned_out MayBe inputs index
           (λ place less within. read_at (chances_of MayBe MayFail) readers inputs jobs 0 jobs ended index place (place % jobs) done least.0 (mod_below place jobs some) less within (sym (none_before (place % jobs)))),
@@ -137,17 +134,39 @@ first_unread {X} MayBe MayFail readers inputs jobs ended index some if_unrefused
 
 -- ---- which fault is returned
 
+-- the history can be full if there are inputs enough
+full_may_come : (inputs most : ℕ) (test : Bool) → nat_lt inputs most ≡ test → (Few : CollectFault → Type 0) → Few collects.NotLast → (most ≤ inputs → Few collects.Full) → Few (if test then collects.NotLast else collects.Full)
+full_may_come inputs most true is Few few many = few
+full_may_come inputs most false is Few few many = many (ltb-false inputs most is)
+
+pub refused_may_come : (inputs : ℕ) (fault : BookFault) → MayCome inputs (of_refused inputs fault)
+refused_may_come inputs book.Full = full_may_come inputs max_entries (nat_lt inputs max_entries) refl (MayCome inputs) tt (λ many. many)
+refused_may_come inputs book.Memory = tt
+
+-- a fault of the book is none of the number of jobs
+pub no_bad_jobs_by : (inputs : ℕ) (fault : BookFault) → of_refused inputs fault ≡ collects.BadJobs → ⊥
+no_bad_jobs_by inputs book.Full is = full_may_come inputs max_entries (nat_lt inputs max_entries) refl (λ (f : CollectFault). f ≡ collects.BadJobs → ⊥) (λ same. cc) (λ many same. cc) is
+no_bad_jobs_by inputs book.Memory is = cc
+
 pub fault_is : {X : Type 0} (MayBe : X → InputData → Type 0) (MayFail : X → Type 0) (readers : Readers) (inputs : List X) (jobs : ℕ) (ended : List End) (stop : Stop) → 0 < jobs
-    → (AllByRecursion IsUnrefused ended → HaveEnded (chances_of MayBe MayFail) (works_from inputs jobs readers 0 jobs) ended)
-    → IsWorstEnd ended stop ⊎ (stop ≡ stops.Refused book.Memory) → IsIntoBookFault MayBe MayFail inputs (of_stop stop)
+    → (AllByRecursion IsStarted ended → HaveEnded (chances_of MayBe MayFail) (works_from inputs jobs readers 0 jobs) ended)
+    → IsWorstEnd ended stop ⊎ (stop ≡ no_memory) → IsIntoBookFault MayBe MayFail inputs (of_stop (length inputs) stop)
 fault_is MayBe MayFail readers inputs jobs ended (stops.Unread index) some done (inl least) = first_unread MayBe MayFail readers inputs jobs ended index some done least
 fault_is MayBe MayFail readers inputs jobs ended (stops.Unread index) some done (inr is) = absurd cc
-fault_is MayBe MayFail readers inputs jobs ended (stops.Refused fault) some done worst = tt
+fault_is MayBe MayFail readers inputs jobs ended (stops.Refused refusal) some done worst = refused_may_come (length inputs) refusal.fault
 
-pub no_bad_jobs : (stop : Stop) → of_stop stop ≡ into_book.Collect collects.BadJobs → ⊥
-no_bad_jobs (stops.Unread index) is = cc
-no_bad_jobs (stops.Refused book.Full) is = cc
-no_bad_jobs (stops.Refused book.Memory) is = cc
+abbrev collect_in : IntoBookFault → CollectFault
+collect_in (into_book.Unread index) = collects.Memory
+collect_in (into_book.Collect fault) = fault
+
+pub no_bad_jobs : (inputs : ℕ) (stop : Stop) → of_stop inputs stop ≡ into_book.Collect collects.BadJobs → ⊥
+no_bad_jobs inputs (stops.Unread index) is = cc
+no_bad_jobs inputs (stops.Refused refusal) is = no_bad_jobs_by inputs refusal.fault (ap collect_in is)
+
+-- a fault of collecting into a book tells of an input only if it is the first that can't be read
+pub unread_is : {X : Type 0} (MayBe : X → InputData → Type 0) (MayFail : X → Type 0) (inputs : List X) (fault : IntoBookFault) → IsIntoBookFault MayBe MayFail inputs fault → IsUnreadFault MayBe MayFail inputs fault
+unread_is MayBe MayFail inputs (into_book.Unread index) is = is
+unread_is MayBe MayFail inputs (into_book.Collect fault) is = tt
 
 -- ---- inputs in memory
 

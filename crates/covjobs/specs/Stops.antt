@@ -1,21 +1,65 @@
 -- Private steps: where a worker stops, and which fault is returned for that.
-use Rattle.std.specs.Prelude.{◌≡◌, ℕ, min, Option, None, Some}
+use Rattle.std.specs.Prelude.{◌≡◌, ℕ, ◌<◌, min, if◌then◌else◌, nat_lt, Option, None, Some, Result, Ok, Err}
+use Rattle.covread.specs.declared.fault.ReadFault.{ReadFault}
+use Rattle.covbook.specs.declared.book.BookFault.{BookFault}
+use Rattle.covbook.specs.declared.book.BookFault.TheVariants as book
+use Rattle.covbook.specs.Step.{max_entries}
 use Rattle.covjobs.specs.declared.book_fault.IntoBookFault.{IntoBookFault}
 use Rattle.covjobs.specs.declared.book_fault.IntoBookFault.TheVariants.{Unread, Collect}
+use Rattle.covjobs.specs.declared.collect_fault.CollectFault.{CollectFault}
+use Rattle.covjobs.specs.declared.collect_fault.CollectFault.TheVariants as collects
+use Rattle.covjobs.specs.declared.late_fault.LateFault.{LateFault}
+use Rattle.covjobs.specs.declared.late_fault.LateFault.TheVariants as late
+use Rattle.covjobs.specs.declared.stop.Refusal.{Refusal}
 use Rattle.covjobs.specs.declared.stop.Stop.{Stop}
 use Rattle.covjobs.specs.declared.stop.Stop.TheVariants as stops
-use Rattle.covjobs.specs.CollectFault.{of_book}
 
-abbrev pub of_stop : Stop → IntoBookFault
-of_stop (stops.Unread index) = Unread index
-of_stop (stops.Refused fault) = Collect (of_book fault)
+-- which fault of collecting is returned if the book refused a call. With fewer inputs than a full history has entries, the history
+-- can't be full: then the jobs' calls don't fit the history
+abbrev pub of_refused : (inputs : ℕ) → BookFault → CollectFault
+of_refused inputs book.Full = if nat_lt inputs max_entries then collects.NotLast else collects.Full
+of_refused inputs book.Memory = collects.Memory
 
--- if the stop is at an input that can't be read, it is the one at this place, as may happen to it
-abbrev pub IsUnreadOf : ℕ → (MayFail : Type 0) → Stop → Type 0
-IsUnreadOf index MayFail (stops.Unread other) = (other ≡ index) × MayFail
-IsUnreadOf index MayFail (stops.Refused fault) = Unit {0}
+-- which fault is returned for a stop, with so many inputs
+abbrev pub of_stop : (inputs : ℕ) → Stop → IntoBookFault
+of_stop inputs (stops.Unread index) = Unread index
+of_stop inputs (stops.Refused refusal) = Collect (of_refused inputs refusal.fault)
+
+-- memory was refused before a job has read anything
+abbrev pub no_memory : Stop
+no_memory = stops.Refused (record { fault = book.Memory; upto = 0 })
+
+-- the fault that came first
+abbrev pub first_of : Option BookFault → BookFault → BookFault
+first_of None fault = fault
+first_of (Some first) fault = first
+
+-- what it means to a job that an input gives no submission: its text is refused; or the input can't be read, and the job stops; or
+-- memory ran out, and the job stops there with the fault that came first
+abbrev pub of_late : (index : ℕ) → (first : Option BookFault) → LateFault → Result ReadFault Stop
+of_late index first (late.Refused fault) = Ok fault
+of_late index first late.Unreadable = Err (stops.Unread index)
+of_late index first late.Memory = Err (stops.Refused (record { fault = first_of first book.Memory; upto = index }))
+
+-- a job that stops while it reads the input at this place has read its inputs before the place. If the input can't be read, this is
+-- as may happen to it
+abbrev pub IsStopAt : ℕ → (MayFail : Type 0) → Stop → Type 0
+IsStopAt index MayFail (stops.Unread other) = (other ≡ index) × MayFail
+IsStopAt index MayFail (stops.Refused refusal) = refusal.upto ≡ index
 
 -- the lesser of the two places
 abbrev pub lesser_of : Option ℕ → ℕ → ℕ
 lesser_of None index = index
 lesser_of (Some least) index = min least index
+
+-- the first fault, with the lesser of the two places
+abbrev pub both_of : Option Refusal → Refusal → Refusal
+both_of None next = next
+both_of (Some first) next = record { fault = first.fault; upto = min first.upto next.upto }
+
+-- the input that can't be read is told if each job that was refused something has read its inputs before it. Else the refusal is
+abbrev pub worst_of : (least : Option ℕ) → (refused : Option Refusal) → Option Stop
+worst_of None None = None
+worst_of (Some index) None = Some (stops.Unread index)
+worst_of None (Some refusal) = Some (stops.Refused refusal)
+worst_of (Some index) (Some refusal) = Some (if nat_lt index refusal.upto then stops.Unread index else stops.Refused refusal)

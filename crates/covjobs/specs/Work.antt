@@ -85,18 +85,27 @@ pub record HasDone {X : Type 0} (chances : Chances X) (work : WorkData X) (worke
   pub read : HasRead worker.has_reader worker.receipts worker.readings
   pub reader : MayHaveReader work.readers worker.has_reader
 
--- a worker's input at this place can't be read, and its inputs at all places before it were read
+-- an input was read: it had an outcome
+abbrev pub HasOutcome : (Gives : Result SubmissionData ReadFault → Type 0) → Type 0
+HasOutcome Gives = (outcome : Result SubmissionData ReadFault) × Gives outcome
+
+-- a worker has read its inputs at all places before this one
+abbrev pub HasReadBefore : {X : Type 0} → Chances X → (inputs : List X) → (jobs job index : ℕ) → Type 0
+HasReadBefore chances inputs jobs job index =
+    (place : ℕ) → place < index → place < length inputs → IsTrue (places_of_job jobs job place) → IsSomeAnd (slice_get inputs place) (λ input. HasOutcome (chances.Gives input))
+
+-- a worker's input at this place can't be read, and the worker has read its inputs before it
 pub record IsUnreadAt {X : Type 0} (chances : Chances X) (inputs : List X) (jobs job index : ℕ) : Type 0 where
   pub own : IsTrue (places_of_job jobs job index)
-  pub outcome : ℕ → Result SubmissionData ReadFault
-  pub outcomes : (before : ℕ) → before < index → IsTrue (places_of_job jobs job before) → IsSomeAnd (slice_get inputs before) (λ input. chances.Gives input (outcome before))
+  pub before : HasReadBefore chances inputs jobs job index
   pub fails : IsSomeAnd (slice_get inputs index) chances.MayFail
 
--- how a worker ended: it has done its work; or one of its inputs can't be read; or the book refused a call or memory ran out
+-- how a worker ended: it has done its work; or one of its inputs can't be read; or it was refused something, and has read its inputs
+-- before a place nevertheless
 abbrev pub HasEnded : {X : Type 0} → Chances X → WorkData X → Result WorkerData Stop → Type 0
 HasEnded chances work (Ok worker) = HasDone chances work worker
 HasEnded chances work (Err (stops.Unread index)) = IsUnreadAt chances work.inputs work.jobs work.job index
-HasEnded chances work (Err (stops.Refused fault)) = Unit {0}
+HasEnded chances work (Err (stops.Refused refusal)) = HasReadBefore chances work.inputs work.jobs work.job refusal.upto
 
 -- each worker has done the work at its place, and there is one for each
 abbrev pub HaveDone : {X : Type 0} → Chances X → List (WorkData X) → List WorkerData → Type 0
@@ -110,35 +119,43 @@ HaveEnded chances [] [] = Unit {0}
 HaveEnded chances (work ∷ works) (end ∷ ended) = HasEnded chances work end × HaveEnded chances works ended
 HaveEnded chances works ended = ⊥
 
--- the book refused no call, and memory sufficed
+-- a worker was refused nothing
 abbrev pub IsUnrefused : Result WorkerData Stop → Type 0
 IsUnrefused (Ok worker) = Unit {0}
 IsUnrefused (Err (stops.Unread index)) = Unit {0}
-IsUnrefused (Err (stops.Refused fault)) = ⊥
+IsUnrefused (Err (stops.Refused refusal)) = ⊥
 
--- if no worker was refused anything, each has ended with the work at its place
-abbrev pub HaveEndedIfUnrefused : {X : Type 0} → Chances X → List (WorkData X) → List (Result WorkerData Stop) → Type 0
-HaveEndedIfUnrefused chances works ended = AllByRecursion IsUnrefused ended → HaveEnded chances works ended
+-- a worker was started: one that wasn't is refused memory before it has read anything
+abbrev pub IsStarted : Result WorkerData Stop → Type 0
+IsStarted (Ok worker) = Unit {0}
+IsStarted (Err (stops.Unread index)) = Unit {0}
+IsStarted (Err (stops.Refused refusal)) = 0 < refusal.upto
 
--- the worker that was refused something first has this fault: all before it ended well, or at an input that can't be read
+-- if all workers were started, each has ended with the work at its place
+abbrev pub HaveEndedIfStarted : {X : Type 0} → Chances X → List (WorkData X) → List (Result WorkerData Stop) → Type 0
+HaveEndedIfStarted chances works ended = AllByRecursion IsStarted ended → HaveEnded chances works ended
+
+-- the first worker that was refused something has this fault: all before it ended well, or at an input that can't be read
 abbrev pub IsFirstFault : List (Result WorkerData Stop) → BookFault → Type 0
-IsFirstFault ended fault = (before : List (Result WorkerData Stop)) × (after : List (Result WorkerData Stop))
-    × AllByRecursion IsUnrefused before × (ended ≡ before ++ Err (stops.Refused fault) ∷ after)
+IsFirstFault ended fault = (before : List (Result WorkerData Stop)) × (upto : ℕ) × (after : List (Result WorkerData Stop))
+    × AllByRecursion IsUnrefused before × (ended ≡ before ++ Err (stops.Refused (record { fault = fault; upto = upto })) ∷ after)
 
--- an end that is neither refused anything nor at an input before this place
+-- an end that doesn't come before this place: the worker has read its inputs before the place, and if one of its inputs can't be
+-- read, this one is at the place or after it
 abbrev pub IsNotBefore : ℕ → Result WorkerData Stop → Type 0
 IsNotBefore index (Ok worker) = Unit {0}
 IsNotBefore index (Err (stops.Unread other)) = index ≤ other
-IsNotBefore index (Err (stops.Refused fault)) = ⊥
+IsNotBefore index (Err (stops.Refused refusal)) = index < refusal.upto
 
--- no worker was refused anything, and this is the least place of an input that can't be read
+-- this is the place of the first input that can't be read, as far as the workers know: all of them have read their inputs before it
 abbrev pub IsLeastUnread : List (Result WorkerData Stop) → ℕ → Type 0
 IsLeastUnread ended index = AllByRecursion (IsNotBefore index) ended × Contains ended (Err (stops.Unread index))
 
--- which end of all workers is returned if not all ended well
+-- which end of all workers is returned if not all ended well: the first input that can't be read, if it is known, and else the
+-- first worker's that was refused something
 abbrev pub IsWorstEnd : List (Result WorkerData Stop) → Stop → Type 0
-IsWorstEnd ended (stops.Refused fault) = IsFirstFault ended fault
 IsWorstEnd ended (stops.Unread index) = IsLeastUnread ended index
+IsWorstEnd ended (stops.Refused refusal) = IsFirstFault ended refusal.fault × ((index : ℕ) → IsLeastUnread ended index → ⊥)
 
 -- what all workers hand in: their seats, their logs, and all that they refused, in the order of the places
 abbrev pub log_of : WorkerData → LogData

@@ -2,16 +2,17 @@
 
 use crate::collect_fault::CollectFault;
 use crate::stop::Stop;
-use covbook::{BookFault, GatherFault};
+use covbook::{BookFault, GatherFault, MAX_ENTRIES};
 use covline::Memory;
 use covlock::OpenFault;
 use thiserror::Error;
 
-/// Why inputs aren't collected in a book. A job stops at its first fault, and the other jobs go on to their ends.
+/// Why inputs aren't collected in a book. All jobs go on to their ends. A job that was refused a call, or memory for a list, submits
+/// nothing more, but reads its other inputs. So it is known in most cases which input is the first that can't be read, and this is
+/// returned first. It isn't known if memory is refused while an earlier input is read, or if a job can't be started.
 #[derive(Clone, Copy, Debug, PartialEq, Eq, Error)]
 pub enum IntoBookFault {
-    /// Faults 1 to 5: those of `collect`. `Full` and `Memory` of a job are returned before an input that can't be read: for want
-    /// of them a job may have stopped before it came to an earlier input.
+    /// Faults 1 to 5: those of `collect`. `Full` and `Memory` are those of the least job that was refused something.
     #[error("{0}")]
     Collect(CollectFault),
     /// Fault 6: the input at this place, counted from 0, can't be read. All inputs before it were read.
@@ -93,16 +94,30 @@ impl From<GatherFault> for IntoBookFault {
     }
 }
 
-impl From<Stop> for IntoBookFault {
-    ghost use Rattle.std.specs.Prelude.{◌≡◌};
-    ghost use Rattle.covjobs.specs.Stops.{of_stop};
+ghost use Rattle.std.specs.Prelude.{◌≡◌};
+ghost use Rattle.covjobs.specs.Stops.{of_refused, of_stop};
 
-    ghost from_gives = { λ stop e. e ≡ of_stop stop };
+/// The fault that is returned for a stop, with so many inputs.
+pub(crate) fn fault_of(inputs: usize, stop: Stop) -> IntoBookFault
+    ensures { result ≡ of_stop inputs stop }
+{
+    match stop {
+        Stop::Unread(index) => IntoBookFault::Unread { index },
+        Stop::Refused(refusal) => IntoBookFault::Collect(refused_by(inputs, refusal.fault)),
+    }
+}
 
-    fn from(stop: Stop) -> IntoBookFault {
-        match stop {
-            Stop::Unread(index) => IntoBookFault::Unread { index },
-            Stop::Refused(fault) => fault.into(),
-        }
+/// The fault of collecting that is returned for a fault of the book, with so many inputs. Fewer inputs than a full history has
+/// entries can't fill it: `NotLast` stands for this case, which doesn't happen.
+pub(crate) fn refused_by(inputs: usize, fault: BookFault) -> CollectFault
+    ensures { result ≡ of_refused inputs fault }
+{
+    match fault {
+        BookFault::Full => if (inputs as u64) < MAX_ENTRIES {
+            CollectFault::NotLast
+        } else {
+            CollectFault::Full
+        },
+        BookFault::Memory => CollectFault::Memory,
     }
 }

@@ -97,7 +97,7 @@ fn lent(alloc: Global, inputs: &[Input]) -> Result<Vec<&Input>, Memory>
 }
 
 ghost use Rattle.covjobs.specs.declared.book_fault.IntoBookFault.TheVariants as into_book;
-ghost use Rattle.covjobs.specs.Late.{IsIntoBookFault, TurnedOut};
+ghost use Rattle.covjobs.specs.Late.{IsUnreadFault, TurnedOut};
 
 /// As `collect_owned`, for inputs that are read late, in the book that the start is made for.
 fn collect_named<
@@ -120,7 +120,7 @@ fn collect_named<
     requires jobs { start.jobs ≡ jobs }
     requires some { 0 < jobs }
     ensures collected { IfOk result (λ c. (read : List InputData) × TurnedOut T.may_be inputs.items read × IsCollected read jobs (op_data last.now) c.entries c.logs c.refused) }
-    ensures unread { IfErr result (IsIntoBookFault T.may_be T.may_fail inputs.items) }
+    ensures unread { IfErr result (IsUnreadFault T.may_be T.may_fail inputs.items) }
     ensures jobs_are_good { result ≡ Err (into_book.Collect faults.BadJobs) → ⊥ }
 {
     let (book, seats) = open_book::<L, Global>(alloc, start)?;

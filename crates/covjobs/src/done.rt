@@ -2,23 +2,23 @@
 
 ghost use Rattle.std.specs.Prelude.{◌≡◌, ◌⊎◌, ◌<◌, Ok, Err, IfOk, IfErr, length, map};
 ghost use Rattle.covbook.specs.View.{op_data};
-ghost use Rattle.covbook.specs.declared.book.BookFault.TheVariants as book_faults;
 ghost use Rattle.covjobs.specs.declared.book_fault.IntoBookFault.TheVariants as into_book;
 ghost use Rattle.covjobs.specs.declared.collect_fault.CollectFault.TheVariants as faults;
-ghost use Rattle.covjobs.specs.declared.stop.Stop.TheVariants as stops;
 ghost use Rattle.covjobs.specs.Late.{IsIntoBookFault, chances_of};
+ghost use Rattle.covjobs.specs.Stops.{no_memory};
 ghost use Rattle.covjobs.specs.Work.{FirstAsks, HaveDone, IsWorstEnd, work_of};
 ghost use Rattle.covlock.specs.Seat.{first_seats};
 
-use crate::book_fault::IntoBookFault;
+use crate::book_fault::{IntoBookFault, fault_of};
 use crate::gate::Gate;
 use crate::late::LateInput;
 use crate::readers::Readers;
 use crate::shares::{Dealt, deal};
-use crate::stop::Stop;
+use crate::stop::{Refusal, Stop, both, lesser, worst};
 use crate::worker::Worker;
 use crate::workers::work_at_once;
 use covbook::{BookFault, Entry, Keep, Op, Receipt};
+use covline::Memory;
 use covlock::{Name, Seats, Shared};
 use std::alloc::Global;
 use std::sync::Wait;
@@ -48,45 +48,38 @@ pub(crate) fn all_done<
     ensures unread { IfErr result (IsIntoBookFault T.may_be T.may_fail inputs.items) }
     ensures jobs_are_good { result ≡ Err (into_book.Collect faults.BadJobs) → ⊥ }
 {
+    let count = inputs.len();
     let dealt = deal(alloc, inputs, jobs)?;
     let Dealt { inputs, shares } = dealt;
     let ended = work_at_once(rt, alloc, book, gate, seats, jobs, readers, &inputs, shares)?;
-    Ok(all_well(alloc, ended)?)
+    match all_well(alloc, ended) {
+        Ok(workers) => Ok(workers),
+        Err(stop) => Err(fault_of(count, stop)),
+    }
 }
 
-/// The workers, if all of them ended well. Otherwise the fault of the least job that the book refused a call, or `Memory` if there
-/// is no room for the list. If there is no such job, the least place of an input that can't be read.
+/// The workers, if all of them ended well. Otherwise the first input that can't be read, if each job has read its inputs before it.
+/// Else the fault of the least job that was refused something. `Memory` if there is no room for the list.
 fn all_well<L: Name, P: Keep<Of = Receipt>>(
     alloc: Global,
     ended: Vec<Result<Worker<L, Global, P>, Stop>>,
 ) -> Result<Vec<Worker<L, Global, P>>, Stop>
     ensures workers { IfOk result (λ workers. map Ok workers.items ≡ ended.items) }
-    ensures fault { IfErr result (λ stop. IsWorstEnd ended.items stop ⊎ (stop ≡ stops.Refused book_faults.Memory)) }
+    ensures fault { IfErr result (λ stop. IsWorstEnd ended.items stop ⊎ (stop ≡ no_memory)) }
 {
-    let mut workers = Vec::with_capacity(alloc, ended.len()).map_err(|_| BookFault::Memory)?;
+    let mut workers = Vec::with_capacity(alloc, ended.len()).map_err(|_| Memory)?;
     let mut least: Option<usize> = None;
+    let mut refused: Option<Refusal> = None;
     for end in ended {
         match end {
-            Ok(worker) => workers.push(worker).map_err(|_| BookFault::Memory)?,
-            Err(Stop::Refused(fault)) => return Err(Stop::Refused(fault)),
+            Ok(worker) => workers.push(worker).map_err(|_| Memory)?,
             Err(Stop::Unread(index)) => least = Some(lesser(least, index)),
+            Err(Stop::Refused(refusal)) => refused = Some(both(refused, refusal)),
         }
     }
-    match least {
-        Some(index) => Err(Stop::Unread(index)),
+    match worst(least, refused) {
+        Some(stop) => Err(stop),
         None => Ok(workers),
-    }
-}
-
-ghost use Rattle.covjobs.specs.Stops.{lesser_of};
-
-/// The lesser of the two places.
-fn lesser(least: Option<usize>, index: usize) -> usize
-    ensures { result ≡ lesser_of least index }
-{
-    match least {
-        Some(least) => least.min(index),
-        None => index,
     }
 }
 

@@ -1,6 +1,6 @@
 //! Collecting into a book that keeps the answers of its history alone.
 
-use crate::book_fault::IntoBookFault;
+use crate::book_fault::{IntoBookFault, refused_by};
 use crate::collect_fault::CollectFault;
 use crate::done::all_done;
 use crate::gate::Gate;
@@ -9,7 +9,7 @@ use crate::readers::Readers;
 use crate::refused::Refused;
 use crate::worker::Worker;
 use covbook::laws::{a_run_goes_on, calls_count_a_history, order_does_not_matter};
-use covbook::{Answered, Book, MAX_ENTRIES, Receipt};
+use covbook::{Answered, Book, BookFault, MAX_ENTRIES, Receipt};
 use covline::Memory;
 use covlock::{Name, News, Seats, Start, open_book_keeping};
 use std::alloc::Global;
@@ -49,8 +49,10 @@ ghost use Rattle.covlock.specs.Start.{AreJobs};
 /// history with this last entry is collected, whichever text job 0 asks for next. There is room for that entry. `Book::text_of`
 /// prints the text.
 ///
-/// Faults: those of `collect` but for `Gather`, and `Unread` with the first input that can't be read. `NotLast` is returned if a
-/// worker knows of more entries than the closed book has, which doesn't happen.
+/// Faults: those of `collect` but for `Gather`, and `Unread` with the first input that can't be read, which is returned before
+/// `Full` and `Memory` if it is known. `Full` comes only if there are at least 1,048,576 inputs. `NotLast` is returned if a worker
+/// knows of more entries than the closed book has, or is told by the book that it is full though there are fewer inputs. Neither
+/// happens. That memory was really refused before `Memory` is returned is in no contract.
 pub fn collect_into_book<R: Threads + Wait + Sync, G: Gate + Sync, T: LateInput<Global> + Send>(
     rt: &R,
     alloc: Global,
@@ -59,7 +61,7 @@ pub fn collect_into_book<R: Threads + Wait + Sync, G: Gate + Sync, T: LateInput<
     gate: &G,
 ) -> Result<CollectedBook, IntoBookFault>
     ensures collected { IfOk result (λ c. (read : List InputData) × TurnedOut T.may_be inputs.items read × IsCollectedSoFar read jobs c.book.entries c.refused) }
-    ensures room { IfOk result (λ c. length c.book.entries < max_entries) }
+    ensures not_full { IfOk result (λ c. length c.book.entries < max_entries) }
     ensures unread { IfErr result (IsIntoBookFault T.may_be T.may_fail inputs.items) }
     ensures bad { (result ≡ Err (into_book.Collect faults.BadJobs)) ↔ (AreJobs jobs → ⊥) }
 {
@@ -87,10 +89,11 @@ fn collect_named<
     requires jobs { start.jobs ≡ jobs }
     requires some { 0 < jobs }
     ensures collected { IfOk result (λ c. (read : List InputData) × TurnedOut T.may_be inputs.items read × IsCollectedSoFar read jobs c.book.entries c.refused) }
-    ensures room { IfOk result (λ c. length c.book.entries < max_entries) }
+    ensures not_full { IfOk result (λ c. length c.book.entries < max_entries) }
     ensures unread { IfErr result (IsIntoBookFault T.may_be T.may_fail inputs.items) }
     ensures jobs_are_good { result ≡ Err (into_book.Collect faults.BadJobs) → ⊥ }
 {
+    let count = inputs.len();
     let (book, seats) = open_book_keeping::<L, Global, Answered>(alloc, start)?;
     let workers: Vec<Worker<L, Global, Snapshot<Receipt>>> = all_done(
         rt,
@@ -112,7 +115,7 @@ fn collect_named<
         return Err(IntoBookFault::Collect(CollectFault::NotLast));
     }
     if book.len() >= MAX_ENTRIES {
-        return Err(IntoBookFault::Collect(CollectFault::Full));
+        return Err(IntoBookFault::Collect(refused_by(count, BookFault::Full)));
     }
     calls_count_a_history();
     a_run_goes_on();

@@ -6,10 +6,11 @@ use crate::late_fault::LateFault;
 use crate::readers::Readers;
 use crate::refused::{Refused, RefusedInput};
 use crate::shares::Placed;
-use crate::stop::Stop;
+use crate::stop::{Refusal, Stop};
 use covbook::{BookFault, Entry, JobLog, Keep, Op, Readings, Receipt, Receipts, SubRef};
 use covline::Memory;
-use covlock::{Done, Live, Name, News, ReaderFault, Seat, Shared};
+use covlock::{Done, Live, Name, News, Seat, Shared};
+use covread::ReadFault;
 use std::alloc::{Allocator, Global};
 use std::marker::Model;
 use std::snapshot::Snapshot;
@@ -43,13 +44,13 @@ impl<L: Name, A: Allocator, P: Keep<Of = Receipt<A>>> Model for Worker<L, A, P> 
 }
 
 impl<L: Name, A: Allocator + Copy, P: Keep<Of = Receipt<A>>> Worker<L, A, P> {
-    ghost use Rattle.std.specs.Prelude.{◌≡◌, ◌++◌, [], ◌∷◌, IfOk, IfErr, is_some, length};
+    ghost use Rattle.std.specs.Prelude.{◌≡◌, ◌++◌, [], ◌∷◌, None, IfOk, IfErr, is_some, length, map};
     ghost use Rattle.covbook.specs.Op.{SubmitOp};
     ghost use Rattle.covbook.specs.View.{op_data};
-    ghost use Rattle.covjobs.specs.Collect.{ops_in, HasRead};
+    ghost use Rattle.covjobs.specs.Collect.{ops_in, refusal, submitted, HasRead};
     ghost use Rattle.covjobs.specs.Late.{MayGive};
-    ghost use Rattle.covjobs.specs.Stops.{IsUnreadOf};
-    ghost use Rattle.covjobs.specs.Work.{Takes, Asks, ReadsOn};
+    ghost use Rattle.covjobs.specs.Stops.{IsStopAt};
+    ghost use Rattle.covjobs.specs.Work.{Asks, HasOutcome, ReadsOn, Takes};
     ghost use Rattle.covlock.specs.Seat.{fresh_seat};
 
     /// The job's worker, which has done nothing yet.
@@ -71,28 +72,52 @@ impl<L: Name, A: Allocator + Copy, P: Keep<Of = Receipt<A>>> Worker<L, A, P> {
         }
     }
 
-    /// Takes the input: submits what it is read as, or refuses it if its text is refused. It is used up before anything is
+    /// Reads the input. If no call was refused before (`first` is its fault), submits what was read, or notes that the text is
+    /// refused. Returns the first fault of a refused call or list, if there is one. The input is used up before anything is
     /// submitted.
-    fn take<R: Wait, G: Gate, T: LateInput<A>, K: Keep<Of = Entry<A>>>(
+    fn go_on<R: Wait, G: Gate, T: LateInput<A>, K: Keep<Of = Entry<A>>>(
         &mut self,
         rt: &R,
         alloc: A,
         book: &Shared<L, A, K>,
         gate: &G,
         placed: Placed<T>,
-    ) -> Result<(), Stop>
+        first: Option<BookFault>,
+    ) -> Result<Option<BookFault>, Stop>
         ensures job { self.new.seat.job ≡ self.old.seat.job }
-        ensures taken { IfOk result (λ _. Takes (MayGive (T.may_be placed.input)) placed.index (ops_in self.old.receipts) (ops_in self.new.receipts) self.old.refused self.new.refused) }
-        ensures unread { IfErr result (IsUnreadOf placed.index (T.may_fail placed.input)) }
+        ensures outcome { IfOk result (λ _. HasOutcome (MayGive (T.may_be placed.input))) }
+        ensures taken { IfOk result (λ fault. fault ≡ None → (first ≡ None) × Takes (MayGive (T.may_be placed.input)) placed.index (ops_in self.old.receipts) (ops_in self.new.receipts) self.old.refused self.new.refused) }
+        ensures stop { IfErr result (IsStopAt placed.index (T.may_fail placed.input)) }
+        ensures read { IfOk result (λ fault. fault ≡ None → HasRead self.old.has_reader self.old.receipts self.old.readings → HasRead self.new.has_reader self.new.receipts self.new.readings) }
+        ensures reader { self.new.has_reader ≡ self.old.has_reader }
+    {
+        let index = placed.index;
+        let outcome = outcome_of(alloc, placed, first)?;
+        match first {
+            Some(fault) => Ok(Some(fault)),
+            None => Ok(self.take(rt, alloc, book, gate, index, outcome).err()),
+        }
+    }
+
+    /// Takes an input with this outcome: submits what was read, or notes that the text is refused.
+    fn take<R: Wait, G: Gate, K: Keep<Of = Entry<A>>>(
+        &mut self,
+        rt: &R,
+        alloc: A,
+        book: &Shared<L, A, K>,
+        gate: &G,
+        index: usize,
+        outcome: Result<SubRef<A>, ReadFault>,
+    ) -> Result<(), BookFault>
+        ensures job { self.new.seat.job ≡ self.old.seat.job }
+        ensures submits { IfOk result (λ _. ops_in self.new.receipts ≡ ops_in self.old.receipts ++ map SubmitOp (submitted outcome)) }
+        ensures tells { IfOk result (λ _. self.new.refused ≡ self.old.refused ++ refusal index outcome) }
         ensures read { IfOk result (λ _. HasRead self.old.has_reader self.old.receipts self.old.readings → HasRead self.new.has_reader self.new.receipts self.new.readings) }
         ensures reader { self.new.has_reader ≡ self.old.has_reader }
     {
-        let Placed { index, input } = placed;
-        match input.read_late(alloc) {
-            Ok(submission) => Ok(self.submit(rt, alloc, book, gate, submission)?),
-            Err(LateFault::Refused(fault)) => Ok(self.refuse(RefusedInput { index, fault })?),
-            Err(LateFault::Unreadable) => Err(Stop::Unread(index)),
-            Err(LateFault::Memory) => Err(Stop::Refused(BookFault::Memory)),
+        match outcome {
+            Ok(submission) => self.submit(rt, alloc, book, gate, submission),
+            Err(fault) => Ok(self.refuse(RefusedInput { index, fault })?),
         }
     }
 
@@ -253,8 +278,9 @@ ghost use Rattle.covjobs.specs.Shares.{share_of};
 ghost use Rattle.covjobs.specs.Work.{HasEnded, MayHaveReader, work_of};
 ghost use Rattle.covlock.specs.Seat.{fresh_seat};
 
-/// Does the work of one of `jobs` jobs: takes its share of the inputs, in order. Ends at the first fault. If there is no place
-/// for one more reader, the job has no readings.
+/// Does the work of one of `jobs` jobs: takes its share of the inputs, in order. After the first refused call or list it only reads
+/// the inputs that are left. Ends at an input that can't be read, and where memory is refused while an input is read. If there is
+/// no place for one more reader, the job has no readings.
 pub(crate) fn work<
     R: Wait,
     G: Gate,
@@ -278,12 +304,57 @@ pub(crate) fn work<
     requires fresh { seat ≡ fresh_seat seat.job }
     ensures { HasEnded (chances_of T.may_be T.may_fail) (work_of inputs.now.value.items jobs readers seat) result }
 {
-    let live = reader_of(rt, book, readers)?;
+    let live = reader_of(rt, book, readers);
     let mut worker = Worker::new(alloc, seat, live);
+    let mut first: Option<BookFault> = None;
     for placed in share {
-        worker.take(rt, alloc, book, gate, placed)?;
+        first = worker.go_on(rt, alloc, book, gate, placed, first)?;
     }
-    Ok(worker)
+    match first {
+        None => Ok(worker),
+        Some(fault) => Err(Stop::Refused(Refusal {
+            fault,
+            upto: usize::MAX,
+        })),
+    }
+}
+
+ghost use Rattle.std.specs.Prelude.{IfErr};
+ghost use Rattle.covjobs.specs.Late.{MayGive};
+ghost use Rattle.covjobs.specs.Stops.{IsStopAt, of_late};
+
+/// What the input is read as, or where the job stops. `first` is the first fault of a refused call or list.
+fn outcome_of<A: Allocator, T: LateInput<A>>(
+    alloc: A,
+    placed: Placed<T>,
+    first: Option<BookFault>,
+) -> Result<Result<SubRef<A>, ReadFault>, Stop>
+    ensures outcome { IfOk result (MayGive (T.may_be placed.input)) }
+    ensures stop { IfErr result (IsStopAt placed.index (T.may_fail placed.input)) }
+{
+    let Placed { index, input } = placed;
+    match input.read_late(alloc) {
+        Ok(submission) => Ok(Ok(submission)),
+        Err(fault) => Ok(Err(refused_text(index, first, fault)?)),
+    }
+}
+
+/// The fault of a refused text. If the input is not read at all, the job stops.
+fn refused_text(
+    index: usize,
+    first: Option<BookFault>,
+    fault: LateFault,
+) -> Result<ReadFault, Stop>
+    ensures { result ≡ of_late index first fault }
+{
+    match fault {
+        LateFault::Refused(fault) => Ok(fault),
+        LateFault::Unreadable => Err(Stop::Unread(index)),
+        LateFault::Memory => Err(Stop::Refused(Refusal {
+            fault: first.unwrap_or(BookFault::Memory),
+            upto: index,
+        })),
+    }
 }
 
 /// A reader of the book, if jobs have readers and there is a place for one.
@@ -291,16 +362,12 @@ fn reader_of<R: Wait, L: Name, A: Allocator, K: Keep<Of = Entry<A>>>(
     rt: &R,
     book: &Shared<L, A, K>,
     readers: Readers,
-) -> Result<Option<Live<L, A>>, BookFault>
-    ensures { IfOk result (λ live. MayHaveReader readers (is_some live)) }
+) -> Option<Live<L, A>>
+    ensures { MayHaveReader readers (is_some result) }
 {
     match readers {
-        Readers::None => Ok(None),
-        Readers::ForEachJob => match book.reader(rt) {
-            Ok(live) => Ok(Some(live)),
-            Err(ReaderFault::NoPlace) => Ok(None),
-            // A reader takes no memory, so this doesn't happen.
-            Err(ReaderFault::Memory) => Err(BookFault::Memory),
-        },
+        Readers::None => None,
+        // No place is the only fault: a reader takes no memory.
+        Readers::ForEachJob => book.reader(rt).ok(),
     }
 }

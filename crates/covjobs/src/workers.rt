@@ -2,11 +2,10 @@
 
 ghost use Rattle.std.specs.Prelude.{◌≡◌, Err, IfOk, IsTrue, false, map, Contains};
 ghost use Rattle.std.specs.List.{AllByRecursion};
-ghost use Rattle.covbook.specs.declared.book.BookFault.TheVariants as book_faults;
-ghost use Rattle.covjobs.specs.declared.stop.Stop.TheVariants as stops;
 ghost use Rattle.covjobs.specs.Late.{chances_of};
 ghost use Rattle.covjobs.specs.Shares.{share_of};
-ghost use Rattle.covjobs.specs.Work.{HasEnded, HaveEnded, HaveEndedIfUnrefused, IsUnrefused, work_of};
+ghost use Rattle.covjobs.specs.Stops.{no_memory};
+ghost use Rattle.covjobs.specs.Work.{HasEnded, HaveEnded, HaveEndedIfStarted, work_of};
 ghost use Rattle.covlock.specs.Seat.{fresh_seat, first_seats};
 
 use crate::gate::Gate;
@@ -15,7 +14,7 @@ use crate::readers::Readers;
 use crate::shares::Placed;
 use crate::stop::Stop;
 use crate::worker::{Worker, work};
-use covbook::{BookFault, Entry, Keep, Receipt};
+use covbook::{Entry, Keep, Receipt};
 use covline::Memory;
 use covlock::{Name, Seats, Shared};
 use std::alloc::Global;
@@ -70,7 +69,7 @@ pub(crate) fn work_at_once<
 ) -> Result<Vec<Result<Worker<L, Global, P>, Stop>>, Memory>
     requires shares { map (λ share. share.items) shares.items ≡ map (λ seat. share_of inputs.now.value.items jobs seat.job) seats }
     requires fresh { AllByRecursion (λ seat. seat ≡ fresh_seat seat.job) seats }
-    ensures { IfOk result (λ ended. HaveEndedIfUnrefused (chances_of T.may_be T.may_fail) (map (work_of inputs.now.value.items jobs readers) seats) ended.items) }
+    ensures { IfOk result (λ ended. HaveEndedIfStarted (chances_of T.may_be T.may_fail) (map (work_of inputs.now.value.items jobs readers) seats) ended.items) }
 {
     thread::scope(
         thread::scope_env(),
@@ -78,7 +77,7 @@ pub(crate) fn work_at_once<
         |scope| -> Result<Vec<Result<Worker<L, Global, P>, Stop>>, Memory>
             requires shares { map (λ share. share.items) shares.items ≡ map (λ seat. share_of inputs.now.value.items jobs seat.job) seats }
             requires fresh { AllByRecursion (λ seat. seat ≡ fresh_seat seat.job) seats }
-            ensures { IfOk result (λ ended. HaveEndedIfUnrefused (chances_of T.may_be T.may_fail) (map (work_of inputs.entry.now.value.items jobs readers) seats) ended.items) }
+            ensures { IfOk result (λ ended. HaveEndedIfStarted (chances_of T.may_be T.may_fail) (map (work_of inputs.entry.now.value.items jobs readers) seats) ended.items) }
         {
             let seats = seats.into_vec();
             let mut shares = shares.into_iter();
@@ -123,12 +122,11 @@ fn end_all<R: Threads, L: Name, T: LateInput<Global>, P: Keep<Of = Receipt>>(
     all_started: bool,
 ) -> Result<Vec<Result<Worker<L, Global, P>, Stop>>, Memory>
     ensures ended { IfOk result (λ ended. IsTrue all_started → HaveEnded (chances_of T.may_be T.may_fail) (map (λ h. h.promise) handles.items) ended.items) }
-    ensures short { IfOk result (λ ended. all_started ≡ false → AllByRecursion IsUnrefused ended.items → ⊥) }
-    ensures untold { IfOk result (λ ended. all_started ≡ false → Contains ended.items (Err (stops.Refused book_faults.Memory))) }
+    ensures short { IfOk result (λ ended. all_started ≡ false → Contains ended.items (Err no_memory)) }
 {
     let mut ended = join_all(rt, alloc, handles)?;
     if !all_started {
-        ended.push(Err(Stop::Refused(BookFault::Memory)))?;
+        ended.push(Err(Stop::from(Memory)))?;
     }
     Ok(ended)
 }

@@ -15,11 +15,12 @@ use std::sync::Wait;
 use std::test::*;
 use std::thread::Threads;
 
-/// An input that may turn out not to be readable.
+/// An input that may turn out not to be readable, or for which there may be no memory.
 #[derive(Drop)]
 enum Late {
     Readable(Input),
     Unreadable,
+    TooLarge,
 }
 
 impl LateInput<Global> for Late {
@@ -34,14 +35,21 @@ impl LateInput<Global> for Late {
                 Err(fault) => Err(LateFault::Refused(fault)),
             },
             Late::Unreadable => Err(LateFault::Unreadable),
+            Late::TooLarge => Err(LateFault::Memory),
         }
     }
 }
+
+/// Stands for an input for which there is no memory.
+const TOO_LARGE: &[u8] = b"too large";
 
 /// An input of this text, or one that can't be read in place of an empty text.
 fn late_of(alloc: Global, text: &[u8]) -> Result<Late, Memory> {
     if text.is_empty() {
         return Ok(Late::Unreadable);
+    }
+    if text == TOO_LARGE {
+        return Ok(Late::TooLarge);
     }
     Ok(Late::Readable(trace(alloc, text)?))
 }
@@ -161,6 +169,33 @@ fn the_first_unread_input(rt: HostRuntime) -> Result<(), Fail> {
     assert!(rt; stops_at(&rt, 2, 1)?);
     assert!(rt; stops_at(&rt, 3, 1)?);
     assert!(rt; stops_at(&rt, 64, 1)?);
+    Ok(())
+}
+
+/// Whether two jobs stop at these four inputs with this fault.
+fn ends_with<R: Threads + Wait + Sync + AllocGlobal>(
+    rt: &R,
+    texts: [&[u8]; 4],
+    wanted: IntoBookFault,
+) -> Result<bool, Fail> {
+    let inputs = lates(rt.alloc(), &texts)?;
+    match answered(rt, inputs, 2) {
+        Ok(_collected) => Ok(false),
+        Err(fault) => Ok(fault == wanted),
+    }
+}
+
+/// An input that can't be read is told before memory that is refused for a later one, and not if it is refused for an earlier one,
+/// which may be unreadable too.
+#[test]
+fn an_unread_input_beside_refused_memory(rt: HostRuntime) -> Result<(), Fail> {
+    let memory = IntoBookFault::Collect(CollectFault::Memory);
+    let second = IntoBookFault::Unread { index: 1 };
+    let third = IntoBookFault::Unread { index: 2 };
+    assert!(rt; ends_with(&rt, [SMALL, SMALL, b"", TOO_LARGE], third)?);
+    assert!(rt; ends_with(&rt, [SMALL, b"", TOO_LARGE, SMALL], second)?);
+    assert!(rt; ends_with(&rt, [SMALL, TOO_LARGE, b"", SMALL], memory)?);
+    assert!(rt; ends_with(&rt, [SMALL, TOO_LARGE, SMALL, b""], memory)?);
     Ok(())
 }
 
