@@ -340,11 +340,7 @@ fn outcome_of<A: Allocator, T: LateInput<A>>(
 }
 
 /// The fault of a refused text. If the input is not read at all, the job stops.
-fn refused_text(
-    index: usize,
-    first: Option<BookFault>,
-    fault: LateFault,
-) -> Result<ReadFault, Stop>
+fn refused_text(index: usize, first: Option<BookFault>, fault: LateFault) -> Result<ReadFault, Stop>
     ensures { result ≡ of_late index first fault }
 {
     match fault {

@@ -42,5 +42,5 @@ returns-in-Err-clause-unread g c =
 
 pub returns-in-Err-clause-jobs_are_good : goal.returns-in-Err-clause-jobs_are_good
 returns-in-Err-clause-jobs_are_good g c = λ is.
-  let told : c.fault_of.result ≡ into_book.Collect collects.BadJobs = cc in
-  no_bad_jobs c.len-count.result c.in-Err.stop (sym c.fault_of.ensures ∙ told)
+    let told : c.fault_of.result ≡ into_book.Collect collects.BadJobs = cc in
+    no_bad_jobs c.len-count.result c.in-Err.stop (sym c.fault_of.ensures ∙ told)
