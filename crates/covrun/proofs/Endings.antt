@@ -1,5 +1,5 @@
 -- How a call that collects files ends, from the results of its steps.
-use Rattle.std.proofs.Common.{◌≡◌, inl, inr, ℕ, ◌-◌, Bool, false, if◌then◌else◌, List, [], ◌∷◌, ◌++◌, length, slice_get, Option, Some, Ok, Err, flat_map, codes, refl, sym, subst, ap, ◌∙◌, append-nil, length-append, arith}
+use Rattle.std.proofs.Common.{◌≡◌, ◌⊎◌, inl, inr, ℕ, ◌-◌, Bool, false, if◌then◌else◌, List, [], ◌∷◌, ◌++◌, length, slice_get, Option, Some, Ok, Err, flat_map, codes, refl, sym, subst, ap, ◌∙◌, append-nil, length-append, arith}
 use Rattle.std.proofs.lemmas.List.{flat_map_more}
 use Rattle.std.specs.Io.KnownBytes.{Appends}
 use Rattle.covsession.specs.Session.{said, clash_text}
@@ -28,11 +28,12 @@ use Rattle.covrun.specs.Work.{WorkData, TaskData, Serves, Collects, Checks, task
 use Rattle.covcommand.specs.declared.asked.TextFormat.{TextFormat}
 use Rattle.covrun.proofs.Reading.{ReadTexts, texts_held}
 
--- the texts were collected, and the call ends with the ending for what was collected
+-- the texts were collected, and the call ends with the ending for what was collected, or for want of memory
 pub ends_collected : (folder : FolderData) (work : WorkData) (files : List (List ℕ)) → files ≡ work.files → (inputs : List InputData) (entries : List EntryData) (refused : List RefusedInput) (ending : EndingData)
     → ReadTexts folder work.test files inputs → IsText work.last → IsCollectedSoFar inputs work.jobs entries refused
-    → ending ≡ of_collected files (entries ++ next_entry entries 0 work.last ∷ []) refused → WorkEnds folder work ending
-ends_collected folder work files named inputs entries refused ending (texts, are, from) asks collected is =
+    → (ending ≡ Stopped faults.Memory) ⊎ (ending ≡ of_collected files (entries ++ next_entry entries 0 work.last ∷ []) refused) → WorkEnds folder work ending
+ends_collected folder work files named inputs entries refused ending read asks collected (inl ran_out) = inl ran_out
+ends_collected folder work files named inputs entries refused ending (texts, are, from) asks collected (inr is) =
     let last = collected work.last asks in
     let all = entries ++ next_entry entries 0 work.last ∷ [] in
     inr (inr (

@@ -4,4 +4,5 @@ pub mod Endings
 pub mod Folders
 pub mod Patterns
 pub mod Places
+pub mod PrintedSteps
 pub mod Reading

@@ -46,7 +46,8 @@ pub record CollectedData : Type 0 where
   pub logs : List LogData
   pub refused : List RefusedInput
 
--- the result of collecting the texts. `BadJobs` is returned only if the number of jobs is out of range
+-- the result of collecting the texts. `BadJobs` is returned only if the number of jobs is out of range. Nothing is said of the
+-- other faults
 abbrev pub IsAnswer : WorkData → List (List ℕ) → Result CollectedData CollectFault → Type 0
 IsAnswer work texts (Ok c) = IsCollected (map (input_of work.test) texts) work.jobs work.last c.entries c.logs c.refused
 IsAnswer work texts (Err fault) = fault ≡ collects.BadJobs → AreJobs work.jobs → ⊥
@@ -56,8 +57,8 @@ abbrev pub ending_of : List (List ℕ) → Result CollectedData CollectFault →
 ending_of files (Ok c) = of_collected files c.entries c.refused
 ending_of files (Err fault) = of_collect fault
 
--- how a call that collects files ends: memory ran out; or a file can't be read; or all files were read, and the ending is that of
--- collecting their texts
+-- how a call that collects files ends: memory ran out; or a file can't be read; or the ending is that of collecting texts of the
+-- files. If collecting ended in a fault, nothing is said of these texts: some files may not have been read
 abbrev pub WorkEnds : FolderData → WorkData → EndingData → Type 0
 WorkEnds folder work ending =
     (ending ≡ Stopped faults.Memory)

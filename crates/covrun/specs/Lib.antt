@@ -1,4 +1,5 @@
 pub mod Streams
+pub mod Printed
 pub mod Folder
 pub mod Work
 pub mod Ending

@@ -1,6 +1,6 @@
-//! A subcommand's work: collects its files, and decides how the call ends.
+//! A subcommand's work: collects its files, decides how the call ends, and reports that.
 
-ghost use Rattle.std.specs.Prelude.{◌≡◌, ◌++◌, [], ◌∷◌, map, slice_get, IfOk, OnOk, IfErr};
+ghost use Rattle.std.specs.Prelude.{◌≡◌, ◌⊎◌, ◌<◌, ◌^◌, ◌++◌, [], ◌∷◌, map, slice_get, IfOk, OnOk, IfErr};
 ghost use Rattle.std.specs.List.{flat_map};
 ghost use Rattle.std.specs.String.{string_bytes};
 ghost use Rattle.covbook.specs.EntryView.{entry_data};
@@ -9,53 +9,89 @@ ghost use Rattle.covbook.specs.Texts.{IsText};
 ghost use Rattle.covbook.specs.View.{answer_data, op_data};
 ghost use Rattle.covsession.specs.Session.{clash_text};
 ghost use Rattle.covsession.specs.declared.session.fault.SessionFault.TheVariants as session_faults;
-ghost use Rattle.covrun.specs.Call.{WorkEnds};
-ghost use Rattle.covrun.specs.Ending.{of_collected, complaints, refusal_line, ran_out, name_at};
+ghost use Rattle.covrun.specs.Call.{IsEndingPrinted, WorkEnds};
+ghost use Rattle.covrun.specs.Ending.{EndingData, Stopped, of_collected, complaints, refusal_line, ran_out, name_at};
 ghost use Rattle.covrun.specs.Folder.{folder_data};
+ghost use Rattle.covrun.specs.Streams.{sinks};
 ghost use Rattle.covrun.specs.View.{ending_data, work_data};
 
 use crate::ending::{Ending, ending_of_collect};
 use crate::file_input::file_inputs;
 use crate::folder::Folder;
+use crate::output::report_ending;
+use crate::ready_text::ReadyText;
 use crate::work::Work;
 use covbook::{Answer, Answered, Op};
 use covjobs::{CollectedBook, IntoBookFault, NoGate, RefusedInput, collect_into_book};
-use covsession::{SessionFault, clash_line, refused_line};
+use covsession::{SessionFault, Sink, clash_line, refused_line};
 use std::alloc::Global;
 use std::sync::Wait;
 use std::thread::Threads;
 
-/// Does the work, and returns the call's ending. A job reads each of its files when its turn comes, and frees the text once it is
-/// read. The book is freed too.
-pub(crate) fn ending_of<'a, R: Threads + Wait + Sync, F: Folder<File: Send> + Sync>(
+/// Does the work, and reports the call's ending. A job reads each of its files when its turn comes, and frees the text once it is
+/// read. The text that is asked after the files is printed as it is made, from the book. Returns the exit status.
+pub(crate) fn do_work<R: Threads + Wait + Sync, F: Folder<File: Send> + Sync, O: Sink, E: Sink>(
     rt: &R,
     folder: &F,
     alloc: Global,
-    work: &'a Work,
-) -> Ending<'a>
-    requires { IsText (op_data work.now.last) }
-    ensures { WorkEnds (folder_data (F.holds folder.now) (F.may_refuse folder.now) F.File.left F.File.failed_reads) (work_data work.now) (ending_data result) }
+    work: &Work,
+    output: &mut O,
+    faults: &mut E,
+) -> u8
+    requires text { IsText (op_data work.now.last) }
+    requires output { O.failed_writes output.old < 2 ^ 62 }
+    requires faults { E.failed_writes faults.old < 2 ^ 62 }
+    ensures { (ending : EndingData)
+        × WorkEnds (folder_data (F.holds folder.now) (F.may_refuse folder.now) F.File.left F.File.failed_reads) (work_data work.now) ending
+        × IsEndingPrinted ending result
+        (sinks (O.written output.old) (O.failed_writes output.old) (E.written faults.old) (E.failed_writes faults.old))
+        (sinks (O.written output.new) (O.failed_writes output.new) (E.written faults.new) (E.failed_writes faults.new)) }
 {
     let files = work.files.get();
     let Ok(inputs) = file_inputs(folder, alloc, &work.test, files) else {
-        return Ending::Stopped(SessionFault::Memory);
+        return report_ending(Ending::Stopped(SessionFault::Memory), output, faults);
     };
     match collect_into_book(rt, alloc, inputs, work.jobs, &NoGate) {
-        Ok(collected) => match ending_of_collected(alloc, files, &work.last, &collected) {
-            Ok(ending) => ending,
-            Err(fault) => Ending::Stopped(fault),
-        },
-        Err(IntoBookFault::Unread { index }) => Ending::Unreadable(file_name(files, index)),
-        Err(IntoBookFault::Collect(fault)) => ending_of_collect(fault),
+        Ok(collected) => report_ending(
+            ending_of_collected(alloc, files, &work.last, &collected),
+            output,
+            faults,
+        ),
+        Err(IntoBookFault::Unread { index }) => report_ending(
+            Ending::Unreadable(file_name(files, index)),
+            output,
+            faults,
+        ),
+        Err(IntoBookFault::Collect(fault)) => {
+            report_ending(ending_of_collect(fault), output, faults)
+        }
     }
 }
 
-/// The call's ending for what was collected before the last operation, which is answered by a text.
+/// The call's ending for what was collected before the last operation, or for want of memory.
 fn ending_of_collected<'a>(
     alloc: Global,
     files: &[String],
     last: &Op,
-    collected: &CollectedBook,
+    collected: &'a CollectedBook,
+) -> Ending<'a>
+    requires { IsText (op_data last.now) }
+    ensures { (ending_data result ≡ Stopped session_faults.Memory) ⊎ (ending_data result ≡ of_collected (map string_bytes files.now)
+        (collected.now.book.entries ++ next_entry collected.now.book.entries 0 (op_data last.now) ∷ []) collected.now.refused) }
+{
+    match ending_with_room(alloc, files, last, collected) {
+        Ok(ending) => ending,
+        Err(fault) => Ending::Stopped(fault),
+    }
+}
+
+/// The call's ending for what was collected before the last operation, which is answered by a text. The memory that reporting it
+/// takes is there.
+fn ending_with_room<'a>(
+    alloc: Global,
+    files: &[String],
+    last: &Op,
+    collected: &'a CollectedBook,
 ) -> Result<Ending<'a>, SessionFault>
     requires { IsText (op_data last.now) }
     ensures ending { IfOk result (λ ending. ending_data ending ≡ of_collected (map string_bytes files.now)
@@ -67,7 +103,9 @@ fn ending_of_collected<'a>(
     }
     let lines = complaint_lines(alloc, files, collected)?;
     if lines.is_empty() {
-        return Ok(Ending::Done(collected.book.text_of(alloc, last)?));
+        let text = collected.book.printing(alloc, last)?;
+        let ready = ReadyText::of(alloc, text)?;
+        return Ok(Ending::Done(ready));
     }
     Ok(Ending::Refused(lines))
 }

@@ -7,17 +7,17 @@ ghost use Rattle.covrun.specs.View.{ending_data};
 ghost use Rattle.covrun.specs.WorkFault.{of_work};
 
 use crate::argument_fault::ArgumentFault;
+use crate::ready_text::ReadyText;
 use crate::work::WorkFault;
 use covcommand::CommandFault;
 use covjobs::CollectFault;
-use covline::Bytes;
 use covsession::SessionFault;
 
 /// How a call with a subcommand ends: this decides its exit status and what it writes.
 #[derive(Drop)]
 pub(crate) enum Ending<'a> {
     /// This text, the answer to the last operation, is printed.
-    Done(Bytes),
+    Done(ReadyText<'a>),
     /// Help, or the version, is printed.
     Help(String),
     /// The words don't fit the command line.

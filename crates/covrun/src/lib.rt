@@ -4,7 +4,9 @@
 //! (covsession). For `check`, each file is read and reported by itself (`checked`). Any other subcommand is `Work`: covjobs
 //! collects its files in a book, and a job reads each file when its turn comes (`FileInput`). So at most one text for each job is
 //! in memory. What was collected becomes an `Ending`, which `report_ending` reports by an exit status and on the two output
-//! streams. Files are read from a `Folder` (`files`); `FromFiles` makes one of std's files.
+//! streams. If it is a text, that is made while it is printed: it goes from the book to the output in blocks (`BlockPrinter`), and
+//! all memory that this takes is there before the first byte (`ReadyText`). Files are read from a `Folder` (`files`); `FromFiles`
+//! makes one of std's files.
 //!
 //! A sketch: the program's main function.
 //!
@@ -22,6 +24,8 @@
 #![tactic(auto)]
 
 mod argument_fault;
+mod block;
+mod block_printer;
 mod check_verdict;
 mod checked;
 mod collecting;
@@ -31,6 +35,7 @@ mod files;
 mod folder;
 mod output;
 mod program;
+mod ready_text;
 mod work;
 
 pub use argument_fault::ArgumentFault;

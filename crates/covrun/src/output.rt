@@ -10,29 +10,44 @@ ghost use Rattle.covrun.specs.View.{ending_data};
 ghost use Rattle.covsession.specs.declared.session.fault.SessionFault.TheVariants as session_faults;
 
 use crate::ending::Ending;
+use crate::ready_text::ReadyText;
 use covsession::{SessionFault, Sink, line_of, put_bytes, status_of};
 
 /// Reports the ending, and returns its exit status.
 pub(crate) fn report_ending<O: Sink, E: Sink>(
-    ending: &Ending<'_>,
+    ending: Ending<'_>,
     output: &mut O,
     faults: &mut E,
 ) -> u8
     requires output { O.failed_writes output.old < 2 ^ 62 }
     requires faults { E.failed_writes faults.old < 2 ^ 62 }
-    ensures { IsEndingPrinted (ending_data ending.now) result
+    ensures { IsEndingPrinted (ending_data ending.entry) result
         (sinks (O.written output.old) (O.failed_writes output.old) (E.written faults.old) (E.failed_writes faults.old))
         (sinks (O.written output.new) (O.failed_writes output.new) (E.written faults.new) (E.failed_writes faults.new)) }
 {
     match ending {
-        Ending::Done(text) => print(text.get(), output, faults),
+        Ending::Done(text) => print_ready(text, output, faults),
         Ending::Help(text) => print(text.as_bytes(), output, faults),
         Ending::Line(text) => complain(b"", text.as_bytes(), 2, faults),
         Ending::Words(fault) => complain(b"", fault.line(), 2, faults),
         Ending::Unreadable(name) => complain(name.as_bytes(), b": can't read\n", 1, faults),
-        Ending::Stopped(fault) => complain(b"", line_of(*fault), status_of(*fault), faults),
+        Ending::Stopped(fault) => complain(b"", line_of(fault), status_of(fault), faults),
         Ending::Ungathered => complain(b"", b"gather\n", 3, faults),
         Ending::Refused(lines) => complain(b"", lines.as_slice(), 4, faults),
+    }
+}
+
+/// Prints a text that is made as it is printed, or reports that a write of it failed. Returns the exit status.
+fn print_ready<O: Sink, E: Sink>(text: ReadyText<'_>, output: &mut O, faults: &mut E) -> u8
+    requires output { O.failed_writes output.old < 2 ^ 62 }
+    requires faults { E.failed_writes faults.old < 2 ^ 62 }
+    ensures { IsEndingPrinted (Prints text.entry) result
+        (sinks (O.written output.old) (O.failed_writes output.old) (E.written faults.old) (E.failed_writes faults.old))
+        (sinks (O.written output.new) (O.failed_writes output.new) (E.written faults.new) (E.failed_writes faults.new)) }
+{
+    match text.print(output) {
+        Ok(()) => 0,
+        Err(failed) => complain(b"", line_of(failed), status_of(failed), faults),
     }
 }
 

@@ -7,7 +7,7 @@ ghost use Rattle.covrun.specs.Folder.{folder_data};
 ghost use Rattle.covrun.specs.Streams.{sinks, source};
 
 use crate::checked::check_files;
-use crate::collecting::ending_of;
+use crate::collecting::do_work;
 use crate::ending::{ending_of_line, ending_of_work};
 use crate::folder::Folder;
 use crate::output::report_ending;
@@ -21,10 +21,11 @@ use std::thread::Threads;
 /// Runs the program, and returns its exit status. The first of the words is the program's name.
 ///
 /// A call that collects files looks for faults in this order, given here with their exit statuses: the command line (2); the
-/// patterns, or the test's name of `gcov` (2); a full history (3); the first file that can't be read (1); another fault of
-/// collecting (3); a text for which memory ran out (3); refused texts and clashes (4); a failed write to the output (1). `out of
-/// memory` (3) may end the call at any point. Only help, the version, or the text of a call that succeeds goes to the output; if a
-/// write fails, a beginning of that text does.
+/// patterns, or the test's name of `gcov` (2); the first file that can't be read (1); a fault of collecting (3), such as a full
+/// history; a text for which memory ran out (3); refused texts and clashes (4); a failed write to the output (1). `out of memory`
+/// (3) may end the call at any point before the first byte of its text. Only help, the version, or the text of a call that
+/// succeeds goes to the output. It is written in blocks as it is made, after all else is known; if a write fails, the output has a
+/// beginning of that text.
 ///
 /// A call that checks files checks one after another. It writes a line to the output for each file that can be read, and
 /// complains about a file that can't be read or has no item. Its status is 1 if a file can't be read, else 4 if one is refused,
@@ -53,7 +54,7 @@ pub fn run<
     let alloc = rt.alloc();
     match command(alloc, words) {
         Ok(asked) => run_command(rt, folder, alloc, asked, input, output, faults),
-        Err(fault) => report_ending(&ending_of_line(fault), output, faults),
+        Err(fault) => report_ending(ending_of_line(fault), output, faults),
     }
 }
 
@@ -78,15 +79,11 @@ fn run_command<R: Threads + Wait + Sync, F: Folder<File: Send> + Sync, I: Source
 {
     match task_for(alloc, asked) {
         Ok(Task::Session) => run_session(alloc, input, output, faults),
-        Ok(Task::Collect(work)) => report_ending(
-            &ending_of(rt, folder, alloc, &work),
-            output,
-            faults,
-        ),
+        Ok(Task::Collect(work)) => do_work(rt, folder, alloc, &work, output, faults),
         Ok(Task::Check { format, files }) => {
             check_files(folder, alloc, format, files.get(), output, faults)
         }
-        Err(fault) => report_ending(&ending_of_work(fault), output, faults),
+        Err(fault) => report_ending(ending_of_work(fault), output, faults),
     }
 }
 
@@ -98,5 +95,5 @@ pub fn refuse<O: Sink, E: Sink>(fault: CommandFault, output: &mut O, faults: &mu
         (sinks (O.written output.old) (O.failed_writes output.old) (E.written faults.old) (E.failed_writes faults.old))
         (sinks (O.written output.new) (O.failed_writes output.new) (E.written faults.new) (E.failed_writes faults.new)) }
 {
-    report_ending(&ending_of_line(fault), output, faults)
+    report_ending(ending_of_line(fault), output, faults)
 }

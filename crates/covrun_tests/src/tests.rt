@@ -21,6 +21,7 @@ mod faults;
 mod files;
 mod folders;
 mod limits;
+mod printing;
 
 /// Makes a call, and returns its exit status. This function promises nothing: a test looks at what a call does, and is proved
 /// more quickly this way.

@@ -204,10 +204,10 @@ fn a_check_with_a_closed_output(rt: HostRuntime) -> Result<(), Fail> {
 
 /// An output that takes as many whole writes as are `left`, and fails after them. It keeps the bytes that it took.
 #[derive(Drop)]
-struct Closing {
-    left: u64,
-    taken: Vec<u8>,
-    failed: u64,
+pub(super) struct Closing {
+    pub(super) left: u64,
+    pub(super) taken: Vec<u8>,
+    pub(super) failed: u64,
 }
 
 impl Sink for Closing {

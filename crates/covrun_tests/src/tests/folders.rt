@@ -51,9 +51,9 @@ fn check_over<R: AllocGlobal + Threads + Wait + Abort + Sync, F: Folder<File: Se
 
 /// A folder of one file. Its contract says the file's bytes.
 #[derive(Clone, Copy)]
-struct OneFile<'a> {
-    name: &'a str,
-    text: &'a [u8],
+pub(super) struct OneFile<'a> {
+    pub(super) name: &'a str,
+    pub(super) text: &'a [u8],
 }
 
 impl<'a> Folder for OneFile<'a> {

@@ -1,21 +1,19 @@
-use denote.Param.Send.{sendable}
 use Rattle.std.proofs.Common.{inl, inr, refl, sym, ap, ◌∙◌}
 use Rattle.covrun.specs.Folder.{folder_data}
 use Rattle.covrun.specs.View.{task_data, work_data, ending_data}
 use Rattle.covrun.proofs.Endings.{asks_text, stops_early, told_check, told_work}
 use Rattle.covrun.proofs.program.run_command.Goals as goal
 
-pub ending_of-requires : goal.ending_of-requires
-ending_of-requires g c =
-    let asks = asks_text c.args.asked (work_data c.in-Ok-Collect.work) (ap task_data (sym c.in-Ok-Collect.field-0-is) ∙ c.in-Ok-Collect.ensures.task) in
-    (search sendable, (search sendable, (search sendable, asks)))
+pub do_work-requires-clause-text : goal.do_work-requires-clause-text
+do_work-requires-clause-text g c κs within =
+    asks_text c.args.asked (work_data c.in-Ok-Collect.work) (ap task_data (sym c.in-Ok-Collect.field-0-is) ∙ c.in-Ok-Collect.ensures.task)
 
 pub returns-in-Ok-Collect : goal.returns-in-Ok-Collect
 returns-in-Ok-Collect g c =
     inr (
       c.in-Ok-Collect.ensures.taken,
-      told_work (folder_data (g.F.Folder.holds c.args.folder.now) (g.F.Folder.may_refuse c.args.folder.now) g.F.File.Source.left g.F.File.Source.failed_reads) (work_data c.in-Ok-Collect.work) _ (ending_data c.ending_of.result) _ _ _ _ _ refl
-          (ap task_data (sym c.in-Ok-Collect.field-0-is) ∙ c.in-Ok-Collect.ensures.task) c.ending_of.ensures c.report_ending.ensures,
+      told_work (folder_data (g.F.Folder.holds c.args.folder.now) (g.F.Folder.may_refuse c.args.folder.now) g.F.File.Source.left g.F.File.Source.failed_reads) (work_data c.in-Ok-Collect.work) _ c.do_work.ensures.0 _ _ _ _ _ refl
+          (ap task_data (sym c.in-Ok-Collect.field-0-is) ∙ c.in-Ok-Collect.ensures.task) c.do_work.ensures.1 c.do_work.ensures.2,
     )
 
 pub returns-in-Ok-Check : goal.returns-in-Ok-Check
@@ -27,4 +25,4 @@ returns-in-Ok-Check g c =
     )
 
 pub returns-in-Err : goal.returns-in-Err
-returns-in-Err g c = inl (refl, ending_data c.ending_of_work.result, stops_early c.args.asked _ _ c.ending_of_work.ensures c.in-Err.ensures.refused, c.report_ending-in-Err.ensures)
+returns-in-Err g c = inl (refl, ending_data c.ending_of_work.result, stops_early c.args.asked _ _ c.ending_of_work.ensures c.in-Err.ensures.refused, c.report_ending.ensures)

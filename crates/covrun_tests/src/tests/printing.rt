@@ -1,0 +1,122 @@
+//! Texts that are written in several blocks, to outputs that fail before one of the blocks.
+
+ghost use Rattle.std.specs.Prelude.{◌<◌, ◌^◌};
+
+use super::faults::Closing;
+use super::folders::OneFile;
+use super::{check_text, words_of};
+use covrun::{Folder, run};
+use covsession::{FromRead, FromWrite, Sink};
+use std::alloc::Global;
+use std::process::Abort;
+use std::sync::Wait;
+use std::test::*;
+use std::thread::Threads;
+
+/// Makes a call of these words over this folder, with this output. Returns the exit status, and what was written to the stream for
+/// faults.
+fn call_into<R: AllocGlobal + Threads + Wait + Sync, F: Folder<File: Send> + Sync, O: Sink>(
+    rt: &R,
+    folder: &F,
+    words: &[String],
+    output: &mut O,
+) -> (u8, Vec<u8>)
+    requires { O.failed_writes output.old < 2 ^ 62 }
+{
+    let mut faults: Vec<u8> = Vec::new(rt.alloc());
+    let status = {
+        let input: &[u8] = b"";
+        let mut source = FromRead::new(input);
+        let mut complaints = FromWrite::new(&mut faults);
+        run(rt, folder, words, &mut source, output, &mut complaints)
+    };
+    (status, faults)
+}
+
+/// The exit status of a merge of this tracefile, what it wrote to the stream for faults, and its output, which takes `writes` whole
+/// writes and then fails.
+fn merge_into<R: AllocGlobal + Threads + Wait + Sync>(
+    rt: &R,
+    text: &[u8],
+    writes: u64,
+) -> Result<(u8, Vec<u8>, Closing), Fail> {
+    let words = words_of(rt.alloc(), "covcollect merge a.info", "")?;
+    let folder = OneFile {
+        name: "a.info",
+        text,
+    };
+    let mut output = Closing {
+        left: writes,
+        taken: Vec::new(rt.alloc()),
+        failed: 0,
+    };
+    let (status, faults) = call_into(rt, &folder, words.as_slice(), &mut output);
+    Ok((status, faults, output))
+}
+
+/// Checks a merge of a tracefile that is printed as it is, in `blocks` writes. If the output fails before one of them, it has a
+/// beginning of the text, and the failure is reported. If it takes all, it has the whole text.
+fn check_blocks<R: AllocGlobal + Threads + Wait + Abort + Sync>(
+    rt: &R,
+    text: &[u8],
+    blocks: u64,
+) -> Result<(), Fail> {
+    for writes in 0..blocks {
+        let (status, faults, output) = merge_into(rt, text, writes)?;
+        let taken = output.taken.as_slice();
+        check_text(rt, "faults", faults.as_slice(), "write fault\n")?;
+        assert!(rt; status == 1, "after {writes} writes the status is {status}");
+        assert!(rt; output.failed == 1, "{} writes failed", output.failed);
+        assert!(rt;
+            taken.len() < text.len(),
+            "all was written in {writes} writes"
+        );
+        assert!(rt;
+            text.starts_with(taken),
+            "after {writes} writes the output is another text"
+        );
+    }
+    let (status, faults, output) = merge_into(rt, text, blocks)?;
+    check_text(rt, "faults", faults.as_slice(), "")?;
+    assert!(rt; status == 0, "the status is {status}");
+    assert!(rt;
+        output.taken.as_slice() == text,
+        "the output is another text"
+    );
+    Ok(())
+}
+
+/// A tracefile of 20,000 lines as it is printed. It has 208,938 bytes.
+fn many_lines(alloc: Global) -> Result<String, Fail> {
+    let mut text = String::from_str(alloc, "TN:\nSF:/a.c\n")?;
+    for line in 1..=20_000 {
+        let record = format!(in alloc; "DA:{line},1\n")?;
+        text.push_str(record.as_str())?;
+    }
+    text.push_str("LF:20000\nLH:20000\nend_of_record\n")?;
+    Ok(text)
+}
+
+/// The text takes four blocks. No record of it is split between two of them.
+#[test]
+fn a_text_of_four_blocks(rt: HostRuntime) -> Result<(), Fail> {
+    let text = many_lines(rt.alloc())?;
+    check_blocks(&rt, text.as_str().as_bytes(), 4)
+}
+
+/// A tracefile whose file has a name of 200,000 bytes, as it is printed.
+fn a_long_name(alloc: Global) -> Result<String, Fail> {
+    let mut text = String::from_str(alloc, "TN:\nSF:")?;
+    for _byte in 0..200_000 {
+        text.push('x')?;
+    }
+    text.push_str("\nDA:1,1\nLF:1\nLH:1\nend_of_record\n")?;
+    Ok(text)
+}
+
+/// What is before the name is a write. Then come three blocks of the name, and its rest with what is after it.
+#[test]
+fn a_name_longer_than_a_block(rt: HostRuntime) -> Result<(), Fail> {
+    let text = a_long_name(rt.alloc())?;
+    check_blocks(&rt, text.as_str().as_bytes(), 5)
+}
