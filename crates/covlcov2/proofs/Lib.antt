@@ -1,0 +1,2 @@
+pub mod EdgeParts
+pub mod LineReading

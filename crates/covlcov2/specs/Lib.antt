@@ -1,0 +1,3 @@
+pub mod Spells
+pub mod Reading
+pub mod LineLaws

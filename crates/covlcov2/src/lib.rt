@@ -1,0 +1,13 @@
+//! Reads tracefiles of LCOV 2 (geninfo(1) of LCOV 2.x, TRACEFILE FORMAT): what a text says, as a submission, or its first fault.
+//!
+//! Each line is read by itself first. Then it stands for records of version 1, which covread's reader takes: an `FNA:` line for
+//! the start line and the count of its function, a branch with an expression for a branch with a number.
+#![tactic(auto)]
+
+mod laws;
+mod line;
+mod read_line;
+
+pub use laws::each_lcov2_line_has_one_meaning;
+pub use line::Lcov2Line;
+pub use read_line::read_lcov2_line;
