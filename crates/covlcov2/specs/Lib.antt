@@ -1,3 +1,7 @@
 pub mod Spells
 pub mod Reading
 pub mod LineLaws
+pub mod Reads
+pub mod Outcome
+pub mod Run
+pub mod Steps

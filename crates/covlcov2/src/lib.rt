@@ -4,10 +4,13 @@
 //! the start line and the count of its function, a branch with an expression for a branch with a number.
 #![tactic(auto)]
 
+mod indexes;
 mod laws;
 mod line;
 mod read_line;
+mod reader;
+mod take_fault;
 
-pub use laws::each_lcov2_line_has_one_meaning;
+pub use laws::{each_lcov2_line_has_one_meaning, each_lcov2_text_has_one_outcome};
 pub use line::Lcov2Line;
 pub use read_line::read_lcov2_line;
