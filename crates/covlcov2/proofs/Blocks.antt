@@ -1,9 +1,10 @@
 -- What is kept of the lines of a section, after one more line.
-use Rattle.std.proofs.Common.{◌≡◌, ◌≢◌, ℕ, ◌+◌, ◌<◌, ◌≤◌, cond, eqb, Bool, true, false, ◌&&◌, [], ◌∷◌, List, Option, Some, None, refl, sym, ap, ◌∙◌, inl, inr, arith}
+use Rattle.std.proofs.Common.{◌≡◌, ◌≢◌, ℕ, ◌+◌, ◌<◌, ◌≤◌, cond, eqb, Bool, true, false, ◌&&◌, [], ◌∷◌, List, length, Option, Some, None, refl, sym, ap, ◌∙◌, inl, inr, arith}
 use Rattle.std.specs.Prelude.{count_by}
 use Rattle.std.proofs.lemmas.Bool.{cases_lt, cases_eq, eq-eqb, ne_eqb, eqb-true, and_parts}
 use Rattle.std.specs.BTreeMap.{BTreeMap, Updates, get}
 use Rattle.std.specs.Cmp.{nat_cmp_is}
+use Rattle.std.proofs.lemmas.List.Sums.{count_by-le-length, sum_by-cons}
 use Rattle.std.specs.Option.{unwrap_or}
 use Rattle.std.specs.Ordering.{nat_cmp, is_eq, ordering_then}
 use Rattle.std.specs.declared.cmp.Ordering.{Ordering}
@@ -49,7 +50,7 @@ leader_push old new above index line u h = λ q.
 -- the count of a block with one more expression in it, or in another block
 counted : (test : Bool) (found : Option ℕ) (count n : ℕ) → (test ≡ true → n ≡ unwrap_or found 0) → unwrap_or found 0 ≡ count → unwrap_or (cond test (Some (n + 1)) found) 0 ≡ cond test 1 0 + count
 counted true found count n same e = let k = same refl in omega (arith, k, e)
-counted false found count n same e = e
+counted false found count n same e = omega (arith, e)
 
 same_block : (a b : Block) → (eqb a.line b.line && eqb a.block b.block) ≡ true → a ≡ b
 same_block a b e =
@@ -66,3 +67,7 @@ expression_push old new above b n is_excluded taken u is h = λ q.
     let found = get block_cmp old q in
     ap (λ (o : Option ℕ). unwrap_or o 0) (u.0 q ∙ ap (λ (t : Bool). cond t (Some (n + 1)) found) (block_test b q))
     ∙ counted test found (expressions q.line q.block above) n (λ e. is ∙ ap (λ (x : Block). unwrap_or (get block_cmp old x) 0) (same_block b q e)) (h q)
+    ∙ sym (sum_by-cons (λ x. cond (is_expression q.line q.block x) 1 0) (Edge is_excluded b.line b.block None taken) above)
+
+pub few_expressions : (line block : ℕ) (above : List Lcov2Data) → expressions line block above ≤ length above
+few_expressions line block above = count_by-le-length (is_expression line block) above

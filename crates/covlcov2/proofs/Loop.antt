@@ -14,12 +14,16 @@ use Rattle.covread.specs.declared.fault.ReadFault.{ReadFault}
 use Rattle.covread.specs.declared.fault.ReadFault.TheVariants as faults
 use Rattle.covread.specs.declared.trace.reader.OpenSection.{OpenSection}
 use Rattle.covread.specs.Outcome.{max_bytes}
-use Rattle.covread.specs.TraceSteps.{SectionData, HeldData, empty, kept_in, section_data, step, step_at, ends, ends_at, EndsLawfully}
+use Rattle.covread.specs.TraceSteps.{SectionData, HeldData, empty, kept_in, section_data, held_data, step, step_at, ends, ends_at, EndsLawfully}
 use Rattle.covread.proofs.AllOf.{all_back}
 use Rattle.covread.proofs.TraceLawful.{held_room}
 use Rattle.covlcov2.specs.Spells.{Lcov2Data, Plain, Leader, Alias, Edge, Lcov2Spells}
-use Rattle.covlcov2.specs.Reads.{said}
+use Rattle.covlcov2.specs.Reads.{said, above_after}
 use Rattle.covlcov2.specs.Outcome.{Answers, HasBegun, GrowsLate}
+use Rattle.covlcov2.specs.declared.take_fault.TakeFault.{TakeFault}
+use Rattle.covlcov2.specs.declared.take_fault.TakeFault.TheVariants as why
+use Rattle.covlcov2.specs.declared.reader.Lcov2Reader.{Lcov2Reader}
+use Rattle.covlcov2.specs.Steps.{IsHeld, Lcov2Steps, lcov2_fault_at}
 use Rattle.covlcov2.specs.Run.{StepsTo, Taken, IsWithin, Grows, Stopped}
 use Rattle.covlcov2.proofs.Holds.{Laws, Lcov2Holds, holds_nothing, holds_line, goes_on}
 use Rattle.covlcov2.proofs.Runs.{HasPathLine, holds_end, path_before, stop_first}
@@ -152,3 +156,20 @@ EndsAt text test sects odd section inside =
 pub ends_without : {A : Type 0} (text test : List ℕ) (sects : List SectData) (odd : ℕ) (section : Option (OpenSection A)) (inside : List LineData) → EndsAt text test sects odd section inside → EndsAt text test sects odd section []
 ends_without text test sects odd None inside h = h
 ends_without text test sects odd (Some s) inside h = h
+
+-- why the reader doesn't take what a line says is why it doesn't take the line
+pub stops_so : {A T : Type 0} (w : TakeFault) (r : Result T TakeFault) (above : List Lcov2Data) (held : HeldData) (after : Lcov2Reader A) (line : List ℕ) (says : Lcov2Data) (at : ℕ) → r ≡ Err w → Lcov2Spells line says
+    → Lcov2Steps r above held after says → Stopped (lcov2_fault_at w at) above held line at
+stops_so {A} {T} w r above held after line says at e spells steps = by w (subst (λ (x : Result T TakeFault). Lcov2Steps x above held after says) e steps)
+  where
+    by : (v : TakeFault) → Lcov2Steps {A = A} {T = T} (Err v) above held after says → Stopped (lcov2_fault_at v at) above held line at
+    by why.Outside k = (refl, says, spells, k)
+    by why.Inside k = (refl, says, spells, k)
+    by why.Misplaced k = (refl, says, spells, k)
+    by why.Memory k = (says, spells, k)
+
+-- a line is taken if what it says is taken
+pub takes_so : {A : Type 0} (line : List ℕ) (says : Lcov2Data) (above : List Lcov2Data) (held : HeldData) (after : Lcov2Reader A) → Lcov2Spells line says
+    → ((now : List LineData) × (inside : List LineData) × (said above says ≡ Some now) × StepsTo now held (held_data after.plain inside) × IsHeld after (above_after above says) inside)
+    → (next : List Lcov2Data) × (inside : List LineData) × Taken line above next held (held_data after.plain inside) × IsHeld after next inside
+takes_so line says above held after spells k = (above_after above says, k.1, record { says = says; now = k.0; spells = spells; stands_for = k.2; steps = k.3; leads = refl }, k.4)

@@ -206,3 +206,8 @@ same_told law text _ _ (Faulty f b c) (Faulty g d e) = ap (λ (x : ReadFault). E
 -- two outcomes of one text are equal
 pub one_outcome : Lcov2LineLaw → (text : List ℕ) (r s : Result SubmissionData ReadFault) → IsOutcome text r → IsOutcome text s → r ≡ s
 one_outcome law text r s h k = same_told law text r s (told text r h) (told text s k)
+
+-- if a text has an outcome, a right answer is this outcome, unless memory ran out
+pub answer_is : Lcov2LineLaw → (text : List ℕ) (answer outcome : Result SubmissionData ReadFault) → Answers text answer → IsOutcome text outcome → version1.IsOrMemory answer outcome
+answer_is law text answer outcome (inl none) k = inl none.1
+answer_is law text answer outcome (inr h) k = inr (one_outcome law text outcome answer k h)

@@ -92,13 +92,17 @@ Given (Err why.Inside) before after says = IsWithin before.section × outcome1.N
 Given (Err why.Misplaced) before after says = ⊥
 Given (Err why.Memory) before after says = GrowsAt before.section says
 
+-- later lines need nothing of this line
+pub record IsQuiet (above : List Lcov2Data) (line : Lcov2Data) : Type 0 where
+  pub no_leader : is_leader line ≡ false
+  pub no_expression : (number block : ℕ) → is_expression number block line ≡ false
+  pub leads : (index : ℕ) → leader index (line ∷ above) ≡ leader index above
+
 -- the line stands for this record alone, which isn't a path, and later lines need nothing of it
 pub record StandsFor (above : List Lcov2Data) (line : Lcov2Data) (says : LineData) : Type 0 where
   pub alone : said above line ≡ Some (says ∷ [])
   pub after : above_after above line ≡ line ∷ above
-  pub no_leader : is_leader line ≡ false
-  pub no_expression : (number block : ℕ) → is_expression number block line ≡ false
-  pub leads : (index : ℕ) → leader index (line ∷ above) ≡ leader index above
+  pub quiet : IsQuiet above line
   pub no_path : IsNoPath says
   pub needs_section : outcome1.NeedsSection says → NeedsSection line
   pub needs_outside : outcome1.NeedsOutside says → NeedsOutside line

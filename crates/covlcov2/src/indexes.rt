@@ -1,10 +1,12 @@
 //! What later lines of a section need of earlier ones: the start lines of indexes, and how many branches with expressions each
 //! block has.
 
-ghost use Rattle.std.specs.Prelude.{◌≡◌, ◌∷◌, ◌+◌, ◌<◌, ◌^◌, ℕ, List, [], Option, None, Some, Bool, OnOk, MatchResult, length, true};
+ghost use Rattle.std.specs.Prelude.{◌≡◌, ◌∷◌, ◌+◌, ◌<◌, ◌^◌, ℕ, List, [], Option, None, Some, Bool, OnOk, IfOk, length};
 ghost use Rattle.covlcov2.specs.Spells.{Lcov2Data, Leader, Edge};
 ghost use Rattle.covlcov2.specs.Reads.{expressions, leader};
-ghost use Rattle.covlcov2.specs.Steps.{AreIndexes};
+ghost use Rattle.covlcov2.specs.Steps.{AreIndexes, block_cmp};
+ghost use Rattle.std.specs.BTreeMap.{get};
+ghost use Rattle.std.specs.Option.{unwrap_or};
 
 use covline::Memory;
 use std::alloc::Allocator;
@@ -63,14 +65,21 @@ impl<A: Allocator + Copy> Indexes<A> {
     /// Counts one more branch with an expression in the block, and returns its number there.
     pub fn count_expression(&mut self, block: Block) -> Result<u64, Memory>
         requires { (above : List Lcov2Data) × AreIndexes self.old above × (length above + 1 < 2 ^ 64) }
-        ensures number { MatchResult result (λ n. (above : List Lcov2Data) → AreIndexes self.old above → n ≡ expressions block.line block.block above) (λ e. ⊤) }
+        ensures number { IfOk result (λ n. (above : List Lcov2Data) → AreIndexes self.old above → n ≡ expressions block.line block.block above) }
         ensures counted { OnOk result ((above : List Lcov2Data) (is_excluded : Bool) (taken : Option ℕ) → AreIndexes self.old above → AreIndexes self.new (Edge is_excluded block.line block.block None taken ∷ above)) }
     {
-        let number = match self.expressions.get(&block) {
-            Some(count) => *count,
-            None => 0,
-        };
+        let number = count_in(&self.expressions, block);
         self.expressions.insert(block, number + 1)?;
         Ok(number)
+    }
+}
+
+/// The count of the block, or 0 if it is missing.
+fn count_in<A: Allocator>(counts: &BTreeMap<Block, u64, A>, block: Block) -> u64
+    ensures { result ≡ unwrap_or (get block_cmp counts.now block) 0 }
+{
+    match counts.get(&block) {
+        Some(count) => *count,
+        None => 0,
     }
 }

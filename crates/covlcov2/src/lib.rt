@@ -7,10 +7,12 @@
 mod indexes;
 mod laws;
 mod line;
+mod read;
 mod read_line;
 mod reader;
 mod take_fault;
 
 pub use laws::{each_lcov2_line_has_one_meaning, each_lcov2_text_has_one_outcome};
 pub use line::Lcov2Line;
+pub use read::read_lcov2;
 pub use read_line::read_lcov2_line;

@@ -1,0 +1,99 @@
+//! Reads a tracefile of LCOV 2: one pass over its text, forward.
+
+ghost use Rattle.std.specs.Prelude.{◌≡◌, ◌≤◌, ◌<◌, ◌∷◌, ℕ, IfOk, length, List, Result};
+ghost use Rattle.covline.specs.Row.{SubmissionData};
+ghost use Rattle.covline.specs.Lines.{lines_of};
+ghost use Rattle.covline.specs.Spells.{LineData};
+ghost use Rattle.covread.specs.declared.fault.ReadFault.{ReadFault as Fault};
+ghost use Rattle.covread.specs.Outcome.{max_bytes, IsOrMemory};
+ghost use Rattle.covread.specs.TraceSteps.{held_data};
+ghost use Rattle.covlcov2.specs.Spells.{Lcov2Data};
+ghost use Rattle.covlcov2.specs.Outcome.{IsOutcome, Answers, GrowsLate};
+ghost use Rattle.covlcov2.specs.Steps.{HasLineRoom, IsHeld, ReadsTo, TakesLcov2Line};
+
+use crate::laws::each_lcov2_line_has_one_meaning;
+use crate::read_line::read_lcov2_line;
+use crate::reader::Lcov2Reader;
+use covline::laws::printed_records_spell;
+use covline::{Submission, each_line_has_one_meaning, first_line, lines_are_the_text};
+use covread::{MAX_BYTES, ReadFault};
+use std::alloc::Allocator;
+
+/// Reads a tracefile of LCOV 2 (geninfo(1) of LCOV 2.x, TRACEFILE FORMAT). Returns the submission that its lines make, or the
+/// text's first fault. An `FNA:` line without an `FNL:` line of its index above it in its section is `Misplaced`.
+pub fn read_lcov2<A: Allocator + Copy>(alloc: A, text: &[u8]) -> Result<Submission<A>, ReadFault>
+    // The answer is what the text is read as, or memory ran out.
+    ensures answers { Answers text.now result }
+    // No other answer is possible, unless memory ran out.
+    ensures only { (outcome : Result SubmissionData Fault) → IsOutcome text.now outcome → IsOrMemory result outcome }
+    // Nothing is kept before the first path, so memory can run out only at this path or after it.
+    ensures memory { GrowsLate text.now result }
+{
+    // The proof cites this law.
+    each_lcov2_line_has_one_meaning();
+    if text.len() > MAX_BYTES {
+        return Err(ReadFault::TooLong);
+    }
+    read_lines(alloc, text)?.plain.finish()
+}
+
+/// Takes all lines of the text.
+fn read_lines<'a, A: Allocator + Copy>(
+    alloc: A,
+    text: &'a [u8],
+) -> Result<Lcov2Reader<'a, A>, ReadFault>
+    requires { length text.now ≤ max_bytes }
+    ensures { ReadsTo text.now result }
+{
+    // The proof cites these laws.
+    each_line_has_one_meaning();
+    each_lcov2_line_has_one_meaning();
+    lines_are_the_text();
+    printed_records_spell();
+    let mut reader = Lcov2Reader::new(alloc);
+    let mut at: u64 = 0;
+    let mut rest = text;
+    while !rest.is_empty() {
+        at += 1;
+        rest = take_first(&mut reader, alloc, at, rest)?;
+    }
+    Ok(reader)
+}
+
+/// Takes the first line of `text`, which is the rest of a text, and returns what follows the line. `at` is the line's number.
+#[inline]
+fn take_first<'a, A: Allocator + Copy>(
+    reader: &mut Lcov2Reader<'a, A>,
+    alloc: A,
+    at: u64,
+    text: &'a [u8],
+) -> Result<&'a [u8], ReadFault>
+    requires some { 0 < length text.now }
+    requires room { (above : List Lcov2Data) × (inside : List LineData) × HasLineRoom reader.old above inside }
+    ensures { (line left : List ℕ) × (lines_of text.now ≡ line ∷ lines_of left) × IfOk result (λ rest. rest.now ≡ left)
+        × ((above : List Lcov2Data) (inside : List LineData) → IsHeld reader.old above inside → TakesLcov2Line result above (held_data reader.old.plain inside) reader.new line at) }
+{
+    let (line, rest) = first_line(text);
+    take_line(reader, alloc, at, line)?;
+    Ok(rest)
+}
+
+/// Takes the line with this number.
+fn take_line<'a, A: Allocator + Copy>(
+    reader: &mut Lcov2Reader<'a, A>,
+    alloc: A,
+    at: u64,
+    line: &'a [u8],
+) -> Result<(), ReadFault>
+    requires { (above : List Lcov2Data) × (inside : List LineData) × HasLineRoom reader.old above inside }
+    ensures { (above : List Lcov2Data) (inside : List LineData) → IsHeld reader.old above inside → TakesLcov2Line result above (held_data reader.old.plain inside) reader.new line.now at }
+{
+    let says = match read_lcov2_line(line) {
+        Ok(says) => says,
+        Err(fault) => return Err(ReadFault::Line { at, fault }),
+    };
+    match reader.take(alloc, says) {
+        Ok(()) => Ok(()),
+        Err(why) => Err(why.at(at)),
+    }
+}
