@@ -1,6 +1,5 @@
 -- What is kept of the lines of a section, after one more line.
-use Rattle.std.proofs.Common.{◌≡◌, ◌≢◌, ℕ, ◌+◌, ◌<◌, ◌≤◌, cond, eqb, Bool, true, false, ◌&&◌, [], ◌∷◌, List, length, Option, Some, None, refl, sym, ap, ◌∙◌, inl, inr, arith}
-use Rattle.std.specs.Prelude.{count_by}
+use Rattle.std.proofs.Common.{◌≡◌, ◌≢◌, ℕ, ◌+◌, ◌<◌, ◌≤◌, cond, eqb, Bool, true, false, ◌&&◌, ◌∷◌, List, length, Option, Some, None, refl, sym, ap, ◌∙◌, inl, inr, arith}
 use Rattle.std.proofs.lemmas.Bool.{cases_lt, cases_eq, eq-eqb, ne_eqb, eqb-true, and_parts}
 use Rattle.std.specs.BTreeMap.{BTreeMap, Updates, get}
 use Rattle.std.specs.Cmp.{nat_cmp_is}
@@ -10,10 +9,9 @@ use Rattle.std.specs.Ordering.{nat_cmp, is_eq, ordering_then}
 use Rattle.std.specs.declared.cmp.Ordering.{Ordering}
 use Rattle.std.specs.declared.cmp.Ordering.TheVariants.{Less, Equal, Greater}
 use Rattle.covlcov2.specs.declared.indexes.Block.{Block}
-use Rattle.covlcov2.specs.declared.indexes.Indexes.{Indexes}
 use Rattle.covlcov2.specs.Spells.{Lcov2Data, Leader, Edge}
-use Rattle.covlcov2.specs.Reads.{leader, is_expression, expressions}
-use Rattle.covlcov2.specs.Steps.{block_cmp, HasLeaders, HasExpressions, AreIndexes}
+use Rattle.covlcov2.specs.Reads.{is_expression, expressions}
+use Rattle.covlcov2.specs.Steps.{block_cmp, HasLeaders, HasExpressions}
 
 strict : (a b : ℕ) → b ≤ a → a ≢ b → b < a
 strict a b le differ =

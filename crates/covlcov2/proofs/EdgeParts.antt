@@ -1,7 +1,6 @@
 -- The parts of a `BRDA:` line: its marks, the last comma, the branch's number or expression.
-use Rattle.std.proofs.Common.{◌≡◌, ◌≢◌, ℕ, ◌+◌, ◌<◌, ◌≤◌, ◌⊎◌, inl, inr, Bool, true, false, ◌||◌, eqb, List, [], ◌∷◌, ◌++◌, length, get_or, take, drop, All, Option, Some, None, option_map, refl, sym, ap, ◌∙◌, arith}
+use Rattle.std.proofs.Common.{◌≡◌, ◌≢◌, ℕ, ◌+◌, ◌<◌, ◌⊎◌, inl, inr, Bool, true, false, ◌||◌, eqb, List, [], ◌∷◌, ◌++◌, length, get_or, take, drop, All, Option, Some, None, option_map, refl, sym, ap, ◌∙◌, arith}
 use Rattle.std.specs.List.{list_any}
-use Rattle.std.specs.Prelude.{codes, IsTrue}
 use Rattle.std.proofs.lemmas.Option.{none-some}
 use Rattle.std.proofs.lemmas.Bool.{cases_Bool, cases_eq, eq-eqb, ne_eqb, or_from, eqb-true}
 use Rattle.std.proofs.lemmas.List.{drop_more, take-append-drop, get_or-drop, length-drop}
@@ -12,7 +11,7 @@ use Rattle.covline.specs.Spells.{IsDigit, IsNumeral, IsTaken, comma}
 use Rattle.covline.specs.Reading.{number_of, sized_number}
 use Rattle.covline.proofs.ReadNumbers.{whole_is, whole_or_none}
 use Rattle.covlcov2.specs.Spells.{is_mark, is_exclusion, IsMark, IsBranchName}
-use Rattle.covlcov2.specs.Reading.{marks_from, onto_front, cut_later, last_cut, branch_name}
+use Rattle.covlcov2.specs.Reading.{marks_from, last_cut, branch_name}
 
 -- ---- marks
 

@@ -1,18 +1,17 @@
 -- What a reader holds after some lines: what the reader of version 1 holds after the printed records that they stand for. So the
 -- lemmas of version 1 on what a reader holds serve as they are.
-use Rattle.std.proofs.Common.{◌≡◌, ℕ, ◌+◌, ◌<◌, ◌≤◌, ◌^◌, List, [], ◌∷◌, ◌++◌, length, map, All, Option, Some, None, Ok, refl, sym, ap, subst, ◌∙◌, append_assoc, arith}
+use Rattle.std.proofs.Common.{◌≡◌, ℕ, ◌+◌, ◌<◌, ◌≤◌, ◌^◌, List, [], ◌∷◌, ◌++◌, length, map, All, Some, refl, sym, ap, subst, ◌∙◌, append_assoc, arith}
 use Rattle.std.specs.Prelude.{codes}
 use Rattle.std.specs.List.{flat_map, sum_by, AllByRecursion}
-use Rattle.std.proofs.lemmas.List.{append-nil, map-append, length-append, length-map}
+use Rattle.std.proofs.lemmas.List.{append-nil, map-append, length-append}
 use Rattle.std.proofs.lemmas.List.Elements.{All-head, All-cons, All-nil}
 use Rattle.std.proofs.lemmas.List.Sums.{sum_by_push}
 use Rattle.covline.specs.Lawful.{IsGoodTest}
-use Rattle.covline.specs.Lines.{lines_of}
 use Rattle.covline.specs.LineLaws.{FewLines, FewBytes, GoodLines, GoodRest, PrintedSpells}
 use Rattle.covline.specs.Printed.{line_text, printed, IsReadable}
-use Rattle.covline.specs.Spells.{LineData, Path, End, Spells}
-use Rattle.covread.specs.Reads.{AllSpell, Part, Section, IsLawfulPart, records_of, sects_from, odd_in}
-use Rattle.covread.specs.TraceSteps.{HeldData, empty, step}
+use Rattle.covline.specs.Spells.{LineData, End}
+use Rattle.covread.specs.Reads.{AllSpell, Part, Section, records_of, sects_from, odd_in}
+use Rattle.covread.specs.TraceSteps.{HeldData, empty}
 use Rattle.covread.proofs.AllOf.{all_append}
 use Rattle.covread.proofs.TraceGrammar.{LineLaw, Place, Between, Within, Accepts, accepts_open, accepts_after_inside, accepts_parts, accepts_after_parts}
 use Rattle.covread.proofs.TraceStands.{AllSpell-append, AllSpell-one, begun, IsLawfulPlace, Stands, stands_end}

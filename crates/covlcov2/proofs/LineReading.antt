@@ -1,5 +1,5 @@
 -- A line is read as it says: what has a form is read as the form's record, and each line has a form or a fault.
-use Rattle.std.proofs.Common.{◌≡◌, ◌≢◌, ℕ, ◌<◌, ◌≤◌, ◌^◌, ◌⊎◌, inl, inr, Bool, true, false, eqb, List, [], ◌∷◌, ◌++◌, length, Option, Some, None, option_map, Result, Ok, Err, refl, sym, ap, subst, ◌∙◌, arith}
+use Rattle.std.proofs.Common.{◌≡◌, ◌≢◌, ℕ, ◌<◌, ◌^◌, ◌⊎◌, inl, inr, Bool, true, false, eqb, List, [], ◌∷◌, ◌++◌, length, Option, Some, None, option_map, Result, Ok, Err, refl, sym, ap, subst, ◌∙◌, arith}
 use Rattle.std.proofs.lemmas.Option.{none-some}
 use Rattle.std.proofs.lemmas.Bool.{false≢true, cases_lt, cases_eq, eq-eqb, ne_eqb}
 use Rattle.std.specs.Prelude.{codes, MatchResult, IfOk, IfErr}
@@ -8,16 +8,16 @@ use Rattle.covline.specs.declared.trace_line.TotalKind.{TotalKind}
 use Rattle.covline.specs.declared.trace_line.TotalKind.TheVariants.{FuncFound, FuncHit, BranchFound, BranchHit, LineFound, LineHit}
 use Rattle.covline.specs.declared.trace_line.LineFault.{LineFault}
 use Rattle.covline.specs.declared.trace_line.LineFault.TheVariants.{BadLine, NumberTooLarge, EmptyPath}
-use Rattle.covline.specs.Spells.{LineData, Test, Path, FuncStart, FuncCount, Branch, Line, Total, End, Skip, comma, digits_value, Begins, key_of, IsNumeral, IsCount, HasForm}
-use Rattle.covline.specs.Reading.{after_key, number_at, number_of, count_at, field_at, taken_of, fit, sized_number, start_of, read_of}
+use Rattle.covline.specs.Spells.{LineData, Test, Path, FuncStart, FuncCount, Branch, Line, Total, End, Skip, comma, digits_value, Begins, IsNumeral, IsCount, HasForm}
+use Rattle.covline.specs.Reading.{after_key, number_at, field_at, fit, sized_number, start_of, read_of}
 use Rattle.covline.proofs.ReadKeys.{begins_or_not, after_key-none}
-use Rattle.covline.proofs.ReadNumbers.{Stops, fit_small, fit_large, count_small, count_large, number_is, BeginsWithNumeral, numeral_or_none, whole_is, whole_or_none, field_is, BeginsWithField, field_or_none, field_read, count_is, BeginsWithCount, count_or_none, count_read, comma_or_none, taken_is, taken_or_none}
+use Rattle.covline.proofs.ReadNumbers.{Stops, fit_small, fit_large, count_small, count_large, number_is, numeral_or_none, whole_is, whole_or_none, field_is, BeginsWithField, field_or_none, field_read, count_is, BeginsWithCount, count_or_none, count_read, comma_or_none, taken_is, taken_or_none}
 use Rattle.covline.proofs.ReadForms.{sized, sized_small, small_or_large}
 use Rattle.covline.proofs.ReadLaws.{form_read, form_or_fault}
 use Rattle.covline.proofs.ReadLaws as one
 use Rattle.covlcov2.specs.declared.line.Lcov2Line.{Lcov2Line}
 use Rattle.covlcov2.specs.Spells.{Lcov2Data, Plain, Leader, Alias, Edge, lcov2_data, HasLcov2Key, IsEndAndName, IsNameIn, IsEnd, IsEdgeLine, IsBelow, HasLcov2Form, HasSmallLcov2Numbers, Lcov2Spells, HasLcov2Fault}
-use Rattle.covlcov2.specs.Reading.{GivesLcov2, plain, if_part, if_fits, if_named, name_or, name_from, name_in, start_fields, end_of, leader_of, leader_fields, alias_of, alias_fields, marks_from, last_cut, branch_name, fit_any, fit_any_count, edge_of, edge_end, edge_fields, read_of_lcov2}
+use Rattle.covlcov2.specs.Reading.{GivesLcov2, plain, if_part, if_named, name_or, name_from, name_in, start_fields, end_of, leader_of, leader_fields, alias_of, alias_fields, last_cut, fit_any, fit_any_count, edge_of, edge_end, edge_fields, read_of_lcov2}
 use Rattle.covlcov2.proofs.EdgeParts.{MarksAt, marks_at, marks_are, blocks_unmarked, has_no_comma, cut_is, CutAt, cut_found, name_read, name_named}
 
 -- ---- sizes

@@ -14,7 +14,7 @@ use Rattle.covread.specs.declared.fault.ReadFault.{ReadFault}
 use Rattle.covread.specs.declared.fault.ReadFault.TheVariants as faults
 use Rattle.covread.specs.declared.trace.reader.OpenSection.{OpenSection}
 use Rattle.covread.specs.Outcome.{max_bytes}
-use Rattle.covread.specs.TraceSteps.{SectionData, HeldData, empty, kept_in, section_data, held_data, step, step_at, ends, ends_at, EndsLawfully}
+use Rattle.covread.specs.TraceSteps.{SectionData, HeldData, empty, kept_in, section_data, held_data, step_at, ends, ends_at, EndsLawfully}
 use Rattle.covread.proofs.AllOf.{all_back}
 use Rattle.covread.proofs.TraceLawful.{held_room}
 use Rattle.covlcov2.specs.Spells.{Lcov2Data, Plain, Leader, Alias, Edge, Lcov2Spells}

@@ -1,5 +1,5 @@
 -- What becomes of a line once the reader of version 1 took its records, or refused one.
-use Rattle.std.proofs.Common.{◌≡◌, ℕ, ◌+◌, ◌<◌, ◌≤◌, ◌^◌, Bool, true, false, ◌&&◌, ◌||◌, List, [], ◌∷◌, ◌++◌, length, Option, Some, None, Result, Ok, Err, refl, sym, ap, subst, ◌∙◌, arith, cond, inl, inr}
+use Rattle.std.proofs.Common.{◌≡◌, ℕ, ◌+◌, ◌<◌, ◌≤◌, ◌^◌, Bool, true, false, ◌&&◌, List, [], ◌∷◌, length, Option, Some, None, Result, Ok, Err, refl, sym, ap, subst, ◌∙◌, arith, cond, inl, inr}
 use Rattle.std.specs.Prelude.{option_map, is_some}
 use Rattle.std.specs.List.{list_any}
 use Rattle.std.proofs.lemmas.List.{length-append}
@@ -8,11 +8,10 @@ use Rattle.covline.specs.declared.trace_line.TotalKind.{TotalKind}
 use Rattle.covline.specs.declared.trace_line.TotalKind.TheVariants.{FuncFound, FuncHit, BranchFound, BranchHit, LineFound, LineHit}
 use Rattle.covline.specs.Spells.{LineData, Test, Path, FuncStart, FuncCount, Branch, Line, Total, End, Skip}
 use Rattle.covread.specs.declared.trace.placement_fault.PlacementFault.{PlacementFault}
-use Rattle.covread.specs.declared.trace.placement_fault.PlacementFault.TheVariants as version1
 use Rattle.covread.specs.declared.trace.reader.OpenSection.{OpenSection}
 use Rattle.covread.specs.declared.trace.reader.Reader.{Reader}
 use Rattle.covread.specs.Outcome as outcome1
-use Rattle.covread.specs.TraceSteps.{SectionData, HeldData, section_data, held_data, kept, kept_in, GrowsAt, IsOpen, Steps, step, step_at}
+use Rattle.covread.specs.TraceSteps.{SectionData, HeldData, section_data, held_data, kept, kept_in, GrowsAt, IsOpen, step, step_at}
 use Rattle.covread.proofs.TraceLoop.{open_length}
 use Rattle.covlcov2.specs.declared.take_fault.TakeFault.{TakeFault}
 use Rattle.covlcov2.specs.declared.take_fault.TakeFault.TheVariants as why
@@ -21,8 +20,8 @@ use Rattle.covlcov2.specs.declared.reader.Lcov2Reader.{Lcov2Reader}
 use Rattle.covlcov2.specs.Spells.{Lcov2Data, Plain, Leader, Alias, Edge}
 use Rattle.covlcov2.specs.Reads.{leader, is_leader, is_expression, expressions, total_said, alias_said, said, above_after}
 use Rattle.covlcov2.specs.Outcome.{NeedsSection, NeedsOutside}
-use Rattle.covlcov2.specs.Run.{StepsTo, Taken, IsWithin, IsOutside, IsInside, IsMisplaced, Grows, Stopped}
-use Rattle.covlcov2.specs.Steps.{HasLeaders, HasExpressions, AreIndexes, AreOpenIndexes, IsHeld, IsNoPath, Lcov2Steps, counts_functions, Given, IsQuiet, StandsFor}
+use Rattle.covlcov2.specs.Run.{StepsTo, IsWithin, IsMisplaced, Grows}
+use Rattle.covlcov2.specs.Steps.{AreIndexes, AreOpenIndexes, IsHeld, IsNoPath, Lcov2Steps, counts_functions, Given, IsQuiet, StandsFor}
 
 -- ---- one record
 
@@ -123,8 +122,8 @@ passed (Ok done) old plain above inside line says is stands given =
       is_open = given.2;
       grouped = is.grouped ∙ same_leaders line above stands.quiet.no_leader;
       indexes = indexes_if plain.section given.0 old.indexes (line ∷ above) (λ w.
-      same_indexes old.indexes above line stands.quiet
-      (open_indexes old.plain.section inside old.indexes above (was_open held.section held (held_data plain given.0) says refl stands.no_path given.1 w) is.indexes));
+          same_indexes old.indexes above line stands.quiet
+          (open_indexes old.plain.section inside old.indexes above (was_open held.section held (held_data plain given.0) says refl stands.no_path given.1 w) is.indexes));
     } in
     (says ∷ [], given.0, stands.alone, (held_data plain given.0, given.1, refl), subst (λ (x : List Lcov2Data). IsHeld new x given.0) (sym stands.after) after)
 passed {T = T} (Err w) old plain above inside line says is stands given =

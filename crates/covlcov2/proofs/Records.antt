@@ -1,8 +1,7 @@
 -- The records that a line stands for can be printed, and are few.
-use Rattle.std.proofs.Common.{◌≡◌, ℕ, ◌+◌, ◌<◌, ◌≤◌, ◌^◌, Bool, true, false, eqb, List, [], ◌∷◌, ◌++◌, length, Option, Some, None, refl, sym, ap, subst, ◌∙◌, append_assoc, arith, inl, inr}
+use Rattle.std.proofs.Common.{◌≡◌, ℕ, ◌+◌, ◌<◌, ◌≤◌, ◌^◌, Bool, true, false, eqb, List, [], ◌∷◌, ◌++◌, length, Option, Some, None, refl, ap, subst, arith, inl, inr}
 use Rattle.std.specs.Prelude.{codes, IfSome, if◌then◌else◌}
-use Rattle.std.specs.List.{list_any, sum_by, AllByRecursion}
-use Rattle.std.proofs.lemmas.List.{length-append}
+use Rattle.std.specs.List.{list_any, AllByRecursion}
 use Rattle.std.proofs.lemmas.List.Sums.{count_by-le-length}
 use Rattle.covline.specs.declared.trace_line.TotalKind.{TotalKind}
 use Rattle.covline.specs.declared.trace_line.TotalKind.TheVariants.{FuncFound, FuncHit, BranchFound, BranchHit, LineFound, LineHit}
@@ -10,7 +9,7 @@ use Rattle.covline.specs.Lawful.{IsGoodTest, IsGoodName}
 use Rattle.covline.specs.LineLaws.{GoodRest}
 use Rattle.covline.specs.Printed.{IsReadable}
 use Rattle.covline.specs.Spells.{LineData, Test, Path, FuncStart, FuncCount, Branch, Line, Total, End, Skip, comma, key_of, HasSmallNumbers}
-use Rattle.covlcov2.specs.Spells.{Lcov2Data, Plain, Leader, Alias, Edge, IsNameIn, IsBelow, HasLcov2Form, HasSmallLcov2Numbers, Lcov2Spells}
+use Rattle.covlcov2.specs.Spells.{Lcov2Data, Plain, Leader, Alias, Edge, IsNameIn, IsBelow, HasSmallLcov2Numbers, Lcov2Spells}
 use Rattle.covlcov2.specs.Reads.{leader, is_leader, is_expression, expressions, total_said, plain_said, alias_said, edge_said, said, above_after}
 
 abbrev some_of : List LineData → Option (List LineData)
@@ -97,7 +96,6 @@ readable good_rest line above (Alias index count name) now good small few_above 
     let rest = after_comma good_rest (codes "FNA:") form.0 (form.1 ++ comma ∷ name) line form.2 good in
     alias_readable (leader index above) count name now (leader_small index above small) spells.small.1
     (record { fits = after_comma good_rest [] form.1 name (form.1 ++ comma ∷ name) refl rest; some = form.5 }) e
-
 readable good_rest line above (Edge is_excluded number block branch taken) now good small few_above spells e =
     subst (λ (x : List LineData). AllByRecursion IsReadable x) (same_some (edge_said above is_excluded number block branch taken) now e)
     (edge_readable above is_excluded number block branch taken few_above spells.small)

@@ -1,7 +1,7 @@
 -- What is held after the last line is the outcome, and a line that isn't taken is the first fault.
-use Rattle.std.proofs.Common.{◌≡◌, ℕ, ◌+◌, ◌≤◌, List, [], ◌∷◌, ◌++◌, length, map, Option, Some, None, Result, Ok, Err, refl, sym, ap, subst, ◌∙◌, arith, inl, inr}
+use Rattle.std.proofs.Common.{◌≡◌, ℕ, ◌+◌, ◌≤◌, List, [], ◌∷◌, ◌++◌, length, map, Option, Some, None, Err, refl, sym, ap, subst, ◌∙◌, arith, inl, inr}
 use Rattle.std.specs.Prelude.{◌⊎◌}
-use Rattle.std.specs.List.{flat_map, sum_by}
+use Rattle.std.specs.List.{flat_map}
 use Rattle.std.proofs.lemmas.List.{append-nil, length-map}
 use Rattle.covline.specs.declared.trace_line.TotalKind.{TotalKind}
 use Rattle.covline.specs.declared.trace_line.TotalKind.TheVariants.{FuncFound, FuncHit, BranchFound, BranchHit, LineFound, LineHit}
@@ -131,12 +131,12 @@ module _ (laws : Laws) (text : List ℕ) (before : List (List ℕ)) (line : List
           line,
           stop.1,
           first_faulty laws before line above held after (lines_of text) h (λ says now later spells stands a.
-          let one : says ≡ stop.1 = laws.lcov2.meaning line says stop.1 spells stop.2 in
-          let now_is : said above stop.1 ≡ Some now = ap (said above) (sym one) ∙ stands in
-          elim is.lacks [
-            | inl none ↦ some_isnt_none now (sym none ∙ now_is)
-            | inr none ↦ misplaced_stops above stop.1 now later is.needs now_is (subst (λ (p : Place). Accepts p (now ++ later)) (place_is before above held h none) a)
-          ]) e,
+              let one : says ≡ stop.1 = laws.lcov2.meaning line says stop.1 spells stop.2 in
+              let now_is : said above stop.1 ≡ Some now = ap (said above) (sym one) ∙ stands in
+              elim is.lacks [
+                | inl none ↦ some_isnt_none now (sym none ∙ now_is)
+                | inr none ↦ misplaced_stops above stop.1 now later is.needs now_is (subst (λ (p : Place). Accepts p (now ++ later)) (place_is before above held h none) a)
+              ]) e,
           stop.2,
           is.needs,
         ),

@@ -1,5 +1,5 @@
 -- Each text has an outcome: walked line by line, it is a lawful text or has a first fault.
-use Rattle.std.proofs.Common.{◌≡◌, ℕ, ◌+◌, ◌<◌, ◌≤◌, Bool, true, false, List, [], ◌∷◌, ◌++◌, length, Option, Some, None, Result, Ok, Err, refl, sym, ap, subst, ◌∙◌, append_assoc, inl, inr}
+use Rattle.std.proofs.Common.{◌≡◌, ℕ, ◌+◌, ◌≤◌, Bool, true, false, List, [], ◌∷◌, ◌++◌, length, Option, Some, None, Result, Ok, Err, refl, sym, subst, ◌∙◌, append_assoc, inl, inr}
 use Rattle.std.specs.Prelude.{◌⊎◌}
 use Rattle.std.specs.List.{list_any}
 use Rattle.std.proofs.lemmas.Bool.{cases_lt}
@@ -8,15 +8,15 @@ use Rattle.covline.specs.declared.trace_line.TotalKind.{TotalKind}
 use Rattle.covline.specs.declared.trace_line.TotalKind.TheVariants.{FuncFound, FuncHit, BranchFound, BranchHit, LineFound, LineHit}
 use Rattle.covline.specs.Lines.{lines_of}
 use Rattle.covline.specs.Row.{SubmissionData}
-use Rattle.covline.specs.Spells.{LineData, Test, Path, FuncStart, FuncCount, Branch, Line, Total, End, Skip}
+use Rattle.covline.specs.Spells.{LineData, Test, Path, FuncStart, FuncCount, Branch, Total, End, Skip}
 use Rattle.covread.specs.declared.fault.ReadFault.{ReadFault}
 use Rattle.covread.specs.declared.fault.ReadFault.TheVariants as faults
 use Rattle.covread.specs.Outcome as version1
 use Rattle.covread.specs.TraceSteps.{SectionData, HeldData, empty, kept, step, step_at, ends, ends_at}
-use Rattle.covlcov2.specs.Spells.{Lcov2Data, Plain, Leader, Alias, Edge, Lcov2Spells}
-use Rattle.covlcov2.specs.Reads.{leader, is_leader, total_said, plain_said, alias_said, edge_said, said, above_after}
+use Rattle.covlcov2.specs.Spells.{Lcov2Data, Plain, Leader, Alias, Edge}
+use Rattle.covlcov2.specs.Reads.{leader, is_leader, total_said, alias_said, said, above_after}
 use Rattle.covlcov2.specs.Outcome.{NeedsSection, NeedsOutside, IsOutcome, Answers}
-use Rattle.covlcov2.specs.Run.{StepsTo, Taken, IsWithin, IsOutside, IsInside, IsMisplaced, Stopped}
+use Rattle.covlcov2.specs.Run.{StepsTo, IsWithin, IsOutside, IsInside, IsMisplaced, Stopped}
 use Rattle.covlcov2.proofs.Holds.{Laws, Lcov2Holds, holds_nothing}
 use Rattle.covlcov2.proofs.Runs.{holds_end, stop_first}
 use Rattle.covlcov2.proofs.Loop.{holds_next}

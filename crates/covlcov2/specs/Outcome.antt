@@ -2,7 +2,7 @@
 use Rattle.std.specs.Prelude.{◌⊎◌, ◌≡◌, ℕ, ◌+◌, ◌<◌, ◌≤◌, List, [], ◌∷◌, ◌++◌, length, Result, Ok, Err}
 use Rattle.covline.specs.Row.{SubmissionData}
 use Rattle.covline.specs.Lines.{lines_of}
-use Rattle.covline.specs.Spells.{LineData, Path}
+use Rattle.covline.specs.Spells.{Path}
 use Rattle.covread.specs.declared.fault.ReadFault.{ReadFault}
 use Rattle.covread.specs.declared.fault.ReadFault.TheVariants as faults
 use Rattle.covread.specs.Outcome as version1

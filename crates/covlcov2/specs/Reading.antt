@@ -1,6 +1,6 @@
 -- How a line of LCOV 2 is read: first its key, and then the key's fields from left to right. `proofs/LineReading.antt` proves
 -- that this agrees with `Spells`.
-use Rattle.std.specs.Prelude.{ℕ, ◌≡◌, ◌==◌, ◌||◌, Bool, true, false, if◌then◌else◌, List, [], ◌∷◌, Option, Some, None, Result, Ok, Err, codes, option_map}
+use Rattle.std.specs.Prelude.{ℕ, ◌≡◌, ◌==◌, ◌||◌, Bool, false, if◌then◌else◌, List, [], ◌∷◌, Option, Some, None, Result, Ok, Err, codes, option_map}
 use Rattle.covline.specs.declared.reader.Number.{Number}
 use Rattle.covline.specs.declared.trace_line.LineFault.{LineFault}
 use Rattle.covline.specs.declared.trace_line.LineFault.TheVariants.{BadLine}

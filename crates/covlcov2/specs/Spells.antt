@@ -4,7 +4,6 @@ use Rattle.std.specs.Prelude.{◌≡◌, ◌≢◌, ℕ, ◌<◌, ◌^◌, ◌�
 use Rattle.std.specs.List.{list_any}
 use Rattle.covline.specs.declared.trace_line.LineFault.{LineFault}
 use Rattle.covline.specs.declared.trace_line.LineFault.TheVariants.{BadLine, NumberTooLarge, EmptyPath}
-use Rattle.covline.specs.Lines.{lines_of}
 use Rattle.covline.specs.Spells.{LineData, FuncStart, Branch, Skip, line_data, comma, Begins, BeginsWithOneOf, keys, IsNumeral, IsCount, IsTaken, HasForm, HasSmallNumbers}
 use Rattle.covlcov2.specs.declared.line.Lcov2Line.{Lcov2Line}
 use Rattle.covlcov2.specs.declared.line.Lcov2Line.TheVariants as lines

@@ -229,10 +229,8 @@ fn counts_functions(kind: TotalKind) -> bool
 {
     match kind {
         TotalKind::FuncFound | TotalKind::FuncHit => true,
-        TotalKind::BranchFound
-        | TotalKind::BranchHit
-        | TotalKind::LineFound
-        | TotalKind::LineHit => false,
+        TotalKind::BranchFound | TotalKind::BranchHit | TotalKind::LineFound | TotalKind::LineHit =>
+            false,
     }
 }
 

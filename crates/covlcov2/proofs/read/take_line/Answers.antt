@@ -1,4 +1,3 @@
-use Rattle.std.proofs.Common.{refl}
 use Rattle.covread.specs.TraceSteps.{held_data}
 use Rattle.covlcov2.specs.Spells.{lcov2_data}
 use Rattle.covlcov2.proofs.Loop.{stops_so, takes_so}
