@@ -7,4 +7,5 @@ pub mod OneOutcome
 pub mod Walk
 pub mod Loop
 pub mod Passing
+pub mod Fast
 pub mod Blocks

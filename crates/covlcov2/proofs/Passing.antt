@@ -86,7 +86,7 @@ nothing_said r above inside line quiet after e is =
 
 -- ---- a refused record
 
-grows_from : (section : Option SectionData) (says : LineData) (line : Lcov2Data) → IsNoPath says → GrowsAt section says → Grows section line
+pub grows_from : (section : Option SectionData) (says : LineData) (line : Lcov2Data) → IsNoPath says → GrowsAt section says → Grows section line
 grows_from None (Path path) line no_path grows = absurd no_path
 grows_from None (Test name) line no_path grows = absurd grows
 grows_from None (FuncStart number name) line no_path grows = absurd grows

@@ -1,9 +1,9 @@
 //! Reads a tracefile of LCOV 2: one pass over its text, forward.
 
-ghost use Rattle.std.specs.Prelude.{◌≡◌, ◌≤◌, ◌<◌, ◌∷◌, ℕ, IfOk, length, List, Result};
+ghost use Rattle.std.specs.Prelude.{◌≡◌, ◌≤◌, ◌<◌, ◌∷◌, ℕ, IfOk, length, List, Option, Result, option_map};
 ghost use Rattle.covline.specs.Row.{SubmissionData};
 ghost use Rattle.covline.specs.Lines.{lines_of};
-ghost use Rattle.covline.specs.Spells.{LineData};
+ghost use Rattle.covline.specs.Spells.{LineData, Branch, Line, Spells};
 ghost use Rattle.covread.specs.declared.fault.ReadFault.{ReadFault as Fault};
 ghost use Rattle.covread.specs.Outcome.{max_bytes, IsOrMemory};
 ghost use Rattle.covread.specs.TraceSteps.{held_data};
@@ -15,8 +15,11 @@ use crate::laws::each_lcov2_line_has_one_meaning;
 use crate::read_line::read_lcov2_line;
 use crate::reader::Lcov2Reader;
 use covline::laws::printed_records_spell;
-use covline::{Submission, each_line_has_one_meaning, first_line, lines_are_the_text};
-use covread::{MAX_BYTES, ReadFault};
+use covline::{
+    BranchPoint, Submission, each_line_has_one_meaning, first_line, lines_are_the_text,
+    try_branch_line, try_line_count,
+};
+use covread::{MAX_BYTES, ReadFault, take_branch, take_line_count};
 use std::alloc::Allocator;
 
 /// Reads a tracefile of LCOV 2 (geninfo(1) of LCOV 2.x, TRACEFILE FORMAT). Returns the submission that its lines make, or the
@@ -61,6 +64,8 @@ fn read_lines<'a, A: Allocator + Copy>(
 }
 
 /// Takes the first line of `text`, which is the rest of a text, and returns what follows the line. `at` is the line's number.
+/// Most lines are counts of a source line or of a branch without marks. These two are tried first, before the line is cut from
+/// the text.
 #[inline]
 fn take_first<'a, A: Allocator + Copy>(
     reader: &mut Lcov2Reader<'a, A>,
@@ -73,9 +78,47 @@ fn take_first<'a, A: Allocator + Copy>(
     ensures { (line left : List ℕ) × (lines_of text.now ≡ line ∷ lines_of left) × IfOk result (λ rest. rest.now ≡ left)
         × ((above : List Lcov2Data) (inside : List LineData) → IsHeld reader.old above inside → TakesLcov2Line result above (held_data reader.old.plain inside) reader.new line at) }
 {
+    if let Some(first) = try_line_count(text) {
+        take_count(reader, alloc, at, first.line, first.count, first.checksum)?;
+        return Ok(first.rest);
+    }
+    if let Some(first) = try_branch_line(text) {
+        take_plain_branch(reader, at, first.point, first.taken)?;
+        return Ok(first.rest);
+    }
     let (line, rest) = first_line(text);
     take_line(reader, alloc, at, line)?;
     Ok(rest)
+}
+
+/// Takes the count of a source line. `at` is the number of the tracefile's line that says it.
+#[inline]
+fn take_count<A: Allocator + Copy>(
+    reader: &mut Lcov2Reader<'_, A>,
+    alloc: A,
+    at: u64,
+    line: u64,
+    count: u64,
+    checksum: Option<&[u8]>,
+) -> Result<(), ReadFault>
+    requires { (above : List Lcov2Data) × (inside : List LineData) × HasLineRoom reader.old above inside }
+    ensures { (text : List ℕ) → Spells text (Line line count (option_map (λ c. c.now) checksum.entry)) → (above : List Lcov2Data) (inside : List LineData) → IsHeld reader.old above inside → TakesLcov2Line result above (held_data reader.old.plain inside) reader.new text at }
+{
+    take_line_count(&mut reader.plain, alloc, at, line, count, checksum)
+}
+
+/// Takes how often a branch without marks was taken. `at` is the number of the tracefile's line that says it.
+#[inline]
+fn take_plain_branch<A: Allocator + Copy>(
+    reader: &mut Lcov2Reader<'_, A>,
+    at: u64,
+    point: BranchPoint,
+    taken: Option<u64>,
+) -> Result<(), ReadFault>
+    requires { (above : List Lcov2Data) × (inside : List LineData) × HasLineRoom reader.old above inside }
+    ensures { (text : List ℕ) → Spells text (Branch point.line point.block point.branch taken) → (above : List Lcov2Data) (inside : List LineData) → IsHeld reader.old above inside → TakesLcov2Line result above (held_data reader.old.plain inside) reader.new text at }
+{
+    take_branch(&mut reader.plain, at, point, taken)
 }
 
 /// Takes the line with this number.
