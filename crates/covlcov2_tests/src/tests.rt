@@ -37,6 +37,18 @@ fn fault_of(alloc: Global, text: &[u8]) -> Result<String, Fail> {
     })
 }
 
+/// Checks the words of the text's fault.
+fn check_fault(
+    rt: &(impl Abort + AllocGlobal),
+    name: &[u8],
+    text: &[u8],
+    wanted: &[u8],
+) -> Result<(), Fail> {
+    let fault = fault_of(rt.alloc(), text)?;
+    assert!(rt; fault.as_bytes() == wanted, "{name:?}: {fault}");
+    Ok(())
+}
+
 /// Appends a line.
 fn push_line(text: &mut Vec<u8>, line: &[u8]) -> Result<(), Fail> {
     text.extend_from_slice(line)?;

@@ -1,22 +1,15 @@
 //! The faults of texts.
 
-use super::{fault_of, push_line};
+use super::{check_fault, push_line};
 use std::process::Abort;
 use std::test::*;
-
-/// Checks the fault of the text.
-fn check_one(rt: &(impl Abort + AllocGlobal), text: &[u8], wanted: &[u8]) -> Result<(), Fail> {
-    let fault = fault_of(rt.alloc(), text)?;
-    assert!(rt; fault.as_bytes() == wanted, "{text:?}: {fault}");
-    Ok(())
-}
 
 /// Checks the faults of texts, one after the other. A line that begins with `= ` ends a text and has its fault.
 fn check_all(rt: &(impl Abort + AllocGlobal), examples: &[u8]) -> Result<(), Fail> {
     let mut text = Vec::new(rt.alloc());
     for line in examples.split(|byte| *byte == b'\n') {
         if let Some(wanted) = line.strip_prefix(b"= ") {
-            check_one(rt, text.as_slice(), wanted)?;
+            check_fault(rt, text.as_slice(), text.as_slice(), wanted)?;
             text.clear();
         } else {
             push_line(&mut text, line)?;
