@@ -8,4 +8,5 @@ pub mod Walk
 pub mod Loop
 pub mod Passing
 pub mod Fast
+pub mod MarkedLines
 pub mod Blocks

@@ -5,3 +5,4 @@ pub mod Reads
 pub mod Outcome
 pub mod Run
 pub mod Steps
+pub mod Fronts

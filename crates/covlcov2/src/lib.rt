@@ -7,6 +7,7 @@
 mod indexes;
 mod laws;
 mod line;
+mod marked;
 mod read;
 mod read_line;
 mod reader;

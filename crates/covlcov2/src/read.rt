@@ -1,17 +1,18 @@
 //! Reads a tracefile of LCOV 2: one pass over its text, forward.
 
-ghost use Rattle.std.specs.Prelude.{◌≡◌, ◌≤◌, ◌<◌, ◌∷◌, ℕ, IfOk, length, List, Option, Result, option_map};
+ghost use Rattle.std.specs.Prelude.{◌≡◌, ◌≤◌, ◌<◌, ◌∷◌, ℕ, IfOk, length, List, Option, Some, false, Result, option_map};
 ghost use Rattle.covline.specs.Row.{SubmissionData};
 ghost use Rattle.covline.specs.Lines.{lines_of};
 ghost use Rattle.covline.specs.Spells.{LineData, Branch, Line, Spells};
 ghost use Rattle.covread.specs.declared.fault.ReadFault.{ReadFault as Fault};
 ghost use Rattle.covread.specs.Outcome.{max_bytes, IsOrMemory};
 ghost use Rattle.covread.specs.TraceSteps.{held_data};
-ghost use Rattle.covlcov2.specs.Spells.{Lcov2Data};
+ghost use Rattle.covlcov2.specs.Spells.{Lcov2Data, Edge, Lcov2Spells};
 ghost use Rattle.covlcov2.specs.Outcome.{IsOutcome, Answers, GrowsLate};
 ghost use Rattle.covlcov2.specs.Steps.{HasLineRoom, IsHeld, ReadsTo, TakesLcov2Line};
 
 use crate::laws::each_lcov2_line_has_one_meaning;
+use crate::marked::try_marked_branch;
 use crate::read_line::read_lcov2_line;
 use crate::reader::Lcov2Reader;
 use covline::laws::printed_records_spell;
@@ -64,8 +65,7 @@ fn read_lines<'a, A: Allocator + Copy>(
 }
 
 /// Takes the first line of `text`, which is the rest of a text, and returns what follows the line. `at` is the line's number.
-/// Most lines are counts of a source line or of a branch without marks. These two are tried first, before the line is cut from
-/// the text.
+/// Most lines are counts of a source line or of a branch. These are tried first, before the line is cut from the text.
 #[inline]
 fn take_first<'a, A: Allocator + Copy>(
     reader: &mut Lcov2Reader<'a, A>,
@@ -84,6 +84,10 @@ fn take_first<'a, A: Allocator + Copy>(
     }
     if let Some(first) = try_branch_line(text) {
         take_plain_branch(reader, at, first.point, first.taken)?;
+        return Ok(first.rest);
+    }
+    if let Some(first) = try_marked_branch(text) {
+        take_marked_branch(reader, at, first.point, first.taken)?;
         return Ok(first.rest);
     }
     let (line, rest) = first_line(text);
@@ -117,6 +121,20 @@ fn take_plain_branch<A: Allocator + Copy>(
 ) -> Result<(), ReadFault>
     requires { (above : List Lcov2Data) × (inside : List LineData) × HasLineRoom reader.old above inside }
     ensures { (text : List ℕ) → Spells text (Branch point.line point.block point.branch taken) → (above : List Lcov2Data) (inside : List LineData) → IsHeld reader.old above inside → TakesLcov2Line result above (held_data reader.old.plain inside) reader.new text at }
+{
+    take_branch(&mut reader.plain, at, point, taken)
+}
+
+/// Takes how often a branch with a mark was taken. `at` is the number of the tracefile's line that says it.
+#[inline]
+fn take_marked_branch<A: Allocator + Copy>(
+    reader: &mut Lcov2Reader<'_, A>,
+    at: u64,
+    point: BranchPoint,
+    taken: Option<u64>,
+) -> Result<(), ReadFault>
+    requires { (above : List Lcov2Data) × (inside : List LineData) × HasLineRoom reader.old above inside }
+    ensures { (text : List ℕ) → Lcov2Spells text (Edge false point.line point.block (Some point.branch) taken) → (above : List Lcov2Data) (inside : List LineData) → IsHeld reader.old above inside → TakesLcov2Line result above (held_data reader.old.plain inside) reader.new text at }
 {
     take_branch(&mut reader.plain, at, point, taken)
 }
