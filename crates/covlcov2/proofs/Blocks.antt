@@ -9,9 +9,9 @@ use Rattle.std.specs.Ordering.{nat_cmp, is_eq, ordering_then}
 use Rattle.std.specs.declared.cmp.Ordering.{Ordering}
 use Rattle.std.specs.declared.cmp.Ordering.TheVariants.{Less, Equal, Greater}
 use Rattle.covlcov2.specs.declared.indexes.Block.{Block}
-use Rattle.covlcov2.specs.Spells.{Lcov2Data, Leader, Edge}
+use Rattle.covlcov2.specs.Spells.{Lcov2Data, Edge}
 use Rattle.covlcov2.specs.Reads.{is_expression, expressions}
-use Rattle.covlcov2.specs.Steps.{block_cmp, HasLeaders, HasExpressions}
+use Rattle.covlcov2.specs.Steps.{block_cmp, HasExpressions}
 
 strict : (a b : ℕ) → b ≤ a → a ≢ b → b < a
 strict a b le differ =
@@ -40,10 +40,6 @@ block_test a b =
     both_eq (nat_cmp a.line b.line) (nat_cmp a.block b.block)
     ∙ ap (λ (x : Bool). x && is_eq (nat_cmp a.block b.block)) (eq_test a.line b.line)
     ∙ ap (λ (x : Bool). eqb a.line b.line && x) (eq_test a.block b.block)
-
-pub leader_push : (old new : BTreeMap ℕ ℕ) (above : List Lcov2Data) (index line : ℕ) → Updates nat_cmp old new index (Some line) → HasLeaders old above → HasLeaders new (Leader index line ∷ above)
-leader_push old new above index line u h = λ q.
-    u.0 q ∙ ap (λ (b : Bool). cond b (Some line) (get nat_cmp old q)) (eq_test index q) ∙ ap (λ (o : Option ℕ). cond (eqb index q) (Some line) o) (h q)
 
 -- the count of a block with one more expression in it, or in another block
 counted : (test : Bool) (found : Option ℕ) (count n : ℕ) → (test ≡ true → n ≡ unwrap_or found 0) → unwrap_or found 0 ≡ count → unwrap_or (cond test (Some (n + 1)) found) 0 ≡ cond test 1 0 + count

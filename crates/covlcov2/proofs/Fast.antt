@@ -2,7 +2,7 @@
 use Rattle.std.proofs.Common.{◌≡◌, ℕ, List, [], false, Option, Some, None, Result, Ok, Err, refl, sym, ap, subst, ◌∙◌}
 use Rattle.std.proofs.Common.{false}
 use Rattle.std.proofs.lemmas.List.Elements.{All-nil}
-use Rattle.covline.specs.Spells.{LineData, Test, Path, FuncStart, FuncCount, Branch, Line, Total, End, Skip, HasSmallNumbers, Spells}
+use Rattle.covline.specs.Spells.{LineData, Test, Path, Branch, Line, End, Skip, HasSmallNumbers, Spells}
 use Rattle.covline.specs.Printed.{line_text}
 use Rattle.covline.proofs.PrintedLaws.{printed-spells}
 use Rattle.covline.proofs.ReadLaws.{one_meaning, no_fault_beside}
@@ -11,10 +11,9 @@ use Rattle.covread.specs.declared.fault.ReadFault.TheVariants as faults
 use Rattle.covread.specs.declared.trace.placement_fault.PlacementFault.{PlacementFault}
 use Rattle.covread.specs.declared.trace.placement_fault.PlacementFault.TheVariants as version1
 use Rattle.covread.specs.declared.trace.reader.Reader.{Reader}
-use Rattle.covread.specs.Outcome as outcome1
+use Rattle.covread.specs.Outcome as version1_outcome
 use Rattle.covread.specs.TraceSteps.{SectionData, HeldData, held_data, GrowsAt, TakesLine, step, step_at}
 use Rattle.covlcov2.specs.declared.reader.Lcov2Reader.{Lcov2Reader}
-use Rattle.covlcov2.specs.declared.take_fault.TakeFault.{TakeFault}
 use Rattle.covlcov2.specs.Spells.{Lcov2Data, Plain, Edge, IsMark, HasSmallLcov2Numbers, Lcov2Spells}
 use Rattle.covlcov2.specs.Run.{IsWithin, Stopped}
 use Rattle.covlcov2.specs.Steps.{IsHeld, StandsFor, TakesLcov2Line}
@@ -29,7 +28,7 @@ no_error x m e = absurd cc
 two_errors : (let a : Result HeldData PlacementFault = Err version1.Outside in let b : Result HeldData PlacementFault = Err version1.Inside in a ≡ b) → ⊥
 two_errors e = absurd cc
 
-is_outside : (section : Option SectionData) (held : HeldData) (says : LineData) → step_at section held says ≡ Err version1.Outside → (section ≡ None) × outcome1.NeedsSection says
+is_outside : (section : Option SectionData) (held : HeldData) (says : LineData) → step_at section held says ≡ Err version1.Outside → (section ≡ None) × version1_outcome.NeedsSection says
 is_outside None held (Test name) e = absurd (no_error _ _ e)
 is_outside None held (Path path) e = absurd (no_error _ _ e)
 is_outside None held Skip e = absurd (no_error _ _ e)
@@ -40,7 +39,7 @@ is_outside (Some s) held End e = absurd (no_error _ _ e)
 is_outside (Some s) held Skip e = absurd (no_error _ _ e)
 is_outside (Some s) held says e = absurd (no_error _ _ e)
 
-is_inside : (section : Option SectionData) (held : HeldData) (says : LineData) → step_at section held says ≡ Err version1.Inside → IsWithin section × outcome1.NeedsOutside says
+is_inside : (section : Option SectionData) (held : HeldData) (says : LineData) → step_at section held says ≡ Err version1.Inside → IsWithin section × version1_outcome.NeedsOutside says
 is_inside None held (Test name) e = absurd (no_error _ _ e)
 is_inside None held (Path path) e = absurd (no_error _ _ e)
 is_inside None held Skip e = absurd (no_error _ _ e)

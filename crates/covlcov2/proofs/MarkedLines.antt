@@ -1,6 +1,6 @@
 -- Texts that begin with a `BRDA:` line with one mark: how this line is read in one pass, and what it says. Without its mark it is a
 -- line of version 1.
-use Rattle.std.proofs.Common.{◌≡◌, ◌≢◌, ℕ, ◌<◌, ◌^◌, inl, inr, Bool, true, false, eqb, ◌||◌, List, [], ◌∷◌, ◌++◌, All, Option, Some, None, option_map, refl, sym, ap, subst, ◌∙◌, arith, append_assoc}
+use Rattle.std.proofs.Common.{◌≡◌, ◌≢◌, ℕ, ◌<◌, ◌^◌, inl, inr, true, false, eqb, List, [], ◌∷◌, ◌++◌, All, Option, Some, None, option_map, refl, sym, ap, subst, ◌∙◌, arith, append_assoc}
 use Rattle.std.specs.Prelude.{codes, IfSome}
 use Rattle.std.specs.List.{list_any}
 use Rattle.std.specs.Option.{option_and_then}
@@ -18,7 +18,7 @@ use Rattle.covline.proofs.BranchLines.{branch_seen, branch_form}
 use Rattle.covline.proofs.Cut.{HasNoFeed, NoReturn, lines_at, strip-none}
 use Rattle.covline.proofs.ReadNumbers.{field_is}
 use Rattle.covline.proofs.SmallNumbers.{after_some, same_some, small_field_has, small_is}
-use Rattle.covlcov2.specs.Spells.{Lcov2Data, Edge, is_mark, is_exclusion, IsMark, IsBelow, Lcov2Spells}
+use Rattle.covlcov2.specs.Spells.{Edge, is_mark, is_exclusion, IsMark, IsBelow}
 use Rattle.covlcov2.specs.Fronts.{BeginsWithLcov2Line, after_mark, marked_after_line, marked_after_key, marked_front}
 
 -- ---- lines without a line feed, which don't end in a carriage return

@@ -1,8 +1,7 @@
 -- What becomes of a line once the reader of version 1 took its records, or refused one.
-use Rattle.std.proofs.Common.{◌≡◌, ℕ, ◌+◌, ◌<◌, ◌≤◌, ◌^◌, Bool, true, false, ◌&&◌, List, [], ◌∷◌, length, Option, Some, None, Result, Ok, Err, refl, sym, ap, subst, ◌∙◌, arith, cond, inl, inr}
+use Rattle.std.proofs.Common.{◌≡◌, ℕ, Bool, true, false, List, [], ◌∷◌, Option, Some, None, Result, Ok, Err, refl, sym, ap, subst, ◌∙◌, arith, cond}
 use Rattle.std.specs.Prelude.{option_map, is_some}
 use Rattle.std.specs.List.{list_any}
-use Rattle.std.proofs.lemmas.List.{length-append}
 use Rattle.std.proofs.lemmas.List.Sums.{sum_by-cons}
 use Rattle.covline.specs.declared.trace_line.TotalKind.{TotalKind}
 use Rattle.covline.specs.declared.trace_line.TotalKind.TheVariants.{FuncFound, FuncHit, BranchFound, BranchHit, LineFound, LineHit}
@@ -10,9 +9,8 @@ use Rattle.covline.specs.Spells.{LineData, Test, Path, FuncStart, FuncCount, Bra
 use Rattle.covread.specs.declared.trace.placement_fault.PlacementFault.{PlacementFault}
 use Rattle.covread.specs.declared.trace.reader.OpenSection.{OpenSection}
 use Rattle.covread.specs.declared.trace.reader.Reader.{Reader}
-use Rattle.covread.specs.Outcome as outcome1
-use Rattle.covread.specs.TraceSteps.{SectionData, HeldData, section_data, held_data, kept, kept_in, GrowsAt, IsOpen, step, step_at}
-use Rattle.covread.proofs.TraceLoop.{open_length}
+use Rattle.covread.specs.Outcome as version1_outcome
+use Rattle.covread.specs.TraceSteps.{SectionData, HeldData, section_data, held_data, kept, GrowsAt, IsOpen, step, step_at}
 use Rattle.covlcov2.specs.declared.take_fault.TakeFault.{TakeFault}
 use Rattle.covlcov2.specs.declared.take_fault.TakeFault.TheVariants as why
 use Rattle.covlcov2.specs.declared.indexes.Indexes.{Indexes}
@@ -20,7 +18,7 @@ use Rattle.covlcov2.specs.declared.reader.Lcov2Reader.{Lcov2Reader}
 use Rattle.covlcov2.specs.Spells.{Lcov2Data, Plain, Leader, Alias, Edge}
 use Rattle.covlcov2.specs.Reads.{leader, is_leader, is_expression, expressions, total_said, alias_said, said, above_after}
 use Rattle.covlcov2.specs.Outcome.{NeedsSection, NeedsOutside}
-use Rattle.covlcov2.specs.Run.{StepsTo, IsWithin, IsMisplaced, Grows}
+use Rattle.covlcov2.specs.Run.{StepsTo, IsWithin, Grows}
 use Rattle.covlcov2.specs.Steps.{AreIndexes, AreOpenIndexes, IsHeld, IsNoPath, Lcov2Steps, counts_functions, Given, IsQuiet, StandsFor}
 
 -- ---- one record
@@ -100,7 +98,7 @@ grows_from (Some s) says line no_path grows = tt
 
 -- a line is refused for the reason for which its one record is
 pub refusal : {A T : Type 0} (w : TakeFault) (r : Result T TakeFault) (held : HeldData) (plain : Reader A) (after : Lcov2Reader A) (above : List Lcov2Data) (line : Lcov2Data) (says : LineData) → r ≡ Err w
-    → said above line ≡ Some (says ∷ []) → (outcome1.NeedsSection says → NeedsSection line) → (outcome1.NeedsOutside says → NeedsOutside line) → (GrowsAt held.section says → Grows held.section line)
+    → said above line ≡ Some (says ∷ []) → (version1_outcome.NeedsSection says → NeedsSection line) → (version1_outcome.NeedsOutside says → NeedsOutside line) → (GrowsAt held.section says → Grows held.section line)
     → Given r held plain says → Lcov2Steps {A = A} {T = T} (Err w) above held after line
 refusal {A} {T} w r held plain after above line says same alone section outside grows given = by w (subst (λ (x : Result T TakeFault). Given x held plain says) same given)
   where
@@ -167,25 +165,11 @@ total_left_out true LineFound value e f = absurd cc
 total_left_out true LineHit value e f = absurd cc
 total_left_out false kind value e f = absurd cc
 
-total_passed_on : (is_grouped : Bool) (kind : TotalKind) (value : ℕ) → (is_grouped && counts_functions kind) ≡ false → total_said is_grouped kind value ≡ Total kind value ∷ []
-total_passed_on false kind value e = refl
-total_passed_on true FuncFound value e = absurd cc
-total_passed_on true FuncHit value e = absurd cc
-total_passed_on true BranchFound value e = refl
-total_passed_on true BranchHit value e = refl
-total_passed_on true LineFound value e = refl
-total_passed_on true LineHit value e = refl
-
 pub total_skipped : {A : Type 0} (r : Lcov2Reader A) (above : List Lcov2Data) (inside : List LineData) (kind : TotalKind) (value : ℕ) → IsHeld r above inside → r.is_grouped ≡ true → counts_functions kind ≡ true
     → Lcov2Steps {A = A} {T = Unit {0}} (Ok tt) above (held_data r.plain inside) r (Plain (Total kind value))
 total_skipped r above inside kind value is grouped functions =
     nothing_said r above inside (Plain (Total kind value)) (plain_quiet above (Total kind value)) refl
     (ap (λ (x : List LineData). Some x) (total_left_out (list_any is_leader above) kind value (sym is.grouped ∙ grouped) functions)) is
-
-pub total_stands : {A : Type 0} (r : Lcov2Reader A) (above : List Lcov2Data) (inside : List LineData) (kind : TotalKind) (value : ℕ) → IsHeld r above inside → (r.is_grouped && counts_functions kind) ≡ false → StandsFor above (Plain (Total kind value)) (Total kind value)
-total_stands r above inside kind value is other =
-    plain_stands above (Total kind value) tt
-    (ap (λ (x : List LineData). Some x) (total_passed_on (list_any is_leader above) kind value (ap (λ (b : Bool). b && counts_functions kind) (sym is.grouped) ∙ other)))
 
 -- ---- a path
 
@@ -320,31 +304,13 @@ leader_left {A} old now above inside index line e closed is =
 
 -- ---- an `FNA:` line in a section: its start line, and then its count
 
-start_room_at : (section : Option SectionData) (held after : HeldData) (line : ℕ) (name : List ℕ) → step_at section held (FuncStart line name) ≡ Ok after → after.odd + length (kept_in after.section) ≤ held.odd + length (kept_in section) + 1
-start_room_at None held after line name e = absurd cc
-start_room_at (Some s) held after line name e =
-    let k = ok_is (kept s held (FuncStart line name)) after e in
-    subst (λ (x : HeldData). x.odd + length (kept_in x.section) ≤ held.odd + length s.lines + 1) k (omega (arith, length-append s.lines (FuncStart line name ∷ [])))
-
--- after the start line there is room for one more record
-pub start_room : {A B : Type 0} (old : Reader A) (new : Reader B) (inside after : List LineData) (line : ℕ) (name : List ℕ) → IsOpen old.section inside → IsOpen new.section after
-    → step (held_data old inside) (FuncStart line name) ≡ Ok (held_data new after) → old.odd + length inside + 2 < 2 ^ 64 → new.odd + length after + 1 < 2 ^ 64
-start_room old new inside after line name is now e few =
-    omega (
-      arith,
-      few,
-      start_room_at (held_data old inside).section (held_data old inside) (held_data new after) line name e,
-      open_length old.section inside is,
-      open_length new.section after now,
-    )
-
 open_isnt_none : (section : Option SectionData) → IsWithin section → section ≡ None → ⊥
 open_isnt_none None w e = w
 open_isnt_none (Some s) w e = absurd cc
 
 -- in a section, a start line or a count is refused only if memory runs out
 open_refused : {A B T : Type 0} (w : TakeFault) (r : Result T TakeFault) (held before : HeldData) (plain : Reader B) (after : Lcov2Reader A) (above : List Lcov2Data) (line : Lcov2Data) (says : LineData) → r ≡ Err w → IsWithin held.section
-    → (outcome1.NeedsOutside says → ⊥) → Grows before.section line → Given r held plain says → Lcov2Steps {A = A} {T = T} (Err w) above before after line
+    → (version1_outcome.NeedsOutside says → ⊥) → Grows before.section line → Given r held plain says → Lcov2Steps {A = A} {T = T} (Err w) above before after line
 open_refused {A} {B} {T} w r held before plain after above line says same within never grows given = by w (subst (λ (x : Result T TakeFault). Given x held plain says) same given)
   where
     by : (v : TakeFault) → Given {A = B} {T = T} (Err v) held plain says → Lcov2Steps {A = A} {T = T} (Err v) above before after line
@@ -352,12 +318,6 @@ open_refused {A} {B} {T} w r held before plain after above line says same within
     by why.Inside g = absurd (never g.1)
     by why.Misplaced g = absurd g
     by why.Memory g = grows
-
-pub start_refused : {A T : Type 0} (w : TakeFault) (r : Result T TakeFault) (old : Lcov2Reader A) (plain : Reader A) (after : Lcov2Reader A) (above : List Lcov2Data) (inside : List LineData) (line index count : ℕ) (name : List ℕ)
-    → r ≡ Err w → is_some old.plain.section ≡ true → Given r (held_data old.plain inside) plain (FuncStart line name) → Lcov2Steps {A = A} {T = T} (Err w) above (held_data old.plain inside) after (Alias index count name)
-start_refused w r old plain after above inside line index count name same open_is given =
-    open_refused w r (held_data old.plain inside) (held_data old.plain inside) plain after above (Alias index count name) (FuncStart line name) same
-    (open_data old.plain.section inside open_is) (λ n. n) (grows_open old inside (Alias index count name) open_is) given
 
 start_stays : (section : Option SectionData) (held after : HeldData) (line : ℕ) (name : List ℕ) → step_at section held (FuncStart line name) ≡ Ok after → IsWithin after.section
 start_stays None held after line name e = absurd cc
@@ -380,9 +340,3 @@ alias_taken (Ok done) old between plain above inside after line index count name
 alias_taken {T = T} (Err w) old between plain above inside after line index count name is open_is found first given =
     open_refused {T = T} w (Err w) (held_data between after) (held_data old.plain inside) plain _ above (Alias index count name) (FuncCount count name) refl
     (start_stays (held_data old.plain inside).section (held_data old.plain inside) (held_data between after) line name first) (λ n. n) (grows_open old inside (Alias index count name) open_is) given
-
-pub alias_misplaced : {A : Type 0} (r : Lcov2Reader A) (above : List Lcov2Data) (inside : List LineData) (index count : ℕ) (name : List ℕ) → leader index above ≡ None → IsMisplaced above (held_data r.plain inside).section (Alias index count name)
-alias_misplaced r above inside index count name none = record { needs = tt; lacks = inl (ap (λ (o : Option ℕ). alias_said o count name) none) }
-
-pub alias_outside : {A : Type 0} (r : Lcov2Reader A) (above : List Lcov2Data) (inside : List LineData) (index count : ℕ) (name : List ℕ) → is_some r.plain.section ≡ false → IsMisplaced above (held_data r.plain inside).section (Alias index count name)
-alias_outside r above inside index count name closed = record { needs = tt; lacks = inr (closed_data r.plain.section inside closed) }

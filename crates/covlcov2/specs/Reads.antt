@@ -29,7 +29,8 @@ is_expression line block says = false
 abbrev pub expressions : (line block : ℕ) → List Lcov2Data → ℕ
 expressions line block above = count_by (is_expression line block) above
 
--- with `FNL:` lines above, the totals of functions say nothing: LCOV 2 counts all functions of an index as one there
+-- with `FNL:` lines above, the totals of functions say nothing: LCOV 2 counts all functions of an index as one there. (This is so
+-- until the next path, also after the section's end)
 abbrev pub total_said : (is_grouped : Bool) → TotalKind → ℕ → List LineData
 total_said false kind value = Total kind value ∷ []
 total_said true FuncFound value = []

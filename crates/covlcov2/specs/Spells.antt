@@ -8,9 +8,9 @@ use Rattle.covline.specs.Spells.{LineData, FuncStart, Branch, Skip, line_data, c
 use Rattle.covlcov2.specs.declared.line.Lcov2Line.{Lcov2Line}
 use Rattle.covlcov2.specs.declared.line.Lcov2Line.TheVariants as lines
 
--- what a line says: a record of version 1; the start line of all functions with this index; the count of the function of this
--- name, which has this index; or how often a branch was taken. A branch has a number, or an expression in its place (`None`). An
--- excluded branch doesn't belong to the coverage
+-- what a line says: a record of version 1 that isn't a branch; the start line of all functions with this index; the count of the
+-- function of this name, which has this index; or how often a branch was taken. A branch has a number, or an expression in its place
+-- (`None`). An excluded branch doesn't belong to the coverage
 pub data Lcov2Data : Type 0 where
   Plain : (says : LineData) → Lcov2Data
   Leader : (index line : ℕ) → Lcov2Data

@@ -15,7 +15,7 @@ use Rattle.covread.specs.declared.trace.placement_fault.PlacementFault.{Placemen
 use Rattle.covread.specs.declared.trace.placement_fault.PlacementFault.TheVariants as version1
 use Rattle.covread.specs.declared.trace.reader.OpenSection.{OpenSection}
 use Rattle.covread.specs.declared.trace.reader.Reader.{Reader}
-use Rattle.covread.specs.Outcome as outcome1
+use Rattle.covread.specs.Outcome as version1_outcome
 use Rattle.covread.specs.TraceSteps.{HeldData, held_data, GrowsAt, IsOpen, step, ends, EndsLawfully}
 use Rattle.covlcov2.specs.declared.take_fault.TakeFault.{TakeFault}
 use Rattle.covlcov2.specs.declared.take_fault.TakeFault.TheVariants as why
@@ -87,8 +87,8 @@ counts_functions LineHit = false
 -- what the reader of version 1 makes of one record, or why it doesn't take it
 abbrev pub Given : {A T : Type 0} → Result T TakeFault → HeldData → Reader A → LineData → Type 0
 Given (Ok done) before after says = (inside : List LineData) × (step before says ≡ Ok (held_data after inside)) × IsOpen after.section inside
-Given (Err why.Outside) before after says = (before.section ≡ None) × outcome1.NeedsSection says
-Given (Err why.Inside) before after says = IsWithin before.section × outcome1.NeedsOutside says
+Given (Err why.Outside) before after says = (before.section ≡ None) × version1_outcome.NeedsSection says
+Given (Err why.Inside) before after says = IsWithin before.section × version1_outcome.NeedsOutside says
 Given (Err why.Misplaced) before after says = ⊥
 Given (Err why.Memory) before after says = GrowsAt before.section says
 
@@ -104,8 +104,8 @@ pub record StandsFor (above : List Lcov2Data) (line : Lcov2Data) (says : LineDat
   pub after : above_after above line ≡ line ∷ above
   pub quiet : IsQuiet above line
   pub no_path : IsNoPath says
-  pub needs_section : outcome1.NeedsSection says → NeedsSection line
-  pub needs_outside : outcome1.NeedsOutside says → NeedsOutside line
+  pub needs_section : version1_outcome.NeedsSection says → NeedsSection line
+  pub needs_outside : version1_outcome.NeedsOutside says → NeedsOutside line
 
 -- the same reason as the reader of version 1 has
 abbrev pub placed : PlacementFault → TakeFault
