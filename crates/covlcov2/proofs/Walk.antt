@@ -6,13 +6,14 @@ use Rattle.std.proofs.lemmas.Bool.{cases_lt}
 use Rattle.std.proofs.lemmas.List.{append-nil}
 use Rattle.covline.specs.declared.trace_line.TotalKind.{TotalKind}
 use Rattle.covline.specs.declared.trace_line.TotalKind.TheVariants.{FuncFound, FuncHit, BranchFound, BranchHit, LineFound, LineHit}
+use Rattle.covline.specs.Lawful.{IsLawful}
 use Rattle.covline.specs.Lines.{lines_of}
 use Rattle.covline.specs.Row.{SubmissionData}
 use Rattle.covline.specs.Spells.{LineData, Test, Path, FuncStart, FuncCount, Branch, Total, End, Skip}
 use Rattle.covread.specs.declared.fault.ReadFault.{ReadFault}
 use Rattle.covread.specs.declared.fault.ReadFault.TheVariants as faults
 use Rattle.covread.specs.Outcome as version1
-use Rattle.covread.specs.TraceSteps.{SectionData, HeldData, empty, kept, step, step_at, ends, ends_at}
+use Rattle.covread.specs.TraceSteps.{SectionData, HeldData, empty, kept, step, step_at, ends, ends_at, IsLawfulAt}
 use Rattle.covlcov2.specs.Spells.{Lcov2Data, Plain, Leader, Alias, Edge}
 use Rattle.covlcov2.specs.Reads.{leader, is_leader, total_said, alias_said, said, above_after}
 use Rattle.covlcov2.specs.Outcome.{NeedsSection, NeedsOutside, IsOutcome, Answers}
@@ -20,6 +21,7 @@ use Rattle.covlcov2.specs.Run.{StepsTo, IsWithin, IsOutside, IsInside, IsMisplac
 use Rattle.covlcov2.proofs.Holds.{Laws, Lcov2Holds, holds_nothing}
 use Rattle.covlcov2.proofs.Runs.{holds_end, stop_first}
 use Rattle.covlcov2.proofs.Loop.{holds_next}
+use Rattle.covlcov2.proofs.OneOutcome.{one_outcome}
 
 -- ---- one line
 
@@ -89,12 +91,21 @@ verdict above held (Edge false line block None taken) =
 
 -- ---- all lines
 
-abbrev HasOutcome : List ℕ → Type 0
-HasOutcome text = (r : Result SubmissionData ReadFault) × IsOutcome text r
+-- if this is a submission, it is lawful
+abbrev IsLawfulIfOk : Result SubmissionData ReadFault → Type 0
+IsLawfulIfOk (Ok submission) = IsLawful submission
+IsLawfulIfOk (Err fault) = Unit {0}
 
-outcome_from : (text : List ℕ) (r : Result SubmissionData ReadFault) → Answers text r → ¬ (r ≡ Err faults.Memory) → HasOutcome text
-outcome_from text r (inl none) other = absurd (other none.1)
-outcome_from text r (inr is) other = (r, is)
+abbrev HasOutcome : List ℕ → Type 0
+HasOutcome text = (r : Result SubmissionData ReadFault) × IsOutcome text r × IsLawfulIfOk r
+
+ends_lawfully : (section : Option SectionData) (held : HeldData) → IsLawfulAt section held → IsLawfulIfOk (ends_at section held)
+ends_lawfully None held h = h
+ends_lawfully (Some s) held h = tt
+
+outcome_from : (text : List ℕ) (r : Result SubmissionData ReadFault) → Answers text r → ¬ (r ≡ Err faults.Memory) → IsLawfulIfOk r → HasOutcome text
+outcome_from text r (inl none) other lawful = absurd (other none.1)
+outcome_from text r (inr is) other lawful = (r, is, lawful)
 
 ends_otherwise : (section : Option SectionData) (held : HeldData) → ¬ (ends_at section held ≡ Err faults.Memory)
 ends_otherwise None held e = absurd cc
@@ -103,13 +114,13 @@ ends_otherwise (Some s) held e = absurd cc
 module _ (laws : Laws) (text : List ℕ) (short : length text ≤ version1.max_bytes) where
   off : (before : List (List ℕ)) (line : List ℕ) (after : List (List ℕ)) (above : List Lcov2Data) (held : HeldData) (fault : ReadFault) → ¬ (◌≡◌ {A = Result SubmissionData ReadFault} (Err fault) (Err faults.Memory))
       → lines_of text ≡ before ++ line ∷ after → Lcov2Holds before above held → Stopped fault above held line (length before + 1) → HasOutcome text
-  off before line after above held fault other e h stop = outcome_from text (Err fault) (stop_first laws text before line after above held h e fault short stop) other
+  off before line after above held fault other e h stop = outcome_from text (Err fault) (stop_first laws text before line after above held h e fault short stop) other tt
 
   walk : (rest before : List (List ℕ)) (above : List Lcov2Data) (held : HeldData) → lines_of text ≡ before ++ rest → Lcov2Holds before above held → HasOutcome text
   walk [] before above held e h =
       let all : before ≡ lines_of text = sym (e ∙ append-nil before) in
       let last = holds_end laws text above held short (subst (λ (x : List (List ℕ)). Lcov2Holds x above held) all h) in
-      outcome_from text (ends held) last.0 (ends_otherwise held.section held)
+      outcome_from text (ends held) last.0 (ends_otherwise held.section held) (ends_lawfully held.section held last.1)
   walk (line ∷ rest) before above held e h =
       elim (laws.lcov2.one_of line) [
         | inr f ↦ off before line rest above held (faults.Line (length before + 1) f.0) (λ e. absurd cc) e h (refl, f.1)
@@ -122,9 +133,18 @@ module _ (laws : Laws) (text : List ℕ) (short : length text ≤ version1.max_b
         ]
       ]
 
-pub some_outcome : Laws → (text : List ℕ) → (r : Result SubmissionData ReadFault) × IsOutcome text r
-some_outcome laws text =
+outcome_of : Laws → (text : List ℕ) → HasOutcome text
+outcome_of laws text =
     elim (cases_lt version1.max_bytes (length text)) [
-      | inl long ↦ (Err faults.TooLong, inl (long, refl))
+      | inl long ↦ (Err faults.TooLong, inl (long, refl), tt)
       | inr short ↦ walk laws text short (lines_of text) [] [] empty refl holds_nothing
     ]
+
+pub some_outcome : Laws → (text : List ℕ) → (r : Result SubmissionData ReadFault) × IsOutcome text r
+some_outcome laws text = let found = outcome_of laws text in (found.0, found.1)
+
+-- what a text is read as is lawful
+pub lawful_outcome : Laws → (text : List ℕ) (submission : SubmissionData) → IsOutcome text (Ok submission) → IsLawful submission
+lawful_outcome laws text submission is =
+    let found = outcome_of laws text in
+    subst (λ (r : Result SubmissionData ReadFault). IsLawfulIfOk r) (one_outcome laws.lcov2 text found.0 (Ok submission) found.1 is) found.2

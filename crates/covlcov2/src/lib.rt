@@ -13,7 +13,10 @@ mod read_line;
 mod reader;
 mod take_fault;
 
-pub use laws::{each_lcov2_line_has_one_meaning, each_lcov2_text_has_one_outcome};
+pub use laws::{
+    each_lcov2_line_has_one_meaning, each_lcov2_text_has_one_outcome,
+    what_is_read_as_lcov2_is_lawful,
+};
 pub use line::Lcov2Line;
 pub use read::read_lcov2;
 pub use read_line::read_lcov2_line;
