@@ -9,8 +9,8 @@ use covline::fields::{after_feed, front_taken, small_field};
 use covline::{BranchLine, BranchPoint, strip_key};
 
 /// Reads the first line of the text in one pass, as covline's `try_branch_line` does, if it is
-/// `BRDA:<line>,<mark><block>,<branch>,<taken>` with the mark `e` or `f`. For any other first line it returns `None`. Then the caller
-/// cuts the line and reads it.
+/// `BRDA:<line>,<mark><block>,<branch>,<taken>` with the mark `e` or `f`. For any other first line it returns `None`. Then the
+/// caller cuts the line and reads it.
 #[inline]
 pub fn try_marked_branch(text: &[u8]) -> Option<BranchLine<'_>>
     ensures { IfSome result (λ f. BeginsWithLcov2Line text.now (Edge false f.point.line f.point.block (Some f.point.branch) f.taken) f.rest.now) }
