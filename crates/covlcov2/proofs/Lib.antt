@@ -1,0 +1,12 @@
+pub mod EdgeParts
+pub mod LineReading
+pub mod Records
+pub mod Holds
+pub mod Runs
+pub mod OneOutcome
+pub mod Walk
+pub mod Loop
+pub mod Passing
+pub mod Fast
+pub mod MarkedLines
+pub mod Blocks

@@ -1,0 +1,82 @@
+-- What the lines of a tracefile of LCOV 2 say together (geninfo(1) of LCOV 2.x, TRACEFILE FORMAT): each line stands for records of
+-- version 1, and these say what they say there.
+use Rattle.std.specs.Prelude.{◌≡◌, ℕ, ◌==◌, ◌&&◌, if◌then◌else◌, Bool, true, false, List, [], ◌∷◌, ◌++◌, Option, Some, None, count_by}
+use Rattle.std.specs.List.{flat_map, sum_by, list_any, AllByRecursion}
+use Rattle.covline.specs.declared.trace_line.TotalKind.{TotalKind}
+use Rattle.covline.specs.declared.trace_line.TotalKind.TheVariants.{FuncFound, FuncHit}
+use Rattle.covline.specs.Row.{SubmissionData}
+use Rattle.covline.specs.Spells.{LineData, Path, FuncStart, FuncCount, Branch, Total, Skip}
+use Rattle.covread.specs.Reads.{Part, IsLawfulPart, records_of, sects_from, odd_in}
+use Rattle.covlcov2.specs.Spells.{Lcov2Data, Plain, Leader, Alias, Edge, Lcov2Spells}
+
+-- the start line in the nearest `FNL:` line of this index. `above` are the lines since the last path, the nearest first
+abbrev pub leader : ℕ → List Lcov2Data → Option ℕ
+leader index [] = None
+leader index (Leader other line ∷ above) = if other == index then Some line else leader index above
+leader index (says ∷ above) = leader index above
+
+abbrev pub is_leader : Lcov2Data → Bool
+is_leader (Leader index line) = true
+is_leader says = false
+
+-- a branch of this source line and this block that has an expression
+abbrev pub is_expression : (line block : ℕ) → Lcov2Data → Bool
+is_expression line block (Edge is_excluded other that None taken) = other == line && that == block
+is_expression line block says = false
+
+-- how many branches with expressions this block has, excluded ones too: excluding a branch leaves the numbers of the others as
+-- they are
+abbrev pub expressions : (line block : ℕ) → List Lcov2Data → ℕ
+expressions line block above = count_by (is_expression line block) above
+
+-- with `FNL:` lines above, the totals of functions say nothing: LCOV 2 counts all functions of an index as one there. (This is so
+-- until the next path, also after the section's end)
+abbrev pub total_said : (is_grouped : Bool) → TotalKind → ℕ → List LineData
+total_said false kind value = Total kind value ∷ []
+total_said true FuncFound value = []
+total_said true FuncHit value = []
+total_said true kind value = Total kind value ∷ []
+
+abbrev pub plain_said : (is_grouped : Bool) → LineData → List LineData
+plain_said is_grouped Skip = []
+plain_said is_grouped (Total kind value) = total_said is_grouped kind value
+plain_said is_grouped says = says ∷ []
+
+-- a function's start line and its count, if its index has a start line
+abbrev pub alias_said : Option ℕ → ℕ → List ℕ → Option (List LineData)
+alias_said None count name = None
+alias_said (Some line) count name = Some (FuncStart line name ∷ FuncCount count name ∷ [])
+
+-- an excluded branch says nothing. A branch with an expression has the next number after the branches with expressions above it in
+-- its block. So in a block that also has branches with numbers, a number may mean one of either kind, and both count as one branch
+abbrev pub edge_said : List Lcov2Data → (is_excluded : Bool) → (line block : ℕ) → (number taken : Option ℕ) → List LineData
+edge_said above true line block number taken = []
+edge_said above false line block (Some number) taken = Branch line block number taken ∷ []
+edge_said above false line block None taken = Branch line block (expressions line block above) taken ∷ []
+
+-- the records that a line stands for, below these lines; `None` for an `FNA:` line without an `FNL:` line of its index above it
+abbrev pub said : List Lcov2Data → Lcov2Data → Option (List LineData)
+said above (Plain says) = Some (plain_said (list_any is_leader above) says)
+said above (Leader index line) = Some []
+said above (Alias index count name) = alias_said (leader index above) count name
+said above (Edge is_excluded line block number taken) = Some (edge_said above is_excluded line block number taken)
+
+-- the lines above the next line, since the last path
+abbrev pub above_after : List Lcov2Data → Lcov2Data → List Lcov2Data
+above_after above (Plain (Path path)) = []
+above_after above says = says ∷ above
+
+-- the lines stand for these records, one line after another
+abbrev pub StandFor : List (List ℕ) → List Lcov2Data → List LineData → Type 0
+StandFor [] above records = records ≡ []
+StandFor (line ∷ lines) above records =
+    (says : Lcov2Data) × (now : List LineData) × (later : List LineData) × Lcov2Spells line says × (said above says ≡ Some now) × (records ≡ now ++ later)
+    × StandFor lines (above_after above says) later
+
+-- the lines are a lawful text, and this is what it says
+pub record Reads (lines : List (List ℕ)) (submission : SubmissionData) : Type 0 where
+  pub parts : List Part
+  pub lawful : AllByRecursion IsLawfulPart parts
+  pub spelled : StandFor lines [] (flat_map records_of parts)
+  pub sects : submission.sects ≡ sects_from [] parts
+  pub odd : submission.odd ≡ sum_by odd_in parts

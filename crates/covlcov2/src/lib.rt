@@ -1,0 +1,22 @@
+//! Reads tracefiles of LCOV 2 (geninfo(1) of LCOV 2.x, TRACEFILE FORMAT): what a text says, as a submission, or its first fault.
+//!
+//! Each line is read by itself first. Then it stands for records of version 1, which covread's reader takes: an `FNA:` line for
+//! the start line and the count of its function, a branch with an expression for a branch with a number.
+#![tactic(auto)]
+
+mod indexes;
+mod laws;
+mod line;
+mod marked;
+mod read;
+mod read_line;
+mod reader;
+mod take_fault;
+
+pub use laws::{
+    each_lcov2_line_has_one_meaning, each_lcov2_text_has_one_outcome,
+    what_is_read_as_lcov2_is_lawful,
+};
+pub use line::Lcov2Line;
+pub use read::read_lcov2;
+pub use read_line::read_lcov2_line;

@@ -1,0 +1,31 @@
+//! One line of a tracefile of LCOV 2.
+
+use covline::TraceLine;
+
+/// What one line says. Names are slices of the line.
+#[derive(Clone, Copy, Debug)]
+pub enum Lcov2Line<'a> {
+    /// A record of version 1, but no branch. `FN:<line>,<end>,<name>` is one too: a start line and the name.
+    Plain(TraceLine<'a>),
+    /// `FNL:<index>,<line>` or `FNL:<index>,<line>,<end>`, the line that the functions with this index start at.
+    Leader {
+        index: u64,
+        line: u64,
+    },
+    /// `FNA:<index>,<count>,<name>`, the execution count of a function with this index. The name isn't empty.
+    Alias {
+        index: u64,
+        count: u128,
+        name: &'a [u8],
+    },
+    /// `BRDA:<line>,<marks><block>,<branch>,<taken>`, how often a branch was taken: `None` for `-`, which says that its block was
+    /// never executed. `number` is `None` if the branch has an expression. The branch is excluded from coverage if `U` is
+    /// among the marks.
+    Edge {
+        is_excluded: bool,
+        line: u64,
+        block: u64,
+        number: Option<u64>,
+        taken: Option<u128>,
+    },
+}

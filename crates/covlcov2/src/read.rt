@@ -1,0 +1,160 @@
+//! Reads a tracefile of LCOV 2: one pass over its text, forward.
+
+ghost use Rattle.std.specs.Prelude.{◌≡◌, ◌≤◌, ◌<◌, ◌∷◌, ℕ, IfOk, length, List, Option, Some, false, Result, option_map};
+ghost use Rattle.covline.specs.Row.{SubmissionData};
+ghost use Rattle.covline.specs.Lines.{lines_of};
+ghost use Rattle.covline.specs.Spells.{LineData, Branch, Line, Spells};
+ghost use Rattle.covread.specs.declared.fault.ReadFault.{ReadFault as Fault};
+ghost use Rattle.covread.specs.Outcome.{max_bytes, IsOrMemory};
+ghost use Rattle.covread.specs.TraceSteps.{held_data};
+ghost use Rattle.covlcov2.specs.Spells.{Lcov2Data, Edge, Lcov2Spells};
+ghost use Rattle.covlcov2.specs.Outcome.{IsOutcome, Answers, GrowsLate};
+ghost use Rattle.covlcov2.specs.Steps.{HasLineRoom, IsHeld, ReadsTo, TakesLcov2Line};
+
+use crate::laws::each_lcov2_line_has_one_meaning;
+use crate::marked::try_marked_branch;
+use crate::read_line::read_lcov2_line;
+use crate::reader::Lcov2Reader;
+use covline::laws::printed_records_spell;
+use covline::{
+    BranchPoint, Submission, each_line_has_one_meaning, first_line, lines_are_the_text,
+    try_branch_line, try_line_count,
+};
+use covread::{MAX_BYTES, ReadFault, take_branch, take_line_count};
+use std::alloc::Allocator;
+
+/// Reads a tracefile of LCOV 2 (geninfo(1) of LCOV 2.x, TRACEFILE FORMAT). Returns the submission that its lines make, or the
+/// text's first fault. An `FNA:` line without an `FNL:` line of its index above it in its section is `Misplaced`.
+pub fn read_lcov2<A: Allocator + Copy>(alloc: A, text: &[u8]) -> Result<Submission<A>, ReadFault>
+    // The answer is what the text is read as, or memory ran out.
+    ensures answers { Answers text.now result }
+    // No other answer is possible, unless memory ran out.
+    ensures only { (outcome : Result SubmissionData Fault) → IsOutcome text.now outcome → IsOrMemory result outcome }
+    // Nothing is kept before the first path, so memory can run out only at this path or after it.
+    ensures memory { GrowsLate text.now result }
+{
+    // The proof cites this law.
+    each_lcov2_line_has_one_meaning();
+    if text.len() > MAX_BYTES {
+        return Err(ReadFault::TooLong);
+    }
+    read_lines(alloc, text)?.plain.finish()
+}
+
+/// Takes all lines of the text.
+fn read_lines<'a, A: Allocator + Copy>(
+    alloc: A,
+    text: &'a [u8],
+) -> Result<Lcov2Reader<'a, A>, ReadFault>
+    requires { length text.now ≤ max_bytes }
+    ensures { ReadsTo text.now result }
+{
+    // The proof cites these laws.
+    each_line_has_one_meaning();
+    each_lcov2_line_has_one_meaning();
+    lines_are_the_text();
+    printed_records_spell();
+    let mut reader = Lcov2Reader::new(alloc);
+    let mut at: u64 = 0;
+    let mut rest = text;
+    while !rest.is_empty() {
+        at += 1;
+        rest = take_first(&mut reader, alloc, at, rest)?;
+    }
+    Ok(reader)
+}
+
+/// Takes the first line of `text`, which is the rest of a text, and returns what follows the line. `at` is the line's number.
+/// Most lines are counts of a source line or of a branch. These are tried first, before the line is cut from the text.
+#[inline]
+fn take_first<'a, A: Allocator + Copy>(
+    reader: &mut Lcov2Reader<'a, A>,
+    alloc: A,
+    at: u64,
+    text: &'a [u8],
+) -> Result<&'a [u8], ReadFault>
+    requires some { 0 < length text.now }
+    requires room { (above : List Lcov2Data) × (inside : List LineData) × HasLineRoom reader.old above inside }
+    ensures { (line left : List ℕ) × (lines_of text.now ≡ line ∷ lines_of left) × IfOk result (λ rest. rest.now ≡ left)
+        × ((above : List Lcov2Data) (inside : List LineData) → IsHeld reader.old above inside → TakesLcov2Line result above (held_data reader.old.plain inside) reader.new line at) }
+{
+    if let Some(first) = try_line_count(text) {
+        take_count(reader, alloc, at, first.line, first.count, first.checksum)?;
+        return Ok(first.rest);
+    }
+    if let Some(first) = try_branch_line(text) {
+        take_plain_branch(reader, at, first.point, first.taken)?;
+        return Ok(first.rest);
+    }
+    if let Some(first) = try_marked_branch(text) {
+        take_marked_branch(reader, at, first.point, first.taken)?;
+        return Ok(first.rest);
+    }
+    let (line, rest) = first_line(text);
+    take_line(reader, alloc, at, line)?;
+    Ok(rest)
+}
+
+/// Takes the count of a source line. `at` is the number of the tracefile's line that says it.
+#[inline]
+fn take_count<A: Allocator + Copy>(
+    reader: &mut Lcov2Reader<'_, A>,
+    alloc: A,
+    at: u64,
+    line: u64,
+    count: u64,
+    checksum: Option<&[u8]>,
+) -> Result<(), ReadFault>
+    requires { (above : List Lcov2Data) × (inside : List LineData) × HasLineRoom reader.old above inside }
+    ensures { (text : List ℕ) → Spells text (Line line count (option_map (λ c. c.now) checksum.entry)) → (above : List Lcov2Data) (inside : List LineData) → IsHeld reader.old above inside → TakesLcov2Line result above (held_data reader.old.plain inside) reader.new text at }
+{
+    take_line_count(&mut reader.plain, alloc, at, line, count, checksum)
+}
+
+/// Takes how often a branch without marks was taken. `at` is the number of the tracefile's line that says it.
+#[inline]
+fn take_plain_branch<A: Allocator + Copy>(
+    reader: &mut Lcov2Reader<'_, A>,
+    at: u64,
+    point: BranchPoint,
+    taken: Option<u64>,
+) -> Result<(), ReadFault>
+    requires { (above : List Lcov2Data) × (inside : List LineData) × HasLineRoom reader.old above inside }
+    ensures { (text : List ℕ) → Spells text (Branch point.line point.block point.branch taken) → (above : List Lcov2Data) (inside : List LineData) → IsHeld reader.old above inside → TakesLcov2Line result above (held_data reader.old.plain inside) reader.new text at }
+{
+    take_branch(&mut reader.plain, at, point, taken)
+}
+
+/// Takes how often a branch with a mark was taken. `at` is the number of the tracefile's line that says it.
+#[inline]
+fn take_marked_branch<A: Allocator + Copy>(
+    reader: &mut Lcov2Reader<'_, A>,
+    at: u64,
+    point: BranchPoint,
+    taken: Option<u64>,
+) -> Result<(), ReadFault>
+    requires { (above : List Lcov2Data) × (inside : List LineData) × HasLineRoom reader.old above inside }
+    ensures { (text : List ℕ) → Lcov2Spells text (Edge false point.line point.block (Some point.branch) taken) → (above : List Lcov2Data) (inside : List LineData) → IsHeld reader.old above inside → TakesLcov2Line result above (held_data reader.old.plain inside) reader.new text at }
+{
+    take_branch(&mut reader.plain, at, point, taken)
+}
+
+/// Takes the line with this number.
+fn take_line<'a, A: Allocator + Copy>(
+    reader: &mut Lcov2Reader<'a, A>,
+    alloc: A,
+    at: u64,
+    line: &'a [u8],
+) -> Result<(), ReadFault>
+    requires { (above : List Lcov2Data) × (inside : List LineData) × HasLineRoom reader.old above inside }
+    ensures { (above : List Lcov2Data) (inside : List LineData) → IsHeld reader.old above inside → TakesLcov2Line result above (held_data reader.old.plain inside) reader.new line.now at }
+{
+    let says = match read_lcov2_line(line) {
+        Ok(says) => says,
+        Err(fault) => return Err(ReadFault::Line { at, fault }),
+    };
+    match reader.take(alloc, says) {
+        Ok(()) => Ok(()),
+        Err(why) => Err(why.at(at)),
+    }
+}

@@ -1,0 +1,261 @@
+//! What the reader of a tracefile of LCOV 2 holds between two lines: what the reader of version 1 holds after the records that the
+//! lines stand for, and what later lines of the open section need.
+
+ghost use Rattle.std.specs.Prelude.{◌≡◌, ℕ, List, [], ◌∷◌, Option, Some, None, Ok, Err, cond};
+ghost use Rattle.covline.specs.Spells.{LineData, Path, Total, Branch, line_data};
+ghost use Rattle.covread.specs.TraceSteps.{held_data, empty, HasRoom, IsOpen};
+ghost use Rattle.covlcov2.specs.declared.take_fault.TakeFault.TheVariants as outside;
+ghost use Rattle.covlcov2.specs.Spells.{Lcov2Data, Plain, Leader, Alias, Edge, lcov2_data};
+ghost use Rattle.covlcov2.specs.Steps.{HasLineRoom, IsHeld, Lcov2Steps, Given, StandsFor, counts_functions};
+
+use crate::indexes::{Block, Indexes};
+use crate::line::Lcov2Line;
+use crate::take_fault::{TakeFault, placed};
+use covline::{BranchPoint, TotalKind, TraceLine};
+use covread::Reader;
+use std::alloc::Allocator;
+
+/// What a reader holds between two lines.
+#[derive(Drop)]
+pub struct Lcov2Reader<'a, A: Allocator> {
+    /// What the reader of version 1 holds.
+    pub plain: Reader<'a, A>,
+    /// What later lines of the open section need. Without an open section it says nothing.
+    pub indexes: Indexes<A>,
+    /// Whether an `FNL:` line came since the last path.
+    pub is_grouped: bool,
+}
+
+impl<'a, A: Allocator + Copy> Lcov2Reader<'a, A> {
+    /// The reader before the first line.
+    pub fn new(alloc: A) -> Lcov2Reader<'a, A>
+        ensures empty { held_data result.plain [] ≡ empty }
+        ensures held { IsHeld result [] [] }
+    {
+        Lcov2Reader {
+            plain: Reader::new(alloc),
+            indexes: Indexes::new(alloc),
+            is_grouped: false,
+        }
+    }
+
+    /// Takes what one line says.
+    pub fn take(&mut self, alloc: A, line: Lcov2Line<'a>) -> Result<(), TakeFault>
+        requires { (above : List Lcov2Data) × (inside : List LineData) × HasLineRoom self.old above inside }
+        ensures { (above : List Lcov2Data) (inside : List LineData) → IsHeld self.old above inside → Lcov2Steps result above (held_data self.old.plain inside) self.new (lcov2_data line.entry) }
+    {
+        match line {
+            Lcov2Line::Plain(says) => self.take_plain(alloc, says),
+            Lcov2Line::Leader { index, line } => self.take_leader(index, line),
+            Lcov2Line::Alias { index, count, name } => self.take_alias(alloc, index, count, name),
+            Lcov2Line::Edge {
+                is_excluded,
+                line,
+                block,
+                number: Some(branch),
+                taken,
+            } => self.take_numbered(
+                alloc,
+                is_excluded,
+                BranchPoint {
+                    line,
+                    block,
+                    branch,
+                },
+                taken,
+            ),
+            Lcov2Line::Edge {
+                is_excluded,
+                line,
+                block,
+                number: None,
+                taken,
+            } => self.take_expression(alloc, is_excluded, Block { line, block }, taken),
+        }
+    }
+
+    /// Takes a record of version 1.
+    fn take_plain(&mut self, alloc: A, says: TraceLine<'a>) -> Result<(), TakeFault>
+        requires { (above : List Lcov2Data) × (inside : List LineData) × HasLineRoom self.old above inside }
+        ensures { (above : List Lcov2Data) (inside : List LineData) → IsHeld self.old above inside → Lcov2Steps result above (held_data self.old.plain inside) self.new (Plain (line_data says.entry)) }
+    {
+        match says {
+            TraceLine::Path(path) => self.take_path(alloc, path),
+            TraceLine::Total { kind, value } => self.take_total(alloc, kind, value),
+            TraceLine::Skip => Ok(()),
+            TraceLine::Test(_)
+            | TraceLine::FuncStart { .. }
+            | TraceLine::FuncCount { .. }
+            | TraceLine::Branch { .. }
+            | TraceLine::Line { .. }
+            | TraceLine::End => self.pass(alloc, says),
+        }
+    }
+
+    /// Takes a record of version 1, if the line stands for this record alone.
+    fn pass(&mut self, alloc: A, says: TraceLine<'a>) -> Result<(), TakeFault>
+        requires { (above : List Lcov2Data) × (inside : List LineData) × HasLineRoom self.old above inside }
+        ensures { (above : List Lcov2Data) (inside : List LineData) (line : Lcov2Data) → IsHeld self.old above inside → StandsFor above line (line_data says.entry) → Lcov2Steps result above (held_data self.old.plain inside) self.new line }
+    {
+        give(&mut self.plain, alloc, says)
+    }
+
+    /// Begins a section. What later lines of the section before needed is forgotten.
+    fn take_path(&mut self, alloc: A, path: &'a [u8]) -> Result<(), TakeFault>
+        requires { (above : List Lcov2Data) × (inside : List LineData) × HasLineRoom self.old above inside }
+        ensures { (above : List Lcov2Data) (inside : List LineData) → IsHeld self.old above inside → Lcov2Steps result above (held_data self.old.plain inside) self.new (Plain (Path path.now)) }
+    {
+        match give(&mut self.plain, alloc, TraceLine::Path(path)) {
+            Ok(()) => {
+                self.indexes.clear();
+                self.is_grouped = false;
+                Ok(())
+            }
+            Err(why) => Err(why),
+        }
+    }
+
+    /// Takes a total. Totals of functions are left out below an `FNL:` line.
+    fn take_total(&mut self, alloc: A, kind: TotalKind, value: u64) -> Result<(), TakeFault>
+        requires { (above : List Lcov2Data) × (inside : List LineData) × HasLineRoom self.old above inside }
+        ensures { (above : List Lcov2Data) (inside : List LineData) → IsHeld self.old above inside → Lcov2Steps result above (held_data self.old.plain inside) self.new (Plain (Total kind value)) }
+    {
+        if self.is_grouped && counts_functions(kind) {
+            return Ok(());
+        }
+        self.pass(alloc, TraceLine::Total { kind, value })
+    }
+
+    /// Takes the start line of an index. Outside of sections it is not kept.
+    fn take_leader(&mut self, index: u64, line: u64) -> Result<(), TakeFault>
+        ensures { (above : List Lcov2Data) (inside : List LineData) → IsHeld self.old above inside → Lcov2Steps result above (held_data self.old.plain inside) self.new (Leader index line) }
+    {
+        if self.plain.section.is_some() {
+            match self.indexes.lead(index, line) {
+                Ok(()) => {}
+                Err(_) => return Err(TakeFault::Memory),
+            }
+        }
+        self.is_grouped = true;
+        Ok(())
+    }
+
+    /// Takes the count of a function: first its start line, which its index has, and then its count.
+    fn take_alias(
+        &mut self,
+        alloc: A,
+        index: u64,
+        count: u128,
+        name: &'a [u8],
+    ) -> Result<(), TakeFault>
+        requires { (above : List Lcov2Data) × (inside : List LineData) × HasLineRoom self.old above inside }
+        ensures { (above : List Lcov2Data) (inside : List LineData) → IsHeld self.old above inside → Lcov2Steps result above (held_data self.old.plain inside) self.new (Alias index count name.now) }
+    {
+        if self.plain.section.is_none() {
+            return Err(TakeFault::Misplaced);
+        }
+        let line = match self.indexes.start_of(index) {
+            Some(line) => line,
+            None => return Err(TakeFault::Misplaced),
+        };
+        match give(&mut self.plain, alloc, TraceLine::FuncStart { line, name }) {
+            Ok(()) => give(&mut self.plain, alloc, TraceLine::FuncCount { count, name }),
+            Err(why) => Err(why),
+        }
+    }
+
+    /// Takes a branch with a number.
+    fn take_numbered(
+        &mut self,
+        alloc: A,
+        is_excluded: bool,
+        point: BranchPoint,
+        taken: Option<u128>,
+    ) -> Result<(), TakeFault>
+        requires { (above : List Lcov2Data) × (inside : List LineData) × HasLineRoom self.old above inside }
+        ensures { (above : List Lcov2Data) (inside : List LineData) → IsHeld self.old above inside → Lcov2Steps result above (held_data self.old.plain inside) self.new (Edge is_excluded point.line point.block (Some point.branch) taken) }
+    {
+        if is_excluded {
+            return Ok(());
+        }
+        self.pass(
+            alloc,
+            TraceLine::Branch {
+                line: point.line,
+                block: point.block,
+                branch: point.branch,
+                taken,
+            },
+        )
+    }
+
+    /// Takes a branch with an expression: it gets the next number of its block. An excluded one takes a number too.
+    fn take_expression(
+        &mut self,
+        alloc: A,
+        is_excluded: bool,
+        block: Block,
+        taken: Option<u128>,
+    ) -> Result<(), TakeFault>
+        requires { (above : List Lcov2Data) × (inside : List LineData) × HasLineRoom self.old above inside }
+        ensures { (above : List Lcov2Data) (inside : List LineData) → IsHeld self.old above inside → Lcov2Steps result above (held_data self.old.plain inside) self.new (Edge is_excluded block.line block.block None taken) }
+    {
+        if self.plain.section.is_none() {
+            return outside_expression(is_excluded);
+        }
+        let branch = match self.indexes.count_expression(block) {
+            Ok(branch) => branch,
+            Err(_) => return Err(TakeFault::Memory),
+        };
+        if is_excluded {
+            return Ok(());
+        }
+        give(
+            &mut self.plain,
+            alloc,
+            TraceLine::Branch {
+                line: block.line,
+                block: block.block,
+                branch,
+                taken,
+            },
+        )
+    }
+}
+
+/// Whether the total is one of functions.
+fn counts_functions(kind: TotalKind) -> bool
+    ensures { result ≡ counts_functions kind }
+{
+    match kind {
+        TotalKind::FuncFound | TotalKind::FuncHit => true,
+        TotalKind::BranchFound | TotalKind::BranchHit | TotalKind::LineFound | TotalKind::LineHit =>
+            false,
+    }
+}
+
+/// A branch with an expression outside of sections: only an excluded one may be there.
+fn outside_expression(is_excluded: bool) -> Result<(), TakeFault>
+    ensures { result ≡ cond is_excluded (Ok tt) (Err outside.Outside) }
+{
+    if is_excluded {
+        return Ok(());
+    }
+    Err(TakeFault::Outside)
+}
+
+/// Gives a record to the reader of version 1.
+#[inline]
+fn give<'a, A: Allocator + Copy>(
+    reader: &mut Reader<'a, A>,
+    alloc: A,
+    says: TraceLine<'a>,
+) -> Result<(), TakeFault>
+    requires { (inside : List LineData) × HasRoom reader.old inside }
+    ensures { (inside : List LineData) → IsOpen reader.old.section inside → Given result (held_data reader.old inside) reader.new (line_data says.entry) }
+{
+    match reader.take(alloc, says) {
+        Ok(()) => Ok(()),
+        Err(why) => Err(placed(why)),
+    }
+}

@@ -1,0 +1,47 @@
+//! Why a line isn't taken.
+
+ghost use Rattle.std.specs.Prelude.{◌≡◌};
+ghost use Rattle.covlcov2.specs.declared.take_fault.TakeFault.TheVariants.{Memory as NoMemory};
+ghost use Rattle.covlcov2.specs.Steps.{lcov2_fault_at, placed};
+
+use covline::Memory;
+use covread::{PlacementFault, ReadFault};
+use std::alloc::AllocFailed;
+
+/// Why a reader doesn't take a line: it is misplaced, or an allocation failed.
+#[derive(Clone, Copy)]
+pub enum TakeFault {
+    /// No section is open, but the line has to be in one.
+    Outside,
+    /// A section is open, but the line can't be in one.
+    Inside,
+    /// An `FNA:` line without an `FNL:` line of its index above it in its section, or outside of sections.
+    Misplaced,
+    /// An allocation failed.
+    Memory,
+}
+
+impl TakeFault {
+    /// The text's fault if the line with this number isn't taken for this reason.
+    pub fn at(self, at: u64) -> ReadFault
+        ensures { result ≡ lcov2_fault_at self at }
+    {
+        match self {
+            TakeFault::Outside => ReadFault::Outside { at },
+            TakeFault::Inside => ReadFault::Inside { at },
+            TakeFault::Misplaced => ReadFault::Misplaced { at },
+            TakeFault::Memory => ReadFault::Memory,
+        }
+    }
+}
+
+/// The same reason as the reader of version 1 has.
+pub fn placed(why: PlacementFault) -> TakeFault
+    ensures { result ≡ placed why }
+{
+    match why {
+        PlacementFault::Outside => TakeFault::Outside,
+        PlacementFault::Inside => TakeFault::Inside,
+        PlacementFault::Memory => TakeFault::Memory,
+    }
+}

@@ -1,0 +1,57 @@
+//! What is wanted was worked out by hand from geninfo(1) of LCOV 2.3.1, section TRACEFILE FORMAT, never taken from an output. It is
+//! written as a tracefile of version 1.
+
+use covlcov2::read_lcov2;
+use covline::Submission;
+use covread::{ReadFault, read_trace};
+use std::alloc::Global;
+use std::process::Abort;
+use std::test::*;
+
+mod faults;
+mod forms;
+mod hostile;
+
+/// The submission of a tracefile of LCOV 2.
+fn read(alloc: Global, text: &[u8]) -> Result<Submission, ReadFault> {
+    read_lcov2(alloc, text)
+}
+
+/// The submission of a tracefile of version 1.
+fn read_plain(alloc: Global, text: &[u8]) -> Result<Submission, ReadFault> {
+    read_trace(alloc, text)
+}
+
+/// Whether the text of LCOV 2 is read as the other text is in version 1.
+fn reads_as(alloc: Global, text: &[u8], wanted: &[u8]) -> Result<bool, ReadFault> {
+    let given = read(alloc, text)?;
+    let wanted = read_plain(alloc, wanted)?;
+    Ok(given.is_same(&wanted))
+}
+
+/// The words of the text's fault, or `none`.
+fn fault_of(alloc: Global, text: &[u8]) -> Result<String, Fail> {
+    Ok(match read(alloc, text) {
+        Ok(_) => format!(in alloc; "none")?,
+        Err(fault) => format!(in alloc; "{fault}")?,
+    })
+}
+
+/// Checks the words of the text's fault.
+fn check_fault(
+    rt: &(impl Abort + AllocGlobal),
+    name: &[u8],
+    text: &[u8],
+    wanted: &[u8],
+) -> Result<(), Fail> {
+    let fault = fault_of(rt.alloc(), text)?;
+    assert!(rt; fault.as_bytes() == wanted, "{name:?}: {fault}");
+    Ok(())
+}
+
+/// Appends a line.
+fn push_line(text: &mut Vec<u8>, line: &[u8]) -> Result<(), Fail> {
+    text.extend_from_slice(line)?;
+    text.push(b'\n')?;
+    Ok(())
+}
