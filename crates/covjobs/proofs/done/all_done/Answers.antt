@@ -1,13 +1,11 @@
 use Rattle.std.proofs.Common.{rules, ◌≡◌, ◌∙◌, ℕ, List, Vec, Global, map, ap, sym, subst}
 use Rattle.covjobs.specs.declared.shares.Placed.{Placed}
 use Rattle.covjobs.specs.declared.book_fault.IntoBookFault.{IntoBookFault}
-use Rattle.covjobs.specs.declared.book_fault.IntoBookFault.TheVariants as into_book
-use Rattle.covjobs.specs.declared.collect_fault.CollectFault.TheVariants as collects
 use Rattle.covjobs.specs.Late.{IsIntoBookFault, chances_of}
 use Rattle.covjobs.specs.Stops.{of_stop}
 use Rattle.covjobs.proofs.Dealt.{all_fresh, ended_for_all, share_for_each}
 use Rattle.covjobs.proofs.Ended.{done_if_well}
-use Rattle.covjobs.proofs.Unread.{fault_is, no_bad_jobs}
+use Rattle.covjobs.proofs.Unread.{fault_is}
 use Rattle.covjobs.proofs.Whole.{works_from}
 use Rattle.covjobs.proofs.done.all_done.Goals as goal
 
@@ -31,16 +29,11 @@ pub work_at_once-requires-clause-fresh : goal.work_at_once-requires-clause-fresh
 work_at_once-requires-clause-fresh g c κs within = all_fresh c.args.jobs c.args.seats c.requires.seats
 
 -- the worst end of the workers
-pub returns-in-Err-clause-unread : goal.returns-in-Err-clause-unread
-returns-in-Err-clause-unread g c =
+pub returns-clause-unread : goal.returns-clause-unread
+returns-clause-unread g c =
     let chances = chances_of g.T.LateInput.may_be g.T.LateInput.may_fail in
     subst (λ (fault : IntoBookFault). IsIntoBookFault g.T.LateInput.may_be g.T.LateInput.may_fail c.args.inputs.items fault) (sym (c.fault_of.ensures ∙ ap (λ (count : ℕ). of_stop count c.in-Err.stop) c.len-count.ensures))
     (fault_is g.T.LateInput.may_be g.T.LateInput.may_fail c.args.readers c.args.inputs.items c.args.jobs c.in_ok-ended.ended.items c.in-Err.stop c.requires.some
     (ended_for_all chances c.args.readers c.args.inputs.items c.in_ok-dealt.dealt.inputs.value.items c.args.jobs c.args.seats c.in_ok-ended.ended.items
     (ap (λ (v : Vec g.row.T.Denot Global). v.items) c.in_ok-dealt.ensures.inputs) c.requires.seats c.in_ok-ended.ensures)
     c.in-Err.ensures.fault)
-
-pub returns-in-Err-clause-jobs_are_good : goal.returns-in-Err-clause-jobs_are_good
-returns-in-Err-clause-jobs_are_good g c = λ is.
-    let told : c.fault_of.result ≡ into_book.Collect collects.BadJobs = cc in
-    no_bad_jobs c.len-count.result c.in-Err.stop (sym c.fault_of.ensures ∙ told)

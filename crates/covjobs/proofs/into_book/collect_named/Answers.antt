@@ -1,16 +1,20 @@
-use Rattle.std.proofs.Common.{rules, ◌∙◌, IsTrue, ℕ, List, Option, ap, subst}
+use Rattle.std.proofs.Common.{rules, ◌∙◌, IsTrue, ℕ, List, Option, length, ap, sym, subst}
 use Rattle.std.specs.List.{AllByRecursion}
+use Rattle.covbook.specs.declared.book.BookFault.TheVariants as book_faults
 use Rattle.covbook.specs.Kept.{IsPrefix}
 use Rattle.covbook.specs.Op.{EntryData}
 use Rattle.covlock.specs.CloseFault.{told_job}
 use Rattle.covlock.specs.Handed.{IsLeastMissing}
 use Rattle.covlock.specs.Seat.{SeatData, calls_in}
+use Rattle.covjobs.specs.declared.collect_fault.CollectFault.{CollectFault}
 use Rattle.covjobs.specs.declared.readers.Readers.TheVariants as readers
-use Rattle.covjobs.specs.Late.{chances_of}
+use Rattle.covjobs.specs.Late.{MayCome, chances_of}
 use Rattle.covjobs.specs.Latest.{history_of}
+use Rattle.covjobs.specs.Stops.{of_refused}
 use Rattle.covjobs.specs.Work.{seats_in}
 use Rattle.covjobs.proofs.AllSeated.{none_missing_yet}
 use Rattle.covjobs.proofs.SoFar.{AreClosed, latest_before, so_far}
+use Rattle.covjobs.proofs.Unread.{refused_may_come}
 use Rattle.covjobs.proofs.into_book.collect_named.Goals as goal
 
 pub returns-clause-collected : goal.returns-clause-collected
@@ -39,3 +43,9 @@ unreachable-requires g c =
     none_missing_yet (chances_of g.T.LateInput.may_be g.T.LateInput.may_fail) readers.None c.args.inputs.items c.args.jobs workers c.in_ok-workers.ensures.done job
     (subst (λ (n : ℕ). IsLeastMissing n (seats_in workers) job) (c.in_ok-book.ensures.jobs ∙ c.requires.jobs)
     (subst (λ (seats : List SeatData). IsLeastMissing c.in_ok-book.book.jobs seats job) c.in_ok-seats.ensures.seats c.in-Err.ensures.seated))
+
+-- the closed book is full
+pub returns-then-len-ge-MAX_ENTRIES-clause-unread : goal.returns-then-len-ge-MAX_ENTRIES-clause-unread
+returns-then-len-ge-MAX_ENTRIES-clause-unread g c =
+    let inputs = length c.args.inputs.items in
+    subst (λ (fault : CollectFault). MayCome inputs fault) (sym (c.refused_by.ensures ∙ ap (λ (count : ℕ). of_refused count book_faults.Full) c.len-count.ensures)) (refused_may_come inputs book_faults.Full)

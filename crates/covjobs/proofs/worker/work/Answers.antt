@@ -27,7 +27,7 @@ loop-placed-preserved g c =
     let rest = c.next.new.self.rest.items in
     let left : c.loop-placed.placed-iterator.rest.items ≡ c.in-Some.placed ∷ rest = search rules in (
       c.go_on.ensures.job ∙ c.loop-placed.invariant.0,
-      one_gone gives inputs c.args.jobs c.args.seat.job c.in-Some.placed rest c.loop-placed.first c.in_ok-first.field-0 old new
+      one_gone gives inputs c.args.jobs c.args.seat.job c.in-Some.placed rest c.loop-placed.first c.in_ok-first.first old new
           (subst (λ (share : List (Placed g.row.T.Denot)). IsGoingOn gives inputs c.args.jobs c.args.seat.job share c.loop-placed.first old) left c.loop-placed.invariant.1)
           c.in_ok-first.ensures.outcome c.in_ok-first.ensures.taken c.in_ok-first.ensures.read,
       subst (λ (has : Bool). MayHaveReader c.args.readers has) (sym c.go_on.ensures.reader) c.loop-placed.invariant.2,
@@ -63,7 +63,7 @@ returns-in_err-first g c =
     let old = c.loop-placed.worker in
     let rest = c.next.new.self.rest.items in
     let left : c.loop-placed.placed-iterator.rest.items ≡ c.in-Some.placed ∷ rest = search rules in
-    let p = err_from_is_err_and c.from_residual-in_err-first.result c.from_residual-in_err-first.ensures.1 in
+    let p = err_from_is_err_and c.from_residual.result c.from_residual.ensures.1 in
     rw (p.1, p.2)
     (stop_of (chances_of g.T.LateInput.may_be g.T.LateInput.may_fail) c.args.readers inputs c.args.jobs c.args.seat.job c.in-Some.placed rest c.loop-placed.first old c.in_err-first.field-0.0
     (subst (λ (share : List (Placed g.row.T.Denot)). IsGoingOn gives inputs c.args.jobs c.args.seat.job share c.loop-placed.first old) left c.loop-placed.invariant.1) c.in_err-first.ensures.stop)
