@@ -1,5 +1,5 @@
 -- A worker reads its share to the end, also after it was refused something.
-use Rattle.std.proofs.Common.{◌≡◌, ◌∙◌, ℕ, zero, suc, ◌<◌, IsTrue, List, [], ◌∷◌, ◌++◌, length, map, Option, None, Some, Result, Ok, Err, slice_get, ap, sym, refl, subst}
+use Rattle.std.proofs.Common.{◌≡◌, ◌∙◌, ℕ, zero, suc, List, [], ◌∷◌, ◌++◌, length, map, Option, None, Some, Result, Ok, Err, slice_get, ap, sym, refl, subst}
 use Rattle.std.specs.Prelude.{IsSomeAnd}
 use Rattle.std.proofs.lemmas.List.{map-append}
 use Rattle.std.proofs.lemmas.Option.{none-some}
@@ -13,7 +13,7 @@ use Rattle.covjobs.specs.declared.refused.RefusedInput.{RefusedInput}
 use Rattle.covjobs.specs.declared.shares.Placed.{Placed}
 use Rattle.covjobs.specs.declared.stop.Stop.{Stop}
 use Rattle.covjobs.specs.declared.stop.Stop.TheVariants as stops
-use Rattle.covjobs.specs.Collect.{InputData, HasRead, places_of_job, submitted, refusal, ops_in}
+use Rattle.covjobs.specs.Collect.{InputData, HasRead, submitted, refusal, ops_in}
 use Rattle.covjobs.specs.Late.{IsLateOutcome, MayGive}
 use Rattle.covjobs.specs.Shares.{share_of}
 use Rattle.covjobs.specs.Stops.{IsStopAt, of_late}

@@ -1,5 +1,5 @@
 -- Private steps: where a worker stops, and which fault is returned for that.
-use Rattle.std.specs.Prelude.{◌≡◌, ℕ, ◌<◌, min, if◌then◌else◌, nat_lt, Option, None, Some, Result, Ok, Err}
+use Rattle.std.specs.Prelude.{◌≡◌, ℕ, min, if◌then◌else◌, nat_lt, Option, None, Some, Result, Ok, Err}
 use Rattle.covread.specs.declared.fault.ReadFault.{ReadFault}
 use Rattle.covbook.specs.declared.book.BookFault.{BookFault}
 use Rattle.covbook.specs.declared.book.BookFault.TheVariants as book

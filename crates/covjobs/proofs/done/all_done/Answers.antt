@@ -1,4 +1,4 @@
-use Rattle.std.proofs.Common.{rules, ◌≡◌, ◌∙◌, ℕ, List, Vec, Global, map, ap, sym, subst}
+use Rattle.std.proofs.Common.{rules, ◌∙◌, ℕ, List, Vec, Global, map, ap, sym, subst}
 use Rattle.covjobs.specs.declared.shares.Placed.{Placed}
 use Rattle.covjobs.specs.declared.book_fault.IntoBookFault.{IntoBookFault}
 use Rattle.covjobs.specs.Late.{IsIntoBookFault, chances_of}
@@ -32,7 +32,7 @@ work_at_once-requires-clause-fresh g c κs within = all_fresh c.args.jobs c.args
 pub returns-clause-unread : goal.returns-clause-unread
 returns-clause-unread g c =
     let chances = chances_of g.T.LateInput.may_be g.T.LateInput.may_fail in
-    subst (λ (fault : IntoBookFault). IsIntoBookFault g.T.LateInput.may_be g.T.LateInput.may_fail c.args.inputs.items fault) (sym (c.fault_of.ensures ∙ ap (λ (count : ℕ). of_stop count c.in-Err.stop) c.len-count.ensures))
+    subst (λ (fault : IntoBookFault). IsIntoBookFault g.T.LateInput.may_be g.T.LateInput.may_fail c.args.inputs.items fault) (sym (c.fault_of.ensures ∙ ap (λ (count : ℕ). of_stop count c.in-Err.stop) (c.len-count.ensures ∙ c.args.inputs.ok.0)))
     (fault_is g.T.LateInput.may_be g.T.LateInput.may_fail c.args.readers c.args.inputs.items c.args.jobs c.in_ok-ended.ended.items c.in-Err.stop c.requires.some
     (ended_for_all chances c.args.readers c.args.inputs.items c.in_ok-dealt.dealt.inputs.value.items c.args.jobs c.args.seats c.in_ok-ended.ended.items
     (ap (λ (v : Vec g.row.T.Denot Global). v.items) c.in_ok-dealt.ensures.inputs) c.requires.seats c.in_ok-ended.ensures)

@@ -1,4 +1,4 @@
-use Rattle.std.proofs.Common.{rules, ◌≡◌, ◌∙◌, inl, ◌++◌, [], ◌∷◌, List, Option, Ok, Err, Some, sym, subst, arith}
+use Rattle.std.proofs.Common.{rules, ◌≡◌, ◌∙◌, inl, ◌++◌, [], ◌∷◌, List, Ok, Err, Some, sym, subst, arith}
 use Rattle.std.proofs.lemmas.List.{nil_from_length}
 use Rattle.covjobs.specs.declared.stop.Refusal.{Refusal}
 use Rattle.covjobs.specs.declared.stop.Stop.TheVariants as stops

@@ -48,4 +48,4 @@ unreachable-requires g c =
 pub returns-then-len-ge-MAX_ENTRIES-clause-unread : goal.returns-then-len-ge-MAX_ENTRIES-clause-unread
 returns-then-len-ge-MAX_ENTRIES-clause-unread g c =
     let inputs = length c.args.inputs.items in
-    subst (λ (fault : CollectFault). MayCome inputs fault) (sym (c.refused_by.ensures ∙ ap (λ (count : ℕ). of_refused count book_faults.Full) c.len-count.ensures)) (refused_may_come inputs book_faults.Full)
+    subst (λ (fault : CollectFault). MayCome inputs fault) (sym (c.refused_by.ensures ∙ ap (λ (count : ℕ). of_refused count book_faults.Full) (c.len-count.ensures ∙ c.args.inputs.ok.0))) (refused_may_come inputs book_faults.Full)
