@@ -1,12 +1,23 @@
 -- Which lines of a text aren't read, and how one of them begins.
-use Rattle.std.specs.Prelude.{◌≡◌, ◌≢◌, ◌⊎◌, ℕ, Bool, ◌||◌, ◌==◌, if◌then◌else◌, List, [], ◌∷◌, take}
-use Rattle.covline.specs.Spells.{Spells, Skip}
+use Rattle.std.specs.Prelude.{◌≡◌, ◌≢◌, ◌⊎◌, ℕ, Bool, ◌||◌, ◌==◌, if◌then◌else◌, List, [], ◌∷◌, codes, take}
+use Rattle.covline.specs.Spells.{BeginsWithOneOf, Spells, Skip}
+use Rattle.covlcov2.specs.Spells.{Lcov2Spells, Plain}
 use Rattle.covread.specs.Gcov.{IsShapeOf, Other}
 
 -- a line of a tracefile that isn't read: it isn't empty, and begins neither with one of the twelve keys nor with
 -- `end_of_record`
 abbrev pub IsSkippedRecord : List ℕ → Type 0
 IsSkippedRecord line = (line ≢ []) × Spells line Skip
+
+-- a line that LCOV 2 writes and that isn't read (geninfo(1) of LCOV 2.x, TRACEFILE FORMAT): a version of the source file, a
+-- condition of MC/DC or one of its totals, or a comment
+abbrev pub IsOfLcov2Alone : List ℕ → Type 0
+IsOfLcov2Alone line =
+    BeginsWithOneOf (codes "VER:" ∷ codes "MCDC:" ∷ codes "MCF:" ∷ codes "MCH:" ∷ codes "#" ∷ []) line
+
+-- a line of a tracefile of LCOV 2 that isn't read, and that no LCOV of either version writes
+abbrev pub IsSkippedLcov2 : List ℕ → Type 0
+IsSkippedLcov2 line = (line ≢ []) × Lcov2Spells line (Plain Skip) × ¬ IsOfLcov2Alone line
 
 -- a line of gcov's text that isn't read: it isn't empty, and has none of the known shapes
 abbrev pub IsSkippedGcov : List ℕ → Type 0

@@ -6,13 +6,15 @@ ghost use Rattle.covread.specs.declared.fault.ReadFault.{ReadFault as Fault};
 ghost use Rattle.covread.specs.declared.fault.ReadFault.TheVariants.{Memory as NoMemory};
 ghost use Rattle.covread.specs.Outcome.{Answers, GrowsLate, IsOutcome};
 ghost use Rattle.covread.specs.GcovOutcome as gcov;
+ghost use Rattle.covlcov2.specs.Outcome as lcov2;
 ghost use Rattle.covcheck.specs.TextSummary.{Holds, Tells};
-ghost use Rattle.covcheck.specs.Skipped.{IsSkippedGcov, IsSkippedRecord};
+ghost use Rattle.covcheck.specs.Skipped.{IsSkippedGcov, IsSkippedLcov2, IsSkippedRecord};
 ghost use Rattle.covcheck.specs.CheckSteps.{IsSkippedIn};
 
 use crate::format::Format;
 use crate::skipped_lines::skipped_lines_in;
 use crate::text_summary::TextSummary;
+use covlcov2::read_lcov2;
 use covline::Submission;
 use covread::{ReadFault, read_gcov, read_trace};
 use std::alloc::Allocator;
@@ -30,6 +32,21 @@ pub fn check_trace<'a, A: Allocator + Copy>(
 {
     let submission = read_trace(alloc, text)?;
     Ok(summary_of(&submission, text, Format::Trace))
+}
+
+/// Reads a tracefile of LCOV 2 (geninfo(1) of LCOV 2.x, TRACEFILE FORMAT). Returns what it holds, or the fault that `read_lcov2`
+/// returns. What was read is freed.
+pub fn check_lcov2<'a, A: Allocator + Copy>(
+    alloc: A,
+    text: &'a [u8],
+) -> Result<TextSummary<'a>, ReadFault>
+    // The result fits an answer of the reader. This is what the text is read as, or `Memory`, which comes only after a path.
+    ensures answers { (read : Result SubmissionData Fault) × lcov2.Answers text.now read × lcov2.GrowsLate text.now read × Tells IsSkippedLcov2 text.now read result }
+    // The result fits what the text is read as, or it is `Memory`.
+    ensures only { (outcome : Result SubmissionData Fault) → lcov2.IsOutcome text.now outcome → (result ≡ Err NoMemory) ⊎ Tells IsSkippedLcov2 text.now outcome result }
+{
+    let submission = read_lcov2(alloc, text)?;
+    Ok(summary_of(&submission, text, Format::Lcov2))
 }
 
 /// Reads gcov's annotated source (gcov(1)), as counts of the test with the empty name. Returns what it holds, or the fault

@@ -1,11 +1,13 @@
 //! The formats that a text can have, and which lines aren't read in each.
 
 ghost use Rattle.std.specs.Prelude.{◌≡◌, ◌++◌, ◌↔◌, IsTrue, IfSome, codes};
-ghost use Rattle.covline.specs.Spells.{line_data, HasKey, Skip, Spells};
-ghost use Rattle.covcheck.specs.Skipped.{IsSkippedRecord};
+ghost use Rattle.covline.specs.Spells.{line_data, Begins, HasKey, Skip, Spells};
+ghost use Rattle.covlcov2.specs.Spells.{lcov2_data, Lcov2Spells, Plain};
+ghost use Rattle.covcheck.specs.Skipped.{IsOfLcov2Alone, IsSkippedLcov2, IsSkippedRecord};
 ghost use Rattle.covcheck.specs.CheckSteps.{IsSkippedIn};
 
-use covline::{TraceLine, read_line};
+use covlcov2::{Lcov2Line, read_lcov2_line};
+use covline::{TraceLine, read_line, strip_key};
 use covread::fits_no_shape;
 
 /// How a text is read.
@@ -13,6 +15,8 @@ use covread::fits_no_shape;
 pub(crate) enum Format {
     /// As a tracefile.
     Trace,
+    /// As a tracefile of LCOV 2.
+    Lcov2,
     /// As gcov's annotated source.
     Gcov,
 }
@@ -25,6 +29,7 @@ impl Format {
     {
         match self {
             Format::Trace => is_skipped_record(line),
+            Format::Lcov2 => is_skipped_lcov2(line),
             Format::Gcov => !line.is_empty() && fits_no_shape(line),
         }
     }
@@ -40,6 +45,18 @@ fn is_skipped_record(line: &[u8]) -> bool
         return false;
     }
     !line.is_empty() && says_nothing(line)
+}
+
+/// Whether the line isn't read in a tracefile of LCOV 2, and no LCOV of either version writes it. The keys of most lines give the
+/// answer `false` here too.
+#[inline]
+fn is_skipped_lcov2(line: &[u8]) -> bool
+    ensures { IsTrue result ↔ IsSkippedLcov2 line.now }
+{
+    if has_common_key(line) {
+        return false;
+    }
+    !line.is_empty() && says_nothing_in_lcov2(line) && !is_of_lcov2_alone(line)
 }
 
 /// Whether the line begins with one of the two keys that most lines of a tracefile have.
@@ -87,4 +104,42 @@ fn is_skip(says: TraceLine<'_>) -> bool
     ensures { IsTrue result ↔ (line_data says.entry ≡ Skip) }
 {
     matches!(says, TraceLine::Skip)
+}
+
+/// Whether the line of a tracefile of LCOV 2 says nothing.
+fn says_nothing_in_lcov2(line: &[u8]) -> bool
+    ensures { IsTrue result ↔ Lcov2Spells line.now (Plain Skip) }
+{
+    match read_lcov2_line(line) {
+        Ok(says) => is_plain_skip(says),
+        Err(_) => false,
+    }
+}
+
+/// Whether this is `TraceLine::Skip`.
+fn is_plain_skip(says: Lcov2Line<'_>) -> bool
+    ensures { IsTrue result ↔ (lcov2_data says.entry ≡ Plain Skip) }
+{
+    match says {
+        Lcov2Line::Plain(says) => is_skip(says),
+        _ => false,
+    }
+}
+
+/// Whether LCOV 2 writes the line and it isn't read.
+fn is_of_lcov2_alone(line: &[u8]) -> bool
+    ensures { IsTrue result ↔ IsOfLcov2Alone line.now }
+{
+    begins(line, b"VER:")
+        || begins(line, b"MCDC:")
+        || begins(line, b"MCF:")
+        || begins(line, b"MCH:")
+        || begins(line, b"#")
+}
+
+/// Whether the text begins with the key.
+fn begins(text: &[u8], key: &[u8]) -> bool
+    ensures { IsTrue result ↔ Begins text.now key.now }
+{
+    strip_key(text, key).is_some()
 }

@@ -2,12 +2,13 @@
 
 ghost use Rattle.std.specs.Prelude.{◌≡◌, ◌≢◌, ◌<◌, ◌≤◌, ℕ, [], List, length};
 ghost use Rattle.covcheck.specs.TextSummary.{AreLinesThat};
-ghost use Rattle.covcheck.specs.Skipped.{start_of, IsSkippedGcov, IsSkippedRecord};
+ghost use Rattle.covcheck.specs.Skipped.{start_of, IsSkippedGcov, IsSkippedLcov2, IsSkippedRecord};
 ghost use Rattle.covcheck.specs.SummaryLine.{shown};
 
 /// There is only one list of the lines that aren't read, so their number and the first of them are determined.
 pub fn skipped_lines_are_unique()
     ensures trace { (text : List ℕ) (x y : List (ℕ × List ℕ)) → AreLinesThat IsSkippedRecord text x → AreLinesThat IsSkippedRecord text y → x ≡ y }
+    ensures lcov2 { (text : List ℕ) (x y : List (ℕ × List ℕ)) → AreLinesThat IsSkippedLcov2 text x → AreLinesThat IsSkippedLcov2 text y → x ≡ y }
     ensures gcov { (text : List ℕ) (x y : List (ℕ × List ℕ)) → AreLinesThat IsSkippedGcov text x → AreLinesThat IsSkippedGcov text y → x ≡ y }
 {}
 

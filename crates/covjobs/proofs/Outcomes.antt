@@ -5,11 +5,16 @@ use Rattle.covread.specs.declared.fault.ReadFault.{ReadFault}
 use Rattle.covread.specs.declared.fault.ReadFault.TheVariants as faults
 use Rattle.covread.specs.Outcome as trace
 use Rattle.covread.specs.GcovOutcome as gcov
-use Rattle.covjobs.specs.Collect.{InputData, TraceInput, GcovInput, IsOutcomeOf}
+use Rattle.covlcov2.specs.Outcome as lcov2
+use Rattle.covjobs.specs.Collect.{InputData, TraceInput, Lcov2Input, GcovInput, IsOutcomeOf}
 
 pub trace_outcome : (text : List ℕ) (answer : Result SubmissionData ReadFault) → trace.Answers text answer → IsOutcomeOf (TraceInput text) answer
 trace_outcome text answer (inl (few, refused)) = inr (few, refused)
 trace_outcome text answer (inr is) = inl is
+
+pub lcov2_outcome : (text : List ℕ) (answer : Result SubmissionData ReadFault) → lcov2.Answers text answer → IsOutcomeOf (Lcov2Input text) answer
+lcov2_outcome text answer (inl (few, refused)) = inr (few, refused)
+lcov2_outcome text answer (inr is) = inl is
 
 pub gcov_outcome : (test text : List ℕ) (answer : Result SubmissionData ReadFault) → gcov.Answers test text answer → IsOutcomeOf (GcovInput test text) answer
 gcov_outcome test text answer (inl (few, good, refused)) = inr ((few, good), refused)
@@ -25,5 +30,6 @@ no_fault submission is = cc
 -- if an input is read, memory may still run out for it later
 pub late_outcome : (input : InputData) (submission : SubmissionData) → IsOutcomeOf input (Ok submission) → IsOutcomeOf input (Err faults.Memory)
 late_outcome (TraceInput text) submission (inl (few, reads)) = inr (few, refl)
+late_outcome (Lcov2Input text) submission (inl (few, reads)) = inr (few, refl)
 late_outcome (GcovInput test text) submission (inl (few, good, reads)) = inr ((few, good), refl)
 late_outcome input submission (inr (may, none)) = absurd (no_fault submission none)

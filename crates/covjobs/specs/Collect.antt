@@ -8,6 +8,7 @@ use Rattle.covread.specs.declared.fault.ReadFault.{ReadFault}
 use Rattle.covread.specs.declared.fault.ReadFault.TheVariants as faults
 use Rattle.covread.specs.Outcome as trace
 use Rattle.covread.specs.GcovOutcome as gcov
+use Rattle.covlcov2.specs.Outcome as lcov2
 use Rattle.covbook.specs.declared.reading.Reading.{Reading}
 use Rattle.covbook.specs.Op.{OpData, SubmitOp, EntryData, ReceiptData, AreLawfulOps}
 use Rattle.covbook.specs.Gather.{LogData, IsMerge, IsGathered}
@@ -16,20 +17,23 @@ use Rattle.covbook.specs.Step.{IsLegal, table_of, answer_of, ops_in as ops_of}
 use Rattle.covbook.specs.Texts.{IsText}
 use Rattle.covjobs.specs.declared.refused.RefusedInput.{RefusedInput}
 
--- an input: a tracefile, or gcov's output and the name of the test whose counts it has
+-- an input: a tracefile, one of LCOV 2, or gcov's output and the name of the test whose counts it has
 pub data InputData : Type 0 where
   TraceInput : (text : List ℕ) → InputData
+  Lcov2Input : (text : List ℕ) → InputData
   GcovInput : (test text : List ℕ) → InputData
 
 -- what an input is read as: a submission, or the first fault in it
 abbrev pub IsReadAs : InputData → Result SubmissionData ReadFault → Type 0
 IsReadAs (TraceInput text) outcome = trace.IsOutcome text outcome
+IsReadAs (Lcov2Input text) outcome = lcov2.IsOutcome text outcome
 IsReadAs (GcovInput test text) outcome = gcov.IsOutcome test text outcome
 
 -- memory may run out while the input is read. This needs a text that isn't too long and a good test name, since both are checked
 -- before any memory is taken
 abbrev pub MayRunOut : InputData → Type 0
 MayRunOut (TraceInput text) = length text ≤ trace.max_bytes
+MayRunOut (Lcov2Input text) = length text ≤ trace.max_bytes
 MayRunOut (GcovInput test text) = (length text ≤ trace.max_bytes) × IsGoodTest test
 
 -- the outcome of an input: what it is read as, or the fault `Memory` if memory ran out

@@ -1,6 +1,7 @@
 //! Texts that are to be collected.
 
 use covbook::SubRef;
+use covlcov2::read_lcov2;
 use covline::{Bytes, Submission};
 use covread::{ReadFault, read_gcov, read_trace};
 use std::alloc::{Allocator, Global};
@@ -10,6 +11,8 @@ use std::alloc::{Allocator, Global};
 pub enum Input<A: Allocator = Global> {
     /// A tracefile (geninfo(1), FILES).
     Trace(Bytes<A>),
+    /// A tracefile of LCOV 2 (geninfo(1) of LCOV 2.x, TRACEFILE FORMAT).
+    Lcov2(Bytes<A>),
     /// gcov's annotated source (gcov(1)), whose counts are this test's.
     Gcov { test: Bytes<A>, text: Bytes<A> },
 }
@@ -28,12 +31,13 @@ impl<A: Allocator + Copy> Input<A> {
     }
 
     /// The submission that the text is read as.
-    #[tactic(auto, using(crate::proofs::Outcomes::trace_outcome, crate::proofs::Outcomes::gcov_outcome))]
+    #[tactic(auto, using(crate::proofs::Outcomes::trace_outcome, crate::proofs::Outcomes::lcov2_outcome, crate::proofs::Outcomes::gcov_outcome))]
     fn submission(&self, alloc: A) -> Result<Submission<A>, ReadFault>
         ensures { IsOutcomeOf (input_data self.now) result }
     {
         match self {
             Input::Trace(text) => read_trace(alloc, text.get()),
+            Input::Lcov2(text) => read_lcov2(alloc, text.get()),
             Input::Gcov { test, text } => read_gcov(alloc, test.get(), text.get()),
         }
     }

@@ -6,11 +6,13 @@ use Rattle.std.proofs.lemmas.List.Folds.{list_any-append}
 use Rattle.std.specs.Io.KnownBytes.{Appends}
 use Rattle.std.specs.List.{flat_map, list_any, zip}
 use Rattle.covcheck.specs.TextSummary.{Tells}
-use Rattle.covcheck.specs.Skipped.{IsSkippedGcov, IsSkippedRecord}
+use Rattle.covcheck.specs.Skipped.{IsSkippedGcov, IsSkippedLcov2, IsSkippedRecord}
 use Rattle.covcheck.specs.declared.text_summary.TextSummary.{TextSummary}
+use Rattle.covcommand.specs.declared.asked.LcovVersion.TheVariants as versions
 use Rattle.covcommand.specs.declared.asked.TextFormat.{TextFormat}
 use Rattle.covcommand.specs.declared.asked.TextFormat.TheVariants.{Tracefile, Gcov}
 use Rattle.covline.specs.Row.{SubmissionData}
+use Rattle.covlcov2.specs.Outcome as lcov2
 use Rattle.covread.specs.GcovOutcome as gcov
 use Rattle.covread.specs.Outcome as trace
 use Rattle.covread.specs.Outcome.{max_bytes}
@@ -44,9 +46,15 @@ memory_told is_skipped text (Err fault) (Err told) is tells = ap Err (tells ∙ 
 
 pub trace_answered : (text : List ℕ) (answer : Result TextSummary ReadFault)
     → (read : Result SubmissionData ReadFault) × trace.Answers text read × trace.GrowsLate text read × Tells IsSkippedRecord text read answer
-    → AnswersText Tracefile text answer
+    → AnswersText (Tracefile versions.One) text answer
 trace_answered text answer (read, inl (short, is), late, tells) = inl (memory_told IsSkippedRecord text read answer is tells)
 trace_answered text answer (read, inr outcome, late, tells) = inr (read, outcome, tells)
+
+pub lcov2_answered : (text : List ℕ) (answer : Result TextSummary ReadFault)
+    → (read : Result SubmissionData ReadFault) × lcov2.Answers text read × lcov2.GrowsLate text read × Tells IsSkippedLcov2 text read answer
+    → AnswersText (Tracefile versions.Two) text answer
+lcov2_answered text answer (read, inl (short, is), late, tells) = inl (memory_told IsSkippedLcov2 text read answer is tells)
+lcov2_answered text answer (read, inr outcome, late, tells) = inr (read, outcome, tells)
 
 pub gcov_answered : (text : List ℕ) (answer : Result TextSummary ReadFault)
     → (read : Result SubmissionData ReadFault) × gcov.Answers [] text read × gcov.GrowsLate text read × Tells IsSkippedGcov text read answer

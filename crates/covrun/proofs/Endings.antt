@@ -30,7 +30,7 @@ use Rattle.covrun.proofs.Reading.{ReadTexts, texts_held}
 
 -- the texts were collected, and the call ends with the ending for what was collected, or for want of memory
 pub ends_collected : (folder : FolderData) (work : WorkData) (files : List (List ℕ)) → files ≡ work.files → (inputs : List InputData) (entries : List EntryData) (refused : List RefusedInput) (ending : EndingData)
-    → ReadTexts folder work.test files inputs → IsText work.last → IsCollectedSoFar inputs work.jobs entries refused
+    → ReadTexts folder work.format files inputs → IsText work.last → IsCollectedSoFar inputs work.jobs entries refused
     → (ending ≡ Stopped faults.Memory) ⊎ (ending ≡ of_collected files (entries ++ next_entry entries 0 work.last ∷ []) refused) → WorkEnds folder work ending
 ends_collected folder work files named inputs entries refused ending read asks collected (inl ran_out) = inl ran_out
 ends_collected folder work files named inputs entries refused ending (texts, are, from) asks collected (inr is) =
@@ -112,10 +112,10 @@ AsksText (Checks format files) = Unit {0}
 
 asks_text_of : (command : Command) → AsksText (task_of command)
 asks_text_of commands.Session = tt
-asks_text_of (commands.Merge jobs names) = tt
-asks_text_of (commands.Summary names) = tt
-asks_text_of (commands.Extract names) = tt
-asks_text_of (commands.Remove names) = tt
+asks_text_of (commands.Merge version jobs names) = tt
+asks_text_of (commands.Summary version jobs names) = tt
+asks_text_of (commands.Extract version names) = tt
+asks_text_of (commands.Remove version names) = tt
 asks_text_of (commands.Gcov test names) = tt
 asks_text_of (commands.Check format names) = tt
 

@@ -49,7 +49,7 @@ pub record CollectedData : Type 0 where
 -- the result of collecting the texts. `BadJobs` is returned only if the number of jobs is out of range. Nothing is said of the
 -- other faults
 abbrev pub IsAnswer : WorkData → List (List ℕ) → Result CollectedData CollectFault → Type 0
-IsAnswer work texts (Ok c) = IsCollected (map (input_of work.test) texts) work.jobs work.last c.entries c.logs c.refused
+IsAnswer work texts (Ok c) = IsCollected (map (input_of work.format) texts) work.jobs work.last c.entries c.logs c.refused
 IsAnswer work texts (Err fault) = fault ≡ collects.BadJobs → AreJobs work.jobs → ⊥
 
 -- the ending of a call whose collecting had this result

@@ -3,12 +3,14 @@ use Rattle.std.specs.Io.KnownBytes.{Appends}
 use Rattle.std.specs.List.{AllByRecursion, flat_map, list_any, zip}
 use Rattle.std.specs.Prelude.{◌≡◌, ◌⊎◌, ◌<◌, ◌≤◌, ℕ, suc, List, [], ◌∷◌, ◌++◌, length, Option, Bool, true, false, if◌then◌else◌, nat_lt, Result, Ok, Err, codes}
 use Rattle.covcheck.specs.TextSummary.{Tells}
-use Rattle.covcheck.specs.Skipped.{IsSkippedGcov, IsSkippedRecord}
+use Rattle.covcheck.specs.Skipped.{IsSkippedGcov, IsSkippedLcov2, IsSkippedRecord}
 use Rattle.covcheck.specs.SummaryLine.{summary_text}
 use Rattle.covcheck.specs.declared.text_summary.TextSummary.{TextSummary}
+use Rattle.covcommand.specs.declared.asked.LcovVersion.TheVariants as versions
 use Rattle.covcommand.specs.declared.asked.TextFormat.{TextFormat}
 use Rattle.covcommand.specs.declared.asked.TextFormat.TheVariants.{Tracefile, Gcov}
 use Rattle.covline.specs.Row.{SubmissionData}
+use Rattle.covlcov2.specs.Outcome as lcov2
 use Rattle.covread.specs.GcovOutcome as gcov
 use Rattle.covread.specs.Outcome.{max_bytes, IsOutcome as IsTraceOutcome}
 use Rattle.covread.specs.declared.fault.ReadFault.{ReadFault}
@@ -25,11 +27,13 @@ pub data OutcomeData : Type 0 where
   Refused : (fault : ReadFault) → OutcomeData
   Held : (summary : TextSummary) → OutcomeData
 
--- the result of checking a text, as a tracefile or as gcov's text for the test with the empty name: what the text holds in that
--- format, or its first fault
+-- the result of checking a text, as a tracefile of this version of lcov or as gcov's text for the test with the empty name: what the
+-- text holds in that format, or its first fault
 abbrev pub IsTextOutcome : TextFormat → List ℕ → Result TextSummary ReadFault → Type 0
-IsTextOutcome Tracefile text answer =
+IsTextOutcome (Tracefile versions.One) text answer =
     (read : Result SubmissionData ReadFault) × IsTraceOutcome text read × Tells IsSkippedRecord text read answer
+IsTextOutcome (Tracefile versions.Two) text answer =
+    (read : Result SubmissionData ReadFault) × lcov2.IsOutcome text read × Tells IsSkippedLcov2 text read answer
 IsTextOutcome Gcov text answer =
     (read : Result SubmissionData ReadFault) × gcov.IsOutcome [] text read × Tells IsSkippedGcov text read answer
 

@@ -8,6 +8,7 @@ use Rattle.covrun.specs.Work.{input_of}
 use Rattle.covsession.specs.declared.session.fault.SessionFault.{SessionFault}
 use Rattle.covsession.specs.declared.session.fault.SessionFault.TheVariants as faults
 use Rattle.covrun.specs.declared.files.FileFault.{FileFault}
+use Rattle.covrun.specs.declared.work.FileFormat.{FileFormat}
 use Rattle.covrun.specs.declared.files.FileFault.TheVariants.{Unreadable, Memory}
 
 -- all bytes that were left were read, or exactly `most` bytes
@@ -37,5 +38,5 @@ IsUnread folder name (Unreadable file) = (file.now ≡ name) × folder.MayFail n
 IsUnread folder name Memory = Unit {0}
 
 -- a file with these bytes, if they are known, may be read as this input: that of a text which is read of it
-abbrev pub MayBeRead : (held test : Option (List ℕ)) → InputData → Type 0
-MayBeRead held test input = (text : List ℕ) × (length text ≤ suc max_bytes) × IsTextOf held text × (input ≡ input_of test text)
+abbrev pub MayBeRead : (held : Option (List ℕ)) → FileFormat → InputData → Type 0
+MayBeRead held format input = (text : List ℕ) × (length text ≤ suc max_bytes) × IsTextOf held text × (input ≡ input_of format text)

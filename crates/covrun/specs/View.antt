@@ -10,7 +10,7 @@ use Rattle.covrun.specs.declared.ending.Ending.{Ending}
 use Rattle.covrun.specs.declared.ending.Ending.TheVariants as endings
 
 abbrev pub work_data : Work → WorkData
-work_data work = record { files = work.files; test = work.test; jobs = work.jobs; last = op_data work.last }
+work_data work = record { files = work.files; format = work.format; jobs = work.jobs; last = op_data work.last }
 
 abbrev pub task_data : Task → TaskData
 task_data tasks.Session = Serves

@@ -1,27 +1,31 @@
 -- What a subcommand has to do, and which of its words are refused before any file is read.
 use Rattle.std.specs.List.{AllByRecursion}
-use Rattle.std.specs.Prelude.{◌≡◌, ◌<◌, ◌≤◌, ℕ, List, length, take, drop, Option, Some, None}
+use Rattle.std.specs.Prelude.{◌≡◌, ◌<◌, ◌≤◌, ℕ, List, length, take, drop}
 use Rattle.covline.specs.Lawful.{IsGoodTest}
 use Rattle.covreport.specs.Choice.{max_patterns, max_pattern_bytes}
 use Rattle.covbook.specs.Op.{OpData, ReportOp, SummaryOp, ExtractOp, RemoveOp}
-use Rattle.covjobs.specs.Collect.{InputData, TraceInput, GcovInput}
+use Rattle.covjobs.specs.Collect.{InputData, TraceInput, Lcov2Input, GcovInput}
 use Rattle.covcommand.specs.declared.asked.Command.{Command}
 use Rattle.covcommand.specs.declared.asked.Command.TheVariants.{Session, Merge, Summary, Extract, Remove, Gcov, Check}
+use Rattle.covcommand.specs.declared.asked.LcovVersion.{LcovVersion}
+use Rattle.covcommand.specs.declared.asked.LcovVersion.TheVariants as versions
 use Rattle.covcommand.specs.declared.asked.TextFormat.{TextFormat}
 use Rattle.covrun.specs.declared.argument_fault.ArgumentFault.{ArgumentFault}
 use Rattle.covrun.specs.declared.argument_fault.ArgumentFault.TheVariants as arguments
+use Rattle.covrun.specs.declared.work.FileFormat.{FileFormat}
+use Rattle.covrun.specs.declared.work.FileFormat.TheVariants.{Tracefile, GcovOutput}
 
--- what a subcommand that collects files has to do. `files`: the files to read. `test`: if the files are gcov's output, the test
--- that their counts are of. `jobs`: the number of jobs. `last`: the operation that is asked after all files are collected
+-- what a subcommand that collects files has to do. `files`: the files to read. `format`: what they are. `jobs`: the number of jobs.
+-- `last`: the operation that is asked after all files are collected
 pub record WorkData : Type 0 where
   pub files : List (List ℕ)
-  pub test : Option (List ℕ)
+  pub format : FileFormat
   pub jobs : ℕ
   pub last : OpData
 
 -- the work that chooses files of a tracefile: the first name is the tracefile's, and the other names are patterns
-abbrev pub filtering : (List (List ℕ) → OpData) → List (List ℕ) → WorkData
-filtering op names = record { files = take 1 names; test = None; jobs = 1; last = op (drop 1 names) }
+abbrev pub filtering : LcovVersion → (List (List ℕ) → OpData) → List (List ℕ) → WorkData
+filtering version op names = record { files = take 1 names; format = Tracefile version; jobs = 1; last = op (drop 1 names) }
 
 -- what a call has to do: a session; or to collect files and answer what is asked after them; or to check files one by one
 pub data TaskData : Type 0 where
@@ -32,17 +36,18 @@ pub data TaskData : Type 0 where
 -- what each subcommand has to do; a call without a subcommand is a session
 abbrev pub task_of : Command → TaskData
 task_of Session = Serves
-task_of (Merge jobs names) = Collects (record { files = names; test = None; jobs = jobs; last = ReportOp })
-task_of (Summary names) = Collects (record { files = names; test = None; jobs = 1; last = SummaryOp })
-task_of (Extract names) = Collects (filtering ExtractOp names)
-task_of (Remove names) = Collects (filtering RemoveOp names)
-task_of (Gcov test names) = Collects (record { files = names; test = Some test; jobs = 1; last = ReportOp })
+task_of (Merge version jobs names) = Collects (record { files = names; format = Tracefile version; jobs = jobs; last = ReportOp })
+task_of (Summary version jobs names) = Collects (record { files = names; format = Tracefile version; jobs = jobs; last = SummaryOp })
+task_of (Extract version names) = Collects (filtering version ExtractOp names)
+task_of (Remove version names) = Collects (filtering version RemoveOp names)
+task_of (Gcov test names) = Collects (record { files = names; format = GcovOutput test; jobs = 1; last = ReportOp })
 task_of (Check format names) = Checks format names
 
--- a file's text as an input of collecting: a tracefile, or gcov's text of this test
-abbrev pub input_of : Option (List ℕ) → List ℕ → InputData
-input_of None text = TraceInput text
-input_of (Some test) text = GcovInput test text
+-- a file's text as an input of collecting: a tracefile of this version of lcov, or gcov's text of this test
+abbrev pub input_of : FileFormat → List ℕ → InputData
+input_of (Tracefile versions.One) text = TraceInput text
+input_of (Tracefile versions.Two) text = Lcov2Input text
+input_of (GcovOutput test) text = GcovInput test text
 
 abbrev pub IsShort : List ℕ → Type 0
 IsShort pattern = length pattern ≤ max_pattern_bytes
@@ -63,19 +68,19 @@ IsTestFault test fault = (fault ≡ arguments.BadTest) × (IsGoodTest test → �
 -- the patterns and the test's name are accepted
 abbrev pub AreTaken : Command → Type 0
 AreTaken Session = Unit {0}
-AreTaken (Merge jobs names) = Unit {0}
-AreTaken (Summary names) = Unit {0}
-AreTaken (Extract names) = ArePatterns (drop 1 names)
-AreTaken (Remove names) = ArePatterns (drop 1 names)
+AreTaken (Merge version jobs names) = Unit {0}
+AreTaken (Summary version jobs names) = Unit {0}
+AreTaken (Extract version names) = ArePatterns (drop 1 names)
+AreTaken (Remove version names) = ArePatterns (drop 1 names)
 AreTaken (Gcov test names) = IsGoodTest test
 AreTaken (Check format names) = Unit {0}
 
 -- a pattern or the test's name is refused for this reason
 abbrev pub AreRefused : Command → ArgumentFault → Type 0
 AreRefused Session fault = ⊥
-AreRefused (Merge jobs names) fault = ⊥
-AreRefused (Summary names) fault = ⊥
-AreRefused (Extract names) fault = IsPatternFault (drop 1 names) fault
-AreRefused (Remove names) fault = IsPatternFault (drop 1 names) fault
+AreRefused (Merge version jobs names) fault = ⊥
+AreRefused (Summary version jobs names) fault = ⊥
+AreRefused (Extract version names) fault = IsPatternFault (drop 1 names) fault
+AreRefused (Remove version names) fault = IsPatternFault (drop 1 names) fault
 AreRefused (Gcov test names) fault = IsTestFault test fault
 AreRefused (Check format names) fault = ⊥

@@ -13,8 +13,8 @@ use crate::check_verdict::CheckVerdict;
 use crate::files::{FileFault, file_text};
 use crate::folder::Folder;
 use crate::output::{put_out, say};
-use covcheck::{TextSummary, check_gcov, check_trace, summary_line};
-use covcommand::TextFormat;
+use covcheck::{TextSummary, check_gcov, check_lcov2, check_trace, summary_line};
+use covcommand::{LcovVersion, TextFormat};
 use covread::ReadFault;
 use covsession::{SessionFault, Sink, line_of, refused_line, status_of};
 use std::alloc::Global;
@@ -119,7 +119,8 @@ fn answer(alloc: Global, format: TextFormat, text: &[u8]) -> Result<TextSummary<
     ensures { AnswersText format text.now result }
 {
     match format {
-        TextFormat::Tracefile => check_trace(alloc, text),
+        TextFormat::Tracefile(LcovVersion::One) => check_trace(alloc, text),
+        TextFormat::Tracefile(LcovVersion::Two) => check_lcov2(alloc, text),
         TextFormat::Gcov => check_gcov(alloc, text),
     }
 }

@@ -48,7 +48,7 @@ pub(crate) fn do_work<R: Threads + Wait + Sync, F: Folder<File: Send> + Sync, O:
         (sinks (O.written output.new) (O.failed_writes output.new) (E.written faults.new) (E.failed_writes faults.new)) }
 {
     let files = work.files.get();
-    let Ok(inputs) = file_inputs(folder, alloc, &work.test, files) else {
+    let Ok(inputs) = file_inputs(folder, alloc, &work.format, files) else {
         return report_ending(Ending::Stopped(SessionFault::Memory), output, faults);
     };
     match collect_into_book(rt, alloc, inputs, work.jobs, &NoGate) {

@@ -2,31 +2,33 @@
 
 use crate::files::{FileFault, file_text};
 use crate::folder::Folder;
+use crate::work::FileFormat;
 use covbook::SubRef;
+use covcommand::LcovVersion;
 use covjobs::{Input, LateFault, LateInput};
 use covline::{Bytes, Memory};
 use std::alloc::Global;
 
-/// A file that is read when its turn comes. With a test it is gcov's output for this test, and without one it is a tracefile.
+/// A file of this format that is read when its turn comes.
 #[derive(Drop)]
 pub(crate) struct FileInput<'a, F: Folder> {
     folder: &'a F,
     name: &'a str,
-    test: &'a Option<Bytes>,
+    format: &'a FileFormat,
 }
 
 impl<'a, F: Folder> LateInput<Global> for FileInput<'a, F> {
     ghost use Rattle.covrun.specs.Files.{MayBeRead};
     ghost use Rattle.covrun.specs.Folder.{folder_data};
 
-    ghost may_be = { λ late input. MayBeRead (F.holds late.folder.now late.name.now) late.test.now input };
+    ghost may_be = { λ late input. MayBeRead (F.holds late.folder.now late.name.now) late.format.now input };
 
     ghost may_fail = { λ late. (folder_data (F.holds late.folder.now) (F.may_refuse late.folder.now) F.File.left F.File.failed_reads).MayFail late.name.now };
 
     /// Reads the file, and then its text, which is freed.
     fn read_late(self, alloc: Global) -> Result<SubRef, LateFault> {
         match file_text(self.folder, alloc, self.name) {
-            Ok(text) => read_input(alloc, self.test, text),
+            Ok(text) => read_input(alloc, self.format, text),
             Err(FileFault::Unreadable(_)) => Err(LateFault::Unreadable),
             Err(FileFault::Memory) => Err(LateFault::Memory),
         }
@@ -41,10 +43,10 @@ ghost use Rattle.covjobs.specs.Late.{IsLateOutcome};
 ghost use Rattle.covrun.specs.Work.{input_of};
 
 /// What the text of a file is read as. The text is freed.
-fn read_input(alloc: Global, test: &Option<Bytes>, text: Bytes) -> Result<SubRef, LateFault>
-    ensures { IsLateOutcome (λ input. input ≡ input_of test.now text) ⊥ result }
+fn read_input(alloc: Global, format: &FileFormat, text: Bytes) -> Result<SubRef, LateFault>
+    ensures { IsLateOutcome (λ input. input ≡ input_of format.now text) ⊥ result }
 {
-    let Ok(input) = input_for(alloc, test, text) else {
+    let Ok(input) = input_for(alloc, format, text) else {
         return Err(LateFault::Memory);
     };
     match input.read(alloc) {
@@ -53,16 +55,17 @@ fn read_input(alloc: Global, test: &Option<Bytes>, text: Bytes) -> Result<SubRef
     }
 }
 
-/// A file's text as an input. With a test it is gcov's output for this test, and without one it is a tracefile.
-fn input_for(alloc: Global, test: &Option<Bytes>, text: Bytes) -> Result<Input, Memory>
-    ensures { IfOk result (λ input. input_data input ≡ input_of test.now text) }
+/// The text of a file of this format as an input.
+fn input_for(alloc: Global, format: &FileFormat, text: Bytes) -> Result<Input, Memory>
+    ensures { IfOk result (λ input. input_data input ≡ input_of format.now text) }
 {
-    match test {
-        Some(test) => Ok(Input::Gcov {
+    match format {
+        FileFormat::Tracefile(LcovVersion::One) => Ok(Input::Trace(text)),
+        FileFormat::Tracefile(LcovVersion::Two) => Ok(Input::Lcov2(text)),
+        FileFormat::GcovOutput(test) => Ok(Input::Gcov {
             test: test.copy(alloc)?,
             text,
         }),
-        None => Ok(Input::Trace(text)),
     }
 }
 
@@ -70,18 +73,18 @@ fn input_for(alloc: Global, test: &Option<Bytes>, text: Bytes) -> Result<Input, 
 pub(crate) fn file_inputs<'a, F: Folder>(
     folder: &'a F,
     alloc: Global,
-    test: &'a Option<Bytes>,
+    format: &'a FileFormat,
     files: &'a [String],
 ) -> Result<Vec<FileInput<'a, F>>, Memory>
     ensures names { IfOk result (λ inputs. map (λ i. i.name.now) inputs.items ≡ map string_bytes files.now) }
-    ensures own { IfOk result (λ inputs. AllByRecursion (λ i. (i.folder.now ≡ folder.now) × (i.test.now ≡ test.now)) inputs.items) }
+    ensures own { IfOk result (λ inputs. AllByRecursion (λ i. (i.folder.now ≡ folder.now) × (i.format.now ≡ format.now)) inputs.items) }
 {
     let mut inputs = Vec::with_capacity(alloc, files.len())?;
     for name in files {
         inputs.push(FileInput {
             folder,
             name: name.as_str(),
-            test,
+            format,
         })?;
     }
     Ok(inputs)

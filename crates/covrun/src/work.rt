@@ -2,17 +2,26 @@
 
 use crate::argument_fault::ArgumentFault;
 use covbook::Op;
-use covcommand::{Command, Names, TextFormat};
+use covcommand::{Command, LcovVersion, Names, TextFormat};
 use covline::{Bytes, Memory, good_test};
 use covreport::{PatternFault, Patterns};
 use std::alloc::{AllocError, Global};
 
-/// What a subcommand that collects files has to do. `files`: the files to read. `test`: if the files are gcov's output, the test
-/// that their counts are of. `jobs`: the number of jobs. `last`: the operation that is asked after all files are collected.
+/// What the files of a call are.
+#[derive(Drop)]
+pub(crate) enum FileFormat {
+    /// Tracefiles, and which ones.
+    Tracefile(LcovVersion),
+    /// gcov's output, whose counts are of this test.
+    GcovOutput(Bytes),
+}
+
+/// What a subcommand that collects files has to do. `files`: the files to read. `format`: what they are. `jobs`: the number of jobs.
+/// `last`: the operation that is asked after all files are collected.
 #[derive(Drop)]
 pub(crate) struct Work {
     pub(crate) files: Names,
-    pub(crate) test: Option<Bytes>,
+    pub(crate) format: FileFormat,
     pub(crate) jobs: u32,
     pub(crate) last: Op,
 }
@@ -79,14 +88,14 @@ impl From<PatternFault> for WorkFault {
     }
 }
 
-ghost use Rattle.std.specs.Prelude.{◌≡◌, ◌≤◌, ℕ, List, Option, None, Some, length, map, take, drop, IfOk, IfErr};
+ghost use Rattle.std.specs.Prelude.{◌≡◌, map, take, drop, IfOk, IfErr};
 ghost use Rattle.std.specs.String.{string_bytes};
 ghost use Rattle.covline.specs.Lawful.{IsGoodTest};
-ghost use Rattle.covbook.specs.Op.{OpData};
-ghost use Rattle.covrun.specs.View.{task_data, work_data};
-ghost use Rattle.covrun.specs.Work.{task_of, filtering, ArePatterns, AreTaken};
+ghost use Rattle.covbook.specs.View.{op_data};
+ghost use Rattle.covrun.specs.View.{task_data};
+ghost use Rattle.covrun.specs.Work.{task_of, ArePatterns, AreTaken, Collects};
 ghost use Rattle.covrun.specs.WorkFault.{IsRefusal, IsPatternRefusal, IsTestRefusal};
-ghost use Rattle.covrun.specs.declared.work.WorkFault.TheVariants as faults;
+ghost use Rattle.covrun.specs.declared.work.FileFormat.TheVariants.{Tracefile};
 
 /// What the command has to do, after its patterns and its test's name are checked.
 pub(crate) fn task_for(alloc: Global, command: Command) -> Result<Task, WorkFault>
@@ -96,19 +105,32 @@ pub(crate) fn task_for(alloc: Global, command: Command) -> Result<Task, WorkFaul
 {
     match command {
         Command::Session => Ok(Task::Session),
-        Command::Merge { jobs, names } => Ok(Task::Collect(over(names, None, jobs, Op::Report))),
-        Command::Summary { names } => Ok(Task::Collect(over(names, None, 1, Op::Summary))),
-        Command::Extract { names } => {
+        Command::Merge {
+            version,
+            jobs,
+            names,
+        } => Ok(over_tracefiles(names, version, jobs, Op::Report)),
+        Command::Summary {
+            version,
+            jobs,
+            names,
+        } => Ok(over_tracefiles(names, version, jobs, Op::Summary)),
+        Command::Extract { version, names } => {
             let (files, patterns) = split(alloc, &names)?;
-            Ok(Task::Collect(over(files, None, 1, Op::Extract(patterns))))
+            Ok(over_tracefiles(files, version, 1, Op::Extract(patterns)))
         }
-        Command::Remove { names } => {
+        Command::Remove { version, names } => {
             let (files, patterns) = split(alloc, &names)?;
-            Ok(Task::Collect(over(files, None, 1, Op::Remove(patterns))))
+            Ok(over_tracefiles(files, version, 1, Op::Remove(patterns)))
         }
         Command::Gcov { test, names } => {
             test_name(&test)?;
-            Ok(Task::Collect(over(names, Some(test), 1, Op::Report)))
+            Ok(Task::Collect(Work {
+                files: names,
+                format: FileFormat::GcovOutput(test),
+                jobs: 1,
+                last: Op::Report,
+            }))
         }
         Command::Check { format, names } => Ok(Task::Check {
             format,
@@ -117,16 +139,16 @@ pub(crate) fn task_for(alloc: Global, command: Command) -> Result<Task, WorkFaul
     }
 }
 
-/// The work that has these parts.
-fn over(files: Names, test: Option<Bytes>, jobs: u32, last: Op) -> Work
-    ensures { work_data result ≡ work_data (record { files = files; test = test; jobs = jobs; last = last }) }
+/// The collecting of these tracefiles.
+fn over_tracefiles(files: Names, version: LcovVersion, jobs: u32, last: Op) -> Task
+    ensures { task_data result ≡ Collects (record { files = files; format = Tracefile version; jobs = jobs; last = op_data last }) }
 {
-    Work {
+    Task::Collect(Work {
         files,
-        test,
+        format: FileFormat::Tracefile(version),
         jobs,
         last,
-    }
+    })
 }
 
 /// Checks the name of a test.

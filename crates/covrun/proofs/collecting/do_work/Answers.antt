@@ -18,9 +18,9 @@ returns-in-Ok-collect_into_book g c =
       ending_data c.ending_of_collected.result,
       ends_collected (folder_data (g.F.Folder.holds c.args.folder.now) (g.F.Folder.may_refuse c.args.folder.now) g.F.File.Source.left g.F.File.Source.failed_reads)
           (work_data c.args.work.now) _ c.get-files.ensures read.0 _ _ _
-          (texts_read c.in-Ok.inputs.items c.args.folder.now c.args.work.now.test
+          (texts_read c.in-Ok.inputs.items c.args.folder.now c.args.work.now.format
           (λ folder. folder_data (g.F.Folder.holds folder) (g.F.Folder.may_refuse folder) g.F.File.Source.left g.F.File.Source.failed_reads)
-          (λ one. one.folder.now) (λ one. one.name.now) (λ one. one.test.now) _ _ c.in-Ok.ensures.names c.in-Ok.ensures.own read.1)
+          (λ one. one.folder.now) (λ one. one.name.now) (λ one. one.format.now) _ _ c.in-Ok.ensures.names c.in-Ok.ensures.own read.1)
           c.requires.text read.2 c.ending_of_collected.ensures,
       c.report_ending-in-Ok-collect_into_book.ensures,
     )
@@ -30,9 +30,9 @@ returns-in-Err-Unread g c = (
   Unreadable c.file_name.result.now,
   ends_unreadable (folder_data (g.F.Folder.holds c.args.folder.now) (g.F.Folder.may_refuse c.args.folder.now) g.F.File.Source.left g.F.File.Source.failed_reads)
       (work_data c.args.work.now) _ c.get-files.ensures _ _
-      (unreadable_read c.in-Ok.inputs.items c.args.folder.now c.args.work.now.test
+      (unreadable_read c.in-Ok.inputs.items c.args.folder.now c.args.work.now.format
       (λ folder. folder_data (g.F.Folder.holds folder) (g.F.Folder.may_refuse folder) g.F.File.Source.left g.F.File.Source.failed_reads)
-      (λ one. one.folder.now) (λ one. one.name.now) (λ one. one.test.now)
+      (λ one. one.folder.now) (λ one. one.name.now) (λ one. one.format.now)
       (map string_bytes c.get-files.result.now) c.in-Err-Unread.index _ c.in-Ok.ensures.names c.in-Ok.ensures.own c.in-Err-Unread.field-0-is c.in-Err-Unread.ensures.unread)
       (ap Unreadable (c.file_name.ensures ∙ ap (λ index. name_at (slice_get (map string_bytes c.get-files.result.now) index)) c.in-Err-Unread.index-is)),
   c.report_ending-in-Err-Unread.ensures,
