@@ -52,7 +52,7 @@ gap_absent order pages i j gap =
     ∙ keys_passed order Less (before pages (i, j)) refl gap.front (from pages (i, j))
     (ap (λ slots. has_slot order (keys_of slots)) (sym (append_nil (from pages (i, j)))) ∙ keys_passed order Greater (from pages (i, j)) refl gap.back [] refl)
 
--- so nothing is staged for it
+-- nothing is staged for a key that belongs in a gap
 pub staged_absent : {K V : Type 0} (order : K → Ordering) (pages : List (List (K × Option V))) (columns : List (ℕ × List (Option V))) (i j : ℕ) → IsGap order pages (i, j)
     → lookup (λ key. is_eq (order key)) (filled (slots_of (staged_of pages columns))) ≡ None
 staged_absent order pages columns i j gap =

@@ -56,7 +56,7 @@ ends : {K V : Type 0} (order : K → Ordering) (first next : K) (keys : List K) 
 ends order first next keys value [] = refl
 ends order first next keys value (second ∷ values) = refl
 
--- only the last key decides that
+-- only the last key decides whether a page ends before the queried key
 pub beside_last : {K V : Type 0} (order : K → Ordering) (keys : List K) (values : List (Option V)) (last : ℕ) (key : K) → last ≡ length keys - 1 → Some key ≡ slice_get keys last
     → is_lt (order key) ≡ ends_before order (beside keys values)
 beside_last order [] values last key l s = absurd cc

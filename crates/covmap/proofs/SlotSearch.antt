@@ -89,7 +89,7 @@ module _ {K V : Type 0} {cmp : K → K → Ordering} {order : K → Ordering} (q
       let rest = page_before (next ∷ slots) a.1 e in
       (query.before slot.0 next.0 a.0.0 (not_gt (order next.0) rest.0), rest)
 
-  -- if it doesn't, all slots after the page are greater than the queried key
+  -- if the last key of a page doesn't come before the queried key, all slots after the page are greater than the queried key
   pub after_page : (page slots : List (K × Option V)) → IsAscending cmp (page ++ slots) → ends_before order page ≡ false → AllByRecursion (λ slot. order slot.0 ≡ Greater) slots
   after_page [] slots a e = absurd cc
   after_page (slot ∷ []) slots a e = all_after slot slots e a.0

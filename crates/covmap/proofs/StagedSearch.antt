@@ -74,7 +74,7 @@ module _ {V : Type 0} (page : ℕ) where
       let next = λ (other : ℕ × List (Option V)). first.0 < other.0 in
       (all_append next front ((page, columns) ∷ back) (all_front next front back asc.0) (a.0, all_back next front back asc.0), columns_put columns front back a.1 b asc.1)
 
-  -- and so does replacing one
+  -- replacing a column keeps the order
   pub columns_changed : (old new : List (Option V)) (front back : List (ℕ × List (Option V))) → AreAscending (front ++ (page, old) ∷ back) → AreAscending (front ++ (page, new) ∷ back)
   columns_changed old new [] back asc = asc
   columns_changed old new (first ∷ front) back asc =

@@ -53,7 +53,7 @@ AreAscending (column ∷ columns) = AreAfter column.0 columns × AreAscending co
 abbrev pub IsColumnOf : {K V : Type 0} → List (List (K × Option V)) → ℕ × List (Option V) → Type 0
 IsColumnOf pages column = (column.0 < length pages) × (length column.1 ≡ length (page_at pages column.0))
 
--- each column is such a column of these pages
+-- each column is of one of these pages, and has a value for each slot of that page
 abbrev pub AreColumnsOf : {K V : Type 0} → List (List (K × Option V)) → List (ℕ × List (Option V)) → Type 0
 AreColumnsOf pages columns = AllByRecursion (IsColumnOf pages) columns
 

@@ -141,7 +141,7 @@ impl<K: Key, V: Value, A: Allocator> StagedMap<K, V, A> {
         }
     }
 
-    /// The staged value of a key, and the place to look at first for the next one.
+    /// The staged value of a key, and a place: the guess to give when the next key is looked up.
     pub fn staged_at<Q: Query<K, A>>(&self, query: Q, guess: SlotIndex) -> (Option<V>, SlotIndex)
         ensures value { result.0 ≡ value_of K.cmp (Q.named query) self.now.staged }
         ensures whole { ArePairs K.cmp self.now.staged }

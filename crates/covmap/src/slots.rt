@@ -147,7 +147,7 @@ impl<K: Key, V, A: Allocator> Slots<K, V, A> {
         self.search(query)
     }
 
-    /// The same as `find`, if the key at a place comes before the queried key.
+    /// The same as `find`. The key at `place` must come before the queried key.
     fn find_after<Q: Query<K, A>>(&self, query: Q, place: SlotIndex) -> Result<SlotIndex, SlotIndex>
         requires { order_at (λ key. K.cmp key (Q.named query)) (slot_at self.now (at place)) ≡ Less }
         ensures found { IfOk result (λ place. IsPlace (λ key. K.cmp key (Q.named query)) self.now (at place)) }
@@ -292,7 +292,7 @@ impl<K: Key, V: Value, A: Allocator> Slots<K, V, A> {
         self.pages[number].fill(column);
     }
 
-    /// Replaces the value in the slot at a place by this value, or by none. The slot must have a value.
+    /// Replaces the value in the slot at a place. `None` empties the slot. The slot must have a value.
     pub(crate) fn write(&mut self, place: SlotIndex, value: Option<V>)
         requires page { place.page < length self.old }
         requires slot { is_some (value_at self.old (at place)) ≡ true }

@@ -1,4 +1,4 @@
--- Ascending keys with values: the place of a key, and a value that replaces another one. And first clashes of joined lists.
+-- Ascending keys with values: the position of a key, and a value that replaces another one. And first clashes of joined lists.
 use Rattle.std.proofs.Common.{◌≡◌, cond, Option, Some, None, List, [], ◌∷◌, ◌++◌, length, refl, sym, ap, ◌∙◌, append_assoc, arith}
 use Rattle.std.specs.declared.cmp.Ordering.{Ordering}
 use Rattle.std.specs.declared.cmp.Ordering.TheVariants.{Less, Equal, Greater}
@@ -13,7 +13,7 @@ use Rattle.covmap.specs.Puts.{ArePairs, put, value_of}
 use Rattle.covstore.proofs.Ascend.{IsExactOrder, All-weaker, flips}
 use Rattle.covstore.proofs.Puts.{length-put, same_pair, value_of_before}
 
--- ---- the place of a key
+-- ---- the position of a key
 
 -- `pairs` has this key and value between a front and a back. `pairs_with` gives the same list with another value for the key
 pub record IsPlaceOf {K V : Type 0} (key : K) (value : V) (pairs : List (K × V)) (pairs_with : V → List (K × V)) : Type 0 where

@@ -175,7 +175,7 @@ module _ {rows : List Row} {files : List (List ℕ × FileData)} {file name : Li
       ap is_some (its_whole.kept.holders line)
       ∙ held_of line (tests_in (file_with tests index)) found (In-map (λ (pair : List ℕ × TestData). pair.1) tests (other, found) (pair_in names_order other found tests e)) own
 
-  -- and some test holds a checksum of that line
+  -- for each checksum of the rows in this file, some test holds a checksum of its line
   pub checksum_held : (c : Checksum) → In c (checksums_in rows) → file ≡ c.file → is_some (value_of nat_cmp c.line index.holders) ≡ true
   checksum_held c i same =
       let row = In-unflat checksum_of_row rows c i in

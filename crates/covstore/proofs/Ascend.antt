@@ -17,7 +17,7 @@ pub record IsExactOrder {X : Type 0} (cmp : X → X → Ordering) : Type 0 where
   pub total : IsTotalOrder cmp
   pub exact : CmpEqualImpliesEq cmp
 
--- ---- an element put at its place
+-- ---- an element added in order
 
 pub All-match : {X : Type 0} (P : X → Type 0) (o : Ordering) (a b c : List X) → AllByRecursion P a → AllByRecursion P b → AllByRecursion P c → AllByRecursion P (match_ordering o a b c)
 All-match P Less a b c x y z = x

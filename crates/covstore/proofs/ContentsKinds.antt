@@ -7,8 +7,8 @@ use Rattle.covstore.proofs.Ascend.{IsExactOrder, In-ascending, In-to_ascending, 
 use Rattle.covstore.proofs.ContentsLists.{In-or_not}
 use Rattle.covstore.proofs.Members.{In, In-from, Contains-from, In-joined, In-parts}
 
--- the points of items, and the value that the items give to each. A point that isn't the items' has the value that no items give.
--- When items are added, the new value is decided by the old value and the added items
+-- the points of items, and the value that the items give to each. A point that the items don't have has the value that an empty
+-- list of items gives. When items are added, the new value is decided by the old value and the added items
 pub record IsKind {I P V : Type 0} (cmp : P → P → Ordering) (points : List I → List P) (value : List I → P → V) (point_of : V → P) : Type 0 where
   pub order : IsExactOrder cmp
   pub joins : (xs ys : List I) → points (xs ++ ys) ≡ points xs ++ points ys
@@ -55,7 +55,7 @@ module _ {I P V : Type 0} (cmp : P → P → Ordering) (points : List I → List
   point_back : (p : P) → In p (points ys) → In p (points xs)
   point_back p i = In-ascending kind.order.exact p (points xs) (subst (In p) (sym same_points) (In-to_ascending kind.order.exact p (points ys) i))
 
-  -- the values of all points are the same, even of those that aren't the items'
+  -- the values of all points are the same, even of points that the items don't have
   pub same_values : (p : P) → value xs p ≡ value ys p
   same_values p =
       ⊎_elim

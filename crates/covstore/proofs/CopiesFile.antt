@@ -33,8 +33,8 @@ agree_copied rows name old new agree a b of_a of_b = agree a b (there a of_a) (t
 
 module _ (old new : List ℕ) (tests : List (List ℕ × TestData)) (index : FileIndexData) (source target : TestData)
     (its_source : value_of (slice_cmp nat_cmp) old tests ≡ Some source) (its_target : value_of (slice_cmp nat_cmp) new tests ≡ Some target) where
-  -- if there is room to copy in the file, there is room for the values of the source. Of each line that has a checksum there, the
-  -- index holds a checksum
+  -- if there is room to copy in the file, there is room for the values of the source. For each line of the source that has a
+  -- checksum, the index holds a checksum
   module _ (room : HasRoomToCopyIn old (file_with tests index)) where
     its_values : items_of_test index.texts source ≡ values_of (items_at (key_of room.name old) room.rows)
     its_values = values_are room.rows room.files room.stands.state room.name old (file_with tests index) source room.stands.there its_source

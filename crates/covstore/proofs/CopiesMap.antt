@@ -1,4 +1,4 @@
--- The entries of a map while the value of one name is taken out, and after another value is put in its place.
+-- The entries of a map while the value of one name is taken out, and after another value is put in instead.
 use Rattle.std.proofs.Common.{◌≡◌, ◌≢◌, ℕ, Some, None, List, sym, ap, ◌∙◌}
 use Rattle.std.specs.BTreeMap.{is_at}
 use Rattle.std.specs.Cmp.Lexicographic.{slice_cmp}
@@ -36,7 +36,7 @@ module _ {K V : Type 0} (name : K → List ℕ) (f : V → TestData) (new : List
     pub other_there : (points : TestData) → value_of (slice_cmp nat_cmp) old (seen names_order name f pairs) ≡ Some points → lookup (is_at (λ other. slice_cmp nat_cmp old (name other))) mid ≡ None → ⊥
     other_there points there none = no_test name f old mid points none (other_stays ∙ there)
 
-  -- a value is put in the place of the value that was taken out
+  -- a value is put in instead of the value that was taken out
   module _ (v w : V) (after : List (K × V)) (sorted_mid : IsStrictlySortedBy (λ (a b : K). slice_cmp nat_cmp (name a) (name b)) (keys_of mid))
       (found_mid : lookup (is_at (λ other. slice_cmp nat_cmp new (name other))) mid ≡ Some v)
       (back : after ≡ set_value (is_at (λ other. slice_cmp nat_cmp new (name other))) mid w) where

@@ -93,7 +93,7 @@ module _ {K V : Type 0} {cmp : K → K → Ordering} (o : IsExactOrder cmp) {is_
   pub found_is : length (ascending cmp (flat_map points_of tests)) ≡ found_of counts
   found_is = ap (λ (keys : List K). length keys) (sym points_kept) ∙ length-map counts (λ (pair : K × TestCounts). pair.0)
 
-  -- and the hit ones are those that some test has above 0
+  -- the points that are hit are those that some test has above 0
   pub hit_is : (is_hit : K → Bool) → ((key : K) → is_hit key ≡ nat_lt 0 (count_above cmp is_above key tests)) → count_by is_hit (ascending cmp (flat_map points_of tests)) ≡ hit_of counts
   hit_is is_hit same =
       ap (count_by is_hit) (sym points_kept)

@@ -63,7 +63,7 @@ module _ (items : List ItemData) (runs : Each RunOf) (are : runs ≡ runs_of ite
       } in
       items_add items test after index more all keeps (λ item i. text_stays item held more kept (texts.own item (Contains-from items item i))) (texts_both index held more texts.texts kept)
 
--- the same for a test as the program has it. The test stays while the checksums are held
+-- the same for a test as the program has it. The test doesn't change while the checksums are held
 module _ {A : Type 0} (items : List ItemData) (runs : Each RunOf) (are : runs ≡ runs_of items) (test test_held : Test A) (index index_held : FileIndex A) (stays : test_held ≡ test)
     (texts : HoldsTexts items (test_staged test) (index_staged index) (index_staged index_held)) where
   pub room_of_held_in : HasRoomFor items (test_staged test) (index_staged index) → HasRoomForRuns runs (test_staged test_held) (index_staged index_held)

@@ -88,7 +88,7 @@ module _ (before after : FileData) (keeps : KeepsFile before after) where
   }
 
   module _ (name : List ℕ) (rows : List Row) (files : List (List ℕ × FileData)) (state : IsStateOf rows files) (is : value_of (slice_cmp nat_cmp) name files ≡ Some before) where
-    -- the file's place in the state, after a test without points and with the empty name is added to the file
+    -- the file is in the state, after a test without points and with the empty name is added to the file
     its_place : IsIn rows (put (slice_cmp nat_cmp) name (with_test [] before) files) name [] (tests_with [] before.tests) (made_ready [] (test_of []) before.tests).0 before.index
     its_place = record {
       state = (test_keeps [] before files name state.ascending is).states rows state;

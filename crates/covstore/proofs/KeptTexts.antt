@@ -1,4 +1,4 @@
--- The texts of a file's checksums at their places: what a new text changes, and one that replaces another.
+-- The texts of a file's checksums at their indexes: what changes with a new text, and with a text that replaces another.
 use Rattle.std.proofs.Common.{◌≡◌, ℕ, ◌+◌, ◌<◌, ◌≤◌, Bool, true, false, cond, Option, Some, None, List, [], ◌∷◌, ◌++◌, length, take, get_or, refl, sym, ap, ◌∙◌, subst, arith}
 use Rattle.std.specs.Prelude.{option_map, slice_set}
 use Rattle.std.specs.declared.cmp.Ordering.{Ordering}
@@ -18,11 +18,11 @@ use Rattle.covstore.proofs.Members.{All-in}
 use Rattle.covstore.proofs.Orders.{lines_order}
 use Rattle.covstore.proofs.Puts.{All-put, ArePairs-put, pair_in, same_pairs, value_of-put_any, value_of-put_other}
 
--- the text at a place
+-- the text at an index
 abbrev at : List (List ℕ) → ℕ → List ℕ
 at texts place = get_or texts place []
 
--- ---- the text of a line is the one at its place
+-- ---- the text of a line is the one at its index
 
 mapped_at : (here : Bool) (texts : List (List ℕ)) (place : ℕ) (rest : Option ℕ) (later : Option (List ℕ)) → later ≡ option_map (at texts) rest
     → cond here (Some (at texts place)) later ≡ option_map (at texts) (cond here (Some place) rest)
@@ -41,7 +41,7 @@ some_mapped texts (Some place) = refl
 some_text : (line : ℕ) (texts : List (List ℕ)) (places : List (ℕ × ℕ)) → is_some (value_of nat_cmp line (texts_at texts places)) ≡ is_some (value_of nat_cmp line places)
 some_text line texts places = ap is_some (value_of_texts line texts places) ∙ some_mapped texts (value_of nat_cmp line places)
 
--- a line without a text has no place
+-- a line without a text has no index
 pub no_place : (line : ℕ) (texts : List (List ℕ)) (places : List (ℕ × ℕ)) → value_of nat_cmp line (texts_at texts places) ≡ None → value_of nat_cmp line places ≡ None
 no_place line texts places e = none_at (value_of nat_cmp line places) (sym (value_of_texts line texts places) ∙ e)
   where
@@ -49,7 +49,7 @@ no_place line texts places e = none_at (value_of nat_cmp line places) (sym (valu
     none_at None e = refl
     none_at (Some place) e = absurd cc
 
--- the text of a line with a place; and below, a line without a place has none
+-- the text of a line with an index; and below, a line without an index has no text
 pub text_found : (line place : ℕ) (texts : List (List ℕ)) (places : List (ℕ × ℕ)) → value_of nat_cmp line places ≡ Some place → value_of nat_cmp line (texts_at texts places) ≡ Some (at texts place)
 text_found line place texts places found = value_of_texts line texts places ∙ ap (option_map (at texts)) found
 
@@ -66,7 +66,7 @@ are_committed places texts stay line e =
     ∙ ap (option_map (at texts)) (stay line (sym (some_text line texts places.committed) ∙ e))
     ∙ sym (value_of_texts line texts places.committed)
 
--- ---- places below a number
+-- ---- indexes below a number
 
 pub below_found : (count line place : ℕ) (places : List (ℕ × ℕ)) → AreBelow count places → value_of nat_cmp line places ≡ Some place → place < count
 below_found count line place places below found = All-in (λ (here : ℕ × ℕ). here.1 < count) places (line, place) below (pair_in lines_order line place places found)
@@ -81,7 +81,7 @@ same_texts count texts more (place ∷ places) same below =
     ap (λ (text : List ℕ). (place.0, text) ∷ texts_at more places) (same place.1 below.0)
     ∙ ap (λ (rest : List (ℕ × List ℕ)). (place.0, at texts place.1) ∷ rest) (same_texts count texts more places same below.1)
 
--- ---- a text at a place put in
+-- ---- an index is put in for a line
 
 put_texts_at : (line count : ℕ) (texts : List (List ℕ)) (place : ℕ × ℕ) (places : List (ℕ × ℕ)) (order : Ordering) → texts_at texts (put nat_cmp line count places) ≡ put nat_cmp line (at texts count) (texts_at texts places)
     → texts_at texts (match_ordering order (place ∷ put nat_cmp line count places) ((line, count) ∷ places) ((line, count) ∷ place ∷ places))
@@ -94,7 +94,7 @@ put_texts : (line count : ℕ) (texts : List (List ℕ)) (places : List (ℕ × 
 put_texts line count texts [] = refl
 put_texts line count texts (place ∷ places) = put_texts_at line count texts place places (nat_cmp place.0 line) (put_texts line count texts places)
 
--- a new line makes the places more by one
+-- a new line adds one index
 length_new_at : (line count : ℕ) (place : ℕ × ℕ) (places : List (ℕ × ℕ)) (order : Ordering) → cond (is_eq order) (Some place.1) (value_of nat_cmp line places) ≡ None
     → (value_of nat_cmp line places ≡ None → length (put nat_cmp line count places) ≡ length places + 1)
     → length (match_ordering order (place ∷ put nat_cmp line count places) ((line, count) ∷ places) ((line, count) ∷ place ∷ places)) ≡ length (place ∷ places) + 1
@@ -121,7 +121,7 @@ module _ (line : ℕ) (text : List ℕ) (places : MapData ℕ ℕ) (texts : List
   pub pushed_committed : texts_at (texts ++ text ∷ []) places.committed ≡ texts_at texts places.committed
   pushed_committed = same_texts committed texts (texts ++ text ∷ []) places.committed (λ place l. same_before place (omega (arith, l, placed.committed_fits))) placed.committed_below
 
-  -- no line has the new place
+  -- no line has the new index
   not_there : (other : ℕ) → value_of nat_cmp other places.staged ≡ Some (length texts) → ⊥
   not_there other e = let l = below_found (length texts) other (length texts) places.staged placed.staged_below e in omega (arith, l)
 
@@ -138,7 +138,7 @@ module _ (line : ℕ) (text : List ℕ) (places : MapData ℕ ℕ) (texts : List
       let second = value_of-put_any lines_order line o (length texts) places.staged in
       apart_at l o (is_eq (nat_cmp line l)) (is_eq (nat_cmp line o)) refl refl (sym (ap is_some first) ∙ s) (sym first ∙ e ∙ second)
 
-  -- a line without a place gets one
+  -- a line without an index gets one
   pub placed_pushed : (more : MapData ℕ ℕ) → value_of nat_cmp line places.staged ≡ None → more.committed ≡ places.committed → more.staged ≡ put nat_cmp line (length texts) places.staged
       → ArePlaced more (texts ++ text ∷ []) committed
   placed_pushed more none same puts =
@@ -161,7 +161,7 @@ module _ (line : ℕ) (text : List ℕ) (places : MapData ℕ ℕ) (texts : List
           (λ here. false≢true (sym (ap is_some none) ∙ ap (λ (l : ℕ). is_some (value_of nat_cmp l places.staged)) here ∙ ap is_some (placed.stay other e) ∙ e))
           ∙ placed.stay other e
 
-  -- ---- memory is refused: only the committed places are left
+  -- ---- memory is refused: only the committed indexes are left
 
   module _ (more : List (List ℕ)) (kept : take committed more ≡ take committed texts) where
     same_kept : (place : ℕ) → place < committed → at (take committed more) place ≡ at texts place
@@ -183,7 +183,7 @@ module _ (line : ℕ) (text : List ℕ) (places : MapData ℕ ℕ) (texts : List
           apart = subst AreApart (sym staged) (λ l o s e. placed.apart l o (ap is_some (placed.stay l s) ∙ s) (placed.stay l s ∙ e ∙ sym (placed.stay o (sym (ap is_some e) ∙ s))));
         }
 
--- ---- a text replaces that at a line's place
+-- ---- a text replaces the text at a line's index
 
 module _ (line place : ℕ) (text : List ℕ) (places : MapData ℕ ℕ) (texts : List (List ℕ)) (committed : ℕ) (placed : ArePlaced places texts committed) (found : value_of nat_cmp line places.staged ≡ Some place) where
   there : place < length texts

@@ -66,7 +66,7 @@ module _ {K V : Type 0} {cmp : K → K → Ordering} (o : IsExactOrder cmp) wher
   some_in key value (pair ∷ pairs) (inl e) = ap (λ (first : K × V). is_some (value_of cmp key (first ∷ pairs))) e ∙ ap is_some (value_of_first key value pairs)
   some_in key value (pair ∷ pairs) (inr i) = some_in_at (is_eq (cmp pair.0 key)) pair.1 (value_of cmp key pairs) (some_in key value pairs i)
 
-  -- and in ascending pairs, it is the value of that pair
+  -- in ascending pairs, the value of a key with a pair is the value of that pair
   pub value_of_pair : (key : K) (value : V) (pairs : List (K × V)) → ArePairs cmp pairs → In (key, value) pairs → value_of cmp key pairs ≡ Some value
   value_of_pair key value [] sorted i = absurd i
   value_of_pair key value (pair ∷ pairs) sorted (inl e) = ap (λ (first : K × V). value_of cmp key (first ∷ pairs)) e ∙ value_of_first key value pairs

@@ -160,7 +160,7 @@ module _ (old new : List ℕ) (rows : List Row) where
       (over_same (found_in branch_cmp branch_point))
       (over_same (hit_in branch_cmp branch_point hits_branch))
 
-  -- nor do the totals of what the rows add up to
+  -- what the renamed rows add up to has the same totals as what the rows add up to
   pub content_totals_renamed : totals_of (content_of (map (renamed_row old new) rows)) ≡ totals_of (content_of rows)
   content_totals_renamed = totals_of_rows (map (renamed_row old new) rows) ∙ totals_renamed ∙ sym (totals_of_rows rows)
 

@@ -99,11 +99,11 @@ module _ (old new : List ℕ) (apart : old ≡ new → ⊥) where
       items_at-append (key_of file old) rows (copies_of old new rows some)
       ∙ ap (λ (is : List ItemData). items_at (key_of file old) rows ++ is) (none_of_old file rows some) ∙ append-nil (items_at (key_of file old) rows)
 
-  -- so a file's copy is the same after other copies
+  -- the rows to copy in a file are the same after other files are copied
   pub later_copy : (file : List ℕ) (rows : List Row) (some : List (List ℕ)) → copied_rows file old new (rows ++ copies_of old new rows some) ≡ copied_rows file old new rows
   later_copy file rows some = ap (rows_of_items file new) (later_items file rows some)
 
-  -- and so are the points that are copied
+  -- the points to copy in a file are the same after other files are copied
   pub points_to_copy : (file : List ℕ) (rows : List Row) (some : List (List ℕ)) (staged : List (List ℕ × FileData)) → IsStateOf (rows ++ copies_of old new rows some) staged
       → points_at (key_of file old) staged ≡ test_of (items_at (key_of file old) rows)
   points_to_copy file rows some staged state = state.points (key_of file old) ∙ ap test_of (later_items file rows some)
@@ -135,7 +135,7 @@ other_test true f new test name e = ap (λ (b : Bool). f && b) e ∙ not_both f
 other_test false f new test name e = refl
 
 module _ (old new : List ℕ) where
-  -- for the new name they are the old test's items, in their order
+  -- for the new name, the moved rows have the old test's items, in their order. For any other name, they have none
   pub moved_items : (key : Key) (rows : List Row) → items_at key (moved_rows old new rows) ≡ cond (bytes_eq new key.test) (items_at (key_of key.file old) rows) []
   moved_items key rows =
       items_picked (has_key key) (λ row. has_key key (renamed_row old new row)) (renamed_row old new) (λ row. refl) (λ row. refl) (filter (is_of_test old) rows)
@@ -225,7 +225,7 @@ module _ (old new : List ℕ) (rows : List Row) where
   one_copied key pair files false e =
       ap (λ (ps : List (List ℕ × FileData)). items_at key (copies_of old new rows (map (λ p. p.0) ps))) (passed_over (λ (p : List ℕ × FileData). has_points_of old p.1) pair files e)
 
-  -- for the new name they are the old test's items, if the file has points of the old test
+  -- for the new name, the copied rows have the old test's items, if the file has points of the old test
   pub copied_items : (key : Key) (files : List (List ℕ × FileData)) → ArePairs (slice_cmp nat_cmp) files
       → items_at key (copies_of old new rows (names_with old files))
       ≡ cond (bytes_eq new key.test && has_found (value_of (slice_cmp nat_cmp) key.file files)) (items_at (key_of key.file old) rows) []

@@ -94,7 +94,7 @@ module _ (old new : List ℕ) where
   few_copied : (file : List ℕ) (rows : List Row) → length (copied_rows file old new rows) ≡ length (items_at (key_of file old) rows)
   few_copied file rows = length-map (items_at (key_of file old) rows) (λ item. record { test = new; file = file; item = item })
 
-  -- for files with different names, at most as many rows are copied as there are
+  -- for files with different names, at most as many rows are copied as there are rows
   pub few_copies : (names : List (List ℕ)) → AreApart names → (rows : List Row) → length (copies_of old new rows names) ≤ length rows
   few_copies [] apart rows = omega arith
   few_copies (name ∷ names) apart rows =
@@ -102,7 +102,7 @@ module _ (old new : List ℕ) where
       subst (λ (rs : List Row). length rs ≤ length (rows_of_others name rows)) (other_copies name rows names apart.0) (few_copies names apart.1 (rows_of_others name rows)) in
       omega (arith, others, few_of_two name rows, few_copied name rows, length-append (copied_rows name old new rows) (copies_of old new rows names))
 
-  -- so for all files with points of the test, at most as many rows are copied as there are
+  -- for all files with points of the test, at most as many rows are copied as there are rows
   pub copied_all_few : (rows : List Row) (files : List (List ℕ × FileData)) → ArePairs (slice_cmp nat_cmp) files → length (copies_of old new rows (names_with old files)) ≤ length rows
   copied_all_few rows files sorted = few_copies (names_with old files) (names_apart old files sorted) rows
 

@@ -69,7 +69,7 @@ module _ (rows : List Row) (files : List (List ℕ × FileData)) (state : IsStat
       (subst (λ (points : TestData). In section (section_seen pair.0.0 pair.0.1.index.texts test.0.0 points)) (points_of_pair pair.0 test.0 pair.1 test.1) test.2) in
       subst (λ (s : SectionData). In s (content_of rows)) seen.0 (In-map (section_of rows) (keys_of rows) key (key_there key seen.1 seen.2))
 
-  -- ---- and conversely
+  -- ---- each key of the rows has a section
 
   item_there : (key : Key) → In key (keys_of rows) → (item : ItemData) × In item (items_at key rows)
   item_there key i =
@@ -110,7 +110,7 @@ module _ (rows : List Row) (files : List (List ℕ × FileData)) (state : IsStat
       subst (λ (s : SectionData). In s (sections_of files)) key.2
       (In-flat sections_of_file files (key.0.file, kept.0) (section_of rows key.0) (pair_in names_order key.0.file kept.0 files kept.1) of_file)
 
-  -- ---- they are one list
+  -- ---- the sections of the files are the content of the rows
 
   pub sections_as : sections_of files ≡ content_of rows
   sections_as =

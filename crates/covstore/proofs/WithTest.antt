@@ -1,4 +1,4 @@
--- A file with a test added, unless it is there: the file as it is if a look-up finds the test, else with an empty test inserted.
+-- A file with an empty test added: the file as it is if a look-up finds the test, else the file with an empty test inserted.
 use Rattle.std.proofs.Common.{◌≡◌, ℕ, Bool, true, false, List, [], sym, ap, ◌∙◌}
 use Rattle.std.specs.BTreeMap.{insert_entry, is_at}
 use Rattle.std.specs.Cmp.Lexicographic.{slice_cmp}

@@ -22,7 +22,7 @@ HaveTexts holders texts = (line : ℕ) → is_some (value_of nat_cmp line holder
 abbrev pub AreAmong : List (ℕ × ℕ) → List (ℕ × ℕ) → Type 0
 AreAmong committed staged = (line : ℕ) → is_some (value_of nat_cmp line committed) ≡ true → is_some (value_of nat_cmp line staged) ≡ true
 
--- the held checksums have texts: the committed ones also if only the committed texts are left
+-- each held checksum has a text. A committed one also has a committed text. Each line with a committed checksum has a staged one
 pub record AreTexts (holders : MapData ℕ ℕ) (texts : KeptTextsData) : Type 0 where
   pub committed : HaveTexts holders.committed texts.committed
   pub staged : HaveTexts holders.staged texts.staged
@@ -38,8 +38,8 @@ pub record KeepsTexts (holders : List (ℕ × ℕ)) (texts : List (ℕ × List �
   pub committed : (line : ℕ) → is_some (value_of nat_cmp line holders) ≡ true → is_some (value_of nat_cmp line more_holders) ≡ true
   pub texts_stay : (line : ℕ) → is_some (value_of nat_cmp line holders) ≡ true → value_of nat_cmp line more_texts ≡ value_of nat_cmp line texts
 
--- the number of tests after one more was counted. And below, the numbers after a test holds the line's checksum; a test that held
--- it before isn't counted again
+-- `one_more` is the number of tests after one more is counted. `held_more` are the numbers after a test holds the line's
+-- checksum. A test that held it before isn't counted again
 abbrev pub one_more : Option ℕ → ℕ
 one_more None = 1
 one_more (Some tests) = tests + 1

@@ -4,19 +4,19 @@ use Rattle.covstore.specs.declared.index.FileIndex.{FileIndex}
 use Rattle.covstore.specs.declared.test.Test.{Test}
 use Rattle.covstore.specs.SoleTest.{after_commit, after_rollback, no_points}
 
--- where the index follows a test, the points that it saw last are those of this test
+-- if the index follows a test, the points that it saw last are those of `test`
 pub record Follows {A : Type 0} (test : Test A) (index : FileIndex A) : Type 0 where
   pub lines : IfSome index.lines.follows (λ seen. seen ≡ test.lines)
   pub functions : IfSome index.functions.follows (λ seen. seen ≡ test.functions)
   pub branches : IfSome index.branches.follows (λ seen. seen ≡ test.branches)
 
--- where the index follows a test, it is this one, which was committed since
+-- if the index follows a test, `test` is that test after a commit
 pub record FollowsCommitted {A : Type 0} (test : Test A) (index : FileIndex A) : Type 0 where
   pub lines : IfSome index.lines.follows (λ seen. test.lines ≡ after_commit seen)
   pub functions : IfSome index.functions.follows (λ seen. test.functions ≡ after_commit seen)
   pub branches : IfSome index.branches.follows (λ seen. test.branches ≡ after_commit seen)
 
--- where the index follows a test, it is this one, which was rolled back since
+-- if the index follows a test, `test` is that test after a rollback
 pub record FollowsRolledBack {A : Type 0} (test : Test A) (index : FileIndex A) : Type 0 where
   pub lines : IfSome index.lines.follows (λ seen. test.lines ≡ after_rollback seen)
   pub functions : IfSome index.functions.follows (λ seen. test.functions ≡ after_rollback seen)
@@ -28,7 +28,7 @@ pub record CountsAll {A : Type 0} (index : FileIndex A) : Type 0 where
   pub functions : index.functions.follows ≡ None
   pub branches : index.branches.follows ≡ None
 
--- the index follows this test, but not where it followed none before
+-- if the index follows a test, it is this one. If all points were counted before, they still are
 pub record StillFollows {A : Type 0} (before : FileIndex A) (test : Test A) (after : FileIndex A) : Type 0 where
   pub follows : Follows test after
   pub counts : CountsAll before → CountsAll after
@@ -49,7 +49,7 @@ pub record FollowsSettled {A : Type 0} (index : FileIndex A) : Type 0 where
 abbrev pub no_test : {A : Type 0} → Test A
 no_test = record { lines = no_points; functions = no_points; branches = no_points }
 
--- the index follows the only one of these tests. If there are more, it follows none
+-- if the index follows a test, it is the only one of these. If there are more, the index follows none
 abbrev pub FollowsSole : {K A : Type 0} → List (K × Test A) → FileIndex A → Type 0
 FollowsSole [] index = Follows no_test index
 FollowsSole (pair ∷ []) index = Follows pair.1 index

@@ -1,4 +1,5 @@
--- What it does to a file's index that a test holds the checksums of several items at once, and which lines these are of.
+-- What changes in a file's index when a test comes to hold the checksums of several items at once, and which lines have these
+-- checksums.
 use Rattle.std.specs.Prelude.{◌≡◌, ℕ, ◌≤◌, ◌^◌, true, Some, None, List, [], ◌∷◌, ◌++◌, Contains}
 use Rattle.std.specs.List.{AllByRecursion, flat_map}
 use Rattle.std.specs.List.Sorted.{IsStrictlySortedBy}

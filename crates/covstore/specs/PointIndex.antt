@@ -7,7 +7,7 @@ use Rattle.covstore.specs.declared.sums.TestsAddend.{TestsAddend}
 use Rattle.covstore.specs.PointIndexCounts.{found_of, hit_of, test_counts_with}
 use Rattle.covmap.specs.Puts.{put, value_of}
 
--- the counts after a test adds this to the numbers of a point. At `None` it adds nothing
+-- the counts after a test adds this to the numbers of a point. `None` changes nothing
 abbrev pub changed : {K : Type 0} → (K → K → Ordering) → K → Option TestsAddend → List (K × TestCounts) → List (K × TestCounts)
 changed cmp key None counts = counts
 changed cmp key (Some more) counts = put cmp key (test_counts_with more (value_of cmp key counts)) counts

@@ -14,8 +14,8 @@ use Rattle.covmap.specs.Puts.{ArePairs, value_of}
 use Rattle.covstore.specs.State.{holders_at}
 use Rattle.covstore.specs.Sums.{TestData}
 
--- the point's numbers without one test that had the point, or `None` if no other test has it. `was_above`: that test had the
--- point above 0
+-- the point's numbers without one test that had the point, or `None` if no other test has it. `was_above` tells whether that test
+-- had the point above 0
 abbrev pub fewer_tests : Bool → TestCounts → Option TestCounts
 fewer_tests was_above numbers = if nat_lt 1 numbers.tests then Some (record { tests = numbers.tests - 1; hit = numbers.hit - one_if was_above }) else None
 

@@ -54,7 +54,7 @@ copied_rows file old new rows = rows_of_items file new (items_at (key_of file ol
 abbrev pub Copies : List ℕ → List ℕ → List ℕ → List (List ℕ × FileData) → List (List ℕ × FileData) → Type 0
 Copies file old new before after = (rows : List Row) → IsStateOf rows before → IsStateOf (rows ++ copied_rows file old new rows) after
 
--- the same for one file, whatever the other files are
+-- whatever the other files are: `after` is `before` with the copied rows added
 abbrev pub CopiesIn : List ℕ → List ℕ → FileData → FileData → Type 0
 CopiesIn old new before after =
     (rows : List Row) (files : List (List ℕ × FileData)) (name : List ℕ) → HasFile rows files name before

@@ -5,7 +5,7 @@ use Rattle.covstore.specs.declared.sums.TestCounts.{TestCounts}
 use Rattle.covstore.specs.declared.sums.TestsAddend.{TestsAddend}
 use Rattle.covstore.specs.PointIndexCounts.{one_if}
 
--- the numbers of a point that one test has, with this value
+-- the numbers of a point that only one test has. `value` is the value that the test has there
 abbrev pub count_of_one : {V : Type 0} → (V → Bool) → V → TestCounts
 count_of_one is_above value = record { tests = 1; hit = one_if (is_above value) }
 
@@ -30,12 +30,12 @@ after_commit points = record { committed = points.staged; staged = points.staged
 abbrev pub after_rollback : {K V : Type 0} → MapData K V → MapData K V
 after_rollback points = record { committed = points.committed; staged = points.committed }
 
--- how many points are newly found, if this is what a test adds to a point's numbers
+-- how many points are newly found when a test adds this to a point's numbers
 abbrev pub found_by : Option TestsAddend → ℕ
 found_by None = 0
 found_by (Some more) = one_if more.is_new
 
--- how many points are newly hit
+-- how many points are newly hit when a test adds this to a point's numbers
 abbrev pub hit_by : Option TestsAddend → ℕ
 hit_by None = 0
 hit_by (Some more) = one_if more.is_hit

@@ -40,7 +40,7 @@ tests_in file = map (λ pair. pair.1) file.tests
 abbrev pub holding : ℕ → List TestData → ℕ
 holding line tests = count_by (λ test. is_above_at has_checksum (value_of nat_cmp line test.lines)) tests
 
--- this number, or `None` if it is 0
+-- how many of the tests hold a checksum of the line, or `None` if none does
 abbrev pub holders_at : ℕ → List TestData → Option ℕ
 holders_at line tests = if nat_lt 0 (holding line tests) then Some (holding line tests) else None
 
@@ -104,7 +104,7 @@ sections_of files = flat_map sections_of_file files
 abbrev pub found_at : Kind → List ℕ × FileData → ℕ
 found_at kind pair = found_of (at kind pair.1.index.counts)
 
--- how many of these points are hit
+-- how many of a file's points of a kind are hit
 abbrev pub hit_at : Kind → List ℕ × FileData → ℕ
 hit_at kind pair = hit_of (at kind pair.1.index.counts)
 

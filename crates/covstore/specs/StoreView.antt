@@ -41,11 +41,12 @@ touched_data touched = map (λ t. (t.file.items, t.test.items)) touched
 abbrev pub tests_of : List ℕ → List (List ℕ × List ℕ) → List (List ℕ)
 tests_of file touched = map (λ t. t.1) (filter (λ t. bytes_eq t.0 file) touched)
 
--- nothing is staged in the file but in these tests. If there are none, nothing is staged in its index either
+-- nothing is staged in the file's tests, except in those that `tests` names. If `tests` is empty, nothing is staged in the file's
+-- index either
 pub record IsSettledBut {A : Type 0} (tests : List (List ℕ)) (file : File A) : Type 0 where
   pub index : tests ≡ [] → index_staged file.index ≡ index_committed file.index
   pub points : AllByRecursion (λ pair. list_any (λ test. bytes_eq test pair.0.items) tests ≡ false → test_staged pair.1 ≡ test_committed pair.1) file.tests.entries
 
--- nothing is staged but in these tests of these files
+-- nothing is staged in the files, except in the tests that `touched` lists
 abbrev pub AreSettledBut : {K A : Type 0} → (K → List ℕ) → List (List ℕ × List ℕ) → List (K × File A) → Type 0
 AreSettledBut name touched pairs = AllByRecursion (λ pair. IsSettledBut (tests_of (name pair.0) touched) pair.1) pairs

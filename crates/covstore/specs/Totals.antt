@@ -43,7 +43,7 @@ abbrev pub is_branch_hit : List SectionData → BranchPoint → Bool
 is_branch_hit sections point =
     list_any (λ s. list_any (λ b. is_branch point b.point.line b.point.block b.point.branch && is_taken b.taken) s.branches) sections
 
--- a number is counted for each file, from the file's sections. This is the sum of these numbers
+-- the sum over all files of what `count` gives for the sections of the file
 abbrev pub over_files : (List SectionData → ℕ) → List SectionData → ℕ
 over_files count sections = sum_by (λ file. count (own_sections file sections)) (files_in sections)
 

@@ -6,8 +6,8 @@ ghost use Rattle.std.specs.Borrow.{sem};
 use std::alloc::{AllocError, Allocator};
 use std::marker::Model;
 
-/// A value in a box. A map's node has places for fifteen values and is half full on average; a place for a box is small.
-/// Contracts see the value.
+/// A value in a box. A map's node has room for fifteen values and is half full on average. The unused room is small if the values
+/// are boxes. Contracts see the value.
 #[derive(Drop)]
 pub(crate) struct Boxed<T, A: Allocator> {
     value: Box<T, A>,

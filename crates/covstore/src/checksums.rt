@@ -1,4 +1,4 @@
-//! The checksums of a file's lines. A line has one, however many tests hold it.
+//! The checksums of a file's lines. A line has at most one checksum, however many tests hold it.
 
 ghost use Rattle.std.specs.Prelude.{◌≡◌, ◌≤◌, ◌^◌, [], true, Some, None, is_some, option_map, IfErr, IfSome, OnOk};
 ghost use Rattle.covstore.specs.Checksums.{IsReportedClash, IsHeldToo, KeepsTexts, StayTexts, held_more};
@@ -15,7 +15,8 @@ use std::alloc::Allocator;
 use std::marker::Model;
 
 /// For each line, how many tests hold a checksum of it, committed and staged; and the checksums. A checksum may be kept after the
-/// last test that held it is gone. Then another may take its place. Contracts see both.
+/// last test that held it is gone. After that, another checksum may replace it. Contracts see the numbers of tests, and the
+/// checksums.
 #[derive(Drop)]
 pub(crate) struct Checksums<A: Allocator> {
     holders: StagedMap<u64, u64, A>,
@@ -45,8 +46,8 @@ impl<A: Allocator + Copy> Checksums<A> {
         }
     }
 
-    /// Stages one more test that holds this checksum of a line, unless the test holds it already. A checksum that differs from
-    /// the one that is held is a clash.
+    /// Stages one more test that holds this checksum of a line. If `is_held` is true, the test already holds it, and isn't
+    /// counted again. A checksum that differs from the one that is held is a clash.
     pub(crate) fn hold(
         &mut self,
         alloc: A,
@@ -73,8 +74,8 @@ impl<A: Allocator + Copy> Checksums<A> {
         self.set_holders(alloc, line, tests + 1)
     }
 
-    /// Stages the first test that holds a checksum of a line, which is this text from then on. If memory is refused, forgets what
-    /// is staged.
+    /// Stages the first test that holds a checksum of a line. The line's checksum is `text` from then on. If memory is refused,
+    /// what is staged may be lost.
     fn hold_first(&mut self, alloc: A, line: u64, text: &[u8]) -> Result<(), StageFault<A>>
         requires { value_of nat_cmp line self.old.staged ≡ None }
         ensures committed { self.new.committed ≡ self.old.committed }
@@ -91,7 +92,8 @@ impl<A: Allocator + Copy> Checksums<A> {
         self.set_holders(alloc, line, 1)
     }
 
-    /// Stages how many tests hold the checksum of a line, which has a text. If memory is refused, forgets what is staged.
+    /// Stages how many tests hold the checksum of a line. The line must have a text. If memory is refused, what is staged may be
+    /// lost.
     fn set_holders(&mut self, alloc: A, line: u64, tests: u64) -> Result<(), StageFault<A>>
         requires { is_some (value_of nat_cmp line self.old.texts) ≡ true }
         ensures committed { self.new.committed ≡ self.old.committed }
@@ -106,7 +108,7 @@ impl<A: Allocator + Copy> Checksums<A> {
         Ok(())
     }
 
-    /// Compares a checksum with the one that is held of the line. They clash where they differ.
+    /// Compares a checksum with the checksum that is held of the line. The two clash if they differ.
     fn refuse_clash(&self, alloc: A, line: u64, text: &[u8]) -> Result<(), StageFault<A>>
         requires held { is_some (value_of nat_cmp line self.now.staged) ≡ true }
         requires kept { is_some (value_of nat_cmp line self.now.texts) ≡ true }
@@ -159,15 +161,17 @@ impl<A: Allocator> Checksums<A> {
         }
     }
 
-    /// The checksum of a line, where one is kept.
+    /// The checksum that is kept for a line, or `None` if none is kept.
     pub(crate) fn text(&self, line: u64) -> Option<&[u8]>
         ensures { option_map (λ text. text.now) result ≡ value_of nat_cmp line self.now.texts }
     {
-        // Both maps got their lines together. So a line that was just looked up among the holders needs no search here.
+        // A line is added to both maps together, so it usually has the same slot in both. The slot that was looked up last among
+        // the holders is a good guess here.
         self.text_at(line, self.holders.cursor()).0
     }
 
-    /// The checksum of a line, where one is kept, and the place to look at first for that of the next line.
+    /// The checksum that is kept for a line, or `None` if none is kept; and the slot to look at first for the next line's
+    /// checksum.
     pub(crate) fn text_at(&self, line: u64, guess: SlotIndex) -> (Option<&[u8]>, SlotIndex)
         ensures { option_map (λ text. text.now) result.0 ≡ value_of nat_cmp line self.now.texts }
     {

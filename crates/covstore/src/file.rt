@@ -17,8 +17,8 @@ use std::collections::BTreeMap;
 use std::marker::Model;
 use std::mem;
 
-/// The tests of a file, each with its points, and the file's index. The index follows the file's only test, until a second one
-/// comes. Then the points are counted, and the counts stay, also if one test is left. Contracts see tests and index.
+/// The tests of a file, each with its points, and the file's index. The index follows the file's only test until a second test is
+/// added. From then on, the index counts the points, even if only one test is left. Contracts see the tests and the index.
 #[derive(Drop)]
 pub(crate) struct File<A: Allocator> {
     tests: BTreeMap<Vec<u8, A>, Boxed<Test<A>, A>, A>,
@@ -96,7 +96,7 @@ impl<A: Allocator + Copy> File<A> {
         self.stage_in(alloc, test, items)
     }
 
-    /// The same for a test that the file has.
+    /// Stages the items of a test that the file has, and ends at the first item that clashes.
     fn stage_in(&mut self, alloc: A, test: &[u8], items: &[Item<A>]) -> Result<(), StageFault<A>>
         requires room { HasRoomIn (map item_data items.now) (file_staged self.old) }
         requires there { is_some (value_of (slice_cmp nat_cmp) test.now (file_staged self.old).tests) ≡ true }
@@ -105,7 +105,7 @@ impl<A: Allocator + Copy> File<A> {
         ensures clash { IfErr result (ClashesIn (map item_data items.now) test.now (file_staged self.old)) }
         ensures settled { (tests : List (List ℕ)) → list_any (λ name. bytes_eq name test.now) tests ≡ true → IsSettledBut tests self.old → IsSettledBut tests self.new }
     {
-        // The contract of this call says that a map has fewer than 2^63 entries.
+        // Proof only: the contract of `len` says that a map has fewer than 2^63 entries.
         self.tests.len();
         let Some(points) = self.tests.get_mut(test) else {
             unreachable!();
@@ -141,7 +141,7 @@ impl<A: Allocator + Copy> File<A> {
         }
     }
 
-    /// Stages one test's values as items of another test of the file, which is added if the file doesn't have it.
+    /// Stages the values of the test `old` as items of the test `new`. Adds `new` if the file doesn't have it.
     pub(crate) fn copy_test(&mut self, alloc: A, old: &[u8], new: &[u8]) -> Result<(), Memory>
         requires apart { old.now ≢ new.now }
         requires room { HasRoomToCopyIn old.now (file_staged self.old) }
@@ -154,8 +154,8 @@ impl<A: Allocator + Copy> File<A> {
         self.copy_points(alloc, old, new)
     }
 
-    /// Adds an empty test of this name, unless there is one. The points of the tests before it are counted first: if the new test
-    /// is the second one, the index can't follow the first any more.
+    /// Adds an empty test of this name. If the file already has the test, nothing changes. If memory is refused, contracts see
+    /// the file as it was. The index counts the points before a second test is added, since it can't follow two tests.
     fn open(&mut self, alloc: A, test: &[u8]) -> Result<(), Memory>
         ensures committed { OnOk result (file_committed self.new ≡ with_test test.now (file_committed self.old)) }
         ensures staged { OnOk result (file_staged self.new ≡ with_test test.now (file_staged self.old)) }
@@ -174,7 +174,7 @@ impl<A: Allocator + Copy> File<A> {
         Ok(())
     }
 
-    /// Counts the points of the file's tests, unless it has none. Then a test can be added.
+    /// Makes the index count the points, if the file has a test. After that, another test can be added.
     fn start_counting(&mut self, alloc: A) -> Result<(), Memory>
         ensures same { self.new.tests ≡ self.old.tests }
         ensures committed { index_committed self.new.index ≡ index_committed self.old.index }
@@ -187,7 +187,7 @@ impl<A: Allocator + Copy> File<A> {
         Ok(())
     }
 
-    /// Stages one test's values as items of another test. The file has both.
+    /// Stages the values of the test `old` as items of the test `new`. The file has both tests.
     fn copy_points(&mut self, alloc: A, old: &[u8], new: &[u8]) -> Result<(), Memory>
         requires apart { old.now ≢ new.now }
         requires room { HasRoomToCopyIn old.now (file_staged self.old) }
@@ -198,7 +198,7 @@ impl<A: Allocator + Copy> File<A> {
         ensures settled { (tests : List (List ℕ)) → list_any (λ name. bytes_eq name new.now) tests ≡ true → IsSettledBut tests self.old → IsSettledBut tests self.new }
     {
         let empty = Boxed::new(alloc, Test::new(alloc))?;
-        // The contract of this call says that a map has fewer than 2^63 entries.
+        // Proof only: the contract of `len` says that a map has fewer than 2^63 entries.
         self.tests.len();
         let Some(place) = self.tests.get_mut(new) else {
             unreachable!();

@@ -26,7 +26,7 @@ pub(crate) fn drop_from_files<K: Ord + Drop, A: Allocator + Copy>(
     ensures committed { (name : K → List ℕ) → AreWithoutTest test.now (files_committed name files.old.entries) (files_committed name files.new.entries) }
     ensures settled { (name : K → List ℕ) (touched : List (List ℕ × List ℕ)) → AreSettledBut name touched files.old.entries → AreSettledBut name touched files.new.entries }
 {
-    // Every file is kept. `retain` is used because its contract says what becomes of the files; that of a walk doesn't.
+    // Every file is kept. `retain` is used because its contract says what becomes of the files. The contract of a walk doesn't.
     files.retain(
         |_, file|
             requires { IsConsistentFile (file_committed file.old) }

@@ -15,8 +15,8 @@ use crate::test::Test;
 use crate::totals::Totals;
 use std::alloc::{AllocError, Allocator};
 
-/// For each point of a file, how many tests have it, and how many have it above 0; and the checksums of the file's lines. The index
-/// follows the file's only test, until a second one comes.
+/// For each point of a file, how many tests have it, and how many have it above 0; and the checksums of the file's lines. The
+/// index follows the file's only test until a second test is added.
 #[derive(Drop)]
 pub(crate) struct FileIndex<A: Allocator> {
     pub lines: KindIndex<u64, LineSum, A>,
@@ -65,7 +65,7 @@ impl<A: Allocator + Copy> FileIndex<A> {
         self.branches.start_counting(alloc, &test.branches)
     }
 
-    /// Commits what is staged. If the index follows a test, it is this one, which has committed already.
+    /// Commits what is staged. If the index follows a test, `test` has to be that test, and has to be committed first.
     pub(crate) fn commit(&mut self, test: &Test<A>)
         requires { FollowsCommitted test.now self.old }
         ensures committed { index_committed self.new ≡ index_staged self.old }
@@ -78,7 +78,7 @@ impl<A: Allocator + Copy> FileIndex<A> {
         self.checksums.commit();
     }
 
-    /// Forgets what is staged. If the index follows a test, it is this one, which has rolled back already.
+    /// Forgets what is staged. If the index follows a test, `test` has to be that test, and has to be rolled back first.
     pub(crate) fn rollback(&mut self, test: &Test<A>)
         requires { FollowsRolledBack test.now self.old }
         ensures committed { index_committed self.new ≡ index_committed self.old }
@@ -91,7 +91,7 @@ impl<A: Allocator + Copy> FileIndex<A> {
         self.checksums.rollback();
     }
 
-    /// Commits what is staged, but for points of a test that the index follows.
+    /// Commits what is staged. Kinds of points in which the index follows a test stay as they are.
     pub(crate) fn commit_counts(&mut self)
         ensures staged { index_staged self.new ≡ index_staged self.old }
         ensures same { FollowsTheSame self.old self.new }
@@ -103,7 +103,7 @@ impl<A: Allocator + Copy> FileIndex<A> {
         self.checksums.commit();
     }
 
-    /// Forgets what is staged, but for points of a test that the index follows.
+    /// Forgets what is staged. Kinds of points in which the index follows a test stay as they are.
     pub(crate) fn rollback_counts(&mut self)
         ensures committed { index_committed self.new ≡ index_committed self.old }
         ensures same { FollowsTheSame self.old self.new }
@@ -126,7 +126,8 @@ impl<A: Allocator + Copy> FileIndex<A> {
         )
     }
 
-    /// Stops counting a test that has these points. Nothing is staged afterwards. If the index follows a test, it is this one.
+    /// Stops counting a test that has these points. Nothing is staged afterwards. If the index follows a test, `points` has to be
+    /// that test.
     pub(crate) fn uncount_test(&mut self, points: &Test<A>)
         requires follows { Follows points.now self.old }
         requires counted { (others : List TestData) × IsIndexOf (test_committed points.now ∷ others) (index_committed self.old) }
@@ -152,7 +153,8 @@ impl<A: Allocator + Copy> FileIndex<A> {
         )
     }
 
-    /// The file's committed totals without a test that has these points. If the index follows a test, it is this one.
+    /// The file's committed totals without a test that has these points. If the index follows a test, `points` has to be that
+    /// test.
     pub(crate) fn totals_without(&self, points: &Test<A>) -> Totals
         requires follows { Follows points.now self.now }
         requires counted { (others : List TestData) × IsIndexOf (test_committed points.now ∷ others) (index_committed self.now) }

@@ -1,4 +1,4 @@
-//! The texts of a file's checksums, each at a place of its own.
+//! The texts of a file's checksums, in a list. Each line with a text has an index of its own in the list.
 
 ghost use Rattle.std.specs.Prelude.{◌≡◌, ◌≤◌, ◌++◌, ◌∷◌, [], None, length, option_map, take, OnErr, OnOk, ℕ};
 ghost use Rattle.std.specs.Ordering.{nat_cmp};
@@ -10,13 +10,14 @@ use covmap::{SlotIndex, StagedMap};
 use std::alloc::{AllocError, Allocator};
 use std::marker::Model;
 
-/// The texts of lines, each at a place of its own. Places are staged: if memory is refused, those that weren't committed are lost,
-/// with their texts. Contracts see the lines that have a text then, and all lines that have one, ascending and with their texts.
+/// The texts of lines, in a list. Each line with a text has an index of its own in the list. Indexes are staged: if memory is
+/// refused, indexes that weren't committed are lost, with their texts. Contracts see two lists of texts by line, ascending: the
+/// texts that are kept after a refusal, and all texts.
 #[derive(Drop)]
 pub(crate) struct KeptTexts<A: Allocator> {
     places: StagedMap<u64, u64, A>,
     texts: Vec<Bytes<A>, A>,
-    /// How many texts, from the first one on, are at committed places.
+    /// How many texts, from the first one on, are at committed indexes.
     committed: usize,
 }
 
@@ -43,11 +44,11 @@ impl<A: Allocator + Copy> KeptTexts<A> {
         }
     }
 
-    /// Gives a line this text. Takes no memory if the line has one already, which this one replaces.
+    /// Gives a line this text. A text that the line has already is replaced, which takes no memory.
     ///
     /// # Errors
     ///
-    /// `AllocError` if memory was refused. Then only the texts at committed places are left.
+    /// `AllocError` if memory was refused. Then only the texts at committed indexes are left.
     pub(crate) fn set(&mut self, alloc: A, line: u64, text: Bytes<A>) -> Result<(), AllocError>
         ensures committed { StillHave self.old.committed self.new.committed }
         ensures ok { OnOk result (self.new.staged ≡ put nat_cmp line text self.old.staged) }
@@ -63,7 +64,7 @@ impl<A: Allocator + Copy> KeptTexts<A> {
         }
     }
 
-    /// Gives a line without a text this one. If memory is refused, only the texts at committed places are left.
+    /// Gives this text to a line that has none. If memory is refused, only the texts at committed indexes are left.
     fn add(&mut self, alloc: A, line: u64, text: Bytes<A>) -> Result<(), AllocError>
         requires { value_of nat_cmp line self.old.staged ≡ None }
         ensures committed { self.new.committed ≡ self.old.committed }
@@ -71,7 +72,7 @@ impl<A: Allocator + Copy> KeptTexts<A> {
         ensures err { OnErr result (self.new.staged ≡ self.old.committed) }
     {
         if let Err(refused) = push(&mut self.places, &mut self.texts, alloc, line, text) {
-            // No line would find the texts at the lost places again, and repeated refusals would pile them up.
+            // The indexes of new texts are lost, so no line would find these texts again. Repeated refusals would pile them up.
             self.places.rollback();
             self.texts.truncate(self.committed);
             return Err(refused);
@@ -79,7 +80,7 @@ impl<A: Allocator + Copy> KeptTexts<A> {
         Ok(())
     }
 
-    /// Commits the places of all texts. Takes no memory.
+    /// Commits the indexes of all texts. Takes no memory.
     pub(crate) fn commit(&mut self)
         ensures committed { self.new.committed ≡ self.old.staged }
         ensures staged { self.new.staged ≡ self.old.staged }
@@ -90,7 +91,7 @@ impl<A: Allocator + Copy> KeptTexts<A> {
 }
 
 impl<A: Allocator> KeptTexts<A> {
-    /// The text of a line, and the place to look at first for that of the next line.
+    /// The text of a line, or `None` if it has none; and the slot to look at first for the next line's text.
     pub(crate) fn text_at(&self, line: u64, guess: SlotIndex) -> (Option<&[u8]>, SlotIndex)
         ensures { option_map (λ text. text.now) result.0 ≡ value_of nat_cmp line self.now.staged }
     {
@@ -102,7 +103,7 @@ impl<A: Allocator> KeptTexts<A> {
     }
 }
 
-/// Appends a text, and stages its place as that of a line.
+/// Appends a text, and stages its index as the index of the line's text.
 fn push<A: Allocator + Copy>(
     places: &mut StagedMap<u64, u64, A>,
     texts: &mut Vec<Bytes<A>, A>,

@@ -1,4 +1,4 @@
-//! What a file keeps of a kind of points: in how many tests each point is, or, if there is only one test, just tallies.
+//! What a file keeps of a kind of points: how many tests have each point, or only tallies as long as the counts follow a test.
 
 ghost use Rattle.std.specs.Prelude.{◌≡◌, None, IfSome, OnOk};
 ghost use Rattle.covstore.specs.KindData.{empty_kind};
@@ -71,7 +71,8 @@ impl<K: Key + Drop, S: PointSum, A: Allocator + Copy> KindIndex<K, S, A> {
         }
     }
 
-    /// Commits what is staged. If the counts follow a test, it is the one with these points, and has committed them.
+    /// Commits what is staged. If the counts follow a test, `points` has to be the points of that test, and has to be committed
+    /// first.
     pub(crate) fn commit(&mut self, points: &StagedMap<K, S, A>)
         requires { IfSome self.old.follows (λ seen. points.now ≡ after_commit seen) }
         ensures committed { self.new.committed ≡ self.old.staged }
@@ -85,7 +86,8 @@ impl<K: Key + Drop, S: PointSum, A: Allocator + Copy> KindIndex<K, S, A> {
         }
     }
 
-    /// Forgets what is staged. If the counts follow a test, it is the one with these points, and has rolled them back.
+    /// Forgets what is staged. If the counts follow a test, `points` has to be the points of that test, and has to be rolled back
+    /// first.
     pub(crate) fn rollback(&mut self, points: &StagedMap<K, S, A>)
         requires { IfSome self.old.follows (λ seen. points.now ≡ after_rollback seen) }
         ensures committed { self.new.committed ≡ self.old.committed }
@@ -123,7 +125,8 @@ impl<K: Key + Drop, S: PointSum, A: Allocator + Copy> KindIndex<K, S, A> {
 }
 
 impl<K: CopyKey<A> + Drop, S: PointSum, A: Allocator + Copy> KindIndex<K, S, A> {
-    /// Counts the points, unless they are counted. If the counts follow a test, it is the one with these points.
+    /// Counts the points, unless they are counted already. If the counts follow a test, `points` has to be the points of that
+    /// test.
     ///
     /// # Errors
     ///

@@ -1,5 +1,6 @@
 //! The store of merged execution counts: what all its submissions add up to. Counts are added up for matching test and file
-//! (lcov(1), --add-tracefile). A sum stops at 2^128 - 1. Two versions of one source are never mixed.
+//! (lcov(1), --add-tracefile). A sum stops at 2^128 - 1. A submission is refused if it gives a line of a file another checksum
+//! than the store holds, or two different checksums. Lines without a checksum are never compared.
 //!
 //! A submission is added in two steps. `prepare` checks whether it clashes, allocates all memory and returns a plan. `commit`
 //! adds it, and needs no memory. Between the two, the caller can allocate memory of its own, and drop the plan if that is
@@ -8,7 +9,7 @@
 //!
 //! A store is nested ordered maps: for each file its tests, and for each test its points. If a file has several tests, the store
 //! also counts for each point of the file how many of them have it, and how many have it above 0. Totals are kept alongside.
-//! `prepare` stages values beside the committed ones, at the same places, and `commit` exchanges them.
+//! `prepare` stages values beside the committed ones, and `commit` replaces the committed ones by them.
 //!
 //! An example, proved and run in `covuses`: the store of two submissions, or a `Refuse::Clash` if they have two checksums
 //! of one line. `Store::sections` and `Store::totals` show what it holds.

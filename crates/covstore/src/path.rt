@@ -98,7 +98,7 @@ fn order_bytes(a: &[u8], b: &[u8]) -> Ordering
     order_rest(a, b, at)
 }
 
-/// The number whose digits in base 256 are the eight bytes from place `at` on, the highest digit first.
+/// The number whose digits in base 256 are the eight bytes from index `at` on, the highest digit first.
 fn word_at(bytes: &[u8], at: usize) -> u64
     requires { at + 8 ≤ length bytes.now }
     ensures { result ≡ from_be_bytes w64 (take 8 (drop at bytes.now)) }
@@ -110,7 +110,7 @@ fn word_at(bytes: &[u8], at: usize) -> u64
     ])
 }
 
-/// The order of what the two paths have from place `start` on.
+/// The order of two paths' bytes from index `start` on.
 fn order_rest(a: &[u8], b: &[u8], start: usize) -> Ordering
     requires { (start ≤ length a.now) × (start ≤ length b.now) }
     ensures { result ≡ slice_cmp nat_cmp (drop start a.now) (drop start b.now) }

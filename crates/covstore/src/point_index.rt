@@ -24,8 +24,8 @@ impl KindTally {
     ghost use Rattle.covstore.specs.PointIndexDrops.{CanBeLess, IsLess};
     ghost use Rattle.covstore.specs.SoleTest.{found_by, hit_by};
 
-    /// The tally after a point's numbers grow. The point is newly found if it had no numbers, and newly hit if it wasn't hit
-    /// before.
+    /// The tally after a point's numbers grow. The point is newly found if it had no numbers before. It is newly hit if it is hit
+    /// now and wasn't before.
     fn more(self, before: &Option<TestCounts>, after: &TestCounts) -> KindTally
         requires found { self.found < 2 ^ 63 }
         requires hit { self.hit < 2 ^ 63 }
@@ -41,7 +41,7 @@ impl KindTally {
         }
     }
 
-    /// The tally after a point is newly found, newly hit, or both.
+    /// The tally after a point is newly found, newly hit, or both. `None` changes nothing.
     pub(crate) fn with_change(self, change: Option<TestsAddend>) -> KindTally
         requires found { self.found < 2 ^ 63 }
         requires hit { self.hit < 2 ^ 63 }
@@ -88,7 +88,7 @@ impl KindTally {
     }
 }
 
-/// A walk over the points of a test. It has the tally as if the test didn't have the points passed so far, and the place to look
+/// A walk over the points of a test. It has the tally as if the test didn't have the points passed so far, and the slot to look
 /// at first for the next point.
 #[derive(Clone, Copy)]
 pub(crate) struct TallyWalk {
@@ -120,7 +120,7 @@ impl<K: Key, A: Allocator> Model for PointIndex<K, A> {
 impl<K: Key + Drop, A: Allocator + Copy> PointIndex<K, A> {
     ghost use Rattle.covstore.specs.PointIndex.{IsTallyOf};
 
-    /// An index of these counts, with these tallies of the committed and of the staged ones.
+    /// An index of these counts. `totals` is the tally of the committed counts, and `staged_totals` the tally of the staged ones.
     pub(crate) fn of(
         counts: StagedMap<K, TestCounts, A>,
         totals: KindTally,
@@ -137,9 +137,9 @@ impl<K: Key + Drop, A: Allocator + Copy> PointIndex<K, A> {
         }
     }
 
-    /// Adds a test's change, if there is one, to a point's numbers. The guess is the point's place in the test's map. Costs no
-    /// search if the point has the same place in this index. That is usual while the test has all points of the file, since both
-    /// maps then have the same keys.
+    /// Adds a test's change to a point's numbers. `None` changes nothing. `guess` is the point's slot in the test's map. The call
+    /// costs no search if the point has the same slot in this index. This is usual if the test has all points of the file, since
+    /// both maps then have the same keys.
     pub(crate) fn add<Q: Query<K, A>>(
         &mut self,
         alloc: A,
@@ -233,7 +233,8 @@ impl<K: Key, A: Allocator> PointIndex<K, A> {
     ghost use Rattle.covstore.specs.PointIndex.{IsTallyOf};
     ghost use Rattle.covstore.specs.PointIndexDrops.{CanLose, IsTallyAt, counts_without};
 
-    /// Takes one test off a point's committed numbers. `was_above`: the test had the point above 0. Nothing is staged afterwards.
+    /// Takes one test off a point's committed numbers. `was_above` tells whether the test had the point above 0. Nothing is
+    /// staged afterwards.
     pub(crate) fn take_test_off<Q: Query<K, A>>(&mut self, query: Q, was_above: bool)
         requires { CanLose was_above (value_of K.cmp (Q.named query) self.old.committed) }
         ensures committed { self.new.committed ≡ counts_without K.cmp (Q.named query) was_above self.old.committed }

@@ -11,8 +11,9 @@ use std::alloc::{AllocError, Allocator};
 use std::marker::Model;
 use std::snapshot::Snapshot;
 
-/// The tallies of a kind of points of a file that has at most one test. The points and their counts aren't kept: they are those
-/// of the test, each counted once. Contracts see the points of the test, as they were when they were last shown.
+/// The tallies of a kind of points of a file that has at most one test. The points and their counts aren't kept: the test has the
+/// points, and each of them counts once. Contracts see the test's points as they were at the last `follow`, `follow_run`,
+/// `commit` or `rollback`.
 #[derive(Drop)]
 pub(crate) struct SoleTest<K: Key, S: PointSum, A: Allocator> {
     seen: Option<Snapshot<StagedMap<K, S, A>>>,
@@ -36,7 +37,7 @@ impl<K: Key, S: PointSum, A: Allocator> Model for SoleTest<K, S, A> {
 impl<K: Key, S: PointSum, A: Allocator> SoleTest<K, S, A> {
     ghost use Rattle.covstore.specs.SoleTest.{found_by, hit_by};
 
-    /// What is kept of no test.
+    /// The tallies of a file without tests.
     pub(crate) fn none() -> SoleTest<K, S, A>
         ensures { result ≡ no_points }
     {
@@ -48,7 +49,8 @@ impl<K: Key, S: PointSum, A: Allocator> SoleTest<K, S, A> {
         }
     }
 
-    /// Follows the test, after one of its points was staged. `change` is what the test then adds to the point's numbers.
+    /// Follows the test after an item was staged at one of its points. `change` is the change of the point's numbers. `None`
+    /// means no change.
     pub(crate) fn follow(&mut self, points: &StagedMap<K, S, A>, change: Option<TestsAddend>)
         requires few { length (counts_of S.above self.old.staged) < 2 ^ 63 }
         requires committed { points.now.committed ≡ self.old.committed }
@@ -60,8 +62,7 @@ impl<K: Key, S: PointSum, A: Allocator> SoleTest<K, S, A> {
         self.staged_totals = self.staged_totals.with_change(change);
     }
 
-    /// Follows the test, after a run of items was staged at its points. The changes are what the test then adds to the numbers
-    /// of the points.
+    /// Follows the test after a run of items was staged at its points. `changes` are the changes of the points' numbers.
     pub(crate) fn follow_run<Q>(
         &mut self,
         points: &StagedMap<K, S, A>,
@@ -77,7 +78,7 @@ impl<K: Key, S: PointSum, A: Allocator> SoleTest<K, S, A> {
         self.staged_totals = self.staged_totals.with_reports(changes);
     }
 
-    /// Follows the test, whose points were committed.
+    /// Follows the test after its points were committed.
     pub(crate) fn commit(&mut self, points: &StagedMap<K, S, A>)
         requires { points.now ≡ after_commit self.old }
         ensures { self.new ≡ points.now }
@@ -86,7 +87,7 @@ impl<K: Key, S: PointSum, A: Allocator> SoleTest<K, S, A> {
         self.totals = self.staged_totals;
     }
 
-    /// Follows the test, whose points were rolled back.
+    /// Follows the test after its points were rolled back.
     pub(crate) fn rollback(&mut self, points: &StagedMap<K, S, A>)
         requires { points.now ≡ after_rollback self.old }
         ensures { self.new ≡ points.now }

@@ -27,7 +27,7 @@ const SAMPLE_STRIDE: usize = 16;
 /// Items are sorted if more than one in this many samples has a lower line than the sample before it.
 const SAMPLES_PER_FALL: usize = 4;
 
-/// Where an item is in its section. Spots ascend by line, and on one line by the items' order in the section.
+/// The line of an item, and the item's index in its section. Spots ascend by line, and on one line by index.
 #[derive(PartialEq, Eq, PartialOrd, Ord, Drop)]
 struct Spot {
     line: u64,

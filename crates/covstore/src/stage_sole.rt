@@ -1,4 +1,4 @@
-//! Stages items of one kind at the points of the only test of a file. These aren't counted.
+//! Stages items of one kind at the points of the only test of a file. The index follows these points and doesn't count them.
 
 ghost use Rattle.std.specs.Prelude.{◌≡◌, ◌+◌, ◌≤◌, length, IfOk, OnOk};
 ghost use Rattle.covmap.specs.Puts.{put, value_of};
@@ -11,8 +11,8 @@ use crate::sums::{PointAddend, PointSum};
 use covmap::{Key, Query, StagedMap};
 use std::alloc::{AllocError, Allocator};
 
-/// Stages what an item adds to a point of a kind. Returns the test's sum before. If memory is refused, the caller has to roll back
-/// the map.
+/// Stages what an item adds to a point of a kind. Returns the test's sum before. If memory is refused, the committed points stay,
+/// but staged ones may be lost.
 pub(crate) fn stage_sole_addend<
     K: Key + Drop,
     S: PointSum,
@@ -48,7 +48,7 @@ pub(crate) fn stage_sole_addend<
     Ok(added.before)
 }
 
-/// Stages a run of items. If memory is refused, the caller has to roll back the map.
+/// Stages a run of items. If memory is refused, the committed points stay, but staged ones may be lost.
 pub(crate) fn stage_sole_run<
     K: Key + Drop,
     S: PointSum,

@@ -109,7 +109,8 @@ fn stage_in_files<A: Allocator + Copy>(
     stage_in_new_file(files, alloc, name, test, items)
 }
 
-/// The same for a file that isn't there yet.
+/// Stages the items of a test of a file that the store doesn't have, and adds the file. Returns the file's staged totals before
+/// and after.
 fn stage_in_new_file<A: Allocator + Copy>(
     files: &mut BTreeMap<Path<A>, Boxed<File<A>, A>, A>,
     alloc: A,
@@ -205,7 +206,7 @@ impl<A: Allocator + Copy> Store<A> {
         ensures refused { IfErr result (λ e. (table : Table) → StandsFor self.old table → IsRefusedAt table submission.now (refuse_data e)) }
         ensures some { OnErr result (rows_of submission.now ≢ []) }
     {
-        // The contract of this call says that the held rows are few enough.
+        // Proof only: the contract of `kept` bounds the number of committed rows.
         self.kept();
         // A plan that was dropped may have left something staged.
         self.rollback();
@@ -360,7 +361,8 @@ impl<A: Allocator + Copy> Store<A> {
         Ok(())
     }
 
-    /// Stages the old test's values as items of the new one, in the files of these names: those in which the old test has points.
+    /// Stages the values of the test `old` as items of the test `new`, in each of the files `names`. These are the files in which
+    /// `old` has points.
     fn copy_all(
         &mut self,
         alloc: A,
@@ -374,7 +376,7 @@ impl<A: Allocator + Copy> Store<A> {
         ensures committed { SameCommitted self.old self.new }
         ensures ok { OnOk result (IsMoving self.new old.now new.now old.now) }
     {
-        // The contract of this call says that the held rows are few enough.
+        // Proof only: the contract of `kept` bounds the number of committed rows.
         self.kept();
         for name in names {
             self.copy_file(alloc, name.as_slice(), old, new)?;
@@ -382,7 +384,8 @@ impl<A: Allocator + Copy> Store<A> {
         Ok(())
     }
 
-    /// The same in one file, in which the old test has points. Lists the new test as one in which something is staged.
+    /// Stages the values of the test `old` as items of the test `new`, in a file in which `old` has points. Lists `new` as a test
+    /// in which something is staged.
     fn copy_file(&mut self, alloc: A, file: &[u8], old: &[u8], new: &[u8]) -> Result<(), Memory>
         requires apart { old.now ≢ new.now }
         requires room { HasRoomToCopy file.now old.now self.old }

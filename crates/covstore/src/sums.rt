@@ -23,8 +23,8 @@ pub(crate) trait PointSum: Value {
         ensures { result ≡ above self.now };
 }
 
-/// What an item adds to the sum at a point. A sum above 0 stays above 0. The report is what the test then adds to the point's
-/// numbers in the index.
+/// What an item adds to the sum at a point. A sum above 0 stays above 0. The report is the change of the point's numbers in the
+/// index.
 pub(crate) trait PointAddend<S: PointSum>: ReportingAddend<S, TestsAddend> {
     ghost always_fits: { (more : Self) (before : Option S) → Self.fits more before };
 
@@ -269,7 +269,7 @@ impl TestCounts {
         }
     }
 
-    /// The numbers without one test, or `None` if it was the only one. `was_above`: the test had the point above 0.
+    /// The numbers without one test, or `None` if it was the only one. `was_above` tells whether the test had the point above 0.
     pub(crate) fn fewer(&self, was_above: bool) -> Option<TestCounts>
         requires { HaveOne was_above self.now }
         ensures { result ≡ fewer_tests was_above self.now }
@@ -328,7 +328,7 @@ impl Value for TestCounts {
     }
 }
 
-/// The numbers of a point that one test has, with this sum.
+/// Makes the numbers of a point that only one test has, from the sum that the test has there.
 impl<S: PointSum> Image<S> for TestCounts {
     ghost image = { λ sum. count_of_one S.above sum };
 

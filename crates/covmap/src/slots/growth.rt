@@ -1,6 +1,6 @@
 //! Inserts a slot, even while values are staged. The columns of staged values are then changed in the same way as the pages.
 //!
-//! If memory is refused after the slots have changed, what is staged is forgotten.
+//! If memory is refused, committed values stay, but staged ones may be lost.
 
 ghost use Rattle.std.specs.Prelude.{◌≡◌, ◌+◌, ◌^◌, ◌<◌, IfOk, OnOk, length};
 ghost use Rattle.std.specs.declared.cmp.Ordering.TheVariants.{Less};

@@ -9,8 +9,8 @@ use crate::slots::page::Page;
 use std::alloc::{AllocError, Allocator};
 
 impl<K: CopyKey<A> + Drop, V, A: Allocator + Copy> Slots<K, V, A> {
-    /// Slots with the same keys and the images of the values, on pages that are split at the same keys: so each place stays
-    /// that of its key.
+    /// Slots with the same keys and the images of the values, on pages that are split at the same keys. So each key has the same
+    /// place.
     pub(crate) fn images<W: Image<V>>(&self, alloc: A) -> Result<Slots<K, W, A>, AllocError>
         ensures { IfOk result (λ images. images ≡ map (page_image W.image) self.now) }
     {

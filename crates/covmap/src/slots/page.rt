@@ -166,7 +166,7 @@ impl<K, V: Value, A: Allocator> Page<K, V, A> {
         Ok(column)
     }
 
-    /// Replaces its values by these.
+    /// Replaces the values of the page by these.
     pub(crate) fn fill(&mut self, column: Vec<Option<V>, A>)
         requires { length column.items ≡ length self.old }
         ensures { self.new ≡ with_column self.old column.items }
@@ -174,7 +174,7 @@ impl<K, V: Value, A: Allocator> Page<K, V, A> {
         self.values = column;
     }
 
-    /// Replaces the value in a slot by this value, or by none. The slot must have a value.
+    /// Replaces the value in a slot. `None` empties the slot. The slot must have a value.
     pub(crate) fn write(&mut self, index: usize, value: Option<V>)
         requires { is_some (value_in (option_map (λ slot. slot.1) (slice_get self.old index))) ≡ true }
         ensures { self.new ≡ with_column self.old (slice_set (column_of self.old) index value) }
@@ -198,7 +198,7 @@ impl<K: Drop, V: Value, A: Allocator + Copy> Page<K, V, A> {
             self.keys.insert(index, key)?;
             return Ok(());
         }
-        // Reserves room for the value first, so that the keys don't change if that is refused.
+        // Reserves room for the value first, so that the keys don't change if memory is refused.
         self.values.reserve(1)?;
         self.keys.insert(index, key)?;
         self.values.insert(index, None)?;

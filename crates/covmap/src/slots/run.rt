@@ -12,8 +12,8 @@ use crate::slots::staged::StagedColumns;
 use crate::slots::{PAGE_SLOTS, SlotIndex, Slots, push};
 use std::alloc::{AllocError, Allocator};
 
-/// If a new key is greater than all others and fewer items than this are left of its run, it goes to the last page if that has
-/// room. Otherwise it begins a page of its own.
+/// A new key that is greater than all others goes to the last page, if that page has room and fewer items than this are left of
+/// the run. Otherwise the key begins a page of its own.
 const SHORT_RUN: usize = 32;
 
 impl SlotIndex {
@@ -110,9 +110,9 @@ pub(crate) fn make_slots<
     }
 }
 
-/// Inserts empty slots for the keys at the front of a run. The last one is for the first key that isn't greater than the key
-/// before it or belongs to another page, or it fills the page. So a page without staged values gets all these slots before it
-/// gets a column. After that, each slot would have to be inserted into the column too.
+/// Inserts empty slots for the keys at the front of a run. Stops when the page is full, or after the first key that isn't greater
+/// than the key before it or belongs to another page. A page without staged values gets all these slots before it gets a column.
+/// Once it has a column, each slot has to be inserted into the column too.
 fn make_ahead<K: Key + Drop, V: Value, A: Allocator + Copy, Q: Query<K, A>, M: Addend<V>>(
     slots: &mut Slots<K, V, A>,
     staged: &mut StagedColumns<V, A>,

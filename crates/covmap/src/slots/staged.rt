@@ -193,7 +193,7 @@ impl<V: Value, A: Allocator> StagedColumns<V, A> {
         slots.value_at(place)
     }
 
-    /// The value `at` this index of the column at `index`.
+    /// The value at index `at` of the column at index `index`.
     fn value_of(&self, index: usize, at: usize) -> Option<V>
         ensures { (column : _) → slice_get self.now index ≡ Some column → result ≡ value_in (slice_get column.1 at) }
     {

@@ -13,8 +13,8 @@ use crate::sums::{LineSum, PointSum};
 use covmap::StagedMap;
 use std::alloc::Allocator;
 
-/// Stops counting the test that has these points of one kind. Nothing is staged afterwards. If the counts follow a test, it is
-/// this one.
+/// Stops counting the test that has these points of one kind. Nothing is staged afterwards. If the counts follow a test, `points`
+/// has to be the points of that test.
 pub(super) fn uncount_kind<'a, K: PointKey<'a, A> + Drop, S: PointSum, A: Allocator + Copy>(
     kept: &mut KindIndex<K, S, A>,
     points: &'a StagedMap<K, S, A>,
@@ -32,7 +32,7 @@ pub(super) fn uncount_kind<'a, K: PointKey<'a, A> + Drop, S: PointSum, A: Alloca
     }
 }
 
-/// The same at points that are counted.
+/// Takes the test that has these points off the counts. Nothing is staged afterwards.
 fn drop_counted<'a, K: PointKey<'a, A> + Drop, S: PointSum, A: Allocator + Copy>(
     kept: &mut PointIndex<K, A>,
     points: &'a StagedMap<K, S, A>,
@@ -67,7 +67,8 @@ pub(super) fn release_checksums<A: Allocator + Copy>(
     }
 }
 
-/// The tally of a kind of points without the test that has these points. If the counts follow a test, it is this one.
+/// The tally of a kind of points without the test that has these points. If the counts follow a test, `points` has to be the
+/// points of that test.
 pub(super) fn tally_without<'a, K: PointKey<'a, A>, S: PointSum, A: Allocator>(
     kept: &KindIndex<K, S, A>,
     points: &'a StagedMap<K, S, A>,
@@ -82,7 +83,7 @@ pub(super) fn tally_without<'a, K: PointKey<'a, A>, S: PointSum, A: Allocator>(
     }
 }
 
-/// The same at points that are counted.
+/// The tally of counted points without the test that has these points.
 fn tally_without_counted<'a, K: PointKey<'a, A>, S: PointSum, A: Allocator>(
     kept: &PointIndex<K, A>,
     points: &'a StagedMap<K, S, A>,

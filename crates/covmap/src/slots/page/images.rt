@@ -8,8 +8,8 @@ use crate::slots::page::Page;
 use std::alloc::{AllocError, Allocator};
 
 impl<K: CopyKey<A> + Drop, V, A: Allocator + Copy> Page<K, V, A> {
-    /// A page with the same keys in the same slots, and the images of the values. If this page takes memory only for its keys,
-    /// so does that one.
+    /// A page with the same keys in the same slots, and the images of the values. If this page takes memory only for its keys, so
+    /// does the new page.
     pub(crate) fn image<W: Image<V>>(&self, alloc: A) -> Result<Page<K, W, A>, AllocError>
         ensures { IfOk result (λ image. image ≡ page_image W.image self.now) }
     {
@@ -33,7 +33,7 @@ fn copy_keys<K: CopyKey<A> + Drop, A: Allocator + Copy>(
     Ok(copies)
 }
 
-/// The images of values; where there is no value, there is no image. Reserves room for exactly that many.
+/// The images of values. A missing value has no image. Reserves room for exactly that many.
 pub(crate) fn value_images<V, W: Image<V>, A: Allocator>(
     values: &[Option<V>],
     alloc: A,

@@ -3,7 +3,7 @@ use Rattle.std.specs.Cmp.Lexicographic.{slice_cmp}
 use Rattle.std.specs.Ordering.{nat_cmp}
 use Rattle.covstore.proofs.path.order_bytes.Given as goal
 
--- the bytes before this place are equal, so the bytes from here on decide the order
+-- the bytes before this index are equal, so the bytes from here on decide the order
 abbrev pub invariant-loop-at : goal.invariant-loop-at
 invariant-loop-at l = record {
   within : l.at ≤ l.both;

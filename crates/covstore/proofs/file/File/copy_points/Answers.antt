@@ -24,7 +24,7 @@ use Rattle.covstore.proofs.Orders.{names_order}
 use Rattle.covstore.proofs.Settled.{file_name, same_file}
 use Rattle.covstore.proofs.file.File.copy_points.Goals as goal
 
--- the file has both tests, so the one that is taken out has a place
+-- the file has both tests, so the one that is taken out can be put back
 
 pub unreachable-requires : goal.unreachable-requires
 unreachable-requires g c =

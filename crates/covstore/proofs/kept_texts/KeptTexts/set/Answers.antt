@@ -14,7 +14,7 @@ index_mut-requires g c =
     let below = below_found (length inside.texts.items) c.args.line c.in-Some.place inside.places.staged c.self.invariant.staged_below found in
     omega (arith, below, inside.texts.ok.0)
 
--- no line's place is lost, and the line had none
+-- no line's index is lost, and the line had none
 pub add-requires : goal.add-requires
 add-requires g c =
     let inside = c.self.inside in
