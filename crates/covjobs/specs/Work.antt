@@ -125,7 +125,8 @@ IsUnrefused (Ok worker) = Unit {0}
 IsUnrefused (Err (stops.Unread index)) = Unit {0}
 IsUnrefused (Err (stops.Refused refusal)) = ⊥
 
--- a worker was started: one that wasn't is refused memory before it has read anything
+-- a worker was started, or nothing tells otherwise: one that couldn't be started is refused memory before it has read anything. So is
+-- one that runs out of memory at the first input, and nothing needs to be known of its end
 abbrev pub IsStarted : Result WorkerData Stop → Type 0
 IsStarted (Ok worker) = Unit {0}
 IsStarted (Err (stops.Unread index)) = Unit {0}

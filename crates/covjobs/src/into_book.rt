@@ -9,7 +9,7 @@ use crate::readers::Readers;
 use crate::refused::Refused;
 use crate::worker::Worker;
 use covbook::laws::{a_run_goes_on, calls_count_a_history, order_does_not_matter};
-use covbook::{Answered, Book, BookFault, MAX_ENTRIES, Receipt};
+use covbook::{Answered, Book, BookFault, Receipt};
 use covline::Memory;
 use covlock::{Name, News, Seats, Start, open_book_keeping};
 use std::alloc::Global;
@@ -114,7 +114,7 @@ fn collect_named<
     if !are_before(latest.as_slice(), &news) {
         return Err(IntoBookFault::Collect(CollectFault::NotLast));
     }
-    if book.len() >= MAX_ENTRIES {
+    if book.is_full() {
         return Err(IntoBookFault::Collect(refused_by(count, BookFault::Full)));
     }
     calls_count_a_history();
@@ -149,7 +149,7 @@ fn hand_in_news<L: Name>(
 
 /// Whether none of the latest news is of a longer history than these news. So each is of a beginning of it.
 fn are_before<L: Name>(latest: &[Option<News<L>>], news: &News<L>) -> bool
-    ensures { IsTrue result → AllByRecursion (λ own. IsPrefix (history_of own) news.now) latest.now }
+    ensures { IsTrue result ↔ AllByRecursion (λ own. IsPrefix (history_of own) news.now) latest.now }
 {
     for own in latest {
         if !is_before(own, news) {
@@ -161,7 +161,7 @@ fn are_before<L: Name>(latest: &[Option<News<L>>], news: &News<L>) -> bool
 
 /// Whether the latest news aren't of a longer history than these news.
 fn is_before<L: Name>(latest: &Option<News<L>>, news: &News<L>) -> bool
-    ensures { IsTrue result → IsPrefix (history_of latest.now) news.now }
+    ensures { IsTrue result ↔ IsPrefix (history_of latest.now) news.now }
 {
     match latest {
         Some(latest) => {

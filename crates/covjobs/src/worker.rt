@@ -44,7 +44,7 @@ impl<L: Name, A: Allocator, P: Keep<Of = Receipt<A>>> Model for Worker<L, A, P> 
 }
 
 impl<L: Name, A: Allocator + Copy, P: Keep<Of = Receipt<A>>> Worker<L, A, P> {
-    ghost use Rattle.std.specs.Prelude.{◌≡◌, ◌++◌, [], ◌∷◌, None, IfOk, IfErr, is_some, length, map};
+    ghost use Rattle.std.specs.Prelude.{◌≡◌, ◌++◌, [], ◌∷◌, None, Some, IfOk, IfErr, IfSome, is_some, length, map};
     ghost use Rattle.covbook.specs.Op.{SubmitOp};
     ghost use Rattle.covbook.specs.View.{op_data};
     ghost use Rattle.covjobs.specs.Collect.{ops_in, refusal, submitted, HasRead};
@@ -87,6 +87,7 @@ impl<L: Name, A: Allocator + Copy, P: Keep<Of = Receipt<A>>> Worker<L, A, P> {
         ensures job { self.new.seat.job ≡ self.old.seat.job }
         ensures outcome { IfOk result (λ _. HasOutcome (MayGive (T.may_be placed.input))) }
         ensures taken { IfOk result (λ fault. fault ≡ None → (first ≡ None) × Takes (MayGive (T.may_be placed.input)) placed.index (ops_in self.old.receipts) (ops_in self.new.receipts) self.old.refused self.new.refused) }
+        ensures kept { IfSome first (λ f. IfOk result (λ fault. fault ≡ Some f)) }
         ensures stop { IfErr result (IsStopAt placed.index (T.may_fail placed.input)) }
         ensures read { IfOk result (λ fault. fault ≡ None → HasRead self.old.has_reader self.old.receipts self.old.readings → HasRead self.new.has_reader self.new.receipts self.new.readings) }
         ensures reader { self.new.has_reader ≡ self.old.has_reader }

@@ -46,10 +46,10 @@ ends_collected folder work files named inputs entries refused ending (texts, are
 
 -- the texts weren't collected, and the call ends with the ending for the fault
 pub ends_uncollected : (folder : FolderData) (work : WorkData) (fault : CollectFault) (ending : EndingData)
-    → (fault ≡ collects.BadJobs → AreJobs work.jobs → ⊥) → ending ≡ of_collect fault → WorkEnds folder work ending
-ends_uncollected folder work fault ending bad is =
+    → (fault ≡ collects.BadJobs → AreJobs work.jobs → ⊥) → MayCome (length work.files) fault → ending ≡ of_collect fault → WorkEnds folder work ending
+ends_uncollected folder work fault ending bad may is =
     let held = texts_held folder work.files in
-    inr (inr (held.0, Err fault, held.1, bad, is))
+    inr (inr (held.0, Err fault, held.1, (bad, may), is))
 
 -- a file can't be read, and the call ends with that
 pub ends_unreadable : (folder : FolderData) (work : WorkData) (files : List (List ℕ)) → files ≡ work.files → (name : List ℕ) (ending : EndingData)

@@ -1,12 +1,13 @@
 -- Files that are read when their turn comes.
-use Rattle.std.proofs.Common.{◌≡◌, ℕ, zero, suc, ◌≤◌, List, [], ◌∷◌, length, take, map, Option, Some, None, Result, Ok, Err, slice_get, refl, ap, subst, arith}
-use Rattle.std.proofs.lemmas.List.{length-take}
+use Rattle.std.proofs.Common.{◌≡◌, ℕ, zero, suc, ◌≤◌, List, [], ◌∷◌, length, take, map, Option, Some, None, Result, Ok, Err, slice_get, refl, sym, ap, ◌∙◌, subst, arith}
+use Rattle.std.proofs.lemmas.List.{length-map, length-take}
 use Rattle.std.specs.List.{AllByRecursion}
 use Rattle.covread.specs.Outcome.{max_bytes}
 use Rattle.covjobs.specs.Collect.{InputData}
-use Rattle.covjobs.specs.Late.{IsFirstUnread, IsIntoBookFault, IsLateOutcome, TurnedOut}
+use Rattle.covjobs.specs.Late.{IsFirstUnread, IsIntoBookFault, IsLateOutcome, MayCome, TurnedOut}
 use Rattle.covjobs.specs.declared.book_fault.IntoBookFault.{IntoBookFault}
 use Rattle.covjobs.specs.declared.book_fault.IntoBookFault.TheVariants as into_book
+use Rattle.covjobs.specs.declared.collect_fault.CollectFault.{CollectFault}
 use Rattle.covjobs.specs.declared.late_fault.LateFault.{LateFault}
 use Rattle.covjobs.specs.declared.late_fault.LateFault.TheVariants as late
 use Rattle.covline.specs.Row.{SubmissionData}
@@ -112,6 +113,14 @@ unreadable_read {X} lates at format of own name format_of files index fault name
     subst (λ (fs : List (List ℕ)). IsUnreadable (of at) fs (name_at (slice_get fs index))) named
     (unreadable_first (of at) format name MayBe MayFail lates index (are_files lates at format of own name format_of all)
     (subst (λ (f : IntoBookFault). IsIntoBookFault MayBe MayFail lates f) is unread))
+
+-- a fault of collecting them may come with so many files
+pub may_come : {X : Type 0} (lates : List X) (name : X → List ℕ) (MayBe : X → InputData → Type 0) (MayFail : X → Type 0)
+    → (files : List (List ℕ)) (fault : IntoBookFault) (told : CollectFault) → map name lates ≡ files
+    → fault ≡ into_book.Collect told → IsIntoBookFault MayBe MayFail lates fault → MayCome (length files) told
+may_come lates name MayBe MayFail files fault told named is may =
+    subst (λ (n : ℕ). MayCome n told) (sym (length-map lates name) ∙ ap length named)
+    (subst (λ (f : IntoBookFault). IsIntoBookFault MayBe MayFail lates f) is may)
 
 -- ---- texts of files that aren't read
 

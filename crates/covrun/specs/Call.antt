@@ -7,6 +7,7 @@ use Rattle.covread.specs.Outcome.{max_bytes}
 use Rattle.covbook.specs.Op.{EntryData}
 use Rattle.covbook.specs.Gather.{LogData}
 use Rattle.covjobs.specs.Collect.{IsCollected}
+use Rattle.covjobs.specs.Late.{MayCome}
 use Rattle.covjobs.specs.Start.{AreJobs}
 use Rattle.covjobs.specs.declared.collect_fault.CollectFault.{CollectFault}
 use Rattle.covjobs.specs.declared.collect_fault.CollectFault.TheVariants as collects
@@ -46,11 +47,11 @@ pub record CollectedData : Type 0 where
   pub logs : List LogData
   pub refused : List RefusedInput
 
--- the result of collecting the texts. `BadJobs` is returned only if the number of jobs is out of range. Nothing is said of the
--- other faults
+-- the result of collecting the texts. `BadJobs` is returned only if the number of jobs is out of range, and `Full` only if there are
+-- as many files as a full history has entries. `Gather` never is
 abbrev pub IsAnswer : WorkData → List (List ℕ) → Result CollectedData CollectFault → Type 0
 IsAnswer work texts (Ok c) = IsCollected (map (input_of work.format) texts) work.jobs work.last c.entries c.logs c.refused
-IsAnswer work texts (Err fault) = fault ≡ collects.BadJobs → AreJobs work.jobs → ⊥
+IsAnswer work texts (Err fault) = (fault ≡ collects.BadJobs → AreJobs work.jobs → ⊥) × MayCome (length work.files) fault
 
 -- the ending of a call whose collecting had this result
 abbrev pub ending_of : List (List ℕ) → Result CollectedData CollectFault → EndingData

@@ -10,17 +10,21 @@ pub record FolderData : Type 1 where
   pub holds : List ℕ → Option (List ℕ)
   pub MayFail : List ℕ → Type 0
 
--- a read of an open file failed after it had given a beginning of these bytes
-abbrev pub HasFailed : {File : Type 0} → (left : File → Option (List ℕ)) → (failed_reads : File → ℕ) → Option (List ℕ) → Type 0
-HasFailed {File} left failed_reads held = (file : File) × (bytes : List ℕ) × Consumes held (left file) bytes × (0 < failed_reads file)
+-- an open file that may be opened so failed to be read: a read of it failed, after others had given these bytes
+pub record HasFailed {File : Type 0} (MayOpen : File → Type 0) (left : File → Option (List ℕ)) (failed_reads : File → ℕ) : Type 0 where
+  pub opened : File
+  pub may_open : MayOpen opened
+  pub after : File
+  pub bytes : List ℕ
+  pub given : Consumes (left opened) (left after) bytes
+  pub failed : failed_reads opened < failed_reads after
 
--- a file may fail to be read if the folder may refuse to open it, or if a read of it failed after it had given a beginning of its
--- bytes
-abbrev pub folder_data : {File : Type 0} → (holds : List ℕ → Option (List ℕ)) → (may_refuse : List ℕ → Type 0) → (left : File → Option (List ℕ))
-    → (failed_reads : File → ℕ) → FolderData
-folder_data holds may_refuse left failed_reads = record {
+-- a file may fail to be read if the folder may refuse to open it, or if a read of it failed once it was open
+abbrev pub folder_data : {File : Type 0} → (holds : List ℕ → Option (List ℕ)) → (may_refuse : List ℕ → Type 0) → (may_open : List ℕ → File → Type 0)
+    → (left : File → Option (List ℕ)) → (failed_reads : File → ℕ) → FolderData
+folder_data holds may_refuse may_open left failed_reads = record {
   holds = holds;
-  MayFail = λ name. may_refuse name ⊎ HasFailed left failed_reads (holds name);
+  MayFail = λ name. may_refuse name ⊎ HasFailed (may_open name) left failed_reads;
 }
 
 -- if the bytes are known, the text is all of them, or the first `most` of them

@@ -31,7 +31,7 @@ pub(crate) fn check_files<F: Folder, O: Sink, E: Sink>(
 ) -> u8
     requires output { O.failed_writes output.old < 2 ^ 62 }
     requires faults { E.failed_writes faults.old < 2 ^ 62 }
-    ensures { IsCheck (folder_data (F.holds folder.now) (F.may_refuse folder.now) F.File.left F.File.failed_reads) format (map string_bytes files.now) result
+    ensures { IsCheck (folder_data (F.holds folder.now) (F.may_refuse folder.now) (F.may_open folder.now) F.File.left F.File.failed_reads) format (map string_bytes files.now) result
         (sinks (O.written output.old) (O.failed_writes output.old) (E.written faults.old) (E.failed_writes faults.old))
         (sinks (O.written output.new) (O.failed_writes output.new) (E.written faults.new) (E.failed_writes faults.new)) }
 {
@@ -55,7 +55,7 @@ fn check_each<F: Folder, O: Sink, E: Sink>(
 ) -> Result<CheckVerdict, SessionFault>
     requires output { O.failed_writes output.old < 2 ^ 62 }
     requires faults { E.failed_writes faults.old < 2 ^ 62 }
-    ensures { TellsEach (folder_data (F.holds folder.now) (F.may_refuse folder.now) F.File.left F.File.failed_reads) format (map string_bytes files.now) result
+    ensures { TellsEach (folder_data (F.holds folder.now) (F.may_refuse folder.now) (F.may_open folder.now) F.File.left F.File.failed_reads) format (map string_bytes files.now) result
         (sinks (O.written output.old) (O.failed_writes output.old) (E.written faults.old) (E.failed_writes faults.old))
         (sinks (O.written output.new) (O.failed_writes output.new) (E.written faults.new) (E.failed_writes faults.new)) }
 {
@@ -78,7 +78,7 @@ fn check_file<F: Folder, O: Sink, E: Sink>(
 ) -> Result<CheckVerdict, SessionFault>
     requires output { O.failed_writes output.old < 2 ^ 62 }
     requires faults { E.failed_writes faults.old < 2 ^ 63 }
-    ensures { TellsOne (folder_data (F.holds folder.now) (F.may_refuse folder.now) F.File.left F.File.failed_reads) format name.now result
+    ensures { TellsOne (folder_data (F.holds folder.now) (F.may_refuse folder.now) (F.may_open folder.now) F.File.left F.File.failed_reads) format name.now result
         (sinks (O.written output.old) (O.failed_writes output.old) (E.written faults.old) (E.failed_writes faults.old))
         (sinks (O.written output.new) (O.failed_writes output.new) (E.written faults.new) (E.failed_writes faults.new)) }
 {

@@ -42,7 +42,7 @@ pub(crate) fn do_work<R: Threads + Wait + Sync, F: Folder<File: Send> + Sync, O:
     requires output { O.failed_writes output.old < 2 ^ 62 }
     requires faults { E.failed_writes faults.old < 2 ^ 62 }
     ensures { (ending : EndingData)
-        × WorkEnds (folder_data (F.holds folder.now) (F.may_refuse folder.now) F.File.left F.File.failed_reads) (work_data work.now) ending
+        × WorkEnds (folder_data (F.holds folder.now) (F.may_refuse folder.now) (F.may_open folder.now) F.File.left F.File.failed_reads) (work_data work.now) ending
         × IsEndingPrinted ending result
         (sinks (O.written output.old) (O.failed_writes output.old) (E.written faults.old) (E.failed_writes faults.old))
         (sinks (O.written output.new) (O.failed_writes output.new) (E.written faults.new) (E.failed_writes faults.new)) }

@@ -23,7 +23,7 @@ impl<'a, F: Folder> LateInput<Global> for FileInput<'a, F> {
 
     ghost may_be = { λ late input. MayBeRead (F.holds late.folder.now late.name.now) late.format.now input };
 
-    ghost may_fail = { λ late. (folder_data (F.holds late.folder.now) (F.may_refuse late.folder.now) F.File.left F.File.failed_reads).MayFail late.name.now };
+    ghost may_fail = { λ late. (folder_data (F.holds late.folder.now) (F.may_refuse late.folder.now) (F.may_open late.folder.now) F.File.left F.File.failed_reads).MayFail late.name.now };
 
     /// Reads the file, and then its text, which is freed.
     fn read_late(self, alloc: Global) -> Result<SubRef, LateFault> {

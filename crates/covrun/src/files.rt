@@ -122,7 +122,7 @@ pub(crate) fn file_text<'a, F: Folder>(
 ) -> Result<Bytes, FileFault<'a>>
     ensures text { IfOk result (IsTextOf (F.holds folder.now name.now)) }
     ensures few { IfOk result (λ text. length text ≤ suc max_bytes) }
-    ensures unread { IfErr result (IsUnread (folder_data (F.holds folder.now) (F.may_refuse folder.now) F.File.left F.File.failed_reads) name.now) }
+    ensures unread { IfErr result (IsUnread (folder_data (F.holds folder.now) (F.may_refuse folder.now) (F.may_open folder.now) F.File.left F.File.failed_reads) name.now) }
 {
     let Ok(opened) = folder.open(name) else {
         return Err(FileFault::Unreadable(name));

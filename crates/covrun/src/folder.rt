@@ -29,6 +29,9 @@ pub trait Folder {
     // Whether opening the file with this name may fail.
     ghost may_refuse: { Self → List ℕ → Type 0 };
 
+    // Whether opening the file with this name may give this open file.
+    ghost may_open: { Self → List ℕ → Self.File → Type 0 };
+
     /// An open file, as a source of its bytes.
     type File: Source + Drop;
 
@@ -37,6 +40,7 @@ pub trait Folder {
         ensures bytes { IfOk result (λ opened. Keeps (holds self.now name.now) (Self.File.left opened.source)) }
         ensures calls { IfOk result (λ opened. Self.File.reads opened.source ≡ 0) }
         ensures failures { IfOk result (λ opened. Self.File.failed_reads opened.source ≡ 0) }
+        ensures opened { IfOk result (λ opened. may_open self.now name.now opened.source) }
         ensures refused { IfErr result (λ _. may_refuse self.now name.now) };
 }
 
@@ -61,6 +65,8 @@ impl<'a, R: Files> Folder for FromFiles<'a, R> {
     ghost holds = { λ _ _. None };
 
     ghost may_refuse = { λ _ _. Unit {0} };
+
+    ghost may_open = { λ _ _ _. Unit {0} };
 
     type File = FromRead<R::File>;
 

@@ -1,7 +1,7 @@
 //! Calls that read from folders in memory. The contract of one folder says what it holds. The files of the other fail while they
 //! are read.
 
-ghost use Rattle.std.specs.Prelude.{◌≢◌, None, Some};
+ghost use Rattle.std.specs.Prelude.{◌≡◌, ◌≢◌, None, Some};
 
 use super::{Told, check_text, words_of};
 use covrun::{Folder, Opened, run};
@@ -60,6 +60,8 @@ impl<'a> Folder for OneFile<'a> {
     ghost holds = { λ s _. Some s.text.now };
 
     ghost may_refuse = { λ s name. name ≢ s.name.now };
+
+    ghost may_open = { λ _ _ _. Unit {0} };
 
     type File = FromRead<&'a [u8]>;
 
@@ -127,6 +129,8 @@ impl Folder for TornFiles {
     ghost holds = { λ _ _. None };
 
     ghost may_refuse = { λ _ _. ⊥ };
+
+    ghost may_open = { λ _ _ file. file.failed ≡ 0 };
 
     type File = Torn;
 

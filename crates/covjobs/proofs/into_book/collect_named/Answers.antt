@@ -24,7 +24,7 @@ returns-clause-collected g c =
     let yes : IsTrue c.are_before.result = search rules in
     let latest : List (Option (List EntryData)) = c.in_ok-seats.latest.items in
     let told : AllByRecursion (λ (own : Option (List EntryData)). IsPrefix (history_of own) c.in-Ok.news) latest =
-    subst (λ (owns : List (Option (List EntryData))). AllByRecursion (λ (own : Option (List EntryData)). IsPrefix (history_of own) c.in-Ok.news) owns) c.as_slice.ensures.value (c.are_before.ensures yes) in
+    subst (λ (owns : List (Option (List EntryData))). AllByRecursion (λ (own : Option (List EntryData)). IsPrefix (history_of own) c.in-Ok.news) owns) c.as_slice.ensures.value (c.are_before.ensures.0 yes) in
     let closed : AreClosed workers entries = record {
       kept = c.in_ok-seats.ensures.kept;
       before = latest_before latest workers entries c.in_ok-seats.ensures.latest (subst (λ (es : List EntryData). AllByRecursion (λ (own : Option (List EntryData)). IsPrefix (history_of own) es) latest) c.in-Ok.ensures.news told);
@@ -45,7 +45,7 @@ unreachable-requires g c =
     (subst (λ (seats : List SeatData). IsLeastMissing c.in_ok-book.book.jobs seats job) c.in_ok-seats.ensures.seats c.in-Err.ensures.seated))
 
 -- the closed book is full
-pub returns-then-len-ge-MAX_ENTRIES-clause-unread : goal.returns-then-len-ge-MAX_ENTRIES-clause-unread
-returns-then-len-ge-MAX_ENTRIES-clause-unread g c =
+pub returns-then-is_full-clause-unread : goal.returns-then-is_full-clause-unread
+returns-then-is_full-clause-unread g c =
     let inputs = length c.args.inputs.items in
     subst (λ (fault : CollectFault). MayCome inputs fault) (sym (c.refused_by.ensures ∙ ap (λ (count : ℕ). of_refused count book_faults.Full) (c.len-count.ensures ∙ c.args.inputs.ok.0))) (refused_may_come inputs book_faults.Full)

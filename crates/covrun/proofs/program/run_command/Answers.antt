@@ -12,7 +12,7 @@ pub returns-in-Ok-Collect : goal.returns-in-Ok-Collect
 returns-in-Ok-Collect g c =
     inr (
       c.in-Ok-Collect.ensures.taken,
-      told_work (folder_data (g.F.Folder.holds c.args.folder.now) (g.F.Folder.may_refuse c.args.folder.now) g.F.File.Source.left g.F.File.Source.failed_reads) (work_data c.in-Ok-Collect.work) _ c.do_work.ensures.0 _ _ _ _ _ refl
+      told_work (folder_data (g.F.Folder.holds c.args.folder.now) (g.F.Folder.may_refuse c.args.folder.now) (g.F.Folder.may_open c.args.folder.now) g.F.File.Source.left g.F.File.Source.failed_reads) (work_data c.in-Ok-Collect.work) _ c.do_work.ensures.0 _ _ _ _ _ refl
           (ap task_data (sym c.in-Ok-Collect.field-0-is) ∙ c.in-Ok-Collect.ensures.task) c.do_work.ensures.1 c.do_work.ensures.2,
     )
 
@@ -20,7 +20,7 @@ pub returns-in-Ok-Check : goal.returns-in-Ok-Check
 returns-in-Ok-Check g c =
     inr (
       c.in-Ok-Check.ensures.taken,
-      told_check (folder_data (g.F.Folder.holds c.args.folder.now) (g.F.Folder.may_refuse c.args.folder.now) g.F.File.Source.left g.F.File.Source.failed_reads) _ _ _ _ _ _ _ _ _ refl c.get.ensures
+      told_check (folder_data (g.F.Folder.holds c.args.folder.now) (g.F.Folder.may_refuse c.args.folder.now) (g.F.Folder.may_open c.args.folder.now) g.F.File.Source.left g.F.File.Source.failed_reads) _ _ _ _ _ _ _ _ _ refl c.get.ensures
           (ap task_data (sym c.in-Ok-Check.field-0-is) ∙ c.in-Ok-Check.ensures.task) c.check_files.ensures,
     )
 
