@@ -8,7 +8,7 @@ use Rattle.covbook.specs.Op.{OpData, SubmitOp, DropTestOp, RenameOp, ReportOp, E
 use Rattle.covbook.specs.Step.{answer_of, next_entry, ops_in, table_of}
 use Rattle.covbook.specs.Texts.{IsText}
 use Rattle.covjobs.specs.Collect.{InputData, IsCollected}
-use Rattle.covjobs.specs.Late.{IsCollectedSoFar}
+use Rattle.covjobs.specs.Late.{IsCollectedSoFar, MayCome}
 use Rattle.covjobs.specs.Start.{AreJobs}
 use Rattle.covjobs.specs.declared.collect_fault.CollectFault.{CollectFault}
 use Rattle.covjobs.specs.declared.collect_fault.CollectFault.TheVariants as collects
