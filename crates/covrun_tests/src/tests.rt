@@ -20,6 +20,7 @@ mod commands;
 mod faults;
 mod files;
 mod folders;
+mod lcov2;
 mod limits;
 mod printing;
 

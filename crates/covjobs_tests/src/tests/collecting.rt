@@ -115,6 +115,40 @@ fn a_refused_input(rt: HostRuntime) -> Result<(), Fail> {
     one_refused(&rt)
 }
 
+/// What the report has of a tracefile of LCOV 2: the records of version 1 that its lines stand for.
+const LCOV2_ENTRIES: &[u8] = b"\
+0 submit: accepted 1 4 0 
+0 report: TN:t
+SF:/a.c
+FN:1,f
+FNDA:2,f
+FNF:1
+FNH:1
+BRDA:1,0,0,3
+BRF:1
+BRH:1
+DA:1,2
+LF:1
+LH:1
+end_of_record
+
+";
+
+/// A tracefile of LCOV 2 is collected.
+fn one_of_lcov2<R: Threads + Wait + Sync + AllocGlobal + Abort>(rt: &R) -> Result<(), Fail> {
+    let text = b"TN:t\nSF:/a.c\nFNL:0,1,3\nFNA:0,2,f\nBRDA:1,e0,a,3\nDA:1,2\nend_of_record\n";
+    let mut inputs = Vec::new(rt.alloc());
+    inputs.push(Input::Lcov2(Bytes::of(rt.alloc(), text)?))?;
+    let collected = collected_of(rt, inputs.as_slice(), 1, &NoGate);
+    check_entries(rt, collected.entries.get(), LCOV2_ENTRIES);
+    Ok(())
+}
+
+#[test]
+fn a_tracefile_of_lcov2(rt: HostRuntime) -> Result<(), Fail> {
+    one_of_lcov2(&rt)
+}
+
 /// What `jobs` jobs collect of inputs that they may use up, with the report as the last operation.
 fn answered_by_owned<R: Threads + Wait + Sync + AllocGlobal>(
     rt: &R,
