@@ -2,8 +2,8 @@
 
 use super::heap::{check_rising_by, narrow, widen};
 use super::stores::stored;
-use super::texts::{ANNOTATED, CHECKED, SMALL, TRACED};
-use super::wrappers::{printed, read, read_annotated};
+use super::texts::{ANNOTATED, CHECKED, LCOV2, SMALL, TRACED};
+use super::wrappers::{printed, read, read_annotated, read_of_lcov2};
 use super::{check_bytes, made};
 use bumpalo::Bump;
 use covline::Submission;
@@ -53,23 +53,63 @@ fn tracefiles(rt: HostRuntime) {
     );
 }
 
-/// Reads gcov's annotated source, as counts of the test `t`.
-fn reads_annotated(rt: &impl Abort, heap: &Bump, room: usize) -> bool {
+/// A text in another format. What is printed of each is `TRACED`.
+#[derive(Clone, Copy)]
+enum Other {
+    /// gcov's annotated source, as counts of the test `t`.
+    Annotated,
+    /// A tracefile of LCOV 2.
+    Lcov2,
+}
+
+/// What the text is read as.
+fn read_other(heap: &Bump, other: Other) -> Result<Submission<&Bump>, ReadFault> {
+    match other {
+        Other::Annotated => read_annotated(heap, b"t", ANNOTATED),
+        Other::Lcov2 => read_of_lcov2(heap, LCOV2),
+    }
+}
+
+/// How many items the text has. In a tracefile a function has two: its start line and its count.
+fn items_of(other: Other) -> u64 {
+    match other {
+        Other::Annotated => 8,
+        Other::Lcov2 => 9,
+    }
+}
+
+/// Reads the text.
+fn reads_other(rt: &impl Abort, heap: &Bump, room: usize, other: Other) -> bool {
     narrow(rt, heap, room);
-    let first = read_annotated(heap, b"t", ANNOTATED);
+    let first = read_other(heap, other);
     widen(heap);
     let (given, is_refused) = match first {
         Ok(given) => (given, false),
         Err(fault) => {
             assert_eq!(rt; fault, ReadFault::Memory);
-            (made(rt, read_annotated(heap, b"t", ANNOTATED)), true)
+            (made(rt, read_other(heap, other)), true)
         }
     };
-    check_read(rt, heap, &given, 8, TRACED);
+    check_read(rt, heap, &given, items_of(other), TRACED);
     is_refused
 }
 
 #[test]
 fn annotated_source(rt: HostRuntime) {
-    check_rising_by(&rt, 1, 16, |heap, room| reads_annotated(&rt, heap, room));
+    check_rising_by(
+        &rt,
+        1,
+        16,
+        |heap, room| reads_other(&rt, heap, room, Other::Annotated),
+    );
+}
+
+#[test]
+fn tracefiles_of_lcov2(rt: HostRuntime) {
+    check_rising_by(
+        &rt,
+        1,
+        16,
+        |heap, room| reads_other(&rt, heap, room, Other::Lcov2),
+    );
 }

@@ -28,6 +28,22 @@ end_of_record
 /// What is printed of `APART` after `t` was renamed to `u`.
 pub(super) const JOINED: &[u8] = b"TN:u\nSF:/a.c\nDA:1,5\nLF:1\nLH:1\nend_of_record\n";
 
+/// A tracefile of LCOV 2 with the same records as `TRACED`.
+pub(super) const LCOV2: &[u8] = b"\
+TN:t
+SF:tmp.c
+FNL:0,2,5
+FNA:0,1,main
+BRDA:3,e2,0,2
+BRDA:3,2,1,1
+BRDA:4,0,x,-
+DA:2,1
+DA:3,3
+DA:4,0
+DA:5,0
+end_of_record
+";
+
 /// `SMALL` with a checksum of its first line.
 pub(super) const CHECKED: &[u8] = b"TN:t\nSF:/a.c\nDA:1,2,abc\nDA:2,0\nLF:2\nLH:1\nend_of_record\n";
 

@@ -4,6 +4,7 @@
 use super::made;
 use super::texts::{CHECKED, CLASHING, SMALL};
 use covbook::{Answer, Book, BookFault, Op, Receipt, SubRef, TextRef};
+use covlcov2::read_lcov2;
 use covline::{Bytes, Memory, Submission, TraceLine};
 use covread::{ReadFault, read_gcov, read_trace};
 use covreport::{Choice, PatternFault, Patterns, trace_text};
@@ -29,6 +30,13 @@ pub(super) fn read_annotated<A: Allocator + Copy>(
     text: &[u8],
 ) -> Result<Submission<A>, ReadFault> {
     read_gcov(alloc, test, text)
+}
+
+pub(super) fn read_of_lcov2<A: Allocator + Copy>(
+    alloc: A,
+    text: &[u8],
+) -> Result<Submission<A>, ReadFault> {
+    read_lcov2(alloc, text)
 }
 
 pub(super) fn add<A: Allocator + Copy>(
