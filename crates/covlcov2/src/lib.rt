@@ -2,6 +2,15 @@
 //!
 //! Each line is read by itself first. Then it stands for records of version 1, which covread's reader takes: an `FNA:` line for
 //! the start line and the count of its function, a branch with an expression for a branch with a number.
+//!
+//! An example, proved and run in `covuses`: how many items a tracefile of LCOV 2 has.
+//!
+//! ```text
+//! pub fn items_of_lcov2(alloc: Global, text: &[u8]) -> Result<u64, ReadFault> {
+//!     let submission = read_lcov2(alloc, text)?;
+//!     Ok(submission.items())
+//! }
+//! ```
 #![tactic(auto)]
 
 mod indexes;

@@ -1,15 +1,17 @@
-//! Uses of covread and covcheck.
+//! Uses of covread, covlcov2 and covcheck.
 
 ghost use Rattle.std.specs.Prelude.{◌⊎◌, ◌≡◌, IfOk, Ok};
 ghost use Rattle.covread.specs.Outcome as trace;
 ghost use Rattle.covread.specs.GcovOutcome as gcov;
-ghost use Rattle.covline.specs.Row.{SubmissionData};
+ghost use Rattle.covlcov2.specs.Outcome as lcov2;
+ghost use Rattle.covline.specs.Row.{SubmissionData, items_in};
 ghost use Rattle.covcheck.specs.declared.text_summary.TextSummary.{TextSummary as SummaryData};
 ghost use Rattle.covcheck.specs.TextSummary.{Holds};
 ghost use Rattle.covcheck.specs.Skipped.{IsSkippedRecord};
 ghost use Rattle.covcheck.specs.SummaryLine.{summary_text};
 
 use covcheck::{check_trace, summary_line};
+use covlcov2::read_lcov2;
 use covline::Submission;
 use covread::{ReadFault, read_gcov, read_trace};
 use std::alloc::Global;
@@ -24,6 +26,14 @@ pub fn read_either(alloc: Global, test: &[u8], text: &[u8]) -> Result<Submission
         return Ok(submission);
     }
     read_gcov(alloc, test, text)
+}
+
+/// How many items a tracefile of LCOV 2 has.
+pub fn items_of_lcov2(alloc: Global, text: &[u8]) -> Result<u64, ReadFault>
+    ensures { IfOk result (λ items. (read : SubmissionData) × lcov2.IsOutcome text.now (Ok read) × (items ≡ items_in read.sects)) }
+{
+    let submission = read_lcov2(alloc, text)?;
+    Ok(submission.items())
 }
 
 /// The line that says what a tracefile holds.

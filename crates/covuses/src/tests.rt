@@ -4,7 +4,7 @@
 use crate::books::answers;
 use crate::calls::merge_of;
 use crate::counts::add_counts;
-use crate::reading::{check_line, read_either};
+use crate::reading::{check_line, items_of_lcov2, read_either};
 use crate::records::{PrintFault, counted_lines};
 use crate::reports::reports;
 use crate::sessions::answers_to;
@@ -47,6 +47,14 @@ fn lines_with_counts(rt: HostRuntime) -> Result<(), Fail> {
     check_bytes(&rt, printed.get(), b"DA:1,2\nDA:3,0,abc\n");
     let fault = counted_lines(rt.alloc(), b"DA:1\n").err();
     assert_eq!(rt; fault, Some(PrintFault::Line(LineFault::BadLine)));
+    Ok(())
+}
+
+#[test]
+fn a_tracefile_of_lcov2(rt: HostRuntime) -> Result<(), Fail> {
+    let text = b"SF:/a.c\nFNL:0,1,3\nFNA:0,2,f\nBRDA:1,U0,0,3\nDA:1,2\nend_of_record\n";
+    let items = items_of_lcov2(rt.alloc(), text)?;
+    assert_eq!(rt; items, 3);
     Ok(())
 }
 
