@@ -3,3 +3,4 @@ pub mod Passing
 pub mod AllThat
 pub mod Words
 pub mod Answered
+pub mod Keys

@@ -53,10 +53,10 @@ fn is_skipped_record(line: &[u8]) -> bool
 fn is_skipped_lcov2(line: &[u8]) -> bool
     ensures { IsTrue result ↔ IsSkippedLcov2 line.now }
 {
-    if has_common_key(line) {
+    if has_common_key(line) || line.is_empty() || is_of_lcov2_alone(line) {
         return false;
     }
-    !line.is_empty() && says_nothing_in_lcov2(line) && !is_of_lcov2_alone(line)
+    says_nothing_in_lcov2(line)
 }
 
 /// Whether the line begins with one of the two keys that most lines of a tracefile have.
