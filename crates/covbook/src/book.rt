@@ -48,8 +48,8 @@ impl From<Memory> for BookFault {
     }
 }
 
-/// A table of counts with its history. Contracts see the history, which is legal at every moment; the table is the last
-/// one of its run. They also see what `finish` relies on: for how many entries there is room, and the model of the store.
+/// A table of counts with its history. Contracts see the history. It is legal at every moment, and the table is the last one of
+/// its run. Contracts also see what `finish` relies on: for how many entries there is room, and the model of the store.
 ///
 /// `K` is what the book keeps of each entry: all of it, its answer, or nothing. Contracts see whole entries in any case.
 #[derive(Drop)]
@@ -108,7 +108,7 @@ impl<A: Allocator + Copy, K: Keep<Of = Entry<A>>> Book<A, K> {
     ghost use Rattle.covbook.specs.Held.{SameBook};
     ghost use Rattle.covbook.specs.Ready.{DropChange, HasRoom, HoldChange, RenameChange, IsNextOf, IsPlanned, IsAfter, IsReadyOf, IsReadyFor};
 
-    /// A book without entries, which keeps of its entries what `K` is. Takes no memory.
+    /// A book without entries. It keeps of each entry what `K` keeps. Takes no memory.
     pub fn keeping(alloc: A) -> Book<A, K>
         ensures { result.entries ≡ [] }
     {
@@ -154,8 +154,8 @@ impl<A: Allocator + Copy, K: Keep<Of = Entry<A>>> Book<A, K> {
         self.store.totals()
     }
 
-    /// Takes one step of the table: answers the operation, and appends its entry. If it is refused, history and content stay as
-    /// they were. This is `ready` and then `finish`.
+    /// Takes one step of the table: answers the operation, and appends its entry. If the step is refused, history and table stay
+    /// as they were. This is `ready` and then `finish`.
     pub fn step(&mut self, alloc: A, job: u32, op: &Op<A>) -> Result<Receipt<A>, BookFault>
         ensures answer { IfOk result (λ r. answer_data r.answer ≡ answer_of (table_of (ops_in self.old.entries)) (op_data op.now)) }
         ensures place { IfOk result (λ r. r.place ≡ length self.old.entries) }
@@ -186,7 +186,8 @@ impl<A: Allocator + Copy, K: Keep<Of = Entry<A>>> Book<A, K> {
         Ok(self.made_ready(alloc, job, op)?)
     }
 
-    /// Takes the second half of a step: appends its entry, and does what is planned, or drops the test. Takes no memory.
+    /// Takes the second half of a step: appends the step's entry, and makes its change to the store. The book must be as `ready`
+    /// left it. Takes no memory.
     pub fn finish(&mut self, ready: Ready<A>) -> Receipt<A>
         requires { IsReadyOf self.old ready }
         ensures receipt { receipt_data result ≡ receipt_of (length self.old.entries) (next_entry self.old.entries ready.entry.job ready.entry.op) }
@@ -348,7 +349,7 @@ impl<A: Allocator + Copy, K: Keep<Of = Entry<A>>> Book<A, K> {
         self.ready_to_note(alloc, job, op, Answer::Text(text))
     }
 
-    /// The step that appends this entry and does this to the store.
+    /// The step that appends this entry and makes this change to the store.
     fn ready_to_change(
         &self,
         alloc: A,
@@ -442,7 +443,7 @@ impl<A: Allocator + Copy, K: Keep<Of = Entry<A>>> Book<A, K> {
         self.history.append(entry);
     }
 
-    /// The text that an operation asks for, by the table now. No entry is appended.
+    /// The text that the operation asks for, from the table as it is now. Appends no entry.
     pub fn text_of(&self, alloc: A, op: &Op<A>) -> Result<Bytes<A>, Memory>
         requires { IsText (op_data op.now) }
         ensures { IfOk result (λ t. TextAnswer t ≡ answer_of (table_of (ops_in self.now.entries)) (op_data op.now)) }
@@ -460,8 +461,8 @@ impl<A: Allocator + Copy, K: Keep<Of = Entry<A>>> Book<A, K> {
         }
     }
 
-    /// The text that an operation asks for, by the table now, ready to be printed. No entry is appended. All memory that printing
-    /// takes is there, so nothing is printed if memory is refused.
+    /// The text that the operation asks for, from the table as it is now, ready to be printed. Appends no entry. Reserves all
+    /// memory that printing takes, so nothing is printed if memory is refused.
     pub fn printing(&self, alloc: A, op: &Op<A>) -> Result<Printing<'_, A>, Memory>
         requires { IsText (op_data op.now) }
         ensures { IfOk result (λ p. TextAnswer p ≡ answer_of (table_of (ops_in self.now.entries)) (op_data op.now)) }
@@ -502,7 +503,7 @@ ghost use Rattle.covstore.specs.RefuseView.{refuse_data};
 ghost use Rattle.covbook.specs.Refusal.{refusal_answer};
 ghost use Rattle.covbook.specs.View.{answer_data};
 
-/// The answer to a clash. Out of memory is an error, and no answer.
+/// The answer for a clash. If memory was refused, there is no answer: `Memory` is returned as an error.
 fn clash_of<A: Allocator>(refuse: Refuse<A>) -> Result<Answer<A>, Memory>
     ensures { MatchResult result (λ a. refusal_answer (refuse_data refuse) ≡ Some (answer_data a)) (λ _. refusal_answer (refuse_data refuse) ≡ None) }
 {

@@ -92,8 +92,8 @@ fn check_receipts<A: Allocator>(
     Ok(())
 }
 
-/// Checks that the receipt is that of an entry of the job, and that its place is at least this one. Returns the least
-/// place that the next receipt may have.
+/// Checks that the receipt is that of an entry of the job, and that its place is at least `least`. Returns the least place that
+/// the next receipt may have.
 fn check_receipt<A: Allocator>(
     entries: &[Entry<A>],
     job: u32,
@@ -154,8 +154,8 @@ fn is_reading_of<A: Allocator>(reading: &Reading, entries: &[Entry<A>]) -> bool
     }
 }
 
-/// The totals after the first `upto` entries: those of the last of these, and zeros for none. `None` if there are fewer
-/// entries.
+/// The totals after the first `upto` entries: those of the last of these entries, or zeros if `upto` is 0. `None` if there are
+/// fewer than `upto` entries.
 fn totals_after<A: Allocator>(entries: &[Entry<A>], upto: u64) -> Option<Totals>
     ensures { MatchOption result (length entries.now < upto) (λ totals. (upto ≤ length entries.now) × (totals ≡ last_totals (take upto (map entry_data entries.now)))) }
 {

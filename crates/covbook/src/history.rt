@@ -66,7 +66,7 @@ impl<A: Allocator, K: Keep<Of = Entry<A>>> History<A, K> {
         Ok(())
     }
 
-    /// Appends an entry, for which there is room.
+    /// Appends an entry. The history must have room for it.
     pub(crate) fn append(&mut self, entry: Entry<A>)
         requires { length self.old.entries < self.old.room }
         ensures { self.new.entries ≡ self.old.entries ++ entry_data entry ∷ [] }
@@ -87,7 +87,7 @@ impl<A: Allocator + Copy, K: Keep<Of = Entry<A>>> History<A, K> {
     ghost use Rattle.covbook.specs.EntryView.{entry_data, receipt_data};
     ghost use Rattle.covbook.specs.Step.{receipt_of};
 
-    /// The receipt of the entry that comes next.
+    /// The receipt of this entry, as the next one of the history.
     pub(crate) fn receipt(&self, alloc: A, entry: &Entry<A>) -> Result<Receipt<A>, Memory>
         ensures { IfOk result (λ r. receipt_data r ≡ receipt_of (length self.now.entries) (entry_data entry.now)) }
     {

@@ -5,17 +5,17 @@ use crate::op::Answer;
 use std::alloc::{Allocator, Global};
 use std::snapshot::Snapshot;
 
-/// What is kept of an entry of a history, or of a receipt. Contracts see it whole, whatever is kept.
+/// What is kept of an entry of a history, or of a receipt. Contracts see the whole entry or receipt, whatever is kept of it.
 pub trait Keep: Drop {
     /// The entry or the receipt.
     type Of;
 
     ghost use Rattle.std.specs.Prelude.{◌≡◌};
 
-    /// That of which this is kept.
+    /// The whole entry or receipt of which this is kept.
     ghost shows: { Self → Self.Of };
 
-    /// Keeps this, and drops the rest. Takes no memory.
+    /// Keeps what this type keeps of `whole`, and drops the rest. Takes no memory.
     fn keep(whole: Self::Of) -> Self
         ensures { shows result ≡ whole };
 }

@@ -54,7 +54,7 @@ impl<A: Allocator> Op<A> {
     ghost use Rattle.covbook.specs.Op.{SubmitOp, DropTestOp, RenameOp, ExtractOp, RemoveOp};
     ghost use Rattle.covbook.specs.View.{op_data};
 
-    /// Whether the other operation is equal, shared memory or not. Takes no memory.
+    /// Whether the operations are equal. They may share memory or not. Takes no memory.
     pub fn is_same(&self, other: &Op<A>) -> bool
         ensures { IsTrue result ↔ (op_data self.now ≡ op_data other.now) }
     {
@@ -123,7 +123,7 @@ impl<A: Allocator> Op<A> {
     }
 }
 
-/// What an operation was answered.
+/// The answer to an operation.
 #[derive(Drop)]
 pub enum Answer<A: Allocator = Global> {
     /// The submission is accepted, as the book's submission with this number, counted from 1. It has this number of items, and
@@ -197,7 +197,7 @@ impl<A: Allocator> Answer<A> {
     ghost use Rattle.covbook.specs.Op.{AcceptedAnswer, ClashAnswer, DroppedAnswer, RenamedAnswer, TextAnswer};
     ghost use Rattle.covbook.specs.View.{answer_data};
 
-    /// Whether the other answer is equal, shared memory or not. Takes no memory.
+    /// Whether the answers are equal. They may share memory or not. Takes no memory.
     pub fn is_same(&self, other: &Answer<A>) -> bool
         ensures { IsTrue result ↔ (answer_data self.now ≡ answer_data other.now) }
     {

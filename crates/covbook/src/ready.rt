@@ -54,7 +54,7 @@ impl<A: Allocator> Ready<A> {
     ghost use Rattle.covbook.specs.Step.{receipt_of};
     ghost use Rattle.covbook.specs.View.{op_data};
 
-    /// The step that appends this entry with this receipt, and does this to the store.
+    /// The step that appends this entry with this receipt, and makes this change to the store.
     pub(crate) fn new(entry: Entry<A>, receipt: Receipt<A>, change: Change<A>) -> Ready<A>
         requires receipt { receipt_data receipt ≡ receipt_of receipt.place (entry_data entry) }
         requires totals { AreTotals entry.after }

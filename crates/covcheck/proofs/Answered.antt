@@ -1,4 +1,4 @@
--- What a check tells of what its reader returned.
+-- The result of a check fits what its reader returned.
 use Rattle.std.proofs.Common.{◌≡◌, ◌⊎◌, inl, inr, ℕ, List, Result, Ok, Err, refl, sym, ap, subst, ◌∙◌}
 use Rattle.covline.specs.Row.{SubmissionData}
 use Rattle.covread.specs.Outcome.{IsOrMemory}
@@ -7,7 +7,7 @@ use Rattle.covread.specs.declared.fault.ReadFault.TheVariants.{Memory}
 use Rattle.covcheck.specs.TextSummary.{Holds, Tells}
 use Rattle.covcheck.specs.declared.text_summary.TextSummary.{TextSummary}
 
--- if a reading has two faults, they are one, so a result with the first has the second
+-- two faults of one reading are equal, so a result with the first fault has the second fault
 same_fault : {X Y : Type 0} (x y : ReadFault) (read : Result X ReadFault) (told : Result Y ReadFault) → read ≡ Err x → read ≡ Err y → told ≡ Err x → told ≡ Err y
 same_fault x y read told was is tells = let same : x ≡ y = cc in tells ∙ ap (λ (f : ReadFault). Err f) same
 

@@ -16,7 +16,7 @@ IsFirstSoFar None left those = those ≡ left
 IsFirstSoFar (Some first) left those = IsFirstOf those (Some first)
 
 -- the pass has found `count` lines that aren't read. Together with those of the rest, these are all lines that aren't read, and
--- `first` is as above
+-- `first` is as in `IsFirstSoFar`
 abbrev pub Passing : (Line → Type 0) → List Line → List Line → ℕ → Option SkippedLine → Type 0
 Passing holds all rest count first =
     (left : List Line) → AreAllThat holds rest left

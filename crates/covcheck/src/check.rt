@@ -25,7 +25,7 @@ pub fn check_trace<'a, A: Allocator + Copy>(
     alloc: A,
     text: &'a [u8],
 ) -> Result<TextSummary<'a>, ReadFault>
-    // The result fits an answer of the reader. This is what the text is read as, or `Memory`, which comes only after a path.
+    // The result fits an answer of the reader: what the text is read as, or `Memory`. The answer is `Memory` only after a path.
     ensures answers { (read : Result SubmissionData Fault) × Answers text.now read × GrowsLate text.now read × Tells IsSkippedRecord text.now read result }
     // The result fits what the text is read as, or it is `Memory`.
     ensures only { (outcome : Result SubmissionData Fault) → IsOutcome text.now outcome → (result ≡ Err NoMemory) ⊎ Tells IsSkippedRecord text.now outcome result }
@@ -40,7 +40,7 @@ pub fn check_lcov2<'a, A: Allocator + Copy>(
     alloc: A,
     text: &'a [u8],
 ) -> Result<TextSummary<'a>, ReadFault>
-    // The result fits an answer of the reader. This is what the text is read as, or `Memory`, which comes only after a path.
+    // The result fits an answer of the reader: what the text is read as, or `Memory`. The answer is `Memory` only after a path.
     ensures answers { (read : Result SubmissionData Fault) × lcov2.Answers text.now read × lcov2.GrowsLate text.now read × Tells IsSkippedLcov2 text.now read result }
     // The result fits what the text is read as, or it is `Memory`.
     ensures only { (outcome : Result SubmissionData Fault) → lcov2.IsOutcome text.now outcome → (result ≡ Err NoMemory) ⊎ Tells IsSkippedLcov2 text.now outcome result }
@@ -55,7 +55,7 @@ pub fn check_gcov<'a, A: Allocator + Copy>(
     alloc: A,
     text: &'a [u8],
 ) -> Result<TextSummary<'a>, ReadFault>
-    // The result fits an answer of the reader. This is what the text is read as, or `Memory`, which comes only after a path or
+    // The result fits an answer of the reader: what the text is read as, or `Memory`. The answer is `Memory` only after a path or
     // a function.
     ensures answers { (read : Result SubmissionData Fault) × gcov.Answers [] text.now read × gcov.GrowsLate text.now read × Tells IsSkippedGcov text.now read result }
     // The result fits what the text is read as, or it is `Memory`.

@@ -116,7 +116,7 @@ fn says_nothing_in_lcov2(line: &[u8]) -> bool
     }
 }
 
-/// Whether this is `TraceLine::Skip`.
+/// Whether this is `TraceLine::Skip` as a `Lcov2Line::Plain`.
 fn is_plain_skip(says: Lcov2Line<'_>) -> bool
     ensures { IsTrue result ↔ (lcov2_data says.entry ≡ Plain Skip) }
 {
@@ -126,7 +126,7 @@ fn is_plain_skip(says: Lcov2Line<'_>) -> bool
     }
 }
 
-/// Whether LCOV 2 writes the line and it isn't read.
+/// Whether the line is one that LCOV 2 writes and that isn't read.
 fn is_of_lcov2_alone(line: &[u8]) -> bool
     ensures { IsTrue result ↔ IsOfLcov2Alone line.now }
 {

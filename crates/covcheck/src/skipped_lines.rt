@@ -13,9 +13,9 @@ use covline::lines;
 /// The lines of a text that aren't read: their number, and the first one.
 #[derive(Clone, Copy)]
 pub(crate) struct SkippedLines<'a> {
-    /// How many there are.
+    /// How many such lines there are.
     pub(crate) count: u64,
-    /// The first of them.
+    /// The first such line.
     pub(crate) first: Option<SkippedLine<'a>>,
 }
 
@@ -36,7 +36,7 @@ pub(crate) fn skipped_lines_in(text: &[u8], format: Format) -> SkippedLines<'_>
     SkippedLines { count, first }
 }
 
-/// The first line that isn't read: the one found so far, or if there is none, this line with its number.
+/// The first line that isn't read: `first`, or this line with its number if `first` is `None`.
 fn first_with<'a>(
     first: Option<SkippedLine<'a>>,
     line: &'a [u8],

@@ -3,16 +3,16 @@
 /// What a text holds that is read without a fault.
 #[derive(Clone, Copy, Debug)]
 pub struct TextSummary<'a> {
-    /// How many sections it has.
+    /// How many sections the text has.
     pub sections: u64,
-    /// How many items these have.
+    /// How many items the sections have.
     pub items: u64,
     /// How many lines are odd. A line is odd if it counts a function that has no start line, or if it states a total that isn't
     /// the section's own.
     pub odd: u64,
     /// How many lines aren't read. Empty lines don't count.
     pub skipped: u64,
-    /// The first of these, if there is one.
+    /// The first line that isn't read. `None` if there is no such line.
     pub first: Option<SkippedLine<'a>>,
 }
 
@@ -22,7 +22,7 @@ pub struct SkippedLine<'a> {
     /// The beginning of the line: the colons, spaces and tabs at its front, and what follows them up to the next colon, space or
     /// tab. It has 1 to 16 bytes.
     pub start: &'a [u8],
-    /// Its number in the text. Lines are counted from 1, empty ones too.
+    /// The line's number in the text. Lines are counted from 1, empty ones too.
     pub at: u64,
 }
 

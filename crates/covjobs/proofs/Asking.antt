@@ -1,4 +1,5 @@
--- One more call of a job: its log is of the history of the call's news. And news of which none are of a longer history.
+-- One more call of a job: its log is a log of the history of the call's news. Also, which of two histories of one book is the
+-- longer one.
 use Rattle.std.proofs.Common.{◌≡◌, ◌∙◌, inl, inr, ℕ, suc, ◌+◌, ◌<◌, ◌≤◌, List, [], ◌∷◌, ◌++◌, length, ap, sym, refl, subst, arith}
 use Rattle.std.specs.Prelude.{◌⊎◌}
 use Rattle.std.proofs.lemmas.List.{length-append, append-nil}
@@ -52,7 +53,7 @@ no_rest xs (r ∷ rest) few =
     let long : length (xs ++ r ∷ rest) ≡ length xs + suc (length rest) = length-append xs (r ∷ rest) in
     absurd (omega (arith, long, few))
 
--- a beginning that is no shorter is the whole
+-- a beginning of a list that isn't shorter than the list is the whole list
 whole_is : (xs ys : List EntryData) → IsPrefix xs ys → length ys ≤ length xs → ys ≡ xs
 whole_is xs ys p few =
     let none : p.0 ≡ [] = no_rest xs p.0 (subst (λ (h : List EntryData). length h ≤ length xs) (sym p.1) few) in

@@ -15,7 +15,7 @@ use Rattle.covjobs.specs.Work.{Chances, WorkerData, HaveEndedIfStarted, work_of}
 use Rattle.covjobs.proofs.Taken.{brought_more, brought_past}
 use Rattle.covjobs.proofs.Whole.{works_from}
 
--- what the jobs from a number on have of the first `count` places
+-- what each of `some` jobs, from the job `from` on, has of the first `count` places
 abbrev pub dealt_to : {X : Type 0} → (bring : ℕ → List X) → (jobs count from some : ℕ) → List (List X)
 dealt_to bring jobs count from some = map (λ job. brought (places_of_job jobs job) bring count) (range_with_len from some)
 
@@ -23,7 +23,7 @@ pub none_dealt : {X : Type 0} (bring : ℕ → List X) (jobs from some : ℕ) �
 none_dealt bring jobs from zero = refl
 none_dealt {X} bring jobs from (suc some) = ap (λ (shares : List (List X)). [] ∷ shares) (none_dealt bring jobs (from + 1) some)
 
--- a place of an earlier job
+-- a place of a job before `from` changes nothing for the jobs from `from` on
 same_dealt : {X : Type 0} (bring : ℕ → List X) (jobs count from some : ℕ) → count % jobs < from → dealt_to bring jobs count from some ≡ dealt_to bring jobs (count + 1) from some
 same_dealt bring jobs count from zero earlier = refl
 same_dealt {X} bring jobs count from (suc some) earlier =
@@ -86,7 +86,7 @@ next_dealt {X} inputs jobs count input rest shares after some so_far given =
           ∙ one_dealt bring jobs count here (ap (λ (o : Option X). placed_at count o) found) (mod_below count jobs some);
     }
 
--- no input is left
+-- if no input is left, the shares of all jobs are complete
 pub all_dealt : {X : Type 0} (inputs : List X) (jobs count : ℕ) (rest : List X) (shares : List (List (Placed X))) → IsDealing inputs jobs count rest shares → rest ≡ [] → shares ≡ shares_of inputs jobs
 all_dealt {X} inputs jobs count rest shares so_far none =
     let whole : count ≡ length inputs =

@@ -32,8 +32,8 @@ some_outcome Gives (x ∷ inputs) (suc place) outcome is = some_outcome Gives in
 pub read_of : {X : Type 0} (chances : Chances X) (inputs : List X) (jobs job count : ℕ) (receipts : List ReceiptData) (refused : List RefusedInput) → HasTaken chances.Gives inputs jobs job count receipts refused → HasReadBefore chances inputs jobs job count
 read_of chances inputs jobs job count receipts refused taken = λ place less within own. some_outcome chances.Gives inputs place (taken.outcome place) (taken.outcomes place less own)
 
--- a worker has read what is not left of its share: it would be underway with some receipts and refused inputs. These are its own as
--- long as it was refused nothing
+-- a worker has read its share except for `rest`, so it would be underway with these `receipts` and `refused` inputs. As long as
+-- it was refused nothing, these are the worker's own
 pub record IsGoingOn {X : Type 0} (Gives : X → Outcome → Type 0) (inputs : List X) (jobs job : ℕ) (rest : List (Placed X)) (first : Option BookFault) (worker : WorkerData) : Type 0 where
   pub receipts : List ReceiptData
   pub refused : List RefusedInput
@@ -112,7 +112,7 @@ all_gone Gives inputs jobs job rest first worker so_far none well =
     let own = so_far.own well in
     all_taken Gives inputs jobs job rest worker.receipts worker.refused (own_underway Gives inputs jobs job rest so_far.receipts worker.receipts so_far.refused worker.refused own.0 own.1 so_far.underway) none
 
--- a worker that stops while it reads an input has ended so
+-- a worker that stops while it reads an input has ended as `HasEnded` says
 pub stop_of : {X : Type 0} (chances : Chances X) (readers : Readers) (inputs : List X) (jobs job : ℕ) (placed : Placed X) (rest : List (Placed X)) (first : Option BookFault) (worker : WorkerData) (stop : Stop)
     → IsGoingOn chances.Gives inputs jobs job (placed ∷ rest) first worker → IsStopAt placed.index (chances.MayFail placed.input) stop
     → HasEnded chances (record { inputs = inputs; jobs = jobs; job = job; readers = readers }) (Err stop)

@@ -36,7 +36,7 @@ abbrev pub IsLeast : Option ℕ → List End → Type 0
 IsLeast None ended = AllByRecursion IsNoUnread ended
 IsLeast (Some least) ended = AllByRecursion (IsUnreadFrom least) ended × Contains ended (Err (stops.Unread least))
 
--- the first fault, and the least place before which a worker that was refused something has read its inputs
+-- the first fault, and a place before which each worker that was refused something has read its inputs
 abbrev pub IsLeastRefused : Option Refusal → List End → Type 0
 IsLeastRefused None ended = AllByRecursion IsUnrefused ended
 IsLeastRefused (Some refusal) ended =
@@ -104,7 +104,7 @@ all_both P Q R from (end ∷ ended) all both = (from end all.0 both.0, all_both 
 
 -- ---- one more end
 
--- an end that isn't at an input that can't be read
+-- one more end, which isn't at an input that can't be read: the least place stays
 keeps_least : (least : Option ℕ) (front : List End) (end : End) → IsNoUnread end → ((n : ℕ) → IsUnreadFrom n end) → IsLeast least front → IsLeast least (front ++ end ∷ [])
 keeps_least None front end none from is = all_joined IsNoUnread front end is none
 keeps_least (Some least) front end none from is = (all_joined (IsUnreadFrom least) front end is.0 (from least), later_contains front end (Err (stops.Unread least)) is.1)
@@ -117,7 +117,7 @@ first_stays front end fault first =
     joined [] here after end = refl
     joined (e ∷ before) here after end = ap (λ (es : List End). e ∷ es) (joined before here after end)
 
--- an end that is no refusal
+-- one more end, which is no refusal: the first refusal stays
 keeps_refused : (refused : Option Refusal) (front : List End) (end : End) → IsUnrefused end → ((n : ℕ) → HasReadUpto n end) → IsLeastRefused refused front → IsLeastRefused refused (front ++ end ∷ [])
 keeps_refused None front end well upto is = all_joined IsUnrefused front end is well
 keeps_refused (Some refusal) front end well upto is = (

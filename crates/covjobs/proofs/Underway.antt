@@ -24,7 +24,7 @@ one_behind from = omega arith
 none_before : (n : ℕ) → 0 + n ≡ n
 none_before n = omega arith
 
--- the first places, and those after them
+-- what the first places bring, followed by what the places after them bring, is what all of them bring
 brought_both : {X : Type 0} (meant : ℕ → Bool) (bring : ℕ → List X) (from more : ℕ) → brought meant bring (from + more) ≡ brought meant bring from ++ brought_from meant bring from more
 brought_both {X} meant bring from zero = ap (λ (n : ℕ). brought meant bring n) (none_after from) ∙ sym (append_nothing (brought meant bring from))
   where
@@ -41,8 +41,8 @@ brought_both {X} meant bring from (suc more) =
     ∙ ap (λ (n : ℕ). brought meant bring n ++ brought_from meant bring (from + 1) more) (one_behind from)
     ∙ append_assoc (brought meant bring from) here (brought_from meant bring (from + 1) more)
 
--- where a worker is in its share: it has taken what it is to take of the first `count` inputs, and the rest of its share is what
--- it is to take of the others
+-- how far a worker is in its share: it has taken its inputs among the first `count` inputs, and `rest` has its inputs among the
+-- others
 pub record IsUnderway {X : Type 0} (Gives : X → Outcome → Type 0) (inputs : List X) (jobs job : ℕ) (rest : List (Placed X)) (receipts : List ReceiptData) (refused : List RefusedInput) : Type 0 where
   pub count : ℕ
   pub more : ℕ
@@ -134,7 +134,7 @@ pub one_taken : {X : Type 0} (Gives : X → Outcome → Type 0) (inputs : List X
 one_taken Gives inputs jobs job placed rest receipts after refused refuses so_far takes =
     taken_from Gives inputs jobs job so_far.count so_far.more placed rest receipts after refused refuses so_far.all so_far.left so_far.taken takes
 
--- the next input of a share is at a place of the job, and what the job is to take of the inputs before it is taken
+-- the next input of a share is at a place of the job, and the job has taken its inputs before that place
 pub record IsNext {X : Type 0} (Gives : X → Outcome → Type 0) (inputs : List X) (jobs job : ℕ) (placed : Placed X) (receipts : List ReceiptData) (refused : List RefusedInput) : Type 0 where
   pub own : places_of_job jobs job placed.index ≡ true
   pub is : slice_get inputs placed.index ≡ Some placed.input

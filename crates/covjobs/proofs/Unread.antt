@@ -77,7 +77,7 @@ all_started index (end ∷ ended) all = (started index end all.0, all_started in
 true_is : {b : Bool} → b ≡ true → IsTrue b
 true_is e = e
 
--- a worker that ended so has read its inputs before the place
+-- a worker whose end doesn't come before `index` has read its inputs before `index`
 read_by : {X : Type 0} (chances : Chances X) (readers : Readers) (inputs : List X) (jobs job index place : ℕ) (end : End) → HasEnded chances (record { inputs = inputs; jobs = jobs; job = job; readers = readers }) end
     → IsNotBefore index end → place < index → place < length inputs → place % jobs ≡ job → IsSomeAnd (slice_get inputs place) (λ input. HasOutcome (chances.Gives input))
 read_by chances readers inputs jobs job index place (Ok worker) done not_before less within own =
@@ -103,7 +103,7 @@ read_at chances readers inputs jobs from (suc some) (end ∷ ended) index place 
     one_more : (from k : ℕ) → from + suc k ≡ from + 1 + k
     one_more from k = omega arith
 
--- a worker that stopped at an input that can't be read
+-- if a worker stopped at an input that can't be read, the input is one that may fail
 fails_by : {X : Type 0} (chances : Chances X) (works : List (WorkData X)) (inputs : List X) (ended : List End) (index : ℕ) → AllByRecursion (λ (work : WorkData X). work.inputs ≡ inputs) works → HaveEnded chances works ended
     → Contains ended (Err (stops.Unread index)) → IsSomeAnd (slice_get inputs index) chances.MayFail
 fails_by chances [] inputs [] index same done there = absurd (omega (arith, there.1))
@@ -143,7 +143,7 @@ pub refused_may_come : (inputs : ℕ) (fault : BookFault) → MayCome inputs (of
 refused_may_come inputs book.Full = full_may_come inputs max_entries (nat_lt inputs max_entries) refl (MayCome inputs) tt (λ many. many)
 refused_may_come inputs book.Memory = tt
 
--- a fault of the book is none of the number of jobs
+-- a fault of the book is never returned as `BadJobs`
 pub no_bad_jobs_by : (inputs : ℕ) (fault : BookFault) → of_refused inputs fault ≡ collects.BadJobs → ⊥
 no_bad_jobs_by inputs book.Full is = full_may_come inputs max_entries (nat_lt inputs max_entries) refl (λ (f : CollectFault). f ≡ collects.BadJobs → ⊥) (λ same. cc) (λ many same. cc) is
 no_bad_jobs_by inputs book.Memory is = cc
@@ -170,7 +170,7 @@ unread_is MayBe MayFail inputs (into_book.Collect fault) is = tt
 
 -- ---- inputs in memory
 
--- an input in memory is what it is
+-- inputs in memory turn out to be just these inputs
 pub turned_is : {X : Type 0} (says : X → InputData) (inputs : List X) (read : List InputData) → TurnedOut (λ late input. input ≡ says late) inputs read → read ≡ map says inputs
 turned_is says [] [] turned = refl
 turned_is says [] (input ∷ read) turned = absurd turned
@@ -178,7 +178,7 @@ turned_is says (late ∷ inputs) [] turned = absurd turned
 turned_is says (late ∷ inputs) (input ∷ read) turned =
     ap (λ (i : InputData). i ∷ read) turned.0 ∙ ap (λ (is : List InputData). says late ∷ is) (turned_is says inputs read turned.1)
 
--- no input in memory can't be read
+-- there is no input in memory that can't be read
 pub no_unread : {X : Type 0} (inputs : List X) (index : ℕ) → IsSomeAnd (slice_get inputs index) (λ (late : X). ⊥) → ⊥
 no_unread [] index is = is
 no_unread (late ∷ inputs) zero is = is

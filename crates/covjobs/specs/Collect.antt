@@ -17,7 +17,7 @@ use Rattle.covbook.specs.Step.{IsLegal, table_of, answer_of, ops_in as ops_of}
 use Rattle.covbook.specs.Texts.{IsText}
 use Rattle.covjobs.specs.declared.refused.RefusedInput.{RefusedInput}
 
--- an input: a tracefile, one of LCOV 2, or gcov's output and the name of the test whose counts it has
+-- an input: a tracefile, a tracefile of LCOV 2, or gcov's output with the name of the test whose counts it has
 pub data InputData : Type 0 where
   TraceInput : (text : List ℕ) → InputData
   Lcov2Input : (text : List ℕ) → InputData

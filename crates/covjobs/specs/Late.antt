@@ -21,18 +21,19 @@ use Rattle.covjobs.specs.Work.{Chances}
 abbrev pub MayGive : (MayBe : InputData → Type 0) → Result SubmissionData ReadFault → Type 0
 MayGive MayBe outcome = (input : InputData) × MayBe input × IsOutcomeOf input outcome
 
--- what reading an input returns: its outcome; or the input can't be read, as may happen to it; or memory ran out
+-- what reading an input may return: an outcome of the input; or that it can't be read, if this may happen to it; or that memory
+-- ran out
 abbrev pub IsLateOutcome : (MayBe : InputData → Type 0) → (MayFail : Type 0) → Result SubmissionData LateFault → Type 0
 IsLateOutcome MayBe MayFail (Ok submission) = MayGive MayBe (Ok submission)
 IsLateOutcome MayBe MayFail (Err (late.Refused fault)) = MayGive MayBe (Err fault)
 IsLateOutcome MayBe MayFail (Err late.Unreadable) = MayFail
 IsLateOutcome MayBe MayFail (Err late.Memory) = Unit {0}
 
--- the outcomes and failures of inputs that may be these and may fail so
+-- which outcomes each input may have, and whether it may fail, if `MayBe` says what the input may be
 abbrev pub chances_of : {X : Type 0} → (MayBe : X → InputData → Type 0) → (MayFail : X → Type 0) → Chances X
 chances_of MayBe MayFail = record { Gives = λ late. MayGive (MayBe late); MayFail = MayFail }
 
--- each late input is, as far as is known of it, the input at its place, and there is one for each
+-- each late input may turn out to be the input at the same place, and both lists have the same length
 abbrev pub TurnedOut : {X : Type 0} → (MayBe : X → InputData → Type 0) → List X → List InputData → Type 0
 TurnedOut MayBe [] [] = Unit {0}
 TurnedOut MayBe (late ∷ others) (input ∷ inputs) = MayBe late input × TurnedOut MayBe others inputs
@@ -43,8 +44,8 @@ abbrev pub IsFirstUnread : {X : Type 0} → (MayBe : X → InputData → Type 0)
 IsFirstUnread MayBe MayFail inputs index =
     IsSomeAnd (slice_get inputs index) MayFail × ((before : List InputData) × TurnedOut MayBe (take index inputs) before)
 
--- which fault of collecting may come if no history is kept: the history can only be full with as many inputs as it then has entries,
--- and nothing is gathered
+-- which faults of collecting may come if no history is kept. `Full` comes only if there are at least as many inputs as a full
+-- history has entries. `Gather` doesn't come
 abbrev pub MayCome : (inputs : ℕ) → CollectFault → Type 0
 MayCome inputs collects.BadJobs = Unit {0}
 MayCome inputs collects.Full = max_entries ≤ inputs
@@ -52,12 +53,12 @@ MayCome inputs collects.Memory = Unit {0}
 MayCome inputs (collects.Gather fault) = ⊥
 MayCome inputs collects.NotLast = Unit {0}
 
--- why inputs aren't collected in a book: one of them is the first that can't be read, or else a fault of collecting
+-- why inputs aren't collected in a book: this is the first input that can't be read, or this fault of collecting may come
 abbrev pub IsIntoBookFault : {X : Type 0} → (MayBe : X → InputData → Type 0) → (MayFail : X → Type 0) → List X → IntoBookFault → Type 0
 IsIntoBookFault MayBe MayFail inputs (into_book.Unread index) = IsFirstUnread MayBe MayFail inputs index
 IsIntoBookFault MayBe MayFail inputs (into_book.Collect fault) = MayCome (length inputs) fault
 
--- if it is a fault of an input that can't be read, this is the first such input
+-- a fault that names an input that can't be read names the first such input
 abbrev pub IsUnreadFault : {X : Type 0} → (MayBe : X → InputData → Type 0) → (MayFail : X → Type 0) → List X → IntoBookFault → Type 0
 IsUnreadFault MayBe MayFail inputs (into_book.Unread index) = IsFirstUnread MayBe MayFail inputs index
 IsUnreadFault MayBe MayFail inputs (into_book.Collect fault) = Unit {0}

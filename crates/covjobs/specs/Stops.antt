@@ -14,13 +14,13 @@ use Rattle.covjobs.specs.declared.stop.Refusal.{Refusal}
 use Rattle.covjobs.specs.declared.stop.Stop.{Stop}
 use Rattle.covjobs.specs.declared.stop.Stop.TheVariants as stops
 
--- which fault of collecting is returned if the book refused a call. With fewer inputs than a full history has entries, the history
--- can't be full: then the jobs' calls don't fit the history
+-- which fault of collecting is returned if the book refused a call. The history can't be full if there are fewer inputs than it
+-- has entries: the fault for this case is `NotLast`
 abbrev pub of_refused : (inputs : ℕ) → BookFault → CollectFault
 of_refused inputs book.Full = if nat_lt inputs max_entries then collects.NotLast else collects.Full
 of_refused inputs book.Memory = collects.Memory
 
--- which fault is returned for a stop, with so many inputs
+-- which fault is returned for a stop. `inputs` is the number of inputs
 abbrev pub of_stop : (inputs : ℕ) → Stop → IntoBookFault
 of_stop inputs (stops.Unread index) = Unread index
 of_stop inputs (stops.Refused refusal) = Collect (of_refused inputs refusal.fault)
@@ -41,8 +41,8 @@ of_late index first (late.Refused fault) = Ok fault
 of_late index first late.Unreadable = Err (stops.Unread index)
 of_late index first late.Memory = Err (stops.Refused (record { fault = first_of first book.Memory; upto = index }))
 
--- a job that stops while it reads the input at this place has read its inputs before the place. If the input can't be read, this is
--- as may happen to it
+-- a job stopped while it read the input at this place, so it has read its inputs before the place. If it stopped since the input
+-- can't be read, `MayFail` holds
 abbrev pub IsStopAt : ℕ → (MayFail : Type 0) → Stop → Type 0
 IsStopAt index MayFail (stops.Unread other) = (other ≡ index) × MayFail
 IsStopAt index MayFail (stops.Refused refusal) = refusal.upto ≡ index
@@ -57,7 +57,8 @@ abbrev pub both_of : Option Refusal → Refusal → Refusal
 both_of None next = next
 both_of (Some first) next = record { fault = first.fault; upto = min first.upto next.upto }
 
--- the input that can't be read is told if each job that was refused something has read its inputs before it. Else the refusal is
+-- which stop is returned: the one at the input that can't be read, if each job that was refused something has read its inputs
+-- before that input. Else the refusal
 abbrev pub worst_of : (least : Option ℕ) → (refused : Option Refusal) → Option Stop
 worst_of None None = None
 worst_of (Some index) None = Some (stops.Unread index)

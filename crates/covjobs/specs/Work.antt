@@ -16,22 +16,22 @@ use Rattle.covjobs.specs.declared.stop.Stop.TheVariants as stops
 use Rattle.covjobs.specs.Collect.{submitted, refusal, places_of_job, submissions_of, refusals_of, ops_in, HasRead}
 use Rattle.covlock.specs.Seat.{SeatData}
 
--- an input is taken: what becomes of it comes after what was submitted and what was refused before. `Gives` says which outcomes
--- the input may have
+-- an input is taken: its submission is appended to the operations that were asked, or its refusal to the refused inputs. `Gives`
+-- says which outcomes the input may have
 pub record Takes (Gives : Result SubmissionData ReadFault → Type 0) (index : ℕ) (asked asks : List OpData) (refused refuses : List RefusedInput) : Type 0 where
   pub outcome : Result SubmissionData ReadFault
   pub is_outcome : Gives outcome
   pub submits : asks ≡ asked ++ map SubmitOp (submitted outcome)
   pub tells : refuses ≡ refused ++ refusal index outcome
 
--- an operation is asked: its receipt comes after those before, and the job has now seen the place after the receipt's
+-- an operation is asked: its receipt is appended to the job's receipts, and `seen` is the place after the receipt's
 pub record Asks (receipts after : List ReceiptData) (seen : ℕ) (op : OpData) : Type 0 where
   pub receipt : ReceiptData
   pub behind : after ≡ receipts ++ receipt ∷ []
   pub asked : receipt.op ≡ op
   pub place : receipt.place + 1 ≡ seen
 
--- a reading comes after those before, of a history of at least `least` entries; without a reader none does
+-- a job with a reader has one more reading, which counts at least `least` entries. A job without a reader has none more
 abbrev pub ReadsOn : (has_reader : Bool) → (least : ℕ) → (readings after : List Reading) → Type 0
 ReadsOn true least readings after = (reading : Reading) × (after ≡ readings ++ reading ∷ []) × (least ≤ reading.upto)
 ReadsOn false least readings after = after ≡ readings
@@ -107,13 +107,13 @@ HasEnded chances work (Ok worker) = HasDone chances work worker
 HasEnded chances work (Err (stops.Unread index)) = IsUnreadAt chances work.inputs work.jobs work.job index
 HasEnded chances work (Err (stops.Refused refusal)) = HasReadBefore chances work.inputs work.jobs work.job refusal.upto
 
--- each worker has done the work at its place, and there is one for each
+-- each worker has done the work at the same place, and both lists have the same length
 abbrev pub HaveDone : {X : Type 0} → Chances X → List (WorkData X) → List WorkerData → Type 0
 HaveDone chances [] [] = Unit {0}
 HaveDone chances (work ∷ works) (worker ∷ workers) = HasDone chances work worker × HaveDone chances works workers
 HaveDone chances works workers = ⊥
 
--- each worker ended so with the work at its place, and there is one for each
+-- each end is that of a worker with the work at the same place, and both lists have the same length
 abbrev pub HaveEnded : {X : Type 0} → Chances X → List (WorkData X) → List (Result WorkerData Stop) → Type 0
 HaveEnded chances [] [] = Unit {0}
 HaveEnded chances (work ∷ works) (end ∷ ended) = HasEnded chances work end × HaveEnded chances works ended
@@ -125,8 +125,8 @@ IsUnrefused (Ok worker) = Unit {0}
 IsUnrefused (Err (stops.Unread index)) = Unit {0}
 IsUnrefused (Err (stops.Refused refusal)) = ⊥
 
--- a worker was started, or nothing tells otherwise: one that couldn't be started is refused memory before it has read anything. So is
--- one that runs out of memory at the first input, and nothing needs to be known of its end
+-- this isn't the end of a worker that couldn't be started, which is a refusal of memory before anything was read. A worker that
+-- runs out of memory at place 0 has the same end, but nothing needs to be known of it
 abbrev pub IsStarted : Result WorkerData Stop → Type 0
 IsStarted (Ok worker) = Unit {0}
 IsStarted (Err (stops.Unread index)) = Unit {0}
@@ -152,8 +152,8 @@ IsNotBefore index (Err (stops.Refused refusal)) = index < refusal.upto
 abbrev pub IsLeastUnread : List (Result WorkerData Stop) → ℕ → Type 0
 IsLeastUnread ended index = AllByRecursion (IsNotBefore index) ended × Contains ended (Err (stops.Unread index))
 
--- which end of all workers is returned if not all ended well: the first input that can't be read, if it is known, and else the
--- first worker's that was refused something
+-- which end of all workers is returned if not all ended well: the one at the first input that can't be read, if this input is
+-- known. Else that of the first worker that was refused something
 abbrev pub IsWorstEnd : List (Result WorkerData Stop) → Stop → Type 0
 IsWorstEnd ended (stops.Unread index) = IsLeastUnread ended index
 IsWorstEnd ended (stops.Refused refusal) = IsFirstFault ended refusal.fault × ((index : ℕ) → IsLeastUnread ended index → ⊥)

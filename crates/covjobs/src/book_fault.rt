@@ -7,12 +7,13 @@ use covline::Memory;
 use covlock::OpenFault;
 use thiserror::Error;
 
-/// Why inputs aren't collected in a book. All jobs go on to their ends. A job that was refused a call, or memory for a list, submits
-/// nothing more, but reads its other inputs. So it is known in most cases which input is the first that can't be read, and this is
-/// returned first. It isn't known if memory is refused while an earlier input is read, or if a job can't be started.
+/// Why inputs aren't collected in a book. All jobs run to their end. A job that was refused a call, or memory for a list, submits
+/// nothing more but still reads its other inputs. So in most cases the first input that can't be read is known, and then `Unread`
+/// is returned before `Full` and `Memory`. It isn't known if memory is refused while an earlier input is read, or if a job can't
+/// be started.
 #[derive(Clone, Copy, Debug, PartialEq, Eq, Error)]
 pub enum IntoBookFault {
-    /// Faults 1 to 5: those of `collect`. `Full` and `Memory` are those of the least job that was refused something.
+    /// Faults 1 to 5: those of `collect`. `Full` and `Memory` are those of the lowest-numbered job that was refused something.
     #[error("{0}")]
     Collect(CollectFault),
     /// Fault 6: the input at this place, counted from 0, can't be read. All inputs before it were read.
@@ -97,7 +98,7 @@ impl From<GatherFault> for IntoBookFault {
 ghost use Rattle.std.specs.Prelude.{◌≡◌};
 ghost use Rattle.covjobs.specs.Stops.{of_refused, of_stop};
 
-/// The fault that is returned for a stop, with so many inputs.
+/// The fault that is returned for a stop. `inputs` is the number of inputs.
 pub(crate) fn fault_of(inputs: usize, stop: Stop) -> IntoBookFault
     ensures { result ≡ of_stop inputs stop }
 {
@@ -107,8 +108,8 @@ pub(crate) fn fault_of(inputs: usize, stop: Stop) -> IntoBookFault
     }
 }
 
-/// The fault of collecting that is returned for a fault of the book, with so many inputs. Fewer inputs than a full history has
-/// entries can't fill it: `NotLast` stands for this case, which doesn't happen.
+/// The fault of collecting that is returned for a fault of the book. `inputs` is the number of inputs. A full history needs at
+/// least as many inputs as it has entries. `NotLast` stands for a full history with fewer inputs, which never happens.
 pub(crate) fn refused_by(inputs: usize, fault: BookFault) -> CollectFault
     ensures { result ≡ of_refused inputs fault }
 {

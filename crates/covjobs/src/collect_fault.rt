@@ -5,8 +5,8 @@ use covline::Memory;
 use covlock::OpenFault;
 use thiserror::Error;
 
-/// Why inputs aren't collected. A job submits nothing more after its first `Full` or `Memory`, and all jobs go on to their end. Then
-/// the fault of the least of the jobs that met one is returned, or `Memory` if memory ran out for the list of the workers.
+/// Why inputs aren't collected. After its first `Full` or `Memory`, a job submits nothing more. All jobs run to their end. Then
+/// the fault of the lowest-numbered job that has one is returned, or `Memory` if memory ran out for the list of the workers.
 #[derive(Clone, Copy, Debug, PartialEq, Eq, Error)]
 pub enum CollectFault {
     /// Fault 1: there are no jobs, or more than 64. This is tested first.
@@ -21,8 +21,8 @@ pub enum CollectFault {
     /// Fault 4: the history can't be gathered from the jobs' logs: it isn't a merge of them, or a reading is wrong.
     #[error("gather: {0}")]
     Gather(GatherFault),
-    /// Fault 5: there is an entry after that of the last operation. This is tested last. It also stands for `Full` with fewer
-    /// inputs than a full history has entries, which doesn't happen.
+    /// Fault 5: there is an entry after that of the last operation. This is tested last. It is also returned if the history is
+    /// full although there are fewer inputs than it has entries, which never happens.
     #[error("NotLast")]
     NotLast,
 }

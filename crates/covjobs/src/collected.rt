@@ -64,7 +64,7 @@ pub fn collect<R: Threads + Wait + Sync, G: Gate + Sync>(
     }
 }
 
-/// As `collect`, for inputs that nobody needs any more: each text is freed once it is read, before what was read is submitted.
+/// Like `collect`, but consumes the inputs: each text is freed once it is read, before what was read is submitted.
 pub fn collect_owned<R: Threads + Wait + Sync, G: Gate + Sync>(
     rt: &R,
     alloc: Global,
@@ -85,7 +85,7 @@ pub fn collect_owned<R: Threads + Wait + Sync, G: Gate + Sync>(
     }
 }
 
-/// The inputs, lent one by one.
+/// A reference to each input, in order.
 fn lent(alloc: Global, inputs: &[Input]) -> Result<Vec<&Input>, Memory>
     ensures { IfOk result (λ lent. map (λ input. input_data input.now) lent.items ≡ map input_data inputs.now) }
 {
@@ -99,7 +99,7 @@ fn lent(alloc: Global, inputs: &[Input]) -> Result<Vec<&Input>, Memory>
 ghost use Rattle.covjobs.specs.declared.book_fault.IntoBookFault.TheVariants as into_book;
 ghost use Rattle.covjobs.specs.Late.{IsUnreadFault, TurnedOut};
 
-/// As `collect_owned`, for inputs that are read late, in the book that the start is made for.
+/// Like `collect_owned`, for inputs that are read late. The book is the one that `start` is made for.
 fn collect_named<
     R: Threads + Wait + Sync,
     G: Gate + Sync,

@@ -58,8 +58,9 @@ pub(crate) fn all_done<
     }
 }
 
-/// The workers, if all of them ended well. Otherwise the first input that can't be read, if each job has read its inputs before it.
-/// Else the fault of the least job that was refused something. `Memory` if there is no room for the list.
+/// Returns the workers, if all of them ended well. Otherwise returns the first input that can't be read, if each job has read its
+/// own inputs before that input. Else returns the fault of the lowest-numbered job that was refused something. Returns `Memory`
+/// if there is no room for the list of workers.
 fn all_well<L: Name, P: Keep<Of = Receipt>>(
     alloc: Global,
     ended: Vec<Result<Worker<L, Global, P>, Stop>>,
@@ -83,7 +84,7 @@ fn all_well<L: Name, P: Keep<Of = Receipt>>(
     }
 }
 
-/// Has job 0 perform the last operation, and returns the number of entries up to its own.
+/// Lets job 0 perform the last operation. Returns the number of entries up to and including the operation's entry.
 pub(crate) fn ask_last<R: Wait, L: Name>(
     rt: &R,
     alloc: Global,

@@ -21,8 +21,8 @@ impl<A: Allocator + Copy> Input<A> {
     ghost use Rattle.covjobs.specs.Collect.{IsOutcomeOf};
     ghost use Rattle.covjobs.specs.InputView.{input_data};
 
-    /// What the text is read as, to be submitted, or why it isn't read. The fault is also `Memory` if there is no room for the
-    /// submission that several owners can share.
+    /// Reads the text. Returns what it holds, ready to be submitted, or why it is refused. The fault is also `Memory` if there is
+    /// no memory to share the submission.
     #[tactic(auto, using(crate::proofs::Outcomes::late_outcome))]
     pub fn read(&self, alloc: A) -> Result<SubRef<A>, ReadFault>
         ensures { IsOutcomeOf (input_data self.now) result }

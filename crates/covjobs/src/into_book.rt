@@ -1,4 +1,4 @@
-//! Collecting into a book that keeps the answers of its history alone.
+//! Collecting into a book that keeps only the answers of its history.
 
 use crate::book_fault::{IntoBookFault, refused_by};
 use crate::collect_fault::CollectFault;
@@ -45,14 +45,14 @@ ghost use Rattle.covlock.specs.Start.{AreJobs};
 /// Collects inputs as `collect` does, but keeps no history and no logs in memory, and no job reads the totals. Each worker reads
 /// an input when its turn comes, and frees it before it submits what was read.
 ///
-/// What `collect` promises holds of the book's history, with a text as the last operation: there are logs of the jobs so that the
-/// history with this last entry is collected, whichever text job 0 asks for next. There is room for that entry. `Book::text_of`
-/// prints the text.
+/// What `collect` promises holds of the book's history once a text is asked for. Whichever text job 0 asks for next, there are
+/// logs of the jobs that make the history with this last entry a result of `collect`. There is room for that entry.
+/// `Book::text_of` returns the text.
 ///
-/// Faults: those of `collect` but for `Gather`, and `Unread` with the first input that can't be read, which is returned before
-/// `Full` and `Memory` if it is known. `Full` comes only if there are at least 1,048,576 inputs. `NotLast` is returned if a worker
-/// knows of more entries than the closed book has, or is told by the book that it is full though there are fewer inputs. Neither
-/// happens. That memory was really refused before `Memory` is returned is in no contract.
+/// Faults: those of `collect` except `Gather`, and `Unread` with the first input that can't be read. If that input is known,
+/// `Unread` is returned before `Full` and `Memory`. `Full` is returned only if there are at least 1,048,576 inputs. `NotLast` is
+/// returned if a worker knows of more entries than the closed book has, or if the book is full although there are fewer inputs.
+/// Neither happens. No contract says that `Memory` is returned only if memory was refused.
 pub fn collect_into_book<R: Threads + Wait + Sync, G: Gate + Sync, T: LateInput<Global> + Send>(
     rt: &R,
     alloc: Global,
@@ -147,7 +147,7 @@ fn hand_in_news<L: Name>(
     Ok((seats, latest, refused))
 }
 
-/// Whether none of the latest news is of a longer history than these news. So each is of a beginning of it.
+/// Whether each history of the latest news is a beginning of the history of `news`.
 fn are_before<L: Name>(latest: &[Option<News<L>>], news: &News<L>) -> bool
     ensures { IsTrue result ↔ AllByRecursion (λ own. IsPrefix (history_of own) news.now) latest.now }
 {
@@ -159,7 +159,7 @@ fn are_before<L: Name>(latest: &[Option<News<L>>], news: &News<L>) -> bool
     true
 }
 
-/// Whether the latest news aren't of a longer history than these news.
+/// Whether the history of the latest news is a beginning of the history of `news`.
 fn is_before<L: Name>(latest: &Option<News<L>>, news: &News<L>) -> bool
     ensures { IsTrue result ↔ IsPrefix (history_of latest.now) news.now }
 {

@@ -5,8 +5,8 @@ use crate::late_fault::LateFault;
 use covbook::SubRef;
 use std::alloc::Allocator;
 
-/// An input that a worker reads when its turn comes, such as a file. It is used up then: what it holds is freed before anything of
-/// it is submitted, or goes back to its owner.
+/// An input that a worker reads when its turn comes, such as a file. Reading consumes the input: what it holds is freed, or goes
+/// back to its owner, before anything is submitted.
 pub trait LateInput<A: Allocator>: Drop {
     ghost use Rattle.covjobs.specs.Collect.{InputData};
     ghost use Rattle.covjobs.specs.Late.{IsLateOutcome};
@@ -14,15 +14,15 @@ pub trait LateInput<A: Allocator>: Drop {
     // What the input may turn out to be.
     ghost may_be: { Self → InputData → Type 0 };
 
-    // That the input may turn out not to be readable.
+    // Whether the input may turn out to be unreadable.
     ghost may_fail: { Self → Type 0 };
 
-    /// What the input is read as, to be submitted.
+    /// Reads the input. Returns what it holds, ready to be submitted.
     fn read_late(self, alloc: A) -> Result<SubRef<A>, LateFault>
         ensures { IsLateOutcome (may_be self) (may_fail self) result };
 }
 
-/// An input that is already in memory. It is freed.
+/// An input that is already in memory. It is freed once it is read.
 impl<A: Allocator + Copy> LateInput<A> for Input<A> {
     ghost use Rattle.std.specs.Prelude.{◌≡◌};
     ghost use Rattle.covjobs.specs.InputView.{input_data};
@@ -39,7 +39,7 @@ impl<A: Allocator + Copy> LateInput<A> for Input<A> {
     }
 }
 
-/// An input that is lent. It goes back to its owner.
+/// A borrowed input that is already in memory. Its owner keeps it.
 impl<'a, A: Allocator + Copy> LateInput<A> for &'a Input<A> {
     ghost use Rattle.std.specs.Prelude.{◌≡◌};
     ghost use Rattle.covjobs.specs.InputView.{input_data};

@@ -6,7 +6,7 @@ use thiserror::Error;
 /// Why an input gives no submission.
 #[derive(Clone, Copy, Debug, PartialEq, Eq, Error)]
 pub enum LateFault {
-    /// Its text was refused. The fault has the number of the line.
+    /// The input's text was refused. The fault has the number of the line.
     #[error("{0}")]
     Refused(ReadFault),
     /// The input itself can't be read.

@@ -14,7 +14,8 @@ pub(crate) struct Placed<T> {
     pub(crate) input: T,
 }
 
-/// Inputs by the jobs that take them. What they were dealt from is known to contracts alone, and takes no memory.
+/// A share of the inputs for each job. `inputs` is the list that the shares were dealt from. Only contracts see it, and it takes
+/// no memory.
 #[derive(Drop)]
 pub(crate) struct Dealt<T> {
     pub(crate) inputs: Snapshot<Vec<T>>,

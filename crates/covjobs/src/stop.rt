@@ -6,13 +6,13 @@ use covline::Memory;
 /// Why a worker hands in nothing.
 #[derive(Clone, Copy)]
 pub(crate) enum Stop {
-    /// The input at this place can't be read. The job has read its inputs before it.
+    /// The input at this place can't be read. The job has read all its inputs before this place.
     Unread(usize),
     /// The book refused a call, or memory was refused.
     Refused(Refusal),
 }
 
-/// The first fault of a job's book or memory, and how far the job has read its inputs nevertheless.
+/// The first fault that the book or memory gave a job, and how far the job still read its inputs.
 #[derive(Clone, Copy)]
 pub(crate) struct Refusal {
     pub(crate) fault: BookFault,
@@ -38,7 +38,7 @@ impl From<Memory> for Stop {
 ghost use Rattle.std.specs.Prelude.{◌≡◌};
 ghost use Rattle.covjobs.specs.Stops.{both_of, lesser_of, worst_of};
 
-/// The lesser of the two places.
+/// The lesser of the two places, or `index` if there is no other.
 pub(crate) fn lesser(least: Option<usize>, index: usize) -> usize
     ensures { result ≡ lesser_of least index }
 {
@@ -48,7 +48,7 @@ pub(crate) fn lesser(least: Option<usize>, index: usize) -> usize
     }
 }
 
-/// The first fault of the two, with the lesser place.
+/// The first of the two faults, with the lesser of the two places.
 pub(crate) fn both(first: Option<Refusal>, next: Refusal) -> Refusal
     ensures { result ≡ both_of first next }
 {
@@ -61,7 +61,8 @@ pub(crate) fn both(first: Option<Refusal>, next: Refusal) -> Refusal
     }
 }
 
-/// The input that can't be read, if all inputs before it were read. Else the refusal.
+/// The stop at the input that can't be read, if all inputs before that input were read. Else the stop of the refusal. `None` if
+/// there is neither.
 pub(crate) fn worst(least: Option<usize>, refused: Option<Refusal>) -> Option<Stop>
     ensures { result ≡ worst_of least refused }
 {

@@ -72,8 +72,8 @@ impl<L: Name, A: Allocator + Copy, P: Keep<Of = Receipt<A>>> Worker<L, A, P> {
         }
     }
 
-    /// Reads the input. If no call was refused before (`first` is its fault), submits what was read, or notes that the text is
-    /// refused. Returns the first fault of a refused call or list, if there is one. The input is used up before anything is
+    /// Reads the input. `first` is the first fault of a refused call or list so far. If it is `None`, submits what was read, or
+    /// notes that the text is refused. Returns the first fault after this input. The input is consumed before anything is
     /// submitted.
     fn go_on<R: Wait, G: Gate, T: LateInput<A>, K: Keep<Of = Entry<A>>>(
         &mut self,
@@ -134,7 +134,7 @@ impl<L: Name, A: Allocator + Copy, P: Keep<Of = Receipt<A>>> Worker<L, A, P> {
         Ok(())
     }
 
-    /// Submits, between the two calls of the gate, and keeps the receipt and then a reading, if the job has a reader.
+    /// Submits, between the two calls of the gate, and keeps the receipt. Then keeps a reading, if the job has a reader.
     fn submit<R: Wait, G: Gate, K: Keep<Of = Entry<A>>>(
         &mut self,
         rt: &R,
@@ -157,8 +157,8 @@ impl<L: Name, A: Allocator + Copy, P: Keep<Of = Receipt<A>>> Worker<L, A, P> {
         Ok(())
     }
 
-    /// Performs the operation, and keeps the receipt; the job has then seen the place after the receipt's. Returns news
-    /// of the history up to that place. Makes room for the receipt first, so each call that succeeds is kept.
+    /// Performs the operation, and keeps the receipt. The job has then seen the history up to and including the receipt's entry.
+    /// Returns news of this history. Makes room for the receipt first, so the receipt of each call that succeeds is kept.
     pub(crate) fn ask<R: Wait, K: Keep<Of = Entry<A>>>(
         &mut self,
         rt: &R,
@@ -180,7 +180,7 @@ impl<L: Name, A: Allocator + Copy, P: Keep<Of = Receipt<A>>> Worker<L, A, P> {
         Ok(news)
     }
 
-    /// Keeps one reading that is at least as late as the news, if the job has a reader.
+    /// If the job has a reader, keeps one reading. The reading counts at least as many entries as the news.
     fn read(&mut self, news: &News<L>) -> Result<(), Memory>
         ensures read { IfOk result (λ _. ReadsOn self.old.has_reader (length news.now) self.old.readings self.new.readings) }
         ensures reader { self.new.has_reader ≡ self.old.has_reader }
@@ -200,7 +200,7 @@ ghost use Rattle.std.specs.Prelude.{◌≡◌, ◌<◌, IfOk, length};
 ghost use Rattle.covbook.specs.Kept.{IsPrefix};
 ghost use Rattle.covjobs.specs.Latest.{history_of};
 
-/// The news, which are of a longer history than the latest news before: that history goes on to the one of the news.
+/// Returns the news. Their history is longer than that of `latest`, and begins with it.
 fn later<L: Name>(latest: &Option<News<L>>, news: &News<L>) -> News<L>
     requires { length (history_of latest.now) < length news.now }
     ensures same { result ≡ news.now }
@@ -279,9 +279,9 @@ ghost use Rattle.covjobs.specs.Shares.{share_of};
 ghost use Rattle.covjobs.specs.Work.{HasEnded, MayHaveReader, work_of};
 ghost use Rattle.covlock.specs.Seat.{fresh_seat};
 
-/// Does the work of one of `jobs` jobs: takes its share of the inputs, in order. After the first refused call or list it only reads
-/// the inputs that are left. Ends at an input that can't be read, and where memory is refused while an input is read. If there is
-/// no place for one more reader, the job has no readings.
+/// Does the work of one of `jobs` jobs: takes the job's share of the inputs, in order. After the first call or list that is
+/// refused, only reads the inputs that are left. Ends at an input that can't be read, or for which memory is refused while it is
+/// read. If there is no place for one more reader, the job has no readings.
 pub(crate) fn work<
     R: Wait,
     G: Gate,
@@ -364,7 +364,7 @@ fn reader_of<R: Wait, L: Name, A: Allocator, K: Keep<Of = Entry<A>>>(
 {
     match readers {
         Readers::None => None,
-        // No place is the only fault: a reader takes no memory.
+        // The only fault is that no place is left: a reader takes no memory.
         Readers::ForEachJob => book.reader(rt).ok(),
     }
 }

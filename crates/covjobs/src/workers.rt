@@ -24,7 +24,7 @@ use std::sync::Wait;
 use std::thread;
 use std::thread::{Promise, PromisedHandle, Threads};
 
-/// How a worker ends.
+/// What a worker's thread promises about the worker's end.
 #[derive(Drop)]
 struct WorkPromise<T: LateInput<Global>> {
     job: u32,
@@ -47,8 +47,8 @@ impl<L: Name, T: LateInput<Global>, P: Keep<Of = Receipt>> Promise<
     ghost kept_by = { λ p r. HasEnded (chances_of T.may_be T.may_fail) p r };
 }
 
-/// Starts a worker for each seat, with its share of the inputs, waits until all have ended, and returns how each ended, in the
-/// order of the seats. If a worker can't be started, memory ran out for it, and no further one is started.
+/// Starts a worker for each seat, with its share of the inputs. Waits until all workers have ended, and returns how each ended,
+/// in the order of the seats. A worker that can't be started counts as refused memory, and no further worker is started.
 pub(crate) fn work_at_once<
     R: Threads + Wait + Sync,
     G: Gate + Sync,
@@ -114,7 +114,8 @@ pub(crate) fn work_at_once<
     )
 }
 
-/// Waits until all workers have ended, and returns how each did. If not all were started, memory ran out for the next one.
+/// Waits until all workers have ended, and returns how each ended. If not all workers were started, the list also has a refusal
+/// of memory.
 fn end_all<R: Threads, L: Name, T: LateInput<Global>, P: Keep<Of = Receipt>>(
     rt: &R,
     alloc: Global,
@@ -131,7 +132,7 @@ fn end_all<R: Threads, L: Name, T: LateInput<Global>, P: Keep<Of = Receipt>>(
     Ok(ended)
 }
 
-/// Waits until all workers have ended, and returns how each did.
+/// Waits until all workers have ended, and returns how each ended.
 fn join_all<R: Threads, L: Name, T: LateInput<Global>, P: Keep<Of = Receipt>>(
     rt: &R,
     alloc: Global,

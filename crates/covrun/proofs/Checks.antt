@@ -37,7 +37,7 @@ abbrev fault_of : Result SubmissionData ReadFault → ReadFault
 fault_of (Ok submission) = reads.Memory
 fault_of (Err fault) = fault
 
--- if memory ran out for the reader, it ran out for the check
+-- if the reader ran out of memory, so did the check
 memory_told : (is_skipped : List ℕ → Type 0) (text : List ℕ) (read : Result SubmissionData ReadFault) (answer : Result TextSummary ReadFault)
     → read ≡ Err reads.Memory → Tells is_skipped text read answer → answer ≡ Err reads.Memory
 memory_told is_skipped text (Ok submission) answer is tells = absurd cc
@@ -77,7 +77,7 @@ each_next told files rest outcomes file outcome same =
 abbrev becomes : FolderData → TextFormat → List ℕ × OutcomeData → Type 0
 becomes folder format f = IsOutcome folder format f.0 f.1
 
--- if the file may have this text, to report the file with this text is to report the file
+-- if the file may have this text, a report on the file with this text is a report on the file
 pub told_text : (folder : FolderData) (format : TextFormat) (file text : List ℕ) → length text ≤ suc max_bytes → IsTextOf (folder.holds file) text
     → (answer : Result CheckVerdict SessionFault) (b d : SinksData) → TellsText format file text answer b d → TellsOne folder format file answer b d
 told_text folder format file text short fits answer b d (inl ran_out) = inl ran_out

@@ -28,7 +28,7 @@ use Rattle.covrun.specs.Work.{WorkData, TaskData, Serves, Collects, Checks, task
 use Rattle.covcommand.specs.declared.asked.TextFormat.{TextFormat}
 use Rattle.covrun.proofs.Reading.{ReadTexts, texts_held}
 
--- the texts were collected, and the call ends with the ending for what was collected, or for want of memory
+-- the texts were collected, and the call ends as `of_collected` says, or because memory ran out
 pub ends_collected : (folder : FolderData) (work : WorkData) (files : List (List ℕ)) → files ≡ work.files → (inputs : List InputData) (entries : List EntryData) (refused : List RefusedInput) (ending : EndingData)
     → ReadTexts folder work.format files inputs → IsText work.last → IsCollectedSoFar inputs work.jobs entries refused
     → (ending ≡ Stopped faults.Memory) ⊎ (ending ≡ of_collected files (entries ++ next_entry entries 0 work.last ∷ []) refused) → WorkEnds folder work ending
@@ -104,7 +104,7 @@ ends_with_text files entries refused last lines text asks ran are none is =
 
 -- ---- what the subcommands ask
 
--- if the task is to collect files, a text is asked after them
+-- if the task is to collect files, its last operation asks for a text
 abbrev AsksText : TaskData → Type 0
 AsksText Serves = Unit {0}
 AsksText (Collects work) = IsText work.last
@@ -119,7 +119,7 @@ asks_text_of (commands.Remove version names) = tt
 asks_text_of (commands.Gcov test names) = tt
 asks_text_of (commands.Check format names) = tt
 
--- each subcommand that collects files asks a text after them
+-- the last operation of each subcommand that collects files asks for a text
 pub asks_text : (command : Command) (work : WorkData) → Collects work ≡ task_of command → IsText work.last
 asks_text command work is = subst AsksText (sym is) (asks_text_of command)
 

@@ -5,7 +5,7 @@ use Rattle.std.specs.Io.KnownBytes.{Appends}
 use Rattle.covsession.specs.Fault.{HasBegun}
 use Rattle.covrun.specs.Printed.{SinkData, HasPrinted, WritesOn}
 
--- a beginning of a text is one of a longer text
+-- a beginning of a text is also a beginning of the text with more appended
 pub begun_longer : (a b : Option (List ℕ)) (text more : List ℕ) → HasBegun a b text → HasBegun a b (text ++ more)
 begun_longer a b text more (part, took, (rest, is)) = (part, took, (rest ++ more, ap (λ (u : List ℕ). u ++ more) is ∙ append_assoc part rest more))
 
@@ -18,7 +18,7 @@ begun_further a b c text more took (part, begun, (rest, is)) =
 pub printed_no_more : (text more : List ℕ) (start now : SinkData) → HasPrinted false text start now → HasPrinted false (text ++ more) start now
 printed_no_more text more start now (begun, failed) = (begun_longer start.written now.written text more begun, failed)
 
--- a write of more failed
+-- a write of more bytes failed
 pub printed_part : (text more : List ℕ) (start now next : SinkData) → HasPrinted true text start now
     → HasBegun now.written next.written more → next.failed ≡ suc now.failed → HasPrinted false (text ++ more) start next
 printed_part text more start now next (took, same) wrote failed =
@@ -35,7 +35,8 @@ pub writes_part : (had_failed : Bool) (bytes : List ℕ) (now next : SinkData) �
 writes_part true bytes now next is wrote failed text start printed = absurd cc
 writes_part false bytes now next is wrote failed text start printed = printed_part text bytes start now next printed wrote failed
 
--- what was put to a printer that is empty at the beginning was printed: the whole text; or a write failed, and it is a beginning of it
+-- a text was put to a printer that was empty. Either the whole text was printed, or a write failed and a beginning of the text
+-- was printed
 pub printed_out : (has_failed open_then open_at : Bool) (front put printed text : List ℕ) (start now : SinkData) → front ≡ []
     → ((rest : List ℕ) × (put ++ rest ≡ front ++ text)) → (open_at ≡ true → put ≡ front ++ text) → printed ≡ put
     → (open_then ≡ true → open_at ≡ true) → open_then ≡ not has_failed → HasPrinted (not has_failed) printed start now → HasPrinted (not has_failed) text start now

@@ -32,7 +32,7 @@ AreFiles folder format name MayBe MayFail lates = AllByRecursion (λ one. IsFile
 abbrev pub ReadTexts : FolderData → FileFormat → (files : List (List ℕ)) → List InputData → Type 0
 ReadTexts folder format files inputs = (texts : List (List ℕ)) × AreTexts folder files texts × (inputs ≡ map (input_of format) texts)
 
--- what the text of a file is read as is what the file may be read as
+-- an outcome of a text that the file may have is an outcome of the file
 pub file_outcome : (held : Option (List ℕ)) (format : FileFormat) (text : List ℕ) (may_fail : Type 0) (answer : Result SubmissionData LateFault)
     → length text ≤ suc max_bytes → IsTextOf held text → IsLateOutcome (λ input. input ≡ input_of format text) ⊥ answer
     → IsLateOutcome (MayBeRead held format) may_fail answer
@@ -47,7 +47,7 @@ text_in_front : (folder : FolderData) (format : FileFormat) (file : List ℕ) (f
 text_in_front folder format file files input inputs (text, short, fits, is) (texts, (long, all, of), from) =
     (text ∷ texts, (ap suc long, (short, all), (fits, of)), λ k. is k ∷ from k)
 
--- late inputs that are files turned out to be texts of these files
+-- if late inputs are files, they turned out to be texts of these files
 texts_of : {X : Type 0} (folder : FolderData) (format : FileFormat) (name : X → List ℕ) (MayBe : X → InputData → Type 0) (MayFail : X → Type 0)
     → (lates : List X) (inputs : List InputData) → AreFiles folder format name MayBe MayFail lates → TurnedOut MayBe lates inputs
     → ReadTexts folder format (map name lates) inputs
@@ -58,13 +58,13 @@ texts_of folder format name MayBe MayFail (one ∷ lates) (input ∷ inputs) are
     text_in_front folder format (name one) (map name lates) input inputs (are.0.reads input turned.0)
     (texts_of folder format name MayBe MayFail lates inputs are.1 turned.1)
 
--- if a file can't be read after some files, it can't after one more file that was read before
+-- the first file that can't be read stays the first if a file that was read is put in front
 unreadable_behind : (folder : FolderData) (format : FileFormat) (file : List ℕ) (files : List (List ℕ)) (found : List ℕ) (input : InputData)
     → MayBeRead (folder.holds file) format input → IsUnreadable folder files found → IsUnreadable folder (file ∷ files) found
 unreadable_behind folder format file files found input (text, short, fits, is) (before, after, texts, cut, (long, all, of), fails) =
     (file ∷ before, after, text ∷ texts, ap (λ (fs : List (List ℕ)). file ∷ fs) cut, (ap suc long, (short, all), (fits, of)), fails)
 
--- the first late input that can't be read is the first such file
+-- the first late input that can't be read is the first file that can't be read
 unreadable_first : {X : Type 0} (folder : FolderData) (format : FileFormat) (name : X → List ℕ) (MayBe : X → InputData → Type 0) (MayFail : X → Type 0)
     → (lates : List X) (index : ℕ) → AreFiles folder format name MayBe MayFail lates → IsFirstUnread MayBe MayFail lates index
     → IsUnreadable folder (map name lates) (name_at (slice_get (map name lates) index))
@@ -78,7 +78,7 @@ unreadable_first folder format name MayBe MayFail (one ∷ lates) (suc index) ar
 
 -- ---- inputs that are files of one folder
 
--- inputs that are of this folder and this format are its files
+-- late inputs of this folder and this format are files of the folder
 are_files : {X Folder : Type 0} (lates : List X) (at : Folder) (format : FileFormat) (of : Folder → FolderData) (own : X → Folder) (name : X → List ℕ) (format_of : X → FileFormat)
     → AllByRecursion (λ one. (own one ≡ at) × (format_of one ≡ format)) lates
     → AreFiles (of at) format name (λ one input. MayBeRead ((of (own one)).holds (name one)) (format_of one) input) (λ one. (of (own one)).MayFail (name one)) lates
@@ -92,7 +92,7 @@ are_files {X} {Folder} (one ∷ lates) at format of own name format_of all = (
   are_files lates at format of own name format_of all.1,
 )
 
--- what they turned out to be is what texts of the files are read as
+-- what these late inputs turned out to be is what texts of the files are read as
 pub texts_read : {X Folder : Type 0} (lates : List X) (at : Folder) (format : FileFormat) (of : Folder → FolderData) (own : X → Folder) (name : X → List ℕ) (format_of : X → FileFormat)
     → (files : List (List ℕ)) (inputs : List InputData) → map name lates ≡ files → AllByRecursion (λ one. (own one ≡ at) × (format_of one ≡ format)) lates
     → TurnedOut (λ one input. MayBeRead ((of (own one)).holds (name one)) (format_of one) input) lates inputs → ReadTexts (of at) format files inputs
@@ -101,7 +101,7 @@ texts_read lates at format of own name format_of files inputs named all turned =
     (texts_of (of at) format name (λ one input. MayBeRead ((of (own one)).holds (name one)) (format_of one) input) (λ one. (of (own one)).MayFail (name one))
     lates inputs (are_files lates at format of own name format_of all) turned)
 
--- the first of them that can't be read is the first file that can't be read
+-- the first of these late inputs that can't be read is the first file that can't be read
 pub unreadable_read : {X Folder : Type 0} (lates : List X) (at : Folder) (format : FileFormat) (of : Folder → FolderData) (own : X → Folder) (name : X → List ℕ) (format_of : X → FileFormat)
     → (files : List (List ℕ)) (index : ℕ) (fault : IntoBookFault) → map name lates ≡ files → AllByRecursion (λ one. (own one ≡ at) × (format_of one ≡ format)) lates
     → fault ≡ into_book.Unread index
@@ -114,7 +114,7 @@ unreadable_read {X} lates at format of own name format_of files index fault name
     (unreadable_first (of at) format name MayBe MayFail lates index (are_files lates at format of own name format_of all)
     (subst (λ (f : IntoBookFault). IsIntoBookFault MayBe MayFail lates f) is unread))
 
--- a fault of collecting them may come with so many files
+-- a fault of collecting these late inputs may come with this number of files
 pub may_come : {X : Type 0} (lates : List X) (name : X → List ℕ) (MayBe : X → InputData → Type 0) (MayFail : X → Type 0)
     → (files : List (List ℕ)) (fault : IntoBookFault) (told : CollectFault) → map name lates ≡ files
     → fault ≡ into_book.Collect told → IsIntoBookFault MayBe MayFail lates fault → MayCome (length files) told
@@ -124,7 +124,7 @@ may_come lates name MayBe MayFail files fault told named is may =
 
 -- ---- texts of files that aren't read
 
--- a text that a file with these bytes has, at most this long
+-- a text of at most `most` bytes that a file may have. `held` has the file's bytes, if they are known
 text_held : (most : ℕ) (held : Option (List ℕ)) → (text : List ℕ) × (length text ≤ most) × IsTextAtMost most held text
 text_held most None = ([], omega arith, tt)
 text_held most (Some bytes) = (take most bytes, omega (arith, length-take most bytes), refl)

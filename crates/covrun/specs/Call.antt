@@ -29,8 +29,8 @@ use Rattle.covrun.specs.Check.{IsCheck}
 use Rattle.covrun.specs.Folder.{FolderData, AreTextsOf}
 use Rattle.covrun.specs.Streams.{SourceData, SinksData, Complains, Withholds, Delivers}
 
--- there is one text for each file. A text has at most one byte more than the limit. If the folder knows a file's bytes, its text
--- is those bytes, up to that length
+-- there is one text for each file. A text has at most one byte more than the limit. If the folder knows a file's bytes, the
+-- file's text is those bytes, up to that length
 abbrev pub AreTexts : FolderData → List (List ℕ) → List (List ℕ) → Type 0
 AreTexts folder files texts =
     (length texts ≡ length files) × AllByRecursion (λ text. length text ≤ suc max_bytes) texts × AreTextsOf folder files texts
@@ -47,8 +47,8 @@ pub record CollectedData : Type 0 where
   pub logs : List LogData
   pub refused : List RefusedInput
 
--- the result of collecting the texts. `BadJobs` is returned only if the number of jobs is out of range, and `Full` only if there are
--- as many files as a full history has entries. `Gather` never is
+-- the result of collecting the texts. `BadJobs` is returned only if the number of jobs is out of range, and `Full` only if there
+-- are at least as many files as a full history has entries. `Gather` is never returned
 abbrev pub IsAnswer : WorkData → List (List ℕ) → Result CollectedData CollectFault → Type 0
 IsAnswer work texts (Ok c) = IsCollected (map (input_of work.format) texts) work.jobs work.last c.entries c.logs c.refused
 IsAnswer work texts (Err fault) = (fault ≡ collects.BadJobs → AreJobs work.jobs → ⊥) × MayCome (length work.files) fault

@@ -37,8 +37,8 @@ IsTextOutcome (Tracefile versions.Two) text answer =
 IsTextOutcome Gcov text answer =
     (read : Result SubmissionData ReadFault) × gcov.IsOutcome [] text read × Tells IsSkippedGcov text read answer
 
--- this is the result of checking the file's text. If the folder knows the file's bytes (`held`), the text is those bytes; of a file
--- longer than the limit it is the first ones, one more than the limit
+-- this is the result of checking the file's text. If the folder knows the file's bytes (`held`), the text is those bytes. If they
+-- are more than the limit, the text has only the first ones, one more than the limit
 abbrev pub IsAnswered : Option (List ℕ) → TextFormat → Result TextSummary ReadFault → Type 0
 IsAnswered held format answer = (text : List ℕ) × (length text ≤ suc max_bytes) × IsTextOf held text × IsTextOutcome format text answer
 
@@ -117,8 +117,8 @@ pub record IsCheckWithoutRoom (files : List (List ℕ)) (outcomes : List Outcome
   pub written : new.failed_output ≡ old.failed_output
   pub complaints : Complains (check_complaints files outcomes ++ said (words_of_fault faults.Memory)) old new
 
--- the output ends within the line of the last checked file: it has the whole lines of the files before it, and a beginning of its
--- line
+-- the output ends within the line of the last checked file: it has the whole lines of the files before that file, and a beginning
+-- of that file's line
 pub record EndsWithin (files : List (List ℕ)) (outcomes : List OutcomeData) (old new : SinksData) : Type 0 where
   pub earlier : List (List ℕ)
   pub file : List ℕ

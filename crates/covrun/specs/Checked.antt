@@ -15,7 +15,7 @@ use Rattle.covrun.specs.Streams.{SinksData, Complains}
 use Rattle.covrun.specs.declared.check_verdict.CheckVerdict.{CheckVerdict}
 use Rattle.covrun.specs.declared.check_verdict.CheckVerdict.TheVariants as verdicts
 
--- a text is checked with this result, or memory ran out
+-- what checking a text may return: its outcome, or `Memory`
 abbrev pub AnswersText : TextFormat → List ℕ → Result TextSummary ReadFault → Type 0
 AnswersText format text answer = (answer ≡ Err reads.Memory) ⊎ IsTextOutcome format text answer
 
@@ -53,7 +53,7 @@ worse verdicts.Empty verdicts.Empty = verdicts.Empty
 worse verdicts.Empty verdicts.Fine = verdicts.Empty
 worse verdicts.Fine other = other
 
--- these words went to the stream for faults, unless a write failed. At most this number of writes failed
+-- these words went to the stream for faults, unless a write to it failed. At most `most` writes to it failed
 abbrev pub Says : (most : ℕ) → List ℕ → SinksData → SinksData → Type 0
 Says most words old new =
     Complains words old new × (old.failed_faults ≤ new.failed_faults) × (new.failed_faults ≤ old.failed_faults + most)
@@ -103,7 +103,7 @@ TellsAll format files outcomes (Err faults.Memory) old new =
 TellsAll format files outcomes (Err faults.Read) old new = ⊥
 TellsAll format files outcomes (Err faults.Full) old new = ⊥
 
--- how files are reported: their outcomes are possible for them, and these outcomes are reported
+-- how files are reported: there are outcomes that are possible for the files, and these outcomes are reported
 abbrev pub TellsEach : FolderData → TextFormat → (files : List (List ℕ)) → Result CheckVerdict SessionFault → SinksData → SinksData → Type 0
 TellsEach folder format files answer old new =
     (outcomes : List OutcomeData) × AreOutcomes folder format files outcomes × TellsAll format files outcomes answer old new

@@ -94,7 +94,7 @@ text_at None = []
 abbrev pub last_text : List EntryData → List ℕ
 last_text entries = text_at (slice_get entries (length entries - 1))
 
--- the text is printed if there are no such lines; otherwise the lines are the complaint
+-- if there are no lines, the text is printed. Otherwise the lines are the complaint
 abbrev pub unless_any : (lines : List ℕ) → (text : List ℕ) → EndingData
 unless_any [] text = Prints text
 unless_any (b ∷ bs) text = Refuses (b ∷ bs)

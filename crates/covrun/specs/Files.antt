@@ -15,11 +15,12 @@ use Rattle.covrun.specs.declared.files.FileFault.TheVariants.{Unreadable, Memory
 abbrev pub HasReadAtMost : ℕ → Option (List ℕ) → Option (List ℕ) → List ℕ → Type 0
 HasReadAtMost most left left_after text = Consumes left left_after text × (IsAtEnd left_after ⊎ (length text ≡ most))
 
--- all bytes that were left were read; if they are more than a text may have, one byte more than that limit
+-- all bytes that were left were read, or exactly one byte more than a text may have
 abbrev pub HasRead : Option (List ℕ) → Option (List ℕ) → List ℕ → Type 0
 HasRead left left_after text = HasReadAtMost (suc max_bytes) left left_after text
 
--- one read of at most `room` bytes, which are appended to the text. A read of no bytes is at the end, unless `room` is 0
+-- one read of at most `room` bytes, which are appended to the text. If the read gave no bytes, the source is at its end, unless
+-- `room` is 0
 abbrev pub HasReadBlock : (left left_after : Option (List ℕ)) → (text text_after : List ℕ) → (room count : ℕ) → Type 0
 HasReadBlock left left_after text text_after room count =
     (bytes : List ℕ) × Consumes left left_after bytes × (text_after ≡ text ++ bytes) × (length bytes ≡ count) × (count ≤ room)
@@ -37,6 +38,7 @@ abbrev pub IsUnread : FolderData → List ℕ → FileFault → Type 0
 IsUnread folder name (Unreadable file) = (file.now ≡ name) × folder.MayFail name
 IsUnread folder name Memory = Unit {0}
 
--- a file with these bytes, if they are known, may be read as this input: that of a text which is read of it
+-- a file may be read as this input: the input that is made of some text of the file. `held` has the file's bytes, if they are
+-- known
 abbrev pub MayBeRead : (held : Option (List ℕ)) → FileFormat → InputData → Type 0
 MayBeRead held format input = (text : List ℕ) × (length text ≤ suc max_bytes) × IsTextOf held text × (input ≡ input_of format text)

@@ -10,7 +10,7 @@ pub record FolderData : Type 1 where
   pub holds : List ℕ → Option (List ℕ)
   pub MayFail : List ℕ → Type 0
 
--- an open file that may be opened so failed to be read: a read of it failed, after others had given these bytes
+-- an open file couldn't be read: reads gave these bytes, and a read failed. `MayOpen`: the folder may give this open file
 pub record HasFailed {File : Type 0} (MayOpen : File → Type 0) (left : File → Option (List ℕ)) (failed_reads : File → ℕ) : Type 0 where
   pub opened : File
   pub may_open : MayOpen opened

@@ -11,7 +11,7 @@ pub record SinkData : Type 0 where
 abbrev pub sink_data : Option (List ℕ) → ℕ → SinkData
 sink_data written failed = record { written = written; failed = failed }
 
--- a printer: the bytes that were put to it before those that wait, those that wait, and whether no write failed
+-- a printer: the bytes that have left its block, the bytes that wait in the block, and whether no write has failed
 pub record PrinterData : Type 0 where
   pub printed : List ℕ
   pub waiting : List ℕ

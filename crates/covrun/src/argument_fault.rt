@@ -25,7 +25,7 @@ impl ArgumentFault {
     ghost use Rattle.covsession.specs.Session.{said};
     ghost use Rattle.covrun.specs.Ending.{argument_fault_name};
 
-    /// The line that reports it.
+    /// The line that reports the fault.
     pub(crate) fn line(self) -> &'static [u8]
         ensures { result.now ≡ said (argument_fault_name self) }
     {

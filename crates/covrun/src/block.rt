@@ -6,7 +6,7 @@ use std::marker::Model;
 /// How many bytes may wait.
 pub(crate) const BLOCK_BYTES: usize = 65_536;
 
-/// Bytes that wait to be written, at most 65,536. The room for them is made at once. Contracts see the bytes.
+/// A buffer of bytes that wait to be written, at most 65,536. `new` reserves the room for all of them. Contracts see the bytes.
 #[derive(Drop)]
 pub(crate) struct Block {
     bytes: Vec<u8>,
@@ -48,7 +48,7 @@ impl Block {
         BLOCK_BYTES - self.bytes.len()
     }
 
-    /// Appends bytes, for which there is room.
+    /// Appends the bytes. The block must have room for them.
     #[inline]
     pub(crate) fn append(&mut self, bytes: &[u8])
         requires { length self.old + length bytes.now ≤ 65536 }
@@ -60,7 +60,7 @@ impl Block {
         }
     }
 
-    /// Lets all bytes go. The room stays.
+    /// Removes all bytes. The room is kept.
     pub(crate) fn clear(&mut self)
         ensures { self.new ≡ [] }
     {

@@ -11,8 +11,8 @@ use covreport::{Noted, Printer, Printing};
 use covsession::{SessionFault, Sink, put_bytes};
 use std::marker::{Brand, Model, PhantomData};
 
-/// Names the sink that is printed to, and what that had taken before. It has no functions. Of what a generic function does to a
-/// printer only the trait's clauses are known, so the printer's type says to which sink it prints.
+/// Names the sink that a printer prints to, and what this sink had taken before. The trait has no functions. The contract of a
+/// function that takes any `Printer` can't name a sink, so the type of the printer names it.
 trait Place {
     ghost use Rattle.std.specs.Borrow.{GName};
     ghost use Rattle.covrun.specs.Printed.{SinkData};
@@ -32,14 +32,14 @@ impl Place for Brand {
     ghost start = { record { written = None; failed = 0 } };
 }
 
-/// Writes what is put to it in blocks. Once a write has failed, it writes nothing more. Contracts see the bytes before those that
-/// wait, those that wait, and whether no write failed.
+/// A printer that writes to a sink, block by block. After a failed write it writes nothing more. Contracts see the bytes that
+/// have left the block (`printed`), the bytes that still wait in the block (`waiting`), and whether no write has failed.
 #[derive(Drop)]
 struct BlockPrinter<'s, O: Sink, L: Place> {
     sink: &'s mut O,
     block: Block,
     has_failed: bool,
-    // The bytes before those that wait. They exist only in proofs.
+    // The bytes that have left the block. They exist only in proofs.
     printed: Noted,
     place: PhantomData<L>,
 }
@@ -82,7 +82,7 @@ impl<'s, O: Sink, L: Place> Printer for BlockPrinter<'s, O, L> {
 }
 
 impl<'s, O: Sink, L: Place> BlockPrinter<'s, O, L> {
-    /// Writes the bytes that wait, and of a long piece all blocks but the last, which waits.
+    /// Writes the bytes that wait, and then the piece, block by block. The last block of the piece waits.
     fn put_further(&mut self, piece: &[u8])
         ensures { self.new.printed ++ self.new.waiting ≡ self.old.printed ++ self.old.waiting ++ piece.now }
     {
@@ -103,7 +103,7 @@ impl<'s, O: Sink, L: Place> BlockPrinter<'s, O, L> {
         self.block.clear();
     }
 
-    /// Gives the sink back. What waits is lost.
+    /// Returns the sink, and whether a write failed. The bytes that wait are dropped.
     fn into_printout(self) -> Printout<'s, O>
         ensures sink { result.sink.ghost_name ≡ L.sink }
         ensures is_open { self.entry.is_open ≡ not result.has_failed }
@@ -168,7 +168,7 @@ fn printed_at<'s, O: Sink, L: Place>(
     printer.into_printout()
 }
 
-/// Prints a text block by block, as it is made, and flushes the output. Takes no memory: the empty block is there.
+/// Prints a text block by block, as it is made, and flushes the output. Takes no memory besides the empty block.
 pub(crate) fn print_text<O: Sink>(
     text: Printing<'_>,
     block: Block,

@@ -3,13 +3,13 @@
 /// The verdict on a checked file, which decides the exit status.
 #[derive(Clone, Copy)]
 pub(crate) enum CheckVerdict {
-    /// It is read, and has an item.
+    /// The file is read, and has an item.
     Fine,
-    /// It is read, and has no item.
+    /// The file is read, and has no item.
     Empty,
-    /// Its text is refused.
+    /// The file's text is refused.
     Refused,
-    /// It can't be read.
+    /// The file can't be read.
     Unreadable,
 }
 
@@ -17,7 +17,7 @@ impl CheckVerdict {
     ghost use Rattle.std.specs.Prelude.{◌≡◌};
     ghost use Rattle.covrun.specs.Checked.{verdict_status, worse};
 
-    /// The one of two verdicts that decides the exit status.
+    /// The worse of the two verdicts. It decides the exit status.
     pub(crate) fn or(self, other: CheckVerdict) -> CheckVerdict
         ensures { result ≡ worse self other }
     {

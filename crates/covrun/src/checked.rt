@@ -92,7 +92,7 @@ fn check_file<F: Folder, O: Sink, E: Sink>(
     }
 }
 
-/// Reports a file that has this text.
+/// Checks the text of a file, and reports the file.
 fn check_text<O: Sink, E: Sink>(
     alloc: Global,
     format: TextFormat,

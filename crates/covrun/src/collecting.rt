@@ -28,8 +28,8 @@ use std::alloc::Global;
 use std::sync::Wait;
 use std::thread::Threads;
 
-/// Does the work, and reports the call's ending. A job reads each of its files when its turn comes, and frees the text once it is
-/// read. The text that is asked after the files is printed as it is made, from the book. Returns the exit status.
+/// Does the work, reports the call's ending, and returns the exit status. A job reads a file when the file's turn comes, and then
+/// frees the file's text. The answer to the last operation is printed from the book, while it is made.
 pub(crate) fn do_work<R: Threads + Wait + Sync, F: Folder<File: Send> + Sync, O: Sink, E: Sink>(
     rt: &R,
     folder: &F,
@@ -68,7 +68,8 @@ pub(crate) fn do_work<R: Threads + Wait + Sync, F: Folder<File: Send> + Sync, O:
     }
 }
 
-/// The call's ending for what was collected before the last operation, or for want of memory.
+/// The ending of a call whose files are collected. `last` is the operation that is asked after them. Returns `Stopped` if memory
+/// runs out.
 fn ending_of_collected<'a>(
     alloc: Global,
     files: &[String],
@@ -85,8 +86,8 @@ fn ending_of_collected<'a>(
     }
 }
 
-/// The call's ending for what was collected before the last operation, which is answered by a text. The memory that reporting it
-/// takes is there.
+/// The ending of a call whose files are collected. `last` is the operation that is asked after them, and is answered by a text.
+/// All memory for reporting the ending is already reserved.
 fn ending_with_room<'a>(
     alloc: Global,
     files: &[String],
@@ -153,7 +154,7 @@ fn add_refusals(
     Ok(())
 }
 
-/// The name of the file with this index; an empty one if there is no such file.
+/// The name of the file with this index. It is empty if there is no such file.
 fn file_name(files: &[String], index: usize) -> &str
     ensures { result.now ≡ name_at (slice_get (map string_bytes files.now) index) }
 {
@@ -192,7 +193,7 @@ fn add_clashes(alloc: Global, answers: &[Answered], lines: &mut Vec<u8>) -> Resu
     Ok(())
 }
 
-/// Appends the line of a clash; nothing for any other answer.
+/// Appends the line of a clash. Appends nothing for any other answer.
 fn add_clash(alloc: Global, answer: &Answer, lines: &mut Vec<u8>) -> Result<(), SessionFault>
     ensures added { OnOk result (lines.new.items ≡ lines.old.items ++ clash_text (answer_data answer.now)) }
     ensures fault { IfErr result (λ fault. fault ≡ session_faults.Memory) }

@@ -25,7 +25,7 @@ impl<'a, F: Folder> LateInput<Global> for FileInput<'a, F> {
 
     ghost may_fail = { λ late. (folder_data (F.holds late.folder.now) (F.may_refuse late.folder.now) (F.may_open late.folder.now) F.File.left F.File.failed_reads).MayFail late.name.now };
 
-    /// Reads the file, and then its text, which is freed.
+    /// Reads the file, and then parses its text. Frees the text.
     fn read_late(self, alloc: Global) -> Result<SubRef, LateFault> {
         match file_text(self.folder, alloc, self.name) {
             Ok(text) => read_input(alloc, self.format, text),
@@ -42,7 +42,7 @@ ghost use Rattle.covjobs.specs.InputView.{input_data};
 ghost use Rattle.covjobs.specs.Late.{IsLateOutcome};
 ghost use Rattle.covrun.specs.Work.{input_of};
 
-/// What the text of a file is read as. The text is freed.
+/// Parses the text of a file. Frees the text.
 fn read_input(alloc: Global, format: &FileFormat, text: Bytes) -> Result<SubRef, LateFault>
     ensures { IsLateOutcome (λ input. input ≡ input_of format.now text) ⊥ result }
 {
@@ -69,7 +69,7 @@ fn input_for(alloc: Global, format: &FileFormat, text: Bytes) -> Result<Input, M
     }
 }
 
-/// The files of these names as inputs, in their order. No file is read yet.
+/// An input for each of these files, in order. No file is read yet.
 pub(crate) fn file_inputs<'a, F: Folder>(
     folder: &'a F,
     alloc: Global,

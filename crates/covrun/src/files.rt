@@ -14,7 +14,7 @@ use std::alloc::{AllocError, Global};
 /// How many bytes one read asks for.
 const BLOCK_BYTES: usize = 65_536;
 
-/// How many bytes of a file are kept at most: one more than a text may have. This further byte shows that the file is too long.
+/// The most bytes of a file that are kept: one more than a text may have. The extra byte shows that the file is too long.
 const MAX_KEPT: usize = MAX_BYTES + 1;
 
 /// Why a file isn't read.
@@ -26,8 +26,8 @@ pub(crate) enum FileFault<'a> {
     Memory,
 }
 
-/// The bytes that are left in the source, at most one more than a text may have. Room for `awaited` bytes is made at once; the
-/// text grows again only if more bytes come. The fault is `Read` if a read failed, or `Memory`.
+/// Reads the bytes that are left in the source, at most one more than a text may have. Room for `awaited` bytes is reserved
+/// first, so the text grows only if more bytes come. The fault is `Read` if a read failed, and otherwise `Memory`.
 pub(crate) fn read_text<S: Source>(
     alloc: Global,
     awaited: usize,
@@ -45,8 +45,8 @@ pub(crate) fn read_text<S: Source>(
     Ok(text)
 }
 
-/// The bytes that are left in the source, at most `most`. They are read into the block, and appended from it to the empty text.
-/// `most` is a parameter, so that no proof counts up to the limit of a text.
+/// Reads the bytes that are left in the source, at most `most`. Each read fills a part of `block`, and these bytes are appended
+/// to the text. `most` is a parameter so that no proof has to count up to the limit of a text.
 fn read_at_most<S: Source>(
     empty: Bytes,
     source: &mut S,

@@ -8,7 +8,7 @@ use std::fs;
 use std::fs::OpenFile;
 use std::rt::Files;
 
-/// A file that was opened, with its length as the file gives it.
+/// An open file, and the length that it claims to have.
 #[derive(Drop)]
 pub struct Opened<S> {
     /// Gives the file's bytes.
@@ -19,9 +19,9 @@ pub struct Opened<S> {
 
 /// Opens files by their names.
 ///
-/// While a folder is borrowed, `holds` has one value for a file. So it must be `None` for a file that may change between two
-/// opens or during a read. If a read of an open file fails, the file's source counts the failure, and the bytes that are left
-/// stay the same.
+/// While a folder is borrowed, `holds` gives the same value for a file each time. So an implementation must give `None` for a
+/// file that may change between two opens or during a read. If a read of an open file fails, the file's source counts the
+/// failure, and the bytes that are left stay the same.
 pub trait Folder {
     // The bytes of the file with this name, if the folder knows them.
     ghost holds: { Self → List ℕ → Option (List ℕ) };
@@ -82,7 +82,7 @@ impl<'a, R: Files> Folder for FromFiles<'a, R> {
     }
 }
 
-/// The file's length in bytes; 0 if the file can't say, such as a pipe.
+/// The file's length in bytes. 0 if the length isn't known, as for a pipe.
 fn size_of<F: OpenFile>(file: &F) -> u64 {
     match file.metadata() {
         Ok(metadata) => metadata.len(),

@@ -3,10 +3,10 @@
 //! `run` parses the command line (covcommand), and makes a `Task` of the command. Without a subcommand, the task is a session
 //! (covsession). For `check`, each file is read and reported by itself (`checked`). Any other subcommand is `Work`: covjobs
 //! collects its files in a book, and a job reads each file when its turn comes (`FileInput`). So at most one text for each job is
-//! in memory. What was collected becomes an `Ending`, which `report_ending` reports by an exit status and on the two output
-//! streams. If it is a text, that is made while it is printed: it goes from the book to the output in blocks (`BlockPrinter`), and
-//! all memory that this takes is there before the first byte (`ReadyText`). Files are read from a `Folder` (`files`); `FromFiles`
-//! makes one of std's files.
+//! in memory. The result of collecting becomes an `Ending`, which `report_ending` reports by an exit status and on the two output
+//! streams. If the ending is a text, the text is made while it is printed: it goes from the book to the output in blocks
+//! (`BlockPrinter`). All memory for printing is reserved before the first byte is written (`ReadyText`). Files are read from a
+//! `Folder` (`files`). `FromFiles` is the folder of std's files.
 //!
 //! A sketch: the program's main function.
 //!

@@ -81,7 +81,7 @@ pub(crate) fn put_out<O: Sink>(text: &[u8], output: &mut O) -> Result<(), Sessio
     }
 }
 
-/// Writes these words, in two parts, to the stream for faults, and returns the exit status.
+/// Writes `front` and then `words` to the stream for faults. Returns `status`.
 fn complain<E: Sink>(front: &[u8], words: &[u8], status: u8, faults: &mut E) -> u8
     requires { E.failed_writes faults.old < 2 ^ 62 }
     ensures status { result ≡ status }
@@ -92,7 +92,7 @@ fn complain<E: Sink>(front: &[u8], words: &[u8], status: u8, faults: &mut E) -> 
     status
 }
 
-/// Writes these words, in two parts, to the stream for faults. If that fails, there is nowhere left to report it.
+/// Writes `front` and then `words` to the stream for faults. A failed write isn't reported: there is no other stream for it.
 pub(crate) fn say<E: Sink>(front: &[u8], words: &[u8], faults: &mut E)
     requires { E.failed_writes faults.old < 2 ^ 63 }
     ensures said { E.failed_writes faults.new ≡ E.failed_writes faults.old

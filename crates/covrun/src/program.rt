@@ -24,14 +24,14 @@ use std::thread::Threads;
 /// patterns, or the test's name of `gcov` (2); the first file that can't be read (1); a fault of collecting (3), such as a full
 /// history; a text for which memory ran out (3); refused texts and clashes (4); a failed write to the output (1). `out of memory`
 /// (3) may end the call at any point before the first byte of its text. Only help, the version, or the text of a call that
-/// succeeds goes to the output. It is written in blocks as it is made, after all else is known; if a write fails, the output has a
-/// beginning of that text.
+/// succeeds goes to the output. The answer of a call that collects is written in blocks while it is made, after all other faults
+/// are ruled out. If a write fails, the output has a beginning of the text.
 ///
 /// A call that checks files checks one after another. It writes a line to the output for each file that can be read, and
 /// complains about a file that can't be read or has no item. Its status is 1 if a file can't be read, else 4 if one is refused,
 /// else 5 if one has no item, else 0. The call ends early if a write of a line fails (1), or if memory runs out (3).
 ///
-/// If the folder knows what its files hold, the texts that are collected or checked are those of the files that the words name.
+/// If the folder knows what its files hold, the call collects or checks the texts of the files that its words name.
 ///
 /// Only a session reads the input. The output is flushed; `faults` isn't. Without a subcommand, the call is a session over the
 /// input and the output. `run` returns only after all jobs have ended.

@@ -7,11 +7,11 @@ use covsession::{SessionFault, Sink};
 use std::alloc::{AllocError, Global};
 use std::marker::Model;
 
-/// A text that is ready to be printed: all memory that this takes is there. Contracts see the text.
+/// A text that is ready to be printed: all memory for printing it is already reserved. Contracts see the text.
 #[derive(Drop)]
 pub(crate) struct ReadyText<'s> {
     text: Printing<'s>,
-    // No bytes wait yet.
+    // The block that printing uses. It is empty.
     block: Block,
 }
 
@@ -31,7 +31,7 @@ impl<'s> ReadyText<'s> {
     ghost use Rattle.covsession.specs.Fault.{HasBegun};
     ghost use Rattle.covsession.specs.declared.session.fault.SessionFault.TheVariants as session_faults;
 
-    /// Makes the room that printing this text takes.
+    /// Reserves all memory for printing the text.
     pub(crate) fn of(alloc: Global, text: Printing<'s>) -> Result<ReadyText<'s>, AllocError>
         ensures { IfOk result (λ ready. ready ≡ text.entry) }
     {

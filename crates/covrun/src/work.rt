@@ -10,9 +10,9 @@ use std::alloc::{AllocError, Global};
 /// What the files of a call are.
 #[derive(Drop)]
 pub(crate) enum FileFormat {
-    /// Tracefiles, and which ones.
+    /// Tracefiles of this version of lcov.
     Tracefile(LcovVersion),
-    /// gcov's output, whose counts are of this test.
+    /// gcov's output, with the name of the test whose counts it has.
     GcovOutput(Bytes),
 }
 
@@ -31,7 +31,7 @@ pub(crate) struct Work {
 pub(crate) enum Task {
     /// A session over the input and the output.
     Session,
-    /// Collects files, and prints the answer to one operation that is asked after them.
+    /// Collects files, then asks one operation and prints the answer.
     Collect(Work),
     /// Checks files one by one.
     Check {
@@ -45,7 +45,7 @@ pub(crate) enum Task {
 /// Why a subcommand's work doesn't begin.
 #[derive(Clone, Copy)]
 pub(crate) enum WorkFault {
-    /// Its words are refused.
+    /// The subcommand's words are refused.
     Words(ArgumentFault),
     /// Memory was refused.
     Memory,
@@ -97,7 +97,7 @@ ghost use Rattle.covrun.specs.Work.{task_of, ArePatterns, AreTaken, Collects};
 ghost use Rattle.covrun.specs.WorkFault.{IsRefusal, IsPatternRefusal, IsTestRefusal};
 ghost use Rattle.covrun.specs.declared.work.FileFormat.TheVariants.{Tracefile};
 
-/// What the command has to do, after its patterns and its test's name are checked.
+/// Checks the command's patterns and test name, and returns what the command has to do.
 pub(crate) fn task_for(alloc: Global, command: Command) -> Result<Task, WorkFault>
     ensures task { IfOk result (λ task. task_data task ≡ task_of command) }
     ensures taken { IfOk result (λ _. AreTaken command) }
@@ -139,7 +139,7 @@ pub(crate) fn task_for(alloc: Global, command: Command) -> Result<Task, WorkFaul
     }
 }
 
-/// The collecting of these tracefiles.
+/// The task of collecting these tracefiles.
 fn over_tracefiles(files: Names, version: LcovVersion, jobs: u32, last: Op) -> Task
     ensures { task_data result ≡ Collects (record { files = files; format = Tracefile version; jobs = jobs; last = op_data last }) }
 {
@@ -163,7 +163,7 @@ fn test_name(test: &Bytes) -> Result<(), WorkFault>
     }
 }
 
-/// The first name, which is a file's, and the other names as patterns.
+/// Splits the names: the first is a file's name, and the others are patterns.
 fn split(alloc: Global, names: &Names) -> Result<(Names, Patterns), WorkFault>
     ensures file { IfOk result (λ r. r.0 ≡ take 1 names.now) }
     ensures patterns { IfOk result (λ r. r.1 ≡ drop 1 names.now) }

@@ -5,7 +5,7 @@ use Rattle.covjobs.specs.InputView.{input_data}
 use Rattle.covjobs.proofs.Unread.{turned_is}
 use Rattle.covjobs.proofs.collected.collect.Goals as goal
 
--- each input turned out to be what it is
+-- the inputs turned out to be just these inputs
 pub returns-in-Ok-clause-collected : goal.returns-in-Ok-clause-collected
 returns-in-Ok-clause-collected g c =
     let t = c.in-Ok.ensures.collected in
