@@ -203,6 +203,15 @@ checked() { # WHAT FILE...: no line is odd, and none unknown
             lcov_of "$lcov" lcov --rc branch_coverage=1 --summary printed.info >"$work/said" 2>&1 || true
             same_totals "$version: it reads what is printed of $file, with these totals" "$work/said" "$file"
         done
+        # All tests together, which LCOV 2.5 reads only without their names.
+        "$COVCOLLECT" merge --lcov2 "${files[@]}" | sed '/^TN:/d' >nameless.info
+        "$COVCOLLECT" merge nameless.info >printed.info
+        lcov_of "$lcov" lcov --rc branch_coverage=1 --summary printed.info >"$work/said" 2>&1 || true
+        same_totals "$version: it reads a merge without names, with these totals" "$work/said" "${files[@]}"
+        "$COVCOLLECT" extract printed.info "$PWD/c/*" >own.info
+        call lcov_of "$lcov" genhtml --quiet --rc branch_coverage=1 --branch-coverage --output-directory html.$release own.info
+        ended 0 "--lcov2: $version: genhtml makes a page of it"
+        holds "--lcov2: $version: with the source" grep -rq 'at_most' html.$release --include='*.gcov.html'
         # One file alone: filters.
         for file in extract remove; do
             "$COVCOLLECT" $file "$release.t.plain" "$PWD/c/*" '*/bits/*' >"$work/wanted"
@@ -233,6 +242,9 @@ checked() { # WHAT FILE...: no line is odd, and none unknown
         lcov_of "$lcov" lcov --rc branch_coverage=1 --summary trixie.total >"$work/said" 2>&1
         same_totals "LCOV $(cat "$lcov.version"): the totals of its merge" "$work/said" trixie.t trixie.u
         same_totals "LCOV $(cat "$lcov.version"): the totals of its merge, read by the option" "$work/said" trixie.total
+        "$COVCOLLECT" merge --lcov2 trixie.t trixie.u >printed.info
+        lcov_of "$lcov" lcov --rc branch_coverage=1 --summary printed.info >"$work/said" 2>&1
+        same_totals "LCOV $(cat "$lcov.version"): it reads a merge with names, with these totals" "$work/said" trixie.t trixie.u
     fi
 }
 
