@@ -195,7 +195,7 @@ load projects
     same before.info farm.info 'farm.mk: which gives the same total'
     printf 'SF:/two.c\nFNL:0,1,5\nFNA:0,3,f\nDA:1,1\nend_of_record\n' >machines/m2/page.info
     call "${make[@]}" CHECK=fail
-    says farm.info 'farm.mk: with CHECK a tracefile of LCOV 2 is converted' 'SF:/two.c' 'FNDA:3,f'
+    says farm.info 'farm.mk: with CHECK a tracefile of LCOV 2 is read' 'SF:/two.c' 'FNDA:3,f'
     call "${make[@]}" CHECK=fail
     holds 'farm.mk: with CHECK nothing is made anew, either, where nothing changed' [ "$status:$(<"$work/err")" = 0: ]
     printf 'SF:/two.c\nDA:1\n' >machines/m2/page.info
