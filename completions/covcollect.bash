@@ -53,7 +53,7 @@ _covcollect() {
             ended=1
         elif [[ -z $ended && ${words[i]} == -* ]]; then
             # The value of an option is a word of its own, where it isn't part of the option's.
-            [[ ${words[i]} == --jobs || ${words[i]} == --test ]] && ((i++))
+            [[ ${words[i]} == -j || ${words[i]} == --jobs || ${words[i]} == --test ]] && ((i++))
             [[ $subcommand${words[i]} == check--gcov ]] && annotated=1
         elif [[ -z $subcommand ]]; then
             subcommand=${words[i]}
@@ -64,7 +64,7 @@ _covcollect() {
 
     if [[ -z $ended ]]; then
         case $subcommand$prev in
-            merge--jobs)
+            merge--jobs | merge-j | summary--jobs | summary-j)
                 # The number of processors, of which 64 can be used.
                 i=$(nproc 2>/dev/null)
                 mapfile -t COMPREPLY < <(compgen -W "$((i > 64 ? 64 : i))" -- "$cur")
@@ -78,9 +78,10 @@ _covcollect() {
             local options='-h --help'
             case $subcommand in
                 '') options+=' -V --version' ;;
-                merge) options+=' --jobs' ;;
+                merge | summary) options+=' --lcov2 -j --jobs' ;;
+                extract | remove) options+=' --lcov2' ;;
                 gcov) options+=' --test' ;;
-                check) options+=' --gcov' ;;
+                check) options+=' --gcov --lcov2' ;;
             esac
             mapfile -t COMPREPLY < <(compgen -W "$options" -- "$cur")
             return

@@ -1,6 +1,7 @@
 #!/usr/bin/env bash
 # The coverage job of a C or C++ project: builds it with --coverage, runs its tests and writes a report. Tracefiles of other jobs can
-# be added. Copy ci.sh, intake and lcov2.awk into one folder of your project and run ci.sh in the project's top folder:
+# be added. Copy ci.sh and intake into one folder of your project (and lcov2.awk, for a covcollect without --lcov2) and run ci.sh in the
+# project's top folder:
 #
 #     COVERAGE_BUILD='make CFLAGS="--coverage -O0"' COVERAGE_TEST='make check' ci/ci.sh --lines 80 jobs/*.info
 #
@@ -32,7 +33,7 @@
 #
 # COVERAGE_BUILD and COVERAGE_TEST run in bash -euo pipefail, so each can be several commands. The folder of results has all.info
 # (every source), own.info (without the removed ones), summary.txt and html/. If a step fails, the folder of the last run stays as it
-# is. Tracefiles that are named are converted by lcov2.awk if they are of LCOV 2, and looked at by 'covcollect check' (see intake).
+# is. Tracefiles that are named may be of LCOV 1 or 2, and are looked at by 'covcollect check' (see intake).
 #
 # Exit status: 0 done; 1 the tests wrote no counts, or a tracefile can't be read; 2 wrong call, or something is missing; 4 a tracefile is
 # refused or has no record, or checksums clash (the file or the line is named on standard error); 5 too few lines are hit (the results
@@ -94,14 +95,18 @@ fi
 
 here=$(cd "$(dirname "${BASH_SOURCE[0]}")" && pwd)
 program=${COVCOLLECT-covcollect}
-for needed in "$program" awk; do
-    command -v "$needed" >/dev/null || wrong "$needed isn't there"
-done
+command -v "$program" >/dev/null || wrong "$program isn't there"
+# Whether the program reads LCOV 2 itself. Otherwise lcov2.awk converts it.
+lcov2=()
+case $("$program" merge --help 2>/dev/null </dev/null || true) in
+    *--lcov2*) lcov2=(--lcov2) ;;
+    *)
+        command -v awk >/dev/null || wrong "awk isn't there"
+        [ -f "$here/lcov2.awk" ] || wrong "$program has no --lcov2, and $here/lcov2.awk isn't there: copy it beside ci.sh" ;;
+esac
 [ $capture = no ] || command -v geninfo >/dev/null || wrong "geninfo isn't there (it is part of lcov)"
 [ $html = no ] || command -v genhtml >/dev/null || wrong "genhtml isn't there (it is part of lcov; or use --no-html)"
-for needed in lcov2.awk intake; do
-    [ -f "$here/$needed" ] || wrong "$here/$needed isn't there: copy it beside ci.sh"
-done
+[ -f "$here/intake" ] || wrong "$here/intake isn't there: copy it beside ci.sh"
 for file in "${handed[@]}"; do
     [ -e "$file" ] || wrong "$file isn't there"
     [ ! -d "$file" ] || { say "$file is a folder, and no tracefile"; exit 1; }
@@ -160,7 +165,7 @@ fi
 
 # 2. Capture the counts, and a baseline with a count of 0 for every line that was compiled. Without the baseline, sources that no test
 #    runs are missing and the rate is too high. LCOV 2 has another name for the branch option, fails if a project has no branches
-#    (empty), and writes records that lcov2.awk converts.
+#    (empty), and writes records that version 1 doesn't have.
 old() { case $("$1" --version 2>/dev/null) in *' 1.'*) ;; *) return 1 ;; esac; } # whether the tool is of LCOV 1
 if [ $capture = yes ]; then
     branches=branch_coverage=1 options=(--ignore-errors empty)
@@ -170,12 +175,16 @@ if [ $capture = yes ]; then
     geninfo "${options[@]}" --initial --output-filename "$next/baseline.new" . >&2
     geninfo "${options[@]}" --output-filename "$next/counted.new" . >&2
     for kind in baseline counted; do
-        LC_ALL=C awk -f "$here/lcov2.awk" "$next/$kind.new" >"$next/parts/$kind.info"
-        rm "$next/$kind.new"
+        if [ ${#lcov2[@]} -gt 0 ]; then
+            mv "$next/$kind.new" "$next/parts/$kind.info"
+        else
+            LC_ALL=C awk -f "$here/lcov2.awk" "$next/$kind.new" >"$next/parts/$kind.info"
+            rm "$next/$kind.new"
+        fi
     done
 fi
 
-# 3. Convert the tracefiles of other jobs and look at them.
+# 3. Copy the tracefiles of other jobs and look at them.
 if [ ${#handed[@]} -gt 0 ]; then
     status=0
     printf '%s\0' "${handed[@]}" | bash "$here/intake" --empty $empty "$next/parts" || status=$?
@@ -188,7 +197,7 @@ if [ ${#handed[@]} -gt 0 ]; then
 fi
 
 # 4. Merge, remove what isn't the project's own, summarize.
-collect all.info merge --jobs "$jobs" -- "$next"/parts/*.info
+collect all.info merge "${lcov2[@]}" --jobs "$jobs" -- "$next"/parts/*.info
 collect own.info remove -- "$next/all.info" "${patterns[@]}"
 collect summary.txt summary -- "$next/own.info"
 rm -r "$next/parts"

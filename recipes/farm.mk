@@ -8,11 +8,12 @@
 # TOTAL        the merged tracefile (default: farm.info)
 # SHARES       a folder for the merge of each machine, for farm.mk alone (default: TOTAL.shares)
 # EMPTY        what to do with a machine that has no tracefile: skip it with a message, or fail (default: skip)
-# CHECK        no, fail or skip (default: no). With fail and skip each tracefile is converted by lcov2.awk if it is of LCOV 2, and
-#              looked at by 'covcollect check'; one without a record fails, or is told and skipped. Copy intake and lcov2.awk beside
-#              farm.mk for it
+# CHECK        no, fail or skip (default: no). With fail and skip each tracefile is looked at by 'covcollect check'; one without a record
+#              fails, or is told and skipped. Copy intake beside farm.mk for it
 # JOBS         how many tracefiles the last merge reads at once (default: 4)
 # COVCOLLECT   the program (default: covcollect)
+#
+# Tracefiles may be of LCOV 1 or 2. A covcollect without --lcov2 reads those of LCOV 2 only with a CHECK, and with lcov2.awk beside intake.
 #
 # A machine is merged again only if one of its tracefiles changed, appeared or vanished. The total is merged again if a machine's
 # merge changed, or if a machine appeared or vanished. Each target is written to a temporary name and then moved. If a merge fails,
@@ -54,7 +55,7 @@ endif
 intake := $(dir $(realpath $(lastword $(MAKEFILE_LIST))))intake
 ifneq ($(CHECK),no)
     ifeq ($(wildcard $(intake)),)
-        $(error CHECK=$(CHECK) needs $(intake) and lcov2.awk: copy them beside farm.mk)
+        $(error CHECK=$(CHECK) needs $(intake): copy it beside farm.mk)
     endif
 endif
 ifneq ($(words [$(FARM)] [$(TOTAL)] [$(SHARES)]),3)
@@ -90,6 +91,9 @@ ifeq ($(machines),)
     $(error no tracefile in any folder of $(FARM))
 endif
 
+# Where the program has it, machines' tracefiles are read by it. What a merge printed is version 1.
+lcov2 := $(findstring --lcov2,$(shell $(COVCOLLECT) merge --help 2>/dev/null </dev/null))
+
 .PHONY: all again
 all: $(TOTAL)
 
@@ -106,21 +110,21 @@ $(machines:%=$(SHARES)/%.info): $(SHARES)/%.info: $(SHARES)/%.list $(SHARES)/che
 	@echo 'farm.mk: makes $@' >&2
 	@$(if $(filter no,$(CHECK)),,$(checked))
 	@$(if $(filter no,$(CHECK)),$(names),printf '%s\0' $@.files/*.info) | \
-	    xargs -0 $(COVCOLLECT) merge -- >$@.new || { rm -rf $@.new $@.files; exit 1; }
+	    xargs -0 $(COVCOLLECT) merge $(lcov2) -- >$@.new || { rm -rf $@.new $@.files; exit 1; }
 	@rm -rf $@.files
 	@mv -f $@.new $@
 
 # A machine's list has the inode, size, two times and name of each tracefile. The second time is that of the inode's last change: no
 # program can set it, while an archive that is unpacked over a file may leave all else as it was. The list is always made, but replaced
-# only if it differs, so the merge is made again only then. The list of machines does the same for the total, and what CHECK says for
-# all shares.
+# only if it differs, so the merge is made again only then. The list of machines does the same for the total; and for all shares, what
+# CHECK says, and whether the program has --lcov2.
 replace = if cmp -s $@.new $@; then rm $@.new; else mv -f $@.new $@; fi
 $(machines:%=$(SHARES)/%.list): $(SHARES)/%.list: again | $(SHARES)/
 	@$(call tracefiles,$*) -printf '%i %s %T@ %C@ %p\0' | sort -z >$@.new
 	@$(replace)
 
 $(SHARES)/check: again | $(SHARES)/
-	@echo $(CHECK) >$@.new
+	@echo $(CHECK) $(lcov2) >$@.new
 	@$(replace)
 
 $(SHARES)/machines: again | $(SHARES)/

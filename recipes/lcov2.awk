@@ -1,11 +1,15 @@
-# Converts a tracefile to the format of LCOV 1.x, which covcollect reads. Needed for tracefiles of LCOV 2 and coverage.py.
+# Converts a tracefile of LCOV 2 or coverage.py to the format of LCOV 1.x: for tools that read no other, for a covcollect without
+# --lcov2, and to leave out branches. 'covcollect merge --lcov2' reads tracefiles of both versions by itself.
 #
 #     LC_ALL=C awk -f lcov2.awk new.info > plain.info
 #     LC_ALL=C awk -v branches=plain -f lcov2.awk new.info > plain.info
 #
-# Without it, covcollect skips functions in FNL and FNA lines, takes those of FN lines with an end line as never called, and refuses
-# branches with a mark or an expression. Tracefiles of LCOV 1.x and of llvm-cov 14 don't need it; they are copied, without carriage
-# returns at line ends.
+# Without it and without --lcov2, covcollect skips functions in FNL and FNA lines, takes those of FN lines with an end line as never
+# called, and refuses branches with a mark or an expression. Tracefiles of LCOV 1.x and of llvm-cov 14 don't need it; they are copied,
+# without carriage returns at line ends.
+#
+# It differs from --lcov2 in what geninfo doesn't write: it looks for an FNL line below too, of two with one index it takes the last, it
+# keeps a name that begins with digits and a comma if FNDA has it, and it refuses a block with both numbers and expressions.
 #
 # branches=all (the default) keeps all branches, branches=plain drops those of exceptions, branches=none drops all. With LC_ALL=C
 # every awk treats names as bytes. Works with mawk, gawk and busybox awk. mawk is the fastest of them.

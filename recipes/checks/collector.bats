@@ -284,6 +284,105 @@ WANTED
     holds 'collector: the session and its feeder were started again' [ "$(grep -c 'read .* files again' storm.said)" -ge 3 ]
 }
 
+# A session reads version 1 alone, so the collector converts what is of LCOV 2. Expected is what the filter makes of it.
+@test "tracefiles of LCOV 2" {
+    local name number
+    files
+    # The program, whose conversions write a part and end with the status that is in the file fail, while there is one.
+    cat >frail <<END
+#!/bin/bash
+if [[ " \$* " == *' --lcov2 '* ]] && read -r status 2>/dev/null <"$PWD/fail"; then
+    printf 'SF:/part.c\nDA:1,1\nend_of_record\nSF:/pa'
+    [ \$status -lt 128 ] || { rm "$PWD/fail"; kill -9 \$\$; }
+    [ \$status -ne 3 ] || echo 'out of memory' >&2
+    exit \$status
+fi
+exec "$COVCOLLECT" "\$@"
+END
+    chmod +x frail
+    printf 'TN:t\nSF:/b.c\nFNL:0,1,5\nFNA:0,3,f\nFNA:0,0,g\nFNF:1\nFNH:1\nBRDA:2,e0,0,1\nDA:2,3\nend_of_record' >indexed.new
+    printf '# c\nTN:t\nSF:/b.c\nFN:1,5,f\nFNDA:2,f\nBRDA:3,0,jump to 4,2\nBRDA:3,0,jump to 7,0\nDA:2,3\nend_of_record\n' >ended.new
+    printf 'SF:/c.c\nDA:1,1\nend_of_record\nSF:/c.c\nBRDA:1,U0,0,1\nDA:1,2\nend_of_record\n' >marked.new
+    # Of version 1, with a total that doesn't fit and carriage returns: nothing to convert.
+    printf 'SF:/d.c\r\nFN:1,f\r\nFNDA:1,f\r\nFNF:7\r\nBRDA:1,0,0,1\r\nBRDA:1,0,1,-\r\nDA:1,1\r\nend_of_record\r\n' >plain.new
+    serve_spool newer env COVCOLLECT="$PWD/frail"
+    until [ -s newer/pids ]; do sleep 0.1; done
+    call "$collector" give newer --key indexed indexed.new
+    says "$work/out" 'collector: a tracefile of LCOV 2 is converted: two functions, a branch and a line' 'accepted indexed items 6 odd 0'
+    call "$collector" give newer --key indexed indexed.new
+    says "$work/out" 'collector: the same again' 'accepted indexed again'
+    holds 'collector: the spool has the file as it was given' cmp -s indexed.new newer/accepted/indexed
+    for name in ended marked plain; do
+        call "$collector" give newer --key $name $name.new
+        ended 0 "collector: $name.new"
+    done
+    says "$work/out" 'collector: a tracefile of version 1 is handed on as it is' 'accepted plain items 5 odd 1'
+    for name in indexed ended marked plain; do
+        LC_ALL=C awk -f "$recipes/lcov2.awk" $name.new >$name.plain
+    done
+    "$COVCOLLECT" merge indexed.plain ended.plain marked.plain plain.plain >wanted
+    call "$collector" report newer
+    same wanted "$work/out" 'collector: the report is that of what the filter makes of them'
+    call "$COVCOLLECT" merge --lcov2 newer/accepted/*
+    same wanted "$work/out" 'collector: which is a merge of the accepted files'
+
+    # What can't be converted is told in the words of the merge.
+    printf 'SF:/a.c\nFNA:0,1,f\nDA:1,1\nend_of_record\n' >lost.new
+    printf 'SF:/a.c\nFN:1,5,f\nDA:1,1,aaa\nDA:1,1,bbb\nend_of_record\n' >clash.new
+    printf 'SF:/a.c\nFN:1,5,f\nDA:x\n' >bad.new
+    printf 'SF:/a.c\nFNL:1,5\nend_of_record\n' >empty.new
+    for name in 'lost.new: refused Misplaced at 2' 'clash.new: clash /a.c 1 aaa bbb' 'bad.new: refused BadLine at 3' \
+        'empty.new: no record in it (items 0): is it empty, or no tracefile?'; do
+        call "$collector" give newer "${name%%:*}"
+        ended 4 "collector: ${name%%:*}"
+        says "$work/err" 'collector: and why' "$name"
+    done
+    # It clashes with what is there.
+    printf 'SF:/v.c\nDA:1,1,abc\nend_of_record\n' >v1.info
+    printf 'SF:/v.c\nFN:1,5,f\nDA:1,1,abd\nend_of_record\n' >v2.new
+    call "$collector" give newer --key v1 v1.info
+    call "$collector" give newer v2.new
+    says "$work/err" 'collector: one of another version of a source' 'v2.new: clash /v.c 1 abc abd'
+    rm newer/accepted/v1
+    quietly "$collector" stop newer
+
+    # A conversion that fails in the middle leaves nothing, and the collector goes on.
+    serve_spool newer env COVCOLLECT="$PWD/frail"
+    until [ -s newer/pids ]; do sleep 0.1; done
+    call "$collector" report newer
+    same wanted "$work/out" 'collector: after a restart the report is the same'
+    echo 3 >fail
+    call "$collector" give newer --key hungry ended.new
+    ended 4 'collector: no memory to convert a file'
+    says "$work/err" 'collector: as it says' 'ended.new: no memory to convert it from LCOV 2'
+    rm fail
+    call "$collector" report newer
+    same wanted "$work/out" 'collector: no part of it counts'
+    # A conversion that is killed is tried again, by the next session.
+    number=$(cut -d' ' -f2 newer/pids)
+    echo 137 >fail
+    call "$collector" give newer --key killed ended.new
+    says "$work/out" 'collector: a conversion that is killed is done again' 'accepted killed items 5 odd 0'
+    holds 'collector: by another session' [ "$(cut -d' ' -f2 newer/pids)" != "$number" ]
+    says newer.said 'collector: it tells that it ended' "collector: killed@$(sed -n "s/^collector: killed@\([^:]*\):.*/\1/p" newer.said): 'covcollect merge --lcov2' ended with status 137; start it again"
+    "$COVCOLLECT" merge indexed.plain ended.plain marked.plain plain.plain ended.plain >wanted
+    call "$collector" report newer
+    same wanted "$work/out" 'collector: it counts once'
+    quietly "$collector" stop newer
+    echo 3 >fail
+    call env COVCOLLECT="$PWD/frail" "$collector" start newer
+    ended 1 'collector: no memory to convert a file that was accepted: a start that is tried again'
+    rm fail
+
+    # A covcollect without --lcov2 gets the files as they are.
+    old_program old
+    serve_spool older env COVCOLLECT="$PWD/old"
+    until [ -s older/pids ]; do sleep 0.1; done
+    call "$collector" give older --key indexed marked.new
+    says "$work/err" 'collector: a covcollect without --lcov2 refuses what it refused before' 'marked.new: refused BadLine at 5'
+    quietly "$collector" stop older
+}
+
 # A file that takes more memory than there is doesn't end the collector for good.
 @test "memory" {
     files

@@ -48,8 +48,8 @@ load projects
     says "$work/err" 'ci.sh: and its line' 'jobs/cut.info: refused BadLine at 3'
     printf 'SF:/a.c\nFNA:0,1,f\nDA:1,1\nend_of_record\n' >jobs/cut.info
     call ci/ci.sh --merge-only --no-html --empty skip jobs/*.info
-    ended 4 "ci.sh: a tracefile that lcov2.awk can't convert"
-    holds 'ci.sh: and its line' grep -q '^jobs/cut.info: at 2: ' "$work/err"
+    ended 4 "ci.sh: a tracefile of LCOV 2 that is broken"
+    says "$work/err" 'ci.sh: and its line' 'jobs/cut.info: refused Misplaced at 2'
     call ci/ci.sh --merge-only --no-html
     ended 2 'ci.sh --merge-only: without tracefiles'
     call ci/ci.sh --merge-only --no-html --empty maybe jobs/a.info
@@ -58,6 +58,68 @@ load projects
     cp jobs/a.info a=b.info
     call bash -c 'ci/ci.sh --merge-only --no-html a=b.info <(cat jobs/b.info) jobs/c.info'
     says "$work/out" 'ci.sh --merge-only: a name with an equals sign, and a pipe' '  lines......: 75.0% (3 of 4 lines)'
+}
+
+# With --lcov2 no filter is needed; for a covcollect without it the filter does the same.
+@test "LCOV 2, and a covcollect without --lcov2" {
+    local make=(make -f farm.mk)
+    project project
+    old_program old
+    cd project
+    rm ci/lcov2.awk
+    mkdir -p jobs machines/a machines/b
+    # By hand: f is called three times, and its line 2 is run four times.
+    printf 'TN:a\nSF:/x.c\nFNL:0,1,5\nFNA:0,3,f\nBRDA:2,e0,0,1\nBRDA:2,0,x,2\nDA:2,3\nend_of_record\n' >jobs/new.info
+    printf 'TN:a\nSF:/x.c\nFN:1,f\nFNDA:0,f\nDA:2,1\nend_of_record\n' >jobs/plain.info
+    printf '%s\n' TN:a SF:/x.c FN:1,f FNDA:3,f FNF:1 FNH:1 BRDA:2,0,0,3 BRF:1 BRH:1 DA:2,4 LF:1 LH:1 end_of_record >../wanted
+    call ci/ci.sh --merge-only --no-html jobs/*.info
+    ended 0 'ci.sh: tracefiles of both versions, without lcov2.awk'
+    same ../wanted coverage/all.info 'ci.sh: and the counts worked out by hand'
+    call env COVCOLLECT="$PWD/../old" ci/ci.sh --merge-only --no-html jobs/*.info
+    ended 2 'ci.sh: a covcollect without --lcov2 needs lcov2.awk'
+    says "$work/err" 'ci.sh: as it says' "ci.sh: $PWD/../old has no --lcov2, and $PWD/ci/lcov2.awk isn't there: copy it beside ci.sh"
+    call bash -c 'mkdir copies; printf "%s\0" jobs/new.info | COVCOLLECT=$1 bash ci/intake copies' - "$PWD/../old"
+    ended 2 'intake: the same'
+    cp "$recipes/lcov2.awk" ci
+    # The filter refuses a block with a number and an expression.
+    sed -i '/^BRDA:2,0,x/s/2,0,x/3,0,x/' jobs/new.info
+    sed -i 's/^BRDA:2,0,0,3/BRDA:2,0,0,1\nBRDA:3,0,0,2/; s/^BR\([FH]\):1/BR\1:2/' ../wanted
+    call env COVCOLLECT="$PWD/../old" ci/ci.sh --merge-only --no-html jobs/*.info
+    ended 0 'ci.sh: a covcollect without --lcov2, by lcov2.awk'
+    same ../wanted coverage/all.info 'ci.sh: the same counts'
+    call ci/ci.sh --merge-only --no-html jobs/*.info
+    same ../wanted coverage/all.info 'ci.sh: which are those by --lcov2'
+    printf 'SF:/a.c\nFNA:0,1,f\nDA:1,1\nend_of_record\n' >jobs/cut.info
+    call env COVCOLLECT="$PWD/../old" ci/ci.sh --merge-only --no-html jobs/*.info
+    ended 4 "ci.sh: a tracefile that lcov2.awk can't convert"
+    holds 'ci.sh: and its line' grep -q '^jobs/cut.info: at 2: ' "$work/err"
+
+    cp "$recipes/farm.mk" "$recipes/intake" .
+    cp jobs/new.info machines/a
+    cp jobs/plain.info machines/b
+    call "${make[@]}"
+    ended 0 'farm.mk: tracefiles of both versions'
+    same ../wanted farm.info 'farm.mk: and the counts worked out by hand'
+    call "${make[@]}" CHECK=fail
+    ended 0 'farm.mk: the same with CHECK, without lcov2.awk'
+    same ../wanted farm.info 'farm.mk: and the counts, too'
+    call "${make[@]}" CHECK=fail COVCOLLECT="$PWD/../old"
+    ended 2 'farm.mk: CHECK with a covcollect without --lcov2 needs lcov2.awk'
+    cp "$recipes/lcov2.awk" .
+    call "${make[@]}" CHECK=fail COVCOLLECT="$PWD/../old"
+    ended 0 'farm.mk: which is used then'
+    same ../wanted farm.info 'farm.mk: with the same counts'
+    holds 'farm.mk: for which every machine was merged again' [ "$(grep -c 'makes' "$work/err")" -ge 2 ]
+    sed -i '/^BRDA/d' machines/a/new.info
+    call "${make[@]}" COVCOLLECT="$PWD/../old"
+    ended 0 'farm.mk: without CHECK a covcollect without --lcov2 reads version 1'
+    holds "farm.mk: so functions of LCOV 2 aren't there" grep -qx FNDA:0,f farm.info
+    call "${make[@]}"
+    holds 'farm.mk: and they are, as soon as it has --lcov2' grep -qx FNDA:3,f farm.info
+    # Whose shares are version 1: a name that begins with digits and a comma stays in the total.
+    printf 'SF:/y.c\nFNL:0,1\nFNA:0,3,7,f\nDA:1,1\nend_of_record\n' >machines/a/name.info
+    call "${make[@]}"
+    holds 'farm.mk: shares are read as version 1' grep -qx FNDA:3,7,f farm.info
 }
 
 # Two jobs that build and test, and the one that merges them. By hand: other.c is compiled too and never run, so 4 of 8 lines are hit;
@@ -133,7 +195,7 @@ load projects
     same before.info farm.info 'farm.mk: which gives the same total'
     printf 'SF:/two.c\nFNL:0,1,5\nFNA:0,3,f\nDA:1,1\nend_of_record\n' >machines/m2/page.info
     call "${make[@]}" CHECK=fail
-    says farm.info 'farm.mk: with CHECK a tracefile of LCOV 2 is converted' 'SF:/two.c' 'FNDA:3,f'
+    says farm.info 'farm.mk: with CHECK a tracefile of LCOV 2 is read' 'SF:/two.c' 'FNDA:3,f'
     call "${make[@]}" CHECK=fail
     holds 'farm.mk: with CHECK nothing is made anew, either, where nothing changed' [ "$status:$(<"$work/err")" = 0: ]
     printf 'SF:/two.c\nDA:1\n' >machines/m2/page.info

@@ -16,19 +16,8 @@
 
 load common
 load projects
+load releases
 
-# A package of a later release of Debian, unpacked: release, package, folder.
-fetch() {
-    local apt=$BATS_FILE_TMPDIR/apt/$1 mirror options
-    mirror=$(apt-get indextargets --format '$(SITE)' 'Created-By: Packages' 2>/dev/null | grep '/debian$' | head -n 1)
-    mkdir -p "$apt/lists/partial" "$apt/cache/archives/partial" "$3"
-    echo "deb [signed-by=/usr/share/keyrings/debian-archive-keyring.gpg] ${mirror:-http://deb.debian.org/debian} $1 main" >"$apt/sources.list"
-    options=(-q -o Dir::Etc::SourceList="$apt/sources.list" -o Dir::Etc::SourceParts=/dev/null -o Dir::State::Lists="$apt/lists"
-        -o Dir::Cache="$apt/cache" -o Acquire::Languages=none -o Debug::NoLocking=1 -o APT::Sandbox::User="$(id -un)")
-    [ -e "$apt/updated" ] || apt-get "${options[@]}" update >"$apt/log" 2>&1 || return 1
-    : >"$apt/updated"
-    (cd "$3" && apt-get "${options[@]}" download "$2" >>"$apt/log" 2>&1 && dpkg-deb -x "$2"_*.deb . && ls "$2"_*.deb) || return 1
-}
 # The filter by each awk: the output of mawk is left in $work/plain.
 plain() { # WHAT FILE OPTIONS...
     local what=$1 file=$2 awk

@@ -85,6 +85,20 @@ for i in range(3):
 END
 }
 
+# A covcollect without --lcov2, as it was before: for recipes that ask it.
+old_program() { # FILE
+    cat >"$1" <<END
+#!/bin/bash
+for word; do
+    [ "\$word" != -- ] || break
+    [ "\$word" != --lcov2 ] || { echo 'old: no --lcov2' >&2; exit 2; }
+done
+[[ " \$* " != *' --help '* ]] || exec grep -v -e --lcov2 <("$COVCOLLECT" "\$@")
+exec "$COVCOLLECT" "\$@"
+END
+    chmod +x "$1"
+}
+
 # Tracefiles with three tests, four sources, lines, functions and branches; names with spaces among them.
 tracefiles() { # FOLDER FIRST LAST
     local number

@@ -217,13 +217,16 @@ older() { cp one.info farm.info && cp one.info before.info; }
 @test "--check" {
     needs_slurm
     farm
-    # By --check tracefiles of LCOV 2 are converted, and one without a record is named.
+    # By --check a file without a record is named. Tracefiles of LCOV 2 are read in any case.
     mkdir checked
     printf 'SF:/two.c\nFNL:0,1,5\nFNA:0,3,f\nDA:1,1\nend_of_record\n' >checked/a.info
     cp 'in/m2/f 16.info' checked/b.info
     call "$merge" --check fail --share 1 checked.info checked
     ended 0 'merge-farm: --check'
-    says checked.info 'merge-farm: a tracefile of LCOV 2 is converted' 'SF:/two.c' 'FNDA:3,f'
+    says checked.info 'merge-farm: a tracefile of LCOV 2 is read' 'SF:/two.c' 'FNDA:3,f'
+    call "$merge" --share 1 unchecked.info checked
+    same checked.info unchecked.info 'merge-farm: without --check too'
+    rm unchecked.info
     printf '<html>\n' >checked/c.info
     call "$merge" --check fail --share 1 checked.info checked
     ended 4 'merge-farm: --check, with a tracefile without a record'

@@ -25,6 +25,8 @@ if [ "$check" != no ]; then
     [ $status -eq 0 ] || fail $status
     names=("$share.files"/*.info)
 fi
-"$program" merge --jobs "${SLURM_CPUS_PER_TASK:-1}" -- "${names[@]}" >"$share.part" || status=$?
+lcov2=()
+case $("$program" merge --help 2>/dev/null </dev/null || true) in *--lcov2*) lcov2=(--lcov2) ;; esac
+"$program" merge "${lcov2[@]}" --jobs "${SLURM_CPUS_PER_TASK:-1}" -- "${names[@]}" >"$share.part" || status=$?
 [ $status -eq 0 ] || fail $status
 mv "$share.part" "$share.info"
