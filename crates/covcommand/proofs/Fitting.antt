@@ -22,7 +22,7 @@ use Rattle.covcommand.proofs.Rows.{EachDefaultFits, FitsValues, RowOf, RowsFit, 
 no : {A : Type 0} → false ≡ true → A
 no e = absurd cc
 
--- ---- each argument's uses
+-- ---- each argument's uses and default
 
 accepted : (b : Bool) (k : ErrorKind) → cond b [] (k ∷ []) ≡ [] → b ≡ true
 accepted true k e = refl

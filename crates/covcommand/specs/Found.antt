@@ -22,15 +22,18 @@ HasJobs rows = (text : Text) × (one_of (codes "jobs") rows ≡ Some (without_mi
 abbrev pub HasFlag : Text → List Row → Type 0
 HasFlag id rows = (one_of id rows ≡ Some (codes "true")) ⊎ (one_of id rows ≡ Some (codes "false"))
 
+-- clap found what `merge` and `summary` require
 abbrev pub HasMerging : List Row → Type 0
 HasMerging rows = HasFlag (codes "lcov2") rows × HasJobs rows × HasSome (codes "FILE") rows
 
 abbrev pub HasFilter : List Row → Type 0
 HasFilter rows = HasSome (codes "TRACEFILE") rows × HasSome (codes "PATTERN") rows
 
+-- clap found what `extract` and `remove` require
 abbrev pub HasFiltering : List Row → Type 0
 HasFiltering rows = HasFlag (codes "lcov2") rows × HasFilter rows
 
+-- clap found what `check` requires
 abbrev pub HasCheck : List Row → Type 0
 HasCheck rows = HasFlag (codes "gcov") rows × HasFlag (codes "lcov2") rows × HasSome (codes "FILE") rows
 
