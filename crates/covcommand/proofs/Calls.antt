@@ -9,6 +9,7 @@ use Rattle.covcommand.specs.Asked.{AsksFor}
 use Rattle.covcommand.specs.CommandLine.{covcollect}
 use Rattle.covcommand.specs.declared.asked.Command.TheVariants.{Check}
 use Rattle.covcommand.specs.declared.asked.TextFormat.TheVariants as format
+use Rattle.covcommand.specs.declared.asked.LcovVersion.TheVariants.{One, Two}
 
 pub session_taken : takes covcollect (codes "covcollect" ∷ []) ≡ true
 unfolding clap_on_literals
@@ -38,13 +39,41 @@ pub check_taken : takes covcollect (codes "covcollect" ∷ codes "check" ∷ cod
 unfolding clap_on_literals
 check_taken = refl
 
+pub merge_lcov2_taken : takes covcollect (codes "covcollect" ∷ codes "merge" ∷ codes "--lcov2" ∷ codes "a.info" ∷ codes "b.info" ∷ []) ≡ true
+unfolding clap_on_literals
+merge_lcov2_taken = refl
+
+pub summary_lcov2_taken : takes covcollect (codes "covcollect" ∷ codes "summary" ∷ codes "a.info" ∷ codes "--lcov2" ∷ []) ≡ true
+unfolding clap_on_literals
+summary_lcov2_taken = refl
+
+pub extract_lcov2_taken : takes covcollect (codes "covcollect" ∷ codes "extract" ∷ codes "--lcov2" ∷ codes "a.info" ∷ codes "*.c" ∷ []) ≡ true
+unfolding clap_on_literals
+extract_lcov2_taken = refl
+
+pub remove_lcov2_taken : takes covcollect (codes "covcollect" ∷ codes "remove" ∷ codes "--lcov2" ∷ codes "a.info" ∷ codes "*.c" ∷ []) ≡ true
+unfolding clap_on_literals
+remove_lcov2_taken = refl
+
+pub check_lcov2_taken : takes covcollect (codes "covcollect" ∷ codes "check" ∷ codes "--lcov2" ∷ codes "a.info" ∷ []) ≡ true
+unfolding clap_on_literals
+check_lcov2_taken = refl
+
+pub short_jobs_taken : takes covcollect (codes "covcollect" ∷ codes "merge" ∷ codes "-j" ∷ codes "4" ∷ codes "a.info" ∷ []) ≡ true
+unfolding clap_on_literals
+short_jobs_taken = refl
+
+pub summary_jobs_taken : takes covcollect (codes "covcollect" ∷ codes "summary" ∷ codes "--jobs" ∷ codes "4" ∷ codes "a.info" ∷ []) ≡ true
+unfolding clap_on_literals
+summary_jobs_taken = refl
+
 -- the rows of the subcommand that the words name
 abbrev rows_met : List Text → List Row
 rows_met words = option_map_or (λ met. met.1) (subcommand_of covcollect words) []
 
-pub tracefile_asked : AsksFor (subcommand_of covcollect (codes "covcollect" ∷ codes "check" ∷ codes "a.info" ∷ [])) (Check format.Tracefile (codes "a.info" ∷ []))
+pub tracefile_asked : AsksFor (subcommand_of covcollect (codes "covcollect" ∷ codes "check" ∷ codes "a.info" ∷ [])) (Check (format.Tracefile One) (codes "a.info" ∷ []))
 unfolding clap_on_literals
-tracefile_asked = (rows_met (codes "covcollect" ∷ codes "check" ∷ codes "a.info" ∷ []), refl, refl, refl)
+tracefile_asked = (rows_met (codes "covcollect" ∷ codes "check" ∷ codes "a.info" ∷ []), refl, (refl, refl), refl)
 
 pub before_asked : AsksFor (subcommand_of covcollect (codes "covcollect" ∷ codes "check" ∷ codes "--gcov" ∷ codes "a.c.gcov" ∷ [])) (Check format.Gcov (codes "a.c.gcov" ∷ []))
 unfolding clap_on_literals
@@ -54,9 +83,17 @@ pub after_asked : AsksFor (subcommand_of covcollect (codes "covcollect" ∷ code
 unfolding clap_on_literals
 after_asked = (rows_met (codes "covcollect" ∷ codes "check" ∷ codes "a.c.gcov" ∷ codes "--gcov" ∷ []), refl, refl, refl)
 
-pub name_asked : AsksFor (subcommand_of covcollect (codes "covcollect" ∷ codes "check" ∷ codes "--" ∷ codes "--gcov" ∷ [])) (Check format.Tracefile (codes "--gcov" ∷ []))
+pub name_asked : AsksFor (subcommand_of covcollect (codes "covcollect" ∷ codes "check" ∷ codes "--" ∷ codes "--gcov" ∷ [])) (Check (format.Tracefile One) (codes "--gcov" ∷ []))
 unfolding clap_on_literals
-name_asked = (rows_met (codes "covcollect" ∷ codes "check" ∷ codes "--" ∷ codes "--gcov" ∷ []), refl, refl, refl)
+name_asked = (rows_met (codes "covcollect" ∷ codes "check" ∷ codes "--" ∷ codes "--gcov" ∷ []), refl, (refl, refl), refl)
+
+pub lcov2_asked : AsksFor (subcommand_of covcollect (codes "covcollect" ∷ codes "check" ∷ codes "--lcov2" ∷ codes "a.info" ∷ [])) (Check (format.Tracefile Two) (codes "a.info" ∷ []))
+unfolding clap_on_literals
+lcov2_asked = (rows_met (codes "covcollect" ∷ codes "check" ∷ codes "--lcov2" ∷ codes "a.info" ∷ []), refl, (refl, refl), refl)
+
+pub both_asked : AsksFor (subcommand_of covcollect (codes "covcollect" ∷ codes "check" ∷ codes "--gcov" ∷ codes "--lcov2" ∷ codes "a.c.gcov" ∷ [])) (Check format.Gcov (codes "a.c.gcov" ∷ []))
+unfolding clap_on_literals
+both_asked = (rows_met (codes "covcollect" ∷ codes "check" ∷ codes "--gcov" ∷ codes "--lcov2" ∷ codes "a.c.gcov" ∷ []), refl, refl, refl)
 
 pub jobs_refused : fault_of covcollect (codes "covcollect" ∷ codes "merge" ∷ codes "--jobs" ∷ codes "65" ∷ codes "a.info" ∷ []) ≡ kind.ValueValidation ∷ []
 unfolding clap_on_literals
@@ -81,6 +118,14 @@ check_refused = refl
 pub twice_refused : fault_of covcollect (codes "covcollect" ∷ codes "check" ∷ codes "--gcov" ∷ codes "--gcov" ∷ codes "a.c.gcov" ∷ []) ≡ kind.ArgumentConflict ∷ []
 unfolding clap_on_literals
 twice_refused = refl
+
+pub gcov_lcov2_refused : fault_of covcollect (codes "covcollect" ∷ codes "gcov" ∷ codes "--lcov2" ∷ codes "--test=" ∷ codes "a.c.gcov" ∷ []) ≡ kind.UnknownArgument ∷ []
+unfolding clap_on_literals
+gcov_lcov2_refused = refl
+
+pub lcov2_twice_refused : fault_of covcollect (codes "covcollect" ∷ codes "merge" ∷ codes "--lcov2" ∷ codes "--lcov2" ∷ codes "a.info" ∷ []) ≡ kind.ArgumentConflict ∷ []
+unfolding clap_on_literals
+lcov2_twice_refused = refl
 
 pub help_refused : fault_of covcollect (codes "covcollect" ∷ codes "merge" ∷ codes "--help" ∷ []) ≡ kind.DisplayHelp ∷ []
 unfolding clap_on_literals

@@ -11,18 +11,18 @@ use Rattle.clap.specs.declared.builder.value_parser.Reading.TheVariants.{AsWritt
 use Rattle.clap.specs.declared.builder.value_parser.ValueParser.TheVariants as parser
 use Rattle.clap.specs.declared.parser.matches.ValueSource.TheVariants.{CommandLine}
 use Rattle.clap.specs.Walk.{Row, Rule, Text, answers_to, has_row, nothing_held, rows_after, stop_after, walk, walk_from, with_default}
-use Rattle.clap.specs.Simple.{App, Shape, argument_words, built, entered, filled, help_rule, label_of, names_of, rows_at, subcommand_of, with_index}
+use Rattle.clap.specs.Simple.{App, Shape, argument_words, built, entered, filled, help_rule, label_of, names_of, rows_at, subcommand_of, with_index, with_subcommand}
 use Rattle.clap.specs.Takes.{is_given}
 use Rattle.clap.specs.Faults.{built_fault, check_fault, entered_fault, fault_of, level_fault, repeat_fault, walk_fault}
-use Rattle.covcommand.specs.CommandLine.{annotated, covcollect, jobs, merge, several, single, test}
-use Rattle.covcommand.specs.Found.{Fits, HasFilter, HasFlag, HasJobs, HasSome, HasTest}
+use Rattle.covcommand.specs.CommandLine.{check, covcollect, extract, filtering, flag, gcov, jobs, merge, merging, program, remove, several, single, summary, test}
+use Rattle.covcommand.specs.Found.{Fits, HasCheck, HasFiltering, HasFlag, HasMerging, HasSome, HasTest}
 use Rattle.covcommand.proofs.Walks.{EachKeeps, Keeps, level_keeps, no_faults, settled_after}
-use Rattle.covcommand.proofs.Rows.{FitsValues, RowsFit, append_fits, defaulted, given_row, has_flag, has_jobs, has_some, has_test, held_row, not_defaulted, numbers, set_fits}
+use Rattle.covcommand.proofs.Rows.{EachDefaultFits, FitsValues, RowOf, RowsFit, append_fits, defaulted, defaults_fit, given_row, has_default, has_flag, has_jobs, has_some, has_test, held_row, is_flag, numbers, set_fits}
 
 no : {A : Type 0} → false ≡ true → A
 no e = absurd cc
 
--- ---- each argument's uses
+-- ---- each argument's uses and default
 
 accepted : (b : Bool) (k : ErrorKind) → cond b [] (k ∷ []) ≡ [] → b ≡ true
 accepted true k e = refl
@@ -30,7 +30,7 @@ accepted false k e = absurd cc
 
 -- the values of this argument may be any words
 abbrev IsFree : Text → Type 0
-IsFree id = (bytes_eq id (codes "jobs") ≡ false) × (bytes_eq id (codes "gcov") ≡ false)
+IsFree id = (bytes_eq id (codes "jobs") ≡ false) × (is_flag id ≡ false)
 
 any_fit : (id v : Text) (vs : List Text) → IsFree id → FitsValues id AsWritten (v ∷ vs)
 any_fit id v vs free = ((λ e. no (sym free.0 ∙ e)), (λ e. no (sym free.1 ∙ e)))
@@ -50,23 +50,21 @@ test_keeps i again [] rows none fit = absurd cc
 test_keeps i again (v ∷ vs) rows none fit =
     set_fits (codes "test") AsWritten (v ∷ vs) rows (any_fit (codes "test") v vs (refl, refl)) fit
 
-abbrev annotated_built : ℕ → Rule
-annotated_built i = with_index i (filled annotated)
-
--- a use of the flag `--gcov` keeps the rows fitting: its value is then "true"
-annotated_keeps : (i : ℕ) → Keeps RowsFit (annotated_built i)
-annotated_keeps i again [] rows none fit =
-    set_fits (codes "gcov") AsWritten (codes "true" ∷ []) rows ((λ e. no e), (λ e. (refl, refl))) fit
-annotated_keeps i again (v ∷ vs) rows none fit =
+-- a use of a flag keeps the rows fitting: its value is then "true"
+flag_keeps : (id : Text) (i : ℕ) → bytes_eq id (codes "jobs") ≡ false → Keeps RowsFit (with_index i (filled (flag id)))
+flag_keeps id i other again [] rows none fit =
+    set_fits id AsWritten (codes "true" ∷ []) rows ((λ e. no (sym other ∙ e)), (λ e. (refl, refl))) fit
+flag_keeps id i other again (v ∷ vs) rows none fit =
     let range = no_faults (range_kinds 0 0 (length (v ∷ vs)))
-    (or_else (repeat_fault again (codes "gcov") rows) (values_kinds false parser.Bool (v ∷ vs))) none in
+    (or_else (repeat_fault again id rows) (values_kinds false parser.Bool (v ∷ vs))) none in
     let nothing : 0 ≡ length (v ∷ vs) = eqb-true 0 (length (v ∷ vs)) (accepted _ _ range.0) in
     absurd (omega (arith, nothing))
 
-abbrev jobs_built : ℕ → Rule
-jobs_built i = with_index i (filled jobs)
+-- the default of a flag, by which it isn't set, fits
+unset_fits : (id : Text) → bytes_eq id (codes "jobs") ≡ false → FitsValues id AsWritten (codes "false" ∷ [])
+unset_fits id other = ((λ e. no (sym other ∙ e)), (λ e. (refl, refl)))
 
-jobs_keeps : (i : ℕ) → Keeps RowsFit (jobs_built i)
+jobs_keeps : (i : ℕ) → Keeps RowsFit (with_index i (filled jobs))
 jobs_keeps i again [] rows none fit = absurd cc
 jobs_keeps i again (v ∷ vs) rows none fit =
     let acts = no_faults (range_kinds 1 1 (length (v ∷ vs)))
@@ -74,6 +72,10 @@ jobs_keeps i again (v ∷ vs) rows none fit =
     let sets = no_faults (repeat_fault again (codes "jobs") rows) (values_kinds false numbers (v ∷ vs)) acts.1 in
     let first = no_faults (value_kinds false numbers v) (values_kinds false numbers vs) sets.1 in
     set_fits (codes "jobs") WithoutMinus (v ∷ vs) rows ((λ e. (accepted _ _ first.0, refl)), (λ e. no e)) fit
+
+-- the default of `--jobs` fits
+one_job_fits : FitsValues (codes "jobs") WithoutMinus (codes "1" ∷ [])
+one_job_fits = ((λ e. (refl, refl)), (λ e. no e))
 
 help_keeps : (i : ℕ) → Keeps RowsFit (with_index i (filled help_rule))
 help_keeps i again values rows none fit =
@@ -91,167 +93,160 @@ wanted false rest k e = absurd cc
 
 -- ---- each subcommand
 
-abbrev SubFits : Shape → Type 0
-SubFits s = (words : List Text) → level_fault s [] nothing_held words false [] ≡ [] → Fits s.name (rows_after s.rules [] words)
+-- the subcommand with these arguments, as it is built below the program
+abbrev built_below : App → Shape
+built_below a = slice_index_or (built (with_subcommand program a.top)).subs 0 a.top
 
--- the subcommand at this place, as it is built
-abbrev sub_at : ℕ → Shape
-sub_at i = slice_index_or (built covcollect).subs i merge.top
+-- what words without a fault leave of a subcommand's arguments: rows that fit, with one for each argument that has a default, and
+-- no fault in clap's last checks
+record Left (s : Shape) (rows : List Row) : Type 0 where
+  fit : RowsFit rows
+  has : (id : Text) → has_default id s.rules ≡ true → has_row id rows ≡ true
+  none : check_fault s rows false ≡ []
 
-merge_has : (rows : List Row) → RowsFit rows → check_fault (sub_at 0) (fold with_default rows (sub_at 0).rules) false ≡ []
-    → HasJobs (fold with_default rows (sub_at 0).rules) × HasSome (codes "FILE") (fold with_default rows (sub_at 0).rules)
-merge_has rows fit none =
-    let all = fold with_default rows (sub_at 0).rules in
-    let before = with_default (with_default rows (with_index 1 (filled (several (codes "FILE"))))) (jobs_built 2) in
-    let same : all ≡ with_default rows (jobs_built 2) = not_defaulted (has_row (codes "help") before) before
-    ∙ ap (λ (r : List Row). with_default r (jobs_built 2)) (not_defaulted (has_row (codes "FILE") rows) rows) in
-    let done = defaulted (codes "jobs") WithoutMinus (codes "1") refl ((λ e. (refl, refl)), (λ e. no e)) rows fit in
-    let fits : RowsFit all = subst RowsFit (sym same) done.0 in
-    let has : has_row (codes "jobs") all ≡ true = ap (has_row (codes "jobs")) same ∙ done.1 in
-    (has_jobs all (held_row (codes "jobs") all fits has), has_some (codes "FILE") all (given_row (codes "FILE") all fits (wanted _ _ _ none).0))
-
-merge_fits : SubFits (sub_at 0)
-merge_fits words none =
-    let each : EachKeeps RowsFit (sub_at 0).rules = (several_keeps (codes "FILE") 1 (refl, refl), (jobs_keeps 2, (help_keeps 2, tt))) in
-    let level = level_keeps RowsFit (sub_at 0) words each tt none in
-    let has = merge_has (settled_after (sub_at 0) words) level.0 level.1 in
+left_after : (s : Shape) (words : List Text) → EachKeeps RowsFit s.rules → EachDefaultFits s.rules → level_fault s [] nothing_held words false [] ≡ []
+    → Left s (rows_after s.rules [] words)
+left_after s words each defaults none =
+    let level = level_keeps RowsFit s words each tt none in
     record {
-      merge = λ e. has;
-      summary = λ e. no e;
-      extract = λ e. no e;
-      remove = λ e. no e;
-      gcov = λ e. no e;
-      others = λ m s x r g. no (sym m);
+      fit = defaults_fit s.rules (settled_after s words) defaults level.0;
+      has = λ id has. defaulted id s.rules (settled_after s words) has;
+      none = level.1;
     }
 
-summary_fits : SubFits (sub_at 1)
-summary_fits words none =
-    let each : EachKeeps RowsFit (sub_at 1).rules = (several_keeps (codes "FILE") 1 (refl, refl), (help_keeps 2, tt)) in
-    let level = level_keeps RowsFit (sub_at 1) words each tt none in
-    let has = summary_has (settled_after (sub_at 1) words) level.0 level.1 in
-    record {
-      merge = λ e. no e;
-      summary = λ e. has;
-      extract = λ e. no e;
-      remove = λ e. no e;
-      gcov = λ e. no e;
-      others = λ m s x r g. no (sym s);
-    }
+module _ {s : Shape} {rows : List Row} (left : Left s rows) where
+  row_left : (id : Text) → has_default id s.rules ≡ true → RowOf id rows
+  row_left id has = held_row id rows left.fit (left.has id has)
+
+  flag_left : (id : Text) → is_flag id ≡ true → has_default id s.rules ≡ true → HasFlag id rows
+  flag_left id flag has = has_flag id rows flag (row_left id has)
+
+  some_left : (id : Text) → is_given id rows ≡ true → HasSome id rows
+  some_left id given = has_some id rows (given_row id rows left.fit given)
+
+-- words without a fault for the subcommand leave rows of this kind
+abbrev Leaves : Shape → (List Row → Type 0) → Type 0
+Leaves s P = (words : List Text) → level_fault s [] nothing_held words false [] ≡ [] → P (rows_after s.rules [] words)
+
+-- `merge` and `summary`
+merging_leaves : (name : Text) → Leaves (built_below (merging name)) HasMerging
+merging_leaves name words none =
+    let each : EachKeeps RowsFit (built_below (merging name)).rules =
+    (several_keeps (codes "FILE") 1 (refl, refl), (jobs_keeps 2, (flag_keeps (codes "lcov2") 2 refl, (help_keeps 2, tt)))) in
+    let defaults : EachDefaultFits (built_below (merging name)).rules = (tt, (one_job_fits, (unset_fits (codes "lcov2") refl, (tt, tt)))) in
+    of_left _ (left_after (built_below (merging name)) words each defaults none)
   where
-    summary_has : (rows : List Row) → RowsFit rows → check_fault (sub_at 1) (fold with_default rows (sub_at 1).rules) false ≡ []
-        → HasSome (codes "FILE") (fold with_default rows (sub_at 1).rules)
-    summary_has rows fit none =
-        let before = with_default rows (with_index 1 (filled (several (codes "FILE")))) in
-        let same : fold with_default rows (sub_at 1).rules ≡ rows = not_defaulted (has_row (codes "help") before) before
-        ∙ not_defaulted (has_row (codes "FILE") rows) rows in
-        let all = fold with_default rows (sub_at 1).rules in
-        has_some (codes "FILE") all (given_row (codes "FILE") all (subst RowsFit (sym same) fit) (wanted _ _ _ none).0)
-
--- the arguments of `extract` and of `remove`: a tracefile, patterns, and `--help`
-abbrev filter_rules : List Rule
-filter_rules = with_index 1 (filled (single (codes "TRACEFILE"))) ∷ with_index 2 (filled (several (codes "PATTERN"))) ∷ with_index 3 (filled help_rule) ∷ []
-
-filter_keeps : EachKeeps RowsFit filter_rules
-filter_keeps = (single_keeps (codes "TRACEFILE") 1 (refl, refl), (several_keeps (codes "PATTERN") 2 (refl, refl), (help_keeps 3, tt)))
-
-filter_same : (rows : List Row) → fold with_default rows filter_rules ≡ rows
-filter_same rows =
-    let first = with_default rows (with_index 1 (filled (single (codes "TRACEFILE")))) in
-    let second = with_default first (with_index 2 (filled (several (codes "PATTERN")))) in
-    not_defaulted (has_row (codes "help") second) second ∙ not_defaulted (has_row (codes "PATTERN") first) first
-    ∙ not_defaulted (has_row (codes "TRACEFILE") rows) rows
-
-filter_has : (s : Shape) (rows : List Row) → RowsFit rows → s.rules ≡ filter_rules → s.arg_required_else_help ≡ false → s.subcommand_required ≡ false
-    → s.subcommand_negates_reqs ≡ false → check_fault s (fold with_default rows filter_rules) false ≡ [] → HasFilter (fold with_default rows filter_rules)
-filter_has s rows fit rules helps requires negates none =
-    let all = fold with_default rows filter_rules in
-    let fits : RowsFit all = subst RowsFit (sym (filter_same rows)) fit in
-    let checks : cond (not (is_given (codes "TRACEFILE") all) || (not (is_given (codes "PATTERN") all) || false)) (kind.MissingRequiredArgument ∷ []) [] ≡ []
-    = rw (rules, helps, requires, negates) at none in
-    let tracefile = wanted _ _ _ checks in
-    let patterns = wanted _ _ _ tracefile.1 in (
-      has_some (codes "TRACEFILE") all (given_row (codes "TRACEFILE") all fits tracefile.0),
-      has_some (codes "PATTERN") all (given_row (codes "PATTERN") all fits patterns.0),
+    of_left : (rows : List Row) → Left (built_below (merging name)) rows → HasMerging rows
+    of_left rows left = (
+      flag_left left (codes "lcov2") refl refl,
+      has_jobs rows (row_left left (codes "jobs") refl),
+      some_left left (codes "FILE") (wanted _ _ _ left.none).0,
     )
 
-extract_fits : SubFits (sub_at 2)
-extract_fits words none =
-    let level = level_keeps RowsFit (sub_at 2) words filter_keeps tt none in
-    let has = filter_has (sub_at 2) (settled_after (sub_at 2) words) level.0 refl refl refl refl level.1 in
-    record {
-      merge = λ e. no e;
-      summary = λ e. no e;
-      extract = λ e. has;
-      remove = λ e. no e;
-      gcov = λ e. no e;
-      others = λ m s x r g. no (sym x);
-    }
+-- `extract` and `remove`
+filtering_leaves : (name : Text) → Leaves (built_below (filtering name)) HasFiltering
+filtering_leaves name words none =
+    let each : EachKeeps RowsFit (built_below (filtering name)).rules =
+    (single_keeps (codes "TRACEFILE") 1 (refl, refl), (several_keeps (codes "PATTERN") 2 (refl, refl), (flag_keeps (codes "lcov2") 3 refl, (help_keeps 3, tt)))) in
+    let defaults : EachDefaultFits (built_below (filtering name)).rules = (tt, (tt, (unset_fits (codes "lcov2") refl, (tt, tt)))) in
+    of_left _ (left_after (built_below (filtering name)) words each defaults none)
+  where
+    of_left : (rows : List Row) → Left (built_below (filtering name)) rows → HasFiltering rows
+    of_left rows left =
+        let tracefile = wanted _ _ _ left.none in
+        let patterns = wanted _ _ _ tracefile.1 in (
+          flag_left left (codes "lcov2") refl refl,
+          (some_left left (codes "TRACEFILE") tracefile.0, some_left left (codes "PATTERN") patterns.0),
+        )
 
-remove_fits : SubFits (sub_at 3)
-remove_fits words none =
-    let level = level_keeps RowsFit (sub_at 3) words filter_keeps tt none in
-    let has = filter_has (sub_at 3) (settled_after (sub_at 3) words) level.0 refl refl refl refl level.1 in
-    record {
-      merge = λ e. no e;
-      summary = λ e. no e;
-      extract = λ e. no e;
-      remove = λ e. has;
-      gcov = λ e. no e;
-      others = λ m s x r g. no (sym r);
-    }
+gcov_leaves : Leaves (built_below gcov) (λ rows. HasTest rows × HasSome (codes "FILE") rows)
+gcov_leaves words none =
+    let each : EachKeeps RowsFit (built_below gcov).rules = (several_keeps (codes "FILE") 1 (refl, refl), (test_keeps 2, (help_keeps 2, tt))) in
+    of_left _ (left_after (built_below gcov) words each (tt, (tt, (tt, tt))) none)
+  where
+    of_left : (rows : List Row) → Left (built_below gcov) rows → HasTest rows × HasSome (codes "FILE") rows
+    of_left rows left =
+        let files = wanted _ _ _ left.none in
+        let name = wanted _ _ _ files.1 in
+        (has_test rows (given_row (codes "test") rows left.fit name.0), some_left left (codes "FILE") files.0)
 
-gcov_has : (rows : List Row) → RowsFit rows → check_fault (sub_at 4) (fold with_default rows (sub_at 4).rules) false ≡ []
-    → HasTest (fold with_default rows (sub_at 4).rules) × HasSome (codes "FILE") (fold with_default rows (sub_at 4).rules)
-gcov_has rows fit none =
-    let all = fold with_default rows (sub_at 4).rules in
-    let first = with_default rows (with_index 1 (filled (several (codes "FILE")))) in
-    let second = with_default first (with_index 2 (filled test)) in
-    let same : all ≡ rows = not_defaulted (has_row (codes "help") second) second ∙ not_defaulted (has_row (codes "test") first) first
-    ∙ not_defaulted (has_row (codes "FILE") rows) rows in
-    let fits : RowsFit all = subst RowsFit (sym same) fit in
-    let files = wanted _ _ _ none in
-    let name = wanted _ _ _ files.1 in
-    (has_test all (given_row (codes "test") all fits name.0), has_some (codes "FILE") all (given_row (codes "FILE") all fits files.0))
+check_leaves : Leaves (built_below check) HasCheck
+check_leaves words none =
+    let each : EachKeeps RowsFit (built_below check).rules =
+    (several_keeps (codes "FILE") 1 (refl, refl), (flag_keeps (codes "gcov") 2 refl, (flag_keeps (codes "lcov2") 2 refl, (help_keeps 2, tt)))) in
+    let defaults : EachDefaultFits (built_below check).rules =
+    (tt, (unset_fits (codes "gcov") refl, (unset_fits (codes "lcov2") refl, (tt, tt)))) in
+    of_left _ (left_after (built_below check) words each defaults none)
+  where
+    of_left : (rows : List Row) → Left (built_below check) rows → HasCheck rows
+    of_left rows left = (
+      flag_left left (codes "gcov") refl refl,
+      flag_left left (codes "lcov2") refl refl,
+      some_left left (codes "FILE") (wanted _ _ _ left.none).0,
+    )
 
-gcov_fits : SubFits (sub_at 4)
-gcov_fits words none =
-    let each : EachKeeps RowsFit (sub_at 4).rules = (several_keeps (codes "FILE") 1 (refl, refl), (test_keeps 2, (help_keeps 2, tt))) in
-    let level = level_keeps RowsFit (sub_at 4) words each tt none in
-    let has = gcov_has (settled_after (sub_at 4) words) level.0 level.1 in
-    record {
-      merge = λ e. no e;
-      summary = λ e. no e;
-      extract = λ e. no e;
-      remove = λ e. no e;
-      gcov = λ e. has;
-      others = λ m s x r g. no (sym g);
-    }
+abbrev SubFits : Shape → Type 0
+SubFits s = Leaves s (Fits s.name)
 
-check_has : (rows : List Row) → RowsFit rows → check_fault (sub_at 5) (fold with_default rows (sub_at 5).rules) false ≡ []
-    → HasFlag (fold with_default rows (sub_at 5).rules) × HasSome (codes "FILE") (fold with_default rows (sub_at 5).rules)
-check_has rows fit none =
-    let all = fold with_default rows (sub_at 5).rules in
-    let before = with_default (with_default rows (with_index 1 (filled (several (codes "FILE"))))) (annotated_built 2) in
-    let same : all ≡ with_default rows (annotated_built 2) = not_defaulted (has_row (codes "help") before) before
-    ∙ ap (λ (r : List Row). with_default r (annotated_built 2)) (not_defaulted (has_row (codes "FILE") rows) rows) in
-    let done = defaulted (codes "gcov") AsWritten (codes "false") refl ((λ e. no e), (λ e. (refl, refl))) rows fit in
-    let fits : RowsFit all = subst RowsFit (sym same) done.0 in
-    let has : has_row (codes "gcov") all ≡ true = ap (has_row (codes "gcov")) same ∙ done.1 in
-    (has_flag all (held_row (codes "gcov") all fits has), has_some (codes "FILE") all (given_row (codes "FILE") all fits (wanted _ _ _ none).0))
+merge_fits : SubFits (built_below merge)
+merge_fits words none = record {
+  merge = λ e. merging_leaves (codes "merge") words none;
+  summary = λ e. no e;
+  extract = λ e. no e;
+  remove = λ e. no e;
+  gcov = λ e. no e;
+  others = λ m s x r g. no (sym m);
+}
 
-check_fits : SubFits (sub_at 5)
-check_fits words none =
-    let each : EachKeeps RowsFit (sub_at 5).rules = (several_keeps (codes "FILE") 1 (refl, refl), (annotated_keeps 2, (help_keeps 2, tt))) in
-    let level = level_keeps RowsFit (sub_at 5) words each tt none in
-    let has = check_has (settled_after (sub_at 5) words) level.0 level.1 in
-    record {
-      merge = λ e. no e;
-      summary = λ e. no e;
-      extract = λ e. no e;
-      remove = λ e. no e;
-      gcov = λ e. no e;
-      others = λ m s x r g. (refl, has.0, has.1);
-    }
+summary_fits : SubFits (built_below summary)
+summary_fits words none = record {
+  merge = λ e. no e;
+  summary = λ e. merging_leaves (codes "summary") words none;
+  extract = λ e. no e;
+  remove = λ e. no e;
+  gcov = λ e. no e;
+  others = λ m s x r g. no (sym s);
+}
+
+extract_fits : SubFits (built_below extract)
+extract_fits words none = record {
+  merge = λ e. no e;
+  summary = λ e. no e;
+  extract = λ e. filtering_leaves (codes "extract") words none;
+  remove = λ e. no e;
+  gcov = λ e. no e;
+  others = λ m s x r g. no (sym x);
+}
+
+remove_fits : SubFits (built_below remove)
+remove_fits words none = record {
+  merge = λ e. no e;
+  summary = λ e. no e;
+  extract = λ e. no e;
+  remove = λ e. filtering_leaves (codes "remove") words none;
+  gcov = λ e. no e;
+  others = λ m s x r g. no (sym r);
+}
+
+gcov_fits : SubFits (built_below gcov)
+gcov_fits words none = record {
+  merge = λ e. no e;
+  summary = λ e. no e;
+  extract = λ e. no e;
+  remove = λ e. no e;
+  gcov = λ e. gcov_leaves words none;
+  others = λ m s x r g. no (sym g);
+}
+
+check_fits : SubFits (built_below check)
+check_fits words none = record {
+  merge = λ e. no e;
+  summary = λ e. no e;
+  extract = λ e. no e;
+  remove = λ e. no e;
+  gcov = λ e. no e;
+  others = λ m s x r g. (refl, check_leaves words none);
+}
 
 -- ---- the subcommand that the words name
 

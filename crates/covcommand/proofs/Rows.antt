@@ -1,15 +1,16 @@
--- Rows that fit: each has at least one value. The first value of `--jobs` is a number from 1 to 64, and that of `--gcov` is
--- "true" or "false".
-use Rattle.std.proofs.Common.{◌≡◌, ◌∙◌, ◌≤◌, ◌||◌, ◌⊎◌, inl, inr, Bool, pos, true, false, List, [], ◌∷◌, ◌++◌, length, Option, Some, None, cond, refl, sym, ap, subst, option_map, unwrap_or, option_and_then, ap₂, codes, arith}
-use Rattle.std.specs.Prelude.{slice_get}
+-- Rows that fit: each has at least one value. The first value of `--jobs` is a number from 1 to 64, and that of a flag is "true"
+-- or "false".
+use Rattle.std.proofs.Common.{◌≡◌, ◌∙◌, ◌≤◌, ◌&&◌, ◌||◌, ◌⊎◌, inl, inr, not, Bool, pos, true, false, List, [], ◌∷◌, ◌++◌, length, Option, Some, None, cond, refl, sym, ap, subst, option_map, unwrap_or, option_and_then, ap₂, codes, arith}
+use Rattle.std.specs.Prelude.{fold, slice_get}
 use Rattle.std.specs.Option.{option_map_or}
-use Rattle.std.specs.List.{find}
+use Rattle.std.specs.List.{find, list_any}
 use Rattle.std.specs.Str.{bytes_eq}
+use Rattle.std.proofs.lemmas.Bool.{and_parts}
 use Rattle.std.proofs.lemmas.Slice.Eq.{bytes_eq-Decides}
 use Rattle.clap.specs.Values.{read_as}
 use Rattle.clap.specs.ValueTests.{accepts}
 use Rattle.clap.proofs.ValueTestLemmas.{accepts-Accepts}
-use Rattle.clap.specs.Walk.{Row, Text, at_row, default_rows, has_row, more_values, row_text, with_values, without}
+use Rattle.clap.specs.Walk.{Row, Rule, Text, at_row, default_rows, has_row, is_empty, more_values, reading_by, row_text, with_default, with_values, without}
 use Rattle.clap.specs.Takes.{is_given}
 use Rattle.clap.specs.Facts.{explicit_source}
 use Rattle.clap.specs.declared.builder.value_parser.Reading.{Reading}
@@ -23,11 +24,14 @@ use Rattle.covcommand.specs.Found.{HasFlag, HasJobs, HasSome, HasTest}
 abbrev pub numbers : ValueParser
 numbers = parser.Signed (pos 1) (pos 64)
 
+abbrev pub is_flag : Text → Bool
+is_flag id = bytes_eq id (codes "gcov") || bytes_eq id (codes "lcov2")
+
 -- the argument has a value, and its first value fits, as does the way in which the values are read
 abbrev pub FitsValues : Text → Reading → List Text → Type 0
 FitsValues id how [] = ⊥
 FitsValues id how (v ∷ vs) = (bytes_eq id (codes "jobs") ≡ true → (accepts false numbers v ≡ true) × (how ≡ WithoutMinus))
-    × (bytes_eq id (codes "gcov") ≡ true → (accepts false parser.Bool v ≡ true) × (how ≡ AsWritten))
+    × (is_flag id ≡ true → (accepts false parser.Bool v ≡ true) × (how ≡ AsWritten))
 
 abbrev pub RowFits : Row → Type 0
 RowFits r = FitsValues r.id r.reading r.values
@@ -147,19 +151,19 @@ has_jobs rows row =
     ∙ ap₂ (λ how o. option_map (read_as how) o) number.3 number.1 in
     (number.0, text, accepts-Accepts false numbers number.0 number.2)
 
-flag_there : (how : Reading) (values : List Text) → FitsValues (codes "gcov") how values
+flag_there : (id : Text) (how : Reading) (values : List Text) → is_flag id ≡ true → FitsValues id how values
     → (text : Text) × (slice_get values 0 ≡ Some text) × (accepts false parser.Bool text ≡ true) × (how ≡ AsWritten)
-flag_there how [] fits = absurd fits
-flag_there how (v ∷ vs) fits = (v, refl, (fits.1 refl).0, (fits.1 refl).1)
+flag_there id how [] flag fits = absurd fits
+flag_there id how (v ∷ vs) flag fits = (v, refl, (fits.1 flag).0, (fits.1 flag).1)
 
 either : (a b : Bool) → (a || b) ≡ true → (a ≡ true) ⊎ (b ≡ true)
 either true b e = inl refl
 either false b e = inr e
 
-pub has_flag : (rows : List Row) → RowOf (codes "gcov") rows → HasFlag rows
-has_flag rows row =
-    let same : row.0.id ≡ codes "gcov" = (bytes_eq-Decides row.0.id (codes "gcov")).0 row.2 in
-    let word = flag_there row.0.reading row.0.values (subst (λ (id : Text). FitsValues id row.0.reading row.0.values) same row.3) in
+pub has_flag : (id : Text) (rows : List Row) → is_flag id ≡ true → RowOf id rows → HasFlag id rows
+has_flag id rows flag row =
+    let same : row.0.id ≡ id = (bytes_eq-Decides row.0.id id).0 row.2 in
+    let word = flag_there id row.0.reading row.0.values flag (subst (λ (id : Text). FitsValues id row.0.reading row.0.values) same row.3) in
     let text = ap (λ (o : Option Row). option_and_then row_text o) row.1
     ∙ ap₂ (λ how o. option_map (read_as how) o) word.3 word.1 in
     elim (either (bytes_eq word.0 (codes "true")) (bytes_eq word.0 (codes "false")) word.2) [
@@ -169,31 +173,88 @@ has_flag rows row =
 
 -- ---- defaults
 
--- an option or a flag: its id, how its values are read, and its default
-module _ (id : Text) (how : Reading) (word : Text) where
-  at_row_has_step : (b : Bool) (x y : Row) (rows later : List Row) → bytes_eq y.id id ≡ b → bytes_eq x.id id ≡ b
-      → has_row id later ≡ true → has_row id (cond b (x ∷ rows) (y ∷ later)) ≡ true
-  at_row_has_step true x y rows later is same has = rw same refl
-  at_row_has_step false x y rows later is same has = rw is has
+or_step : (own a b : Bool) → (a ≡ true → b ≡ true) → (own || a) ≡ true → (own || b) ≡ true
+or_step true a b go e = refl
+or_step false a b go e = go e
 
-  defaulted_has : bytes_eq id id ≡ true → (rows : List Row) → has_row id (with_values id how DefaultValue (word ∷ []) rows) ≡ true
-  defaulted_has own [] = rw own refl
-  defaulted_has own (r ∷ rows) =
-      at_row_has_step (bytes_eq r.id id) _ r rows _ refl refl (defaulted_has own rows)
+at_row_keeps : (id : Text) (b : Bool) (r changed : Row) (rows later : List Row) → bytes_eq r.id id ≡ bytes_eq changed.id id
+    → (has_row id rows ≡ true → has_row id later ≡ true) → has_row id (r ∷ rows) ≡ true → has_row id (cond b (changed ∷ rows) (r ∷ later)) ≡ true
+at_row_keeps id true r changed rows later same go e = ap (λ b. b || has_row id rows) (sym same) ∙ e
+at_row_keeps id false r changed rows later same go e = or_step (bytes_eq r.id id) (has_row id rows) (has_row id later) go e
 
-  defaulted_at : bytes_eq id id ≡ true → FitsValues id how (word ∷ []) → (b : Bool) (rows : List Row) → has_row id rows ≡ b → RowsFit rows
-      → RowsFit (cond b rows (default_rows id how (word ∷ []) rows)) × (has_row id (cond b rows (default_rows id how (word ∷ []) rows)) ≡ true)
-  defaulted_at own fits true rows has fit = (fit, has)
-  defaulted_at own fits false rows has fit =
-      (append_fits id how DefaultValue (word ∷ []) rows fits fit, defaulted_has own rows)
+-- a row is still there after values are added to some row
+values_keep : (id other : Text) (how : Reading) (values : List Text) (rows : List Row) → has_row id rows ≡ true
+    → has_row id (with_values other how DefaultValue values rows) ≡ true
+values_keep id other how values [] e = absurd cc
+values_keep id other how values (r ∷ rows) e =
+    at_row_keeps id (bytes_eq r.id other) r _ rows _ refl (values_keep id other how values rows) e
 
-  -- once its default is filled in, it has a row, and the rows still fit
-  pub defaulted : bytes_eq id id ≡ true → FitsValues id how (word ∷ []) → (rows : List Row) → RowsFit rows
-      → RowsFit (cond (has_row id rows) rows (default_rows id how (word ∷ []) rows))
-      × (has_row id (cond (has_row id rows) rows (default_rows id how (word ∷ []) rows)) ≡ true)
-  defaulted own fits rows fit = defaulted_at own fits (has_row id rows) rows refl fit
+default_keeps : (id other : Text) (how : Reading) (words : List Text) (b : Bool) (rows : List Row) → has_row id rows ≡ true
+    → has_row id (cond b rows (default_rows other how words rows)) ≡ true
+default_keeps id other how words true rows e = e
+default_keeps id other how [] false rows e = e
+default_keeps id other how (v ∷ vs) false rows e = values_keep id other how (v ∷ vs) rows e
 
--- an argument without a default leaves the rows as they are
-pub not_defaulted : (b : Bool) (rows : List Row) → cond b rows rows ≡ rows
-not_defaulted true rows = refl
-not_defaulted false rows = refl
+at_row_has : (id : Text) (b : Bool) (r changed : Row) (rows later : List Row) → bytes_eq r.id id ≡ b → bytes_eq changed.id id ≡ b
+    → has_row id later ≡ true → has_row id (cond b (changed ∷ rows) (r ∷ later)) ≡ true
+at_row_has id true r changed rows later is same has = rw same refl
+at_row_has id false r changed rows later is same has = rw is has
+
+-- an argument to which values are added has a row
+values_has : (id : Text) (how : Reading) (values : List Text) (rows : List Row) → has_row id (with_values id how DefaultValue values rows) ≡ true
+values_has id how values [] = ap (λ b. b || false) ((bytes_eq-Decides id id).1 refl)
+values_has id how values (r ∷ rows) =
+    at_row_has id (bytes_eq r.id id) r _ rows _ refl refl (values_has id how values rows)
+
+default_has : (id : Text) (how : Reading) (words : List Text) (b : Bool) (rows : List Row) → has_row id rows ≡ b → not (is_empty words) ≡ true
+    → has_row id (cond b rows (default_rows id how words rows)) ≡ true
+default_has id how words true rows has some = has
+default_has id how [] false rows has some = absurd cc
+default_has id how (v ∷ vs) false rows has some = values_has id how (v ∷ vs) rows
+
+-- the argument has this id and a default
+abbrev is_defaulted : Text → Rule → Bool
+is_defaulted id a = bytes_eq a.id id && not (is_empty a.defaults)
+
+abbrev pub has_default : Text → List Rule → Bool
+has_default id rules = list_any (is_defaulted id) rules
+
+rows_keep : (id : Text) (rules : List Rule) (rows : List Row) → has_row id rows ≡ true → has_row id (fold with_default rows rules) ≡ true
+rows_keep id [] rows e = e
+rows_keep id (a ∷ rules) rows e =
+    rows_keep id rules (with_default rows a) (default_keeps id a.id (reading_by a) a.defaults (has_row a.id rows) rows e)
+
+-- once the defaults are filled in, an argument with a default has a row
+pub defaulted : (id : Text) (rules : List Rule) (rows : List Row) → has_default id rules ≡ true → has_row id (fold with_default rows rules) ≡ true
+defaulted id [] rows e = absurd cc
+defaulted id (a ∷ rules) rows e =
+    elim (either (is_defaulted id a) (has_default id rules) e) [
+      | inl own ↦
+          let is = and_parts (bytes_eq a.id id) (not (is_empty a.defaults)) own in
+          let has = default_has a.id (reading_by a) a.defaults (has_row a.id rows) rows refl is.1 in
+          rows_keep id rules (with_default rows a)
+          (subst (λ (i : Text). has_row i (with_default rows a) ≡ true) ((bytes_eq-Decides a.id id).0 is.0) has)
+      | inr later ↦ defaulted id rules (with_default rows a) later
+    ]
+
+-- the argument has no default, or one that fits
+abbrev pub FitsDefault : Text → Reading → List Text → Type 0
+FitsDefault id how [] = Unit {0}
+FitsDefault id how (v ∷ vs) = FitsValues id how (v ∷ vs)
+
+abbrev pub EachDefaultFits : List Rule → Type 0
+EachDefaultFits [] = Unit {0}
+EachDefaultFits (a ∷ rules) = FitsDefault a.id (reading_by a) a.defaults × EachDefaultFits rules
+
+default_fits : (id : Text) (how : Reading) (words : List Text) (b : Bool) (rows : List Row) → FitsDefault id how words → RowsFit rows
+    → RowsFit (cond b rows (default_rows id how words rows))
+default_fits id how words true rows fits fit = fit
+default_fits id how [] false rows fits fit = fit
+default_fits id how (v ∷ vs) false rows fits fit = append_fits id how DefaultValue (v ∷ vs) rows fits fit
+
+-- rows still fit once the defaults are filled in
+pub defaults_fit : (rules : List Rule) (rows : List Row) → EachDefaultFits rules → RowsFit rows → RowsFit (fold with_default rows rules)
+defaults_fit [] rows each fit = fit
+defaults_fit (a ∷ rules) rows each fit =
+    defaults_fit rules (with_default rows a) each.1
+    (default_fits a.id (reading_by a) a.defaults (has_row a.id rows) rows each.0 fit)

@@ -6,6 +6,8 @@ use Rattle.covcommand.specs.declared.asked.Command.{Command}
 use Rattle.covcommand.specs.declared.asked.Command.TheVariants.{Session, Merge, Summary, Extract, Remove, Gcov, Check}
 use Rattle.covcommand.specs.declared.asked.TextFormat.{TextFormat}
 use Rattle.covcommand.specs.declared.asked.TextFormat.TheVariants as format
+use Rattle.covcommand.specs.declared.asked.LcovVersion.{LcovVersion}
+use Rattle.covcommand.specs.declared.asked.LcovVersion.TheVariants.{One, Two}
 
 -- the words that clap found for the argument, in their order
 abbrev pub values_of : Text → List Row → List Text
@@ -20,35 +22,40 @@ IsNumberOf rows jobs = (text : Text) × (one_of (codes "jobs") rows ≡ Some tex
 abbrev pub tracefile_and_patterns : List Row → List Text
 tracefile_and_patterns rows = values_of (codes "TRACEFILE") rows ++ values_of (codes "PATTERN") rows
 
--- the files are gcov's if clap sets the flag `--gcov`, and tracefiles if it doesn't
+-- the tracefiles may be those of LCOV 2 if clap sets the flag `--lcov2`, and are those of LCOV 1 if it doesn't
+abbrev pub IsVersionOf : List Row → LcovVersion → Type 0
+IsVersionOf rows One = one_of (codes "lcov2") rows ≡ Some (codes "false")
+IsVersionOf rows Two = one_of (codes "lcov2") rows ≡ Some (codes "true")
+
+-- the files are gcov's if clap sets the flag `--gcov`, also beside `--lcov2`, and tracefiles if it doesn't
 abbrev pub IsFormatOf : List Row → TextFormat → Type 0
-IsFormatOf rows format.Tracefile = one_of (codes "gcov") rows ≡ Some (codes "false")
+IsFormatOf rows (format.Tracefile version) = (one_of (codes "gcov") rows ≡ Some (codes "false")) × IsVersionOf rows version
 IsFormatOf rows format.Gcov = one_of (codes "gcov") rows ≡ Some (codes "true")
 
 -- a call asks for this command: `met` is the subcommand that clap reads of its words (`None` for a session), with a row for each
 -- of its arguments, and the command has what the rows say
 abbrev pub AsksFor : Option (Text × List Row) → Command → Type 0
 AsksFor met Session = met ≡ None
-AsksFor met (Merge jobs names) = (rows : List Row) × (met ≡ Some (codes "merge", rows))
-    × IsNumberOf rows jobs × (names ≡ values_of (codes "FILE") rows)
-AsksFor met (Summary names) = (rows : List Row) × (met ≡ Some (codes "summary", rows))
-    × (names ≡ values_of (codes "FILE") rows)
-AsksFor met (Extract names) = (rows : List Row) × (met ≡ Some (codes "extract", rows))
-    × (names ≡ tracefile_and_patterns rows)
-AsksFor met (Remove names) = (rows : List Row) × (met ≡ Some (codes "remove", rows))
-    × (names ≡ tracefile_and_patterns rows)
+AsksFor met (Merge version jobs names) = (rows : List Row) × (met ≡ Some (codes "merge", rows))
+    × IsVersionOf rows version × IsNumberOf rows jobs × (names ≡ values_of (codes "FILE") rows)
+AsksFor met (Summary version jobs names) = (rows : List Row) × (met ≡ Some (codes "summary", rows))
+    × IsVersionOf rows version × IsNumberOf rows jobs × (names ≡ values_of (codes "FILE") rows)
+AsksFor met (Extract version names) = (rows : List Row) × (met ≡ Some (codes "extract", rows))
+    × IsVersionOf rows version × (names ≡ tracefile_and_patterns rows)
+AsksFor met (Remove version names) = (rows : List Row) × (met ≡ Some (codes "remove", rows))
+    × IsVersionOf rows version × (names ≡ tracefile_and_patterns rows)
 AsksFor met (Gcov test names) = (rows : List Row) × (met ≡ Some (codes "gcov", rows))
     × (first_of (codes "test") rows ≡ Some test)
     × (names ≡ values_of (codes "FILE") rows)
 AsksFor met (Check how names) = (rows : List Row) × (met ≡ Some (codes "check", rows))
     × IsFormatOf rows how × (names ≡ values_of (codes "FILE") rows)
 
--- a merge has 1 to 64 jobs. Each subcommand has at least one name, and `extract` and `remove` have at least two
+-- `merge` and `summary` have 1 to 64 jobs. Each subcommand has at least one name, and `extract` and `remove` have at least two
 abbrev pub IsInBounds : Command → Type 0
 IsInBounds Session = Unit {0}
-IsInBounds (Merge jobs names) = (1 ≤ jobs) × (jobs ≤ 64) × (1 ≤ length names)
-IsInBounds (Summary names) = 1 ≤ length names
-IsInBounds (Extract names) = 2 ≤ length names
-IsInBounds (Remove names) = 2 ≤ length names
+IsInBounds (Merge version jobs names) = (1 ≤ jobs) × (jobs ≤ 64) × (1 ≤ length names)
+IsInBounds (Summary version jobs names) = (1 ≤ jobs) × (jobs ≤ 64) × (1 ≤ length names)
+IsInBounds (Extract version names) = 2 ≤ length names
+IsInBounds (Remove version names) = 2 ≤ length names
 IsInBounds (Gcov test names) = 1 ≤ length names
 IsInBounds (Check how names) = 1 ≤ length names

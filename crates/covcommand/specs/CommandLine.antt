@@ -19,10 +19,11 @@ several id = record (new_rule id) {
 abbrev pub single : Text → Rule
 single id = record (new_rule id) { required = true; action = Some Set }
 
--- `--jobs N`, a number from 1 to 64, and 1 if it isn't given
+-- `--jobs N` or `-j N`, a number from 1 to 64, and 1 if it isn't given. 106 is the code of `j`
 abbrev pub jobs : Rule
 jobs = record (new_rule (codes "jobs")) {
   long = Some (codes "jobs");
+  short = Some 106;
   value_names = 1;
   action = Some Set;
   parser = Some (parser.Signed (pos 1) (pos 64));
@@ -38,19 +39,31 @@ test = record (new_rule (codes "test")) {
   action = Some Set;
 }
 
--- `--gcov`, a flag
+-- a flag, which is two dashes and its id
+abbrev pub flag : Text → Rule
+flag id = record (new_rule id) { long = Some id; action = Some SetTrue }
+
+-- `--gcov`
 abbrev pub annotated : Rule
-annotated = record (new_rule (codes "gcov")) { long = Some (codes "gcov"); action = Some SetTrue }
+annotated = flag (codes "gcov")
+
+-- `--lcov2`
+abbrev pub lcov2 : Rule
+lcov2 = flag (codes "lcov2")
+
+-- a subcommand that takes tracefiles, which jobs may read at once: `merge` and `summary`
+abbrev pub merging : Text → App
+merging name = with_rule (with_rule (with_rule (new_app name) (several (codes "FILE"))) jobs) lcov2
 
 abbrev pub merge : App
-merge = with_rule (with_rule (new_app (codes "merge")) (several (codes "FILE"))) jobs
+merge = merging (codes "merge")
 
 abbrev pub summary : App
-summary = with_rule (new_app (codes "summary")) (several (codes "FILE"))
+summary = merging (codes "summary")
 
 -- a subcommand that takes a tracefile and patterns: `extract` and `remove`
 abbrev pub filtering : Text → App
-filtering name = with_rule (with_rule (new_app name) (single (codes "TRACEFILE"))) (several (codes "PATTERN"))
+filtering name = with_rule (with_rule (with_rule (new_app name) (single (codes "TRACEFILE"))) (several (codes "PATTERN"))) lcov2
 
 abbrev pub extract : App
 extract = filtering (codes "extract")
@@ -62,7 +75,7 @@ abbrev pub gcov : App
 gcov = with_rule (with_rule (new_app (codes "gcov")) (several (codes "FILE"))) test
 
 abbrev pub check : App
-check = with_rule (with_rule (new_app (codes "check")) (several (codes "FILE"))) annotated
+check = with_rule (with_rule (with_rule (new_app (codes "check")) (several (codes "FILE"))) annotated) lcov2
 
 -- the program, which has a version and no subcommand `help`
 abbrev pub program : App

@@ -18,21 +18,33 @@ HasTest rows = (text : Text) × (first_of (codes "test") rows ≡ Some text)
 abbrev pub HasJobs : List Row → Type 0
 HasJobs rows = (text : Text) × (one_of (codes "jobs") rows ≡ Some (without_minus text)) × IsSignedIn (pos 1) (pos 64) text
 
--- clap says of the flag `--gcov` that it is set, or that it isn't
-abbrev pub HasFlag : List Row → Type 0
-HasFlag rows = (one_of (codes "gcov") rows ≡ Some (codes "true")) ⊎ (one_of (codes "gcov") rows ≡ Some (codes "false"))
+-- clap says of the flag that it is set, or that it isn't
+abbrev pub HasFlag : Text → List Row → Type 0
+HasFlag id rows = (one_of id rows ≡ Some (codes "true")) ⊎ (one_of id rows ≡ Some (codes "false"))
+
+-- clap found what `merge` and `summary` require
+abbrev pub HasMerging : List Row → Type 0
+HasMerging rows = HasFlag (codes "lcov2") rows × HasJobs rows × HasSome (codes "FILE") rows
 
 abbrev pub HasFilter : List Row → Type 0
 HasFilter rows = HasSome (codes "TRACEFILE") rows × HasSome (codes "PATTERN") rows
 
+-- clap found what `extract` and `remove` require
+abbrev pub HasFiltering : List Row → Type 0
+HasFiltering rows = HasFlag (codes "lcov2") rows × HasFilter rows
+
+-- clap found what `check` requires
+abbrev pub HasCheck : List Row → Type 0
+HasCheck rows = HasFlag (codes "gcov") rows × HasFlag (codes "lcov2") rows × HasSome (codes "FILE") rows
+
 -- clap found for the arguments of the subcommand of this name what the subcommand requires
 pub record Fits (name : Text) (rows : List Row) : Type 0 where
-  pub merge : bytes_eq name (codes "merge") ≡ true → HasJobs rows × HasSome (codes "FILE") rows
-  pub summary : bytes_eq name (codes "summary") ≡ true → HasSome (codes "FILE") rows
-  pub extract : bytes_eq name (codes "extract") ≡ true → HasFilter rows
-  pub remove : bytes_eq name (codes "remove") ≡ true → HasFilter rows
+  pub merge : bytes_eq name (codes "merge") ≡ true → HasMerging rows
+  pub summary : bytes_eq name (codes "summary") ≡ true → HasMerging rows
+  pub extract : bytes_eq name (codes "extract") ≡ true → HasFiltering rows
+  pub remove : bytes_eq name (codes "remove") ≡ true → HasFiltering rows
   pub gcov : bytes_eq name (codes "gcov") ≡ true → HasTest rows × HasSome (codes "FILE") rows
   pub others : bytes_eq name (codes "merge") ≡ false → bytes_eq name (codes "summary") ≡ false
       → bytes_eq name (codes "extract") ≡ false → bytes_eq name (codes "remove") ≡ false
       → bytes_eq name (codes "gcov") ≡ false
-      → (name ≡ codes "check") × HasFlag rows × HasSome (codes "FILE") rows
+      → (name ≡ codes "check") × HasCheck rows

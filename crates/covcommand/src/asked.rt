@@ -10,6 +10,8 @@ pub enum Command {
     Session,
     /// `merge`: the merged tracefile of the files.
     Merge {
+        /// Which tracefiles are read.
+        version: LcovVersion,
         /// How many jobs read at once, from 1 to 64.
         jobs: u32,
         /// The files' paths, at least one.
@@ -17,16 +19,24 @@ pub enum Command {
     },
     /// `summary`: how much of all lines, functions and branches is hit.
     Summary {
+        /// Which tracefiles are read.
+        version: LcovVersion,
+        /// How many jobs read at once, from 1 to 64.
+        jobs: u32,
         /// The files' paths, at least one.
         names: Names,
     },
     /// `extract`: the tracefile's sections of those source files that match a pattern.
     Extract {
+        /// Which tracefiles are read.
+        version: LcovVersion,
         /// The tracefile's path, followed by the patterns, at least one.
         names: Names,
     },
     /// `remove`: the tracefile's sections of those source files that match no pattern.
     Remove {
+        /// Which tracefiles are read.
+        version: LcovVersion,
         /// The tracefile's path, followed by the patterns, at least one.
         names: Names,
     },
@@ -50,7 +60,16 @@ pub enum Command {
 #[derive(Clone, Copy)]
 pub enum TextFormat {
     /// As a tracefile, which lcov writes.
-    Tracefile,
+    Tracefile(LcovVersion),
     /// As annotated source, which gcov writes.
     Gcov,
+}
+
+/// Which tracefiles a call reads.
+#[derive(Clone, Copy)]
+pub enum LcovVersion {
+    /// Those of LCOV 1.x.
+    One,
+    /// Those of LCOV 2.x as well.
+    Two,
 }

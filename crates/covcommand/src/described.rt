@@ -36,21 +36,26 @@ fn program<'a>(alloc: Global) -> Command<'a>
 fn merge<'a>(alloc: Global) -> Result<Command<'a>, AllocError>
     ensures { IfOk result (HasNoGlobals line.merge) }
 {
-    let merge = Command::new(alloc, "merge")
-        .about(help::MERGE)
-        .after_help(help::MERGE_END);
-    merge
-        .arg(several(alloc, "FILE", help::TRACEFILES))?
-        .arg(jobs(alloc))
+    let merge = merging(alloc, "merge")?;
+    Ok(merge.about(help::MERGE).after_help(help::MERGE_END))
 }
 
 fn summary<'a>(alloc: Global) -> Result<Command<'a>, AllocError>
     ensures { IfOk result (HasNoGlobals line.summary) }
 {
-    let summary = Command::new(alloc, "summary")
-        .about(help::SUMMARY)
-        .after_help(help::SUMMARY_END);
-    summary.arg(several(alloc, "FILE", help::TRACEFILES))
+    let summary = merging(alloc, "summary")?;
+    Ok(summary.about(help::SUMMARY).after_help(help::SUMMARY_END))
+}
+
+/// A command that takes tracefiles, which jobs may read at once.
+fn merging<'a>(alloc: Global, name: &'a str) -> Result<Command<'a>, AllocError>
+    ensures { IfOk result (HasNoGlobals (line.merging name.entry.now)) }
+{
+    let merging = Command::new(alloc, name);
+    merging
+        .arg(several(alloc, "FILE", help::TRACEFILES))?
+        .arg(jobs(alloc))?
+        .arg(lcov2(alloc))
 }
 
 fn extract<'a>(alloc: Global) -> Result<Command<'a>, AllocError>
@@ -74,7 +79,8 @@ fn filter<'a>(alloc: Global, name: &'a str) -> Result<Command<'a>, AllocError>
     let filter = Command::new(alloc, name);
     filter
         .arg(tracefile(alloc))?
-        .arg(several(alloc, "PATTERN", help::PATTERNS))
+        .arg(several(alloc, "PATTERN", help::PATTERNS))?
+        .arg(lcov2(alloc))
 }
 
 fn gcov<'a>(alloc: Global) -> Result<Command<'a>, AllocError>
@@ -95,7 +101,8 @@ fn check<'a>(alloc: Global) -> Result<Command<'a>, AllocError>
         .after_help(help::CHECK_END);
     check
         .arg(several(alloc, "FILE", help::CHECKED))?
-        .arg(annotated(alloc))
+        .arg(annotated(alloc))?
+        .arg(lcov2(alloc))
 }
 
 /// A required argument of one word or more.
@@ -119,11 +126,12 @@ fn tracefile<'a>(alloc: Global) -> Arg<'a>
         .help(help::TRACEFILE)
 }
 
-/// `--jobs N`, the number of jobs.
+/// `--jobs N` or `-j N`, the number of jobs.
 fn jobs<'a>(alloc: Global) -> Arg<'a>
     ensures { IsRule line.jobs result }
 {
     Arg::new(alloc, "jobs")
+        .short('j')
         .long("jobs")
         .value_name("N")
         .action(ArgAction::Set)
@@ -148,8 +156,22 @@ fn test<'a>(alloc: Global) -> Arg<'a>
 fn annotated<'a>(alloc: Global) -> Arg<'a>
     ensures { IsRule line.annotated result }
 {
-    Arg::new(alloc, "gcov")
-        .long("gcov")
+    flag(alloc, "gcov", help::ANNOTATED)
+}
+
+/// The flag `--lcov2`, which says that tracefiles of LCOV 2 are read too.
+fn lcov2<'a>(alloc: Global) -> Arg<'a>
+    ensures { IsRule line.lcov2 result }
+{
+    flag(alloc, "lcov2", help::LCOV2)
+}
+
+/// A flag, which a call has or hasn't.
+fn flag<'a>(alloc: Global, id: &'a str, help: &'a str) -> Arg<'a>
+    ensures { IsRule (line.flag id.entry.now) result }
+{
+    Arg::new(alloc, id)
+        .long(id)
         .action(ArgAction::SetTrue)
-        .help(help::ANNOTATED)
+        .help(help)
 }

@@ -18,8 +18,9 @@ In place of lcov's calls write (with the patterns in quotes):
   lcov -r A.info '/usr/*' -o OUT     covcollect remove A.info '/usr/*' > OUT
   lcov --summary A.info              covcollect summary A.info
 
-Function records of LCOV 2 (FNL, FNA, and FN with an end line) aren't read:
-covcollect check shows whether a file has them.
+With --lcov2 tracefiles of LCOV 2 are read too. Without it their functions (FNL,
+FNA, and FN with an end line) are skipped or look uncalled: covcollect check
+shows whether a file has them.
 
 Exit status:
   0  done
@@ -39,7 +40,9 @@ Prints the merged tracefile. In place of
 write
   covcollect merge A.info B.info > OUT
 and where there are many files
-  covcollect merge --jobs 4 jobs/*.info > OUT";
+  covcollect merge --jobs 4 jobs/*.info > OUT
+and where LCOV 2 wrote some of them
+  covcollect merge --lcov2 A.info B.info > OUT";
 
 /// What `summary` does.
 pub(crate) const SUMMARY: &str = "Tells how much of the code is hit (lcov --summary)";
@@ -99,8 +102,11 @@ Prints a line for each file: how many sections, items and odd lines it has, how
 many lines are skipped since their key isn't read, and the first of these. Of a
 refused file the line says why. Before a merge write
   covcollect check A.info B.info
+with tracefiles of LCOV 2
+  covcollect check --lcov2 A.info B.info
 and of what gcov wrote
   covcollect check --gcov main.c.gcov
+With both flags the files are what gcov wrote.
 The status is 4 where a file is refused, and else 5 where one has no items.";
 
 /// The help of an argument for tracefiles.
@@ -123,6 +129,9 @@ pub(crate) const JOBS: &str = "How many files are parsed at once, 1 to 64";
 
 /// The help of `--test`.
 pub(crate) const TEST: &str = "The test that the counts are of; --test= is the empty name";
+
+/// The help of `--lcov2`.
+pub(crate) const LCOV2: &str = "Tracefiles of LCOV 2 are read too";
 
 /// The help of `--gcov`.
 pub(crate) const ANNOTATED: &str = "The files are what gcov wrote, and not tracefiles";

@@ -8,6 +8,7 @@ ghost use Rattle.covcommand.specs.Asked.{AsksFor};
 ghost use Rattle.covcommand.specs.CommandLine.{covcollect};
 ghost use Rattle.covcommand.specs.declared.asked.Command.TheVariants.{Check};
 ghost use Rattle.covcommand.specs.declared.asked.TextFormat.TheVariants as format;
+ghost use Rattle.covcommand.specs.declared.asked.LcovVersion.TheVariants.{One, Two};
 
 /// A call of each kind is taken: for these words the only fault of `command` is `Memory`.
 pub fn calls_are_taken()
@@ -18,19 +19,30 @@ pub fn calls_are_taken()
     ensures remove { takes covcollect (codes "covcollect" ∷ codes "remove" ∷ codes "a.info" ∷ codes "*.c" ∷ []) ≡ true }
     ensures gcov { takes covcollect (codes "covcollect" ∷ codes "gcov" ∷ codes "--test=" ∷ codes "a.c.gcov" ∷ []) ≡ true }
     ensures check { takes covcollect (codes "covcollect" ∷ codes "check" ∷ codes "--gcov" ∷ codes "a.c.gcov" ∷ []) ≡ true }
+    ensures merge_lcov2 { takes covcollect (codes "covcollect" ∷ codes "merge" ∷ codes "--lcov2" ∷ codes "a.info" ∷ codes "b.info" ∷ []) ≡ true }
+    ensures summary_lcov2 { takes covcollect (codes "covcollect" ∷ codes "summary" ∷ codes "a.info" ∷ codes "--lcov2" ∷ []) ≡ true }
+    ensures extract_lcov2 { takes covcollect (codes "covcollect" ∷ codes "extract" ∷ codes "--lcov2" ∷ codes "a.info" ∷ codes "*.c" ∷ []) ≡ true }
+    ensures remove_lcov2 { takes covcollect (codes "covcollect" ∷ codes "remove" ∷ codes "--lcov2" ∷ codes "a.info" ∷ codes "*.c" ∷ []) ≡ true }
+    ensures check_lcov2 { takes covcollect (codes "covcollect" ∷ codes "check" ∷ codes "--lcov2" ∷ codes "a.info" ∷ []) ≡ true }
+    ensures short_jobs { takes covcollect (codes "covcollect" ∷ codes "merge" ∷ codes "-j" ∷ codes "4" ∷ codes "a.info" ∷ []) ≡ true }
+    ensures summary_jobs { takes covcollect (codes "covcollect" ∷ codes "summary" ∷ codes "--jobs" ∷ codes "4" ∷ codes "a.info" ∷ []) ≡ true }
 {}
 
-/// What calls of `check` ask for. With the flag `--gcov`, before or after the files, the files are gcov's; without it they are
-/// tracefiles. After `--`, the word `--gcov` is the name of a file.
+/// What calls of `check` ask for. With the flag `--gcov`, before or after the files, the files are gcov's, also beside `--lcov2`;
+/// without it they are tracefiles, with `--lcov2` also those of LCOV 2. After `--`, the word `--gcov` is the name of a file.
 pub fn checks_by_their_words()
     ensures tracefile { AsksFor (subcommand_of covcollect (codes "covcollect" ∷ codes "check" ∷ codes "a.info" ∷ []))
-        (Check format.Tracefile (codes "a.info" ∷ [])) }
+        (Check (format.Tracefile One) (codes "a.info" ∷ [])) }
     ensures before { AsksFor (subcommand_of covcollect (codes "covcollect" ∷ codes "check" ∷ codes "--gcov" ∷ codes "a.c.gcov" ∷ []))
         (Check format.Gcov (codes "a.c.gcov" ∷ [])) }
     ensures after { AsksFor (subcommand_of covcollect (codes "covcollect" ∷ codes "check" ∷ codes "a.c.gcov" ∷ codes "--gcov" ∷ []))
         (Check format.Gcov (codes "a.c.gcov" ∷ [])) }
     ensures name { AsksFor (subcommand_of covcollect (codes "covcollect" ∷ codes "check" ∷ codes "--" ∷ codes "--gcov" ∷ []))
-        (Check format.Tracefile (codes "--gcov" ∷ [])) }
+        (Check (format.Tracefile One) (codes "--gcov" ∷ [])) }
+    ensures lcov2 { AsksFor (subcommand_of covcollect (codes "covcollect" ∷ codes "check" ∷ codes "--lcov2" ∷ codes "a.info" ∷ []))
+        (Check (format.Tracefile Two) (codes "a.info" ∷ [])) }
+    ensures both { AsksFor (subcommand_of covcollect (codes "covcollect" ∷ codes "check" ∷ codes "--gcov" ∷ codes "--lcov2" ∷ codes "a.c.gcov" ∷ []))
+        (Check format.Gcov (codes "a.c.gcov" ∷ [])) }
 {}
 
 /// Calls that are refused, with clap's kind of error for each. The program takes `--version`, but its subcommands don't.
@@ -46,6 +58,10 @@ pub fn calls_are_refused()
     ensures check { fault_of covcollect (codes "covcollect" ∷ codes "check" ∷ codes "--gcov" ∷ [])
         ≡ kind.MissingRequiredArgument ∷ [] }
     ensures twice { fault_of covcollect (codes "covcollect" ∷ codes "check" ∷ codes "--gcov" ∷ codes "--gcov" ∷ codes "a.c.gcov" ∷ [])
+        ≡ kind.ArgumentConflict ∷ [] }
+    ensures gcov_lcov2 { fault_of covcollect (codes "covcollect" ∷ codes "gcov" ∷ codes "--lcov2" ∷ codes "--test=" ∷ codes "a.c.gcov" ∷ [])
+        ≡ kind.UnknownArgument ∷ [] }
+    ensures lcov2_twice { fault_of covcollect (codes "covcollect" ∷ codes "merge" ∷ codes "--lcov2" ∷ codes "--lcov2" ∷ codes "a.info" ∷ [])
         ≡ kind.ArgumentConflict ∷ [] }
     ensures help { fault_of covcollect (codes "covcollect" ∷ codes "merge" ∷ codes "--help" ∷ [])
         ≡ kind.DisplayHelp ∷ [] }

@@ -9,7 +9,7 @@
 //! ```text
 //! pub fn merge_of(alloc: Global, words: &[String]) -> Result<Option<(u32, Names)>, CommandFault> {
 //!     match command(alloc, words)? {
-//!         Command::Merge { jobs, names } => Ok(Some((jobs, names))),
+//!         Command::Merge { jobs, names, .. } => Ok(Some((jobs, names))),
 //!         _ => Ok(None),
 //!     }
 //! }
@@ -25,7 +25,7 @@ mod names;
 mod parsing;
 mod word;
 
-pub use asked::{Command, TextFormat};
+pub use asked::{Command, LcovVersion, TextFormat};
 pub use fault::CommandFault;
 pub use help::VERSION;
 pub use laws::{calls_are_refused, calls_are_taken, checks_by_their_words};

@@ -4,12 +4,12 @@ ghost use Rattle.std.specs.Prelude.{◌≡◌, ◌≤◌, ◌++◌, [], IfOk, If
 ghost use Rattle.std.specs.String.{string_bytes};
 ghost use Rattle.clap.specs.Words.{rows_of, found_of, subcommand_of, takes, fault_of, first_of};
 ghost use Rattle.covcommand.specs.CommandLine.{covcollect};
-ghost use Rattle.covcommand.specs.Asked.{AsksFor, IsFormatOf, IsInBounds, IsNumberOf, tracefile_and_patterns, values_of};
+ghost use Rattle.covcommand.specs.Asked.{AsksFor, IsFormatOf, IsInBounds, IsNumberOf, IsVersionOf, tracefile_and_patterns, values_of};
 ghost use Rattle.covcommand.specs.Found.{Fits, HasFilter, HasFlag, HasJobs, HasSome, HasTest};
 ghost use Rattle.covcommand.specs.Fault.{IsFaultAmong};
 ghost use Rattle.covcommand.specs.declared.fault.CommandFault.TheVariants as faults;
 
-use crate::asked::{Command, TextFormat};
+use crate::asked::{Command, LcovVersion, TextFormat};
 use crate::described::described;
 use crate::fault::CommandFault;
 use crate::names::Names;
@@ -48,16 +48,21 @@ fn command_from(alloc: Global, name: &str, found: &ArgMatches<'_>) -> Result<Com
 {
     match name {
         "merge" => Ok(Command::Merge {
+            version: version_of(found),
             jobs: jobs_of(found),
             names: files_of(alloc, found)?,
         }),
         "summary" => Ok(Command::Summary {
+            version: version_of(found),
+            jobs: jobs_of(found),
             names: files_of(alloc, found)?,
         }),
         "extract" => Ok(Command::Extract {
+            version: version_of(found),
             names: filter_of(alloc, found)?,
         }),
         "remove" => Ok(Command::Remove {
+            version: version_of(found),
             names: filter_of(alloc, found)?,
         }),
         "gcov" => Ok(Command::Gcov {
@@ -112,15 +117,29 @@ fn test_of(alloc: Global, found: &ArgMatches<'_>) -> Result<Bytes, Memory>
     Bytes::of(alloc, name.as_bytes())
 }
 
-/// How the files are read: as gcov's if clap found the flag `--gcov`, else as tracefiles.
+/// Which tracefiles are read: those of LCOV 2 as well if clap found the flag `--lcov2`.
+fn version_of(found: &ArgMatches<'_>) -> LcovVersion
+    requires { HasFlag (codes "lcov2") (rows_of (found_of found.now)) }
+    ensures { IsVersionOf (rows_of (found_of found.now)) result }
+{
+    if found.get_flag("lcov2") {
+        LcovVersion::Two
+    } else {
+        LcovVersion::One
+    }
+}
+
+/// How the files are read: as gcov's if clap found the flag `--gcov`, else as tracefiles. With `--gcov` the flag `--lcov2` says
+/// nothing: it may be there, since what clap takes is exactly defined only for arguments that exclude no others.
 fn format_of(found: &ArgMatches<'_>) -> TextFormat
-    requires { HasFlag (rows_of (found_of found.now)) }
+    requires gcov { HasFlag (codes "gcov") (rows_of (found_of found.now)) }
+    requires lcov2 { HasFlag (codes "lcov2") (rows_of (found_of found.now)) }
     ensures { IsFormatOf (rows_of (found_of found.now)) result }
 {
     if found.get_flag("gcov") {
         TextFormat::Gcov
     } else {
-        TextFormat::Tracefile
+        TextFormat::Tracefile(version_of(found))
     }
 }
 

@@ -3,7 +3,7 @@
 //!
 //! Examples are text, so that they cost the proof of these tests nothing: a line has a call and, after ` => `, its answer.
 
-use covcommand::{Command, CommandFault, Names, TextFormat, command};
+use covcommand::{Command, CommandFault, LcovVersion, Names, TextFormat, command};
 use std::alloc::Global;
 use std::process::Abort;
 use std::test::*;
@@ -43,28 +43,55 @@ fn refused(alloc: Global, fault: &CommandFault) -> Result<String, Fail> {
     Ok(format!(in alloc; "{} {} {first}", fault.number(), fault.status())?)
 }
 
-/// The command in words: its subcommand, its number of jobs, its test or its format, and its names.
+/// The command in words: its subcommand, its version of LCOV, its number of jobs, its test or its format, and its names.
 fn told(alloc: Global, command: &Command) -> Result<String, Fail> {
     match command {
         Command::Session => Ok(String::from_str(alloc, "session")?),
-        Command::Merge { jobs, names } => {
-            let head = format!(in alloc; "merge ({jobs})")?;
-            with_names(head, names)
+        Command::Merge {
+            version,
+            jobs,
+            names,
+        } => with_names(
+            format!(in alloc; "merge ({} {jobs})", number_of(version))?,
+            names,
+        ),
+        Command::Summary {
+            version,
+            jobs,
+            names,
+        } => with_names(
+            format!(in alloc; "summary ({} {jobs})", number_of(version))?,
+            names,
+        ),
+        Command::Extract { version, names } => {
+            with_names(
+                format!(in alloc; "extract ({})", number_of(version))?,
+                names,
+            )
         }
-        Command::Summary { names } => with_names(String::from_str(alloc, "summary")?, names),
-        Command::Extract { names } => with_names(String::from_str(alloc, "extract")?, names),
-        Command::Remove { names } => with_names(String::from_str(alloc, "remove")?, names),
+        Command::Remove { version, names } => {
+            with_names(format!(in alloc; "remove ({})", number_of(version))?, names)
+        }
         Command::Gcov { test, names } => {
             let test: String = String::from_utf8_lossy(alloc, test.get())?;
             with_names(format!(in alloc; "gcov ({test})")?, names)
         }
         Command::Check { format, names } => {
             let format = match format {
-                TextFormat::Tracefile => "tracefile",
+                TextFormat::Tracefile(LcovVersion::One) => "tracefile 1",
+                TextFormat::Tracefile(LcovVersion::Two) => "tracefile 2",
                 TextFormat::Gcov => "gcov",
             };
             with_names(format!(in alloc; "check ({format})")?, names)
         }
+    }
+}
+
+/// The number of the version.
+fn number_of(version: &LcovVersion) -> u8 {
+    match version {
+        LcovVersion::One => 1,
+        LcovVersion::Two => 2,
     }
 }
 

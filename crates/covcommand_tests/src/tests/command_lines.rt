@@ -24,23 +24,23 @@ fn subcommands(rt: HostRuntime) -> Result<(), Fail> {
     check_all(
         &rt,
         "\
-covcollect merge a.info => merge (1) [a.info]
-covcollect merge b.info a.info b.info => merge (1) [b.info] [a.info] [b.info]
-covcollect summary b.info a.info => summary [b.info] [a.info]
-covcollect extract a.info '*/src/*' '*.h' => extract [a.info] [*/src/*] [*.h]
-covcollect remove a.info '/usr/*' => remove [a.info] [/usr/*]
+covcollect merge a.info => merge (1 1) [a.info]
+covcollect merge b.info a.info b.info => merge (1 1) [b.info] [a.info] [b.info]
+covcollect summary b.info a.info => summary (1 1) [b.info] [a.info]
+covcollect extract a.info '*/src/*' '*.h' => extract (1) [a.info] [*/src/*] [*.h]
+covcollect remove a.info '/usr/*' => remove (1) [a.info] [/usr/*]
 covcollect gcov --test unit main.c.gcov util.c.gcov => gcov (unit) [main.c.gcov] [util.c.gcov]
 covcollect gcov main.c.gcov --test unit => gcov (unit) [main.c.gcov]
 covcollect gcov --test=a=b main.c.gcov => gcov (a=b) [main.c.gcov]
 covcollect gcov --test= main.c.gcov => gcov () [main.c.gcov]
-covcollect merge -- --jobs 4 => merge (1) [--jobs] [4]
-covcollect extract a.info -- -x => extract [a.info] [-x]
-covcollect merge merge => merge (1) [merge]
-covcollect check b.info a.info => check (tracefile) [b.info] [a.info]
+covcollect merge -- --jobs 4 => merge (1 1) [--jobs] [4]
+covcollect extract a.info -- -x => extract (1) [a.info] [-x]
+covcollect merge merge => merge (1 1) [merge]
+covcollect check b.info a.info => check (tracefile 1) [b.info] [a.info]
 covcollect check --gcov main.c.gcov util.c.gcov => check (gcov) [main.c.gcov] [util.c.gcov]
 covcollect check main.c.gcov --gcov util.c.gcov => check (gcov) [main.c.gcov] [util.c.gcov]
-covcollect check -- --gcov => check (tracefile) [--gcov]
-covcollect check gcov => check (tracefile) [gcov]
+covcollect check -- --gcov => check (tracefile 1) [--gcov]
+covcollect check gcov => check (tracefile 1) [gcov]
 ",
     )
 }
@@ -51,16 +51,58 @@ fn jobs(rt: HostRuntime) -> Result<(), Fail> {
     check_all(
         &rt,
         "\
-covcollect merge --jobs 1 a.info => merge (1) [a.info]
-covcollect merge --jobs 64 a.info => merge (64) [a.info]
-covcollect merge --jobs=7 a.info => merge (7) [a.info]
-covcollect merge --jobs 007 a.info => merge (7) [a.info]
-covcollect merge a.info --jobs 2 b.info => merge (2) [a.info] [b.info]
+covcollect merge --jobs 1 a.info => merge (1 1) [a.info]
+covcollect merge --jobs 64 a.info => merge (1 64) [a.info]
+covcollect merge --jobs=7 a.info => merge (1 7) [a.info]
+covcollect merge --jobs 007 a.info => merge (1 7) [a.info]
+covcollect merge a.info --jobs 2 b.info => merge (1 2) [a.info] [b.info]
 covcollect merge --jobs 0 a.info => 2 2 error: invalid value '0' for '--jobs <N>': 0 is not in 1..=64
 covcollect merge --jobs 65 a.info => 2 2 error: invalid value '65' for '--jobs <N>': 65 is not in 1..=64
 covcollect merge --jobs x a.info => 2 2 error: invalid value 'x' for '--jobs <N>': invalid digit found in string
 covcollect merge --jobs 2 --jobs 3 a.info => 2 2 error: the argument '--jobs <N>' cannot be used multiple times
-covcollect summary --jobs 2 a.info => 2 2 error: unexpected argument '--jobs' found
+covcollect merge -j 4 a.info => merge (1 4) [a.info]
+covcollect merge -j64 a.info => merge (1 64) [a.info]
+covcollect merge -j=7 a.info => merge (1 7) [a.info]
+covcollect merge a.info -j 2 b.info => merge (1 2) [a.info] [b.info]
+covcollect merge -j 0 a.info => 2 2 error: invalid value '0' for '--jobs <N>': 0 is not in 1..=64
+covcollect merge -j 2 --jobs 3 a.info => 2 2 error: the argument '--jobs <N>' cannot be used multiple times
+covcollect merge a.info -j => 2 2 error: a value is required for '--jobs <N>' but none was supplied
+covcollect summary --jobs 2 a.info => summary (1 2) [a.info]
+covcollect summary -j 64 b.info a.info => summary (1 64) [b.info] [a.info]
+covcollect summary --jobs 65 a.info => 2 2 error: invalid value '65' for '--jobs <N>': 65 is not in 1..=64
+covcollect summary -j 0 a.info => 2 2 error: invalid value '0' for '--jobs <N>': 0 is not in 1..=64
+covcollect extract -j 2 a.info '*.c' => 2 2 error: unexpected argument '-j' found
+",
+    )
+}
+
+/// The flag `--lcov2`, before, between and after the names. Beside `--gcov` it changes nothing.
+#[test]
+fn versions(rt: HostRuntime) -> Result<(), Fail> {
+    check_all(
+        &rt,
+        "\
+covcollect merge --lcov2 a.info b.info => merge (2 1) [a.info] [b.info]
+covcollect merge --lcov2 -j 4 a.info => merge (2 4) [a.info]
+covcollect merge a.info --lcov2 b.info => merge (2 1) [a.info] [b.info]
+covcollect merge -- --lcov2 => merge (1 1) [--lcov2]
+covcollect merge lcov2 => merge (1 1) [lcov2]
+covcollect summary --lcov2 a.info => summary (2 1) [a.info]
+covcollect summary a.info --jobs 4 --lcov2 => summary (2 4) [a.info]
+covcollect extract --lcov2 a.info '*/src/*' => extract (2) [a.info] [*/src/*]
+covcollect extract a.info '*/src/*' '*.h' --lcov2 => extract (2) [a.info] [*/src/*] [*.h]
+covcollect remove --lcov2 a.info '/usr/*' => remove (2) [a.info] [/usr/*]
+covcollect remove a.info --lcov2 '/usr/*' => remove (2) [a.info] [/usr/*]
+covcollect check --lcov2 b.info a.info => check (tracefile 2) [b.info] [a.info]
+covcollect check a.info --lcov2 => check (tracefile 2) [a.info]
+covcollect check --gcov --lcov2 main.c.gcov => check (gcov) [main.c.gcov]
+covcollect check --lcov2 main.c.gcov --gcov => check (gcov) [main.c.gcov]
+covcollect gcov --lcov2 --test unit main.c.gcov => 2 2 error: unexpected argument '--lcov2' found
+covcollect merge --lcov2 --lcov2 a.info => 2 2 error: the argument '--lcov2' cannot be used multiple times
+covcollect check --lcov2 a.info --lcov2 => 2 2 error: the argument '--lcov2' cannot be used multiple times
+covcollect summary --lcov2=true a.info => 2 2 error: unexpected value 'true' for '--lcov2' found; no more were expected
+covcollect extract --lcov2 a.info => 2 2 error: the following required arguments were not provided:
+covcollect --lcov2 merge a.info => 2 2 error: unexpected argument '--lcov2' found
 ",
     )
 }
@@ -113,7 +155,7 @@ fn names_as_they_are(rt: HostRuntime) -> Result<(), Fail> {
     check_words(
         &rt,
         words.as_slice(),
-        "summary [my files/a.info] [] [größe.info]",
+        "summary (1 1) [my files/a.info] [] [größe.info]",
     )
 }
 

@@ -96,8 +96,9 @@ In place of lcov's calls write (with the patterns in quotes):
   lcov -r A.info '/usr/*' -o OUT     covcollect remove A.info '/usr/*' > OUT
   lcov --summary A.info              covcollect summary A.info
 
-Function records of LCOV 2 (FNL, FNA, and FN with an end line) aren't read:
-covcollect check shows whether a file has them.
+With --lcov2 tracefiles of LCOV 2 are read too. Without it their functions (FNL,
+FNA, and FN with an end line) are skipped or look uncalled: covcollect check
+shows whether a file has them.
 
 Exit status:
   0  done
@@ -137,7 +138,36 @@ it without options, or by -b -c with functions and branches:
     )
 }
 
-/// The help of a subcommand with a flag is exactly this.
+/// The help of a subcommand with an option that has a short form is exactly this.
+#[test]
+fn the_whole_help_of_summary(rt: HostRuntime) -> Result<(), Fail> {
+    let help = help_of(rt.alloc(), "covcollect summary --help")?;
+    check_text(
+        &rt,
+        help.as_str(),
+        "\
+Tells how much of the code is hit (lcov --summary)
+
+Usage: covcollect summary [OPTIONS] <FILE>...
+
+Arguments:
+  <FILE>...  Tracefiles, read in this order
+
+Options:
+  -j, --jobs <N>  How many files are parsed at once, 1 to 64 [default: 1]
+      --lcov2     Tracefiles of LCOV 2 are read too
+  -h, --help      Print help
+
+Prints how many lines, functions and branches are hit, of several files those of
+their merge. In place of
+  lcov --summary A.info
+write
+  covcollect summary A.info
+",
+    )
+}
+
+/// The help of a subcommand with flags is exactly this.
 #[test]
 fn the_whole_help_of_check(rt: HostRuntime) -> Result<(), Fail> {
     let help = help_of(rt.alloc(), "covcollect check --help")?;
@@ -153,15 +183,19 @@ Arguments:
   <FILE>...  Tracefiles, looked at in this order
 
 Options:
-      --gcov  The files are what gcov wrote, and not tracefiles
-  -h, --help  Print help
+      --gcov   The files are what gcov wrote, and not tracefiles
+      --lcov2  Tracefiles of LCOV 2 are read too
+  -h, --help   Print help
 
 Prints a line for each file: how many sections, items and odd lines it has, how
 many lines are skipped since their key isn't read, and the first of these. Of a
 refused file the line says why. Before a merge write
   covcollect check A.info B.info
+with tracefiles of LCOV 2
+  covcollect check --lcov2 A.info B.info
 and of what gcov wrote
   covcollect check --gcov main.c.gcov
+With both flags the files are what gcov wrote.
 The status is 4 where a file is refused, and else 5 where one has no items.
 ",
     )
@@ -177,12 +211,12 @@ fn check_text(rt: &impl Abort, given: &str, wanted: &str) -> Result<(), Fail> {
 #[test]
 fn examples_are_taken(rt: HostRuntime) -> Result<(), Fail> {
     check_examples(&rt, "covcollect --help", 4)?;
-    check_examples(&rt, "covcollect merge --help", 2)?;
+    check_examples(&rt, "covcollect merge --help", 3)?;
     check_examples(&rt, "covcollect summary --help", 1)?;
     check_examples(&rt, "covcollect extract --help", 2)?;
     check_examples(&rt, "covcollect remove --help", 2)?;
     check_examples(&rt, "covcollect gcov --help", 1)?;
-    check_examples(&rt, "covcollect check --help", 2)
+    check_examples(&rt, "covcollect check --help", 3)
 }
 
 /// Checks how many calls of the program the help has as examples, and that each is taken.

@@ -1,4 +1,4 @@
-use Rattle.covcommand.proofs.Calls.{session_taken, merge_taken, summary_taken, extract_taken, remove_taken, gcov_taken, check_taken}
+use Rattle.covcommand.proofs.Calls.{session_taken, merge_taken, summary_taken, extract_taken, remove_taken, gcov_taken, check_taken, merge_lcov2_taken, summary_lcov2_taken, extract_lcov2_taken, remove_lcov2_taken, check_lcov2_taken, short_jobs_taken, summary_jobs_taken}
 use Rattle.covcommand.proofs.laws.calls_are_taken.Goals as goal
 
 pub returns : goal.returns
@@ -10,4 +10,11 @@ returns c = record {
   remove = remove_taken;
   gcov = gcov_taken;
   check = check_taken;
+  merge_lcov2 = merge_lcov2_taken;
+  summary_lcov2 = summary_lcov2_taken;
+  extract_lcov2 = extract_lcov2_taken;
+  remove_lcov2 = remove_lcov2_taken;
+  check_lcov2 = check_lcov2_taken;
+  short_jobs = short_jobs_taken;
+  summary_jobs = summary_jobs_taken;
 }

@@ -6,10 +6,11 @@ use Rattle.covcommand.proofs.parsing.format_of.Goals as goal
 
 pub returns-then-get_flag : goal.returns-then-get_flag
 returns-then-get_flag c =
-    is_set _ c.get_flag.result c.requires (λ is. c.get_flag.ensures.other (one_text-rows (found_of c.args.found.now) (codes "gcov") ∙ is))
+    is_set _ c.get_flag.result c.requires.gcov (λ is. c.get_flag.ensures.other (one_text-rows (found_of c.args.found.now) (codes "gcov") ∙ is))
     c.if-get_flag.true
 
 pub returns-else-get_flag : goal.returns-else-get_flag
 returns-else-get_flag c =
-    is_not_set _ c.get_flag.result c.requires (λ is. c.get_flag.ensures.value (one_text-rows (found_of c.args.found.now) (codes "gcov") ∙ is))
-    c.if-get_flag.false
+    let unset = is_not_set _ c.get_flag.result c.requires.gcov
+    (λ is. c.get_flag.ensures.value (one_text-rows (found_of c.args.found.now) (codes "gcov") ∙ is)) c.if-get_flag.false in
+    (unset, c.version_of.ensures)
