@@ -9,11 +9,11 @@ use Rattle.covread.specs.Gcov.{IsShapeOf, Other}
 abbrev pub IsSkippedRecord : List ℕ → Type 0
 IsSkippedRecord line = (line ≢ []) × Spells line Skip
 
--- a line that LCOV 2 writes and that isn't read (geninfo(1) of LCOV 2.x, TRACEFILE FORMAT): a version of the source file, a
--- condition of MC/DC or one of its totals, or a comment
+-- a line of LCOV 2 that isn't read (geninfo(1) of LCOV 2.x, TRACEFILE FORMAT): a version of the source file, a condition of MC/DC
+-- or one of its totals, or a comment. The manual page names the totals `MRF:` and `MRH:`, and LCOV writes `MCF:` and `MCH:`
 abbrev pub IsOfLcov2Alone : List ℕ → Type 0
 IsOfLcov2Alone line =
-    BeginsWithOneOf (codes "VER:" ∷ codes "MCDC:" ∷ codes "MCF:" ∷ codes "MCH:" ∷ codes "#" ∷ []) line
+    BeginsWithOneOf (codes "VER:" ∷ codes "MCDC:" ∷ codes "MCF:" ∷ codes "MCH:" ∷ codes "MRF:" ∷ codes "MRH:" ∷ codes "#" ∷ []) line
 
 -- a line of a tracefile of LCOV 2 that isn't read, and that no LCOV of either version writes
 abbrev pub IsSkippedLcov2 : List ℕ → Type 0

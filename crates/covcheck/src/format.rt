@@ -134,6 +134,8 @@ fn is_of_lcov2_alone(line: &[u8]) -> bool
         || begins(line, b"MCDC:")
         || begins(line, b"MCF:")
         || begins(line, b"MCH:")
+        || begins(line, b"MRF:")
+        || begins(line, b"MRH:")
         || begins(line, b"#")
 }
 

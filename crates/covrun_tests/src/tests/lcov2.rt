@@ -181,6 +181,8 @@ BRDA:4,0,a,1
 MCDC:4,2,t,1,0,a
 MCF:2
 MCH:1
+MRF:2
+MRH:1
 DA:3,2
 LF:2
 end_of_record
