@@ -104,8 +104,9 @@ farm() {
     mkdir in/.old
     printf 'DA:x' >in/.old/x.info
     together one.info in
-    # The program, which also notes the node that it runs on, and takes a second, so that the nodes share the work.
-    printf '#!/bin/sh\necho "$SLURMD_NODENAME" >>"%s/nodes"\nsleep 1\nexec "%s" "$@"\n' "$PWD" "$COVCOLLECT" >noting
+    # The program, which also notes the node that it merges on, and takes a second, so that the nodes share the work. That a job asks
+    # it for its help first isn't a merge.
+    printf '#!/bin/sh\n[ "$2" = --help ] || { echo "$SLURMD_NODENAME" >>"%s/nodes"; sleep 1; }\nexec "%s" "$@"\n' "$PWD" "$COVCOLLECT" >noting
     chmod +x noting
 }
 
