@@ -1,6 +1,6 @@
 -- Which lines of a text aren't read, and how one of them begins.
 use Rattle.std.specs.Prelude.{◌≡◌, ◌≢◌, ◌⊎◌, ℕ, Bool, ◌||◌, ◌==◌, if◌then◌else◌, List, [], ◌∷◌, codes, take}
-use Rattle.covline.specs.Spells.{BeginsWithOneOf, Spells, Skip}
+use Rattle.covline.specs.Spells.{Begins, BeginsWithOneOf, Spells, Skip}
 use Rattle.covlcov2.specs.Spells.{Lcov2Spells, Plain}
 use Rattle.covread.specs.Gcov.{IsShapeOf, Other}
 
@@ -9,11 +9,16 @@ use Rattle.covread.specs.Gcov.{IsShapeOf, Other}
 abbrev pub IsSkippedRecord : List ℕ → Type 0
 IsSkippedRecord line = (line ≢ []) × Spells line Skip
 
--- a line of LCOV 2 that isn't read (geninfo(1) of LCOV 2.x, TRACEFILE FORMAT): a version of the source file, a condition of MC/DC
--- or one of its totals, or a comment. The manual page names the totals `MRF:` and `MRH:`, and LCOV writes `MCF:` and `MCH:`
+-- a line on conditions (MC/DC): one of them, or a total. The manual page of LCOV 2.x names the totals `MRF:` and `MRH:`, and LCOV
+-- writes `MCF:` and `MCH:`
+abbrev pub IsOnConditions : List ℕ → Type 0
+IsOnConditions line =
+    BeginsWithOneOf (codes "MCDC:" ∷ codes "MCF:" ∷ codes "MCH:" ∷ codes "MRF:" ∷ codes "MRH:" ∷ []) line
+
+-- a line of LCOV 2 that isn't read (geninfo(1) of LCOV 2.x, TRACEFILE FORMAT): a version of the source file, a comment, or a line on
+-- conditions
 abbrev pub IsOfLcov2Alone : List ℕ → Type 0
-IsOfLcov2Alone line =
-    BeginsWithOneOf (codes "VER:" ∷ codes "MCDC:" ∷ codes "MCF:" ∷ codes "MCH:" ∷ codes "MRF:" ∷ codes "MRH:" ∷ codes "#" ∷ []) line
+IsOfLcov2Alone line = Begins line (codes "VER:") ⊎ (Begins line (codes "#") ⊎ IsOnConditions line)
 
 -- a line of a tracefile of LCOV 2 that isn't read, and that no LCOV of either version writes
 abbrev pub IsSkippedLcov2 : List ℕ → Type 0

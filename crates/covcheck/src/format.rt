@@ -3,7 +3,7 @@
 ghost use Rattle.std.specs.Prelude.{◌≡◌, ◌++◌, ◌↔◌, IsTrue, IfSome, codes};
 ghost use Rattle.covline.specs.Spells.{line_data, Begins, HasKey, Skip, Spells};
 ghost use Rattle.covlcov2.specs.Spells.{lcov2_data, Lcov2Spells, Plain};
-ghost use Rattle.covcheck.specs.Skipped.{IsOfLcov2Alone, IsSkippedLcov2, IsSkippedRecord};
+ghost use Rattle.covcheck.specs.Skipped.{IsOfLcov2Alone, IsOnConditions, IsSkippedLcov2, IsSkippedRecord};
 ghost use Rattle.covcheck.specs.CheckSteps.{IsSkippedIn};
 
 use covlcov2::{Lcov2Line, read_lcov2_line};
@@ -126,17 +126,22 @@ fn is_plain_skip(says: Lcov2Line<'_>) -> bool
     }
 }
 
-/// Whether the line is one that LCOV 2 writes and that isn't read.
+/// Whether the line is one of LCOV 2 that isn't read: a version, a comment, or a line on conditions.
 fn is_of_lcov2_alone(line: &[u8]) -> bool
     ensures { IsTrue result ↔ IsOfLcov2Alone line.now }
 {
-    begins(line, b"VER:")
-        || begins(line, b"MCDC:")
+    begins(line, b"VER:") || begins(line, b"#") || is_on_conditions(line)
+}
+
+/// Whether the line is on conditions (MC/DC).
+fn is_on_conditions(line: &[u8]) -> bool
+    ensures { IsTrue result ↔ IsOnConditions line.now }
+{
+    begins(line, b"MCDC:")
         || begins(line, b"MCF:")
         || begins(line, b"MCH:")
         || begins(line, b"MRF:")
         || begins(line, b"MRH:")
-        || begins(line, b"#")
 }
 
 /// Whether the text begins with the key.
