@@ -16,11 +16,7 @@ pub fn merge_of(alloc: Global, words: &[String]) -> Result<Option<(u32, Names)>,
     ensures fault { IfErr result (IsFaultAmong (fault_of covcollect (map string_bytes words.now))) }
 {
     match command(alloc, words)? {
-        Command::Merge {
-            version: _,
-            jobs,
-            names,
-        } => Ok(Some((jobs, names))),
+        Command::Merge { jobs, names, .. } => Ok(Some((jobs, names))),
         _ => Ok(None),
     }
 }
