@@ -206,8 +206,8 @@ impl<K: Key + Drop, V: Value, A: Allocator + Copy> StagedMap<K, V, A> {
         self.staged.put(alloc, &self.slots, place, value)
     }
 
-    /// Stages the sum of a key's staged value and an addend, in one look-up. This costs no search if the guess is the place of
-    /// the key, or the place just before it.
+    /// Stages the sum of a key's staged value and an addend. Looks the key up once. The look-up searches nothing if `guess` is
+    /// the key's place, or the place just before it.
     ///
     /// # Errors
     ///

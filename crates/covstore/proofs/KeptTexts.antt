@@ -49,10 +49,11 @@ no_place line texts places e = none_at (value_of nat_cmp line places) (sym (valu
     none_at None e = refl
     none_at (Some place) e = absurd cc
 
--- the text of a line with an index; and below, a line without an index has no text
+-- a line with an index has the text at that index
 pub text_found : (line place : ℕ) (texts : List (List ℕ)) (places : List (ℕ × ℕ)) → value_of nat_cmp line places ≡ Some place → value_of nat_cmp line (texts_at texts places) ≡ Some (at texts place)
 text_found line place texts places found = value_of_texts line texts places ∙ ap (option_map (at texts)) found
 
+-- a line without an index has no text
 pub no_text : (line : ℕ) (texts : List (List ℕ)) (places : List (ℕ × ℕ)) → value_of nat_cmp line places ≡ None → value_of nat_cmp line (texts_at texts places) ≡ None
 no_text line texts places none = value_of_texts line texts places ∙ ap (option_map (at texts)) none
 

@@ -46,6 +46,6 @@ is_hit_in_a_test kind rows p = list_any (λ test. kind.is_above p.point (items_a
 abbrev pub found : {X : Type 0} → Kind X → List Row → ℕ
 found kind rows = distinct_count (is_same kind) (points_of kind rows)
 
--- how many different points of a kind are hit in a test
+-- how many different points of a kind some test has with a value above 0
 abbrev pub hit : {X : Type 0} → Kind X → List Row → ℕ
 hit kind rows = distinct_count (is_same kind) (filter (is_hit_in_a_test kind rows) (points_of kind rows))

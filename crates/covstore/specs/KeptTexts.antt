@@ -31,8 +31,8 @@ StayAt places more = (line : ℕ) → is_some (value_of nat_cmp line places) ≡
 abbrev pub AreApart : List (ℕ × ℕ) → Type 0
 AreApart places = (line other : ℕ) → is_some (value_of nat_cmp line places) ≡ true → value_of nat_cmp line places ≡ value_of nat_cmp other places → line ≡ other
 
--- each line has an index of its own among the texts. The first texts, `committed` in number, are at the committed indexes. Each
--- text is at the index of a line
+-- each line that has a text has an index of its own in the list of texts, and each text in the list is that of some line. The
+-- first `committed` texts are those of the lines with a committed index
 pub record ArePlaced (places : MapData ℕ ℕ) (texts : List (List ℕ)) (committed : ℕ) : Type 0 where
   pub committed_below : AreBelow committed places.committed
   pub staged_below : AreBelow (length texts) places.staged

@@ -38,9 +38,9 @@ pub record SameCommitted (before after : StoreData) : Type 0 where
   pub members : after.members ≡ before.members
   pub committed : KeepsState before.committed after.committed
 
--- the store represents the table: its content is the value of all rows of the table, and it holds as many submissions as the
--- table has members. The table has no two different checksums of one line of a file. It has at most `max_members` members, each
--- with at most `max_items` rows
+-- the store represents the table: its content is the value of all rows of the table, and it has as many submissions as the table
+-- has members. In the table, no line of a file has two different checksums. The table has at most `max_members` members, and each
+-- of them has at most `max_items` rows
 pub record StandsFor (store : StoreData) (table : Table) : Type 0 where
   pub content : store.sections ≡ content_at table
   pub members : store.members ≡ length table
@@ -86,7 +86,7 @@ pub record AddsRows (added : List Row) (before after : StoreData) : Type 0 where
   pub adds : AddsTo added before.staged after.staged
   pub totals : before.after ≡ totals_in before.staged → after.after ≡ totals_in after.staged
 
--- if the refusal is a clash, it is the first clash of the added rows with the rows that the files are the state of
+-- if the refusal is a clash, it is the first clash of the added rows with any rows whose state the files are
 abbrev pub ClashesAmong : List Row → List (List ℕ × FileData) → RefuseData → Type 0
 ClashesAmong added files MemoryRefuse = Unit {0}
 ClashesAmong added files (ClashRefuse clash) = (rows : List Row) → IsStateOf rows files → Agree (checksums_in rows) → clash_of rows added ≡ Some clash

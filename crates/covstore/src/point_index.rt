@@ -233,8 +233,8 @@ impl<K: Key, A: Allocator> PointIndex<K, A> {
     ghost use Rattle.covstore.specs.PointIndex.{IsTallyOf};
     ghost use Rattle.covstore.specs.PointIndexDrops.{CanLose, IsTallyAt, counts_without};
 
-    /// Takes one test off a point's committed numbers. `was_above` tells whether the test had the point above 0. Nothing is
-    /// staged afterwards.
+    /// Counts one test fewer in a point's committed numbers. `was_above` says whether that test has the point above 0. What was
+    /// staged is forgotten.
     pub(crate) fn take_test_off<Q: Query<K, A>>(&mut self, query: Q, was_above: bool)
         requires { CanLose was_above (value_of K.cmp (Q.named query) self.old.committed) }
         ensures committed { self.new.committed ≡ counts_without K.cmp (Q.named query) was_above self.old.committed }

@@ -68,7 +68,7 @@ fn stage_some<A: Allocator + Copy>(
     stage_each(test, index, alloc, items)
 }
 
-/// Stages first the items' checksums, up to the first that clashes. If none clashes, then stages the items as runs.
+/// Stages the items' checksums, and returns the first clash if there is one. If there is none, stages the items as runs.
 fn stage_at_once<A: Allocator + Copy>(
     test: &mut Test<A>,
     index: &mut FileIndex<A>,

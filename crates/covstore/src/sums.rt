@@ -196,8 +196,8 @@ impl PointAddend<BranchSum> for BranchAddend {
     ghost tells = { λ more before after. refl };
 }
 
-/// What a test adds to a point's numbers: whether the test is new at the point, and whether it has the point above 0 for the
-/// first time.
+/// What one test changes in a point's numbers of tests: whether it is one more test that has the point, and whether it is one
+/// more test that has the point above 0.
 #[derive(Clone, Copy)]
 pub(crate) struct TestsAddend {
     pub is_new: bool,
