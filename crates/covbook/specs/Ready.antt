@@ -34,10 +34,10 @@ pub record HasRoom (book : BookData) : Type 0 where
 abbrev pub IsNextOf : BookData → EntryData → Type 0
 IsNextOf book entry = ComesNext book.entries entry
 
--- the change does to the store what the operation does to the table. No change is made for an operation that leaves the table
--- as it is. A plan is one of this store, for a submission whose rows the operation adds to the table. A test is dropped for an
--- operation that takes its rows out of the table. A renaming is one of this store, for two names, if the operation gives the
--- rows of the first name the second
+-- the change does to the store what the operation does to the table. There is no change if the operation leaves the table as it
+-- is. A plan is a plan of this store for a submission whose rows the operation adds to the table. A test is dropped if the
+-- operation takes the test's rows out of the table. A renaming is one of this store from an old name to a new one if the operation
+-- gives the rows of the old name the new one
 abbrev pub IsPlanned : StoreData → Table → OpData → ChangeData → Type 0
 IsPlanned store table op NoChange = table_after table op ≡ table
 IsPlanned store table op (HoldChange plan) = (s : SubmissionData) × IsPlanOf store s plan × (table_after table op ≡ table ++ rows_of s ∷ [])

@@ -83,7 +83,8 @@ impl<A: Allocator + Copy> Book<A> {
         Book::keeping(alloc)
     }
 
-    /// The history, in order. It is legal, each submission in it is lawful, and the store represents the last table of its run.
+    /// The history, in order. It is legal, and each submission in it is lawful. The store represents the table after the last
+    /// entry.
     pub fn entries(&self) -> &[Entry<A>]
         ensures entries { map entry_data result.now ≡ self.now.entries }
         ensures legal { IsLegal self.now.entries }

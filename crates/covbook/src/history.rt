@@ -1,4 +1,4 @@
-//! The history of a book, and the room that it has.
+//! The history of a book, and room for its next entries.
 
 use crate::entry::{Entry, MAX_ENTRIES, Receipt};
 use crate::keep::Keep;

@@ -126,14 +126,14 @@ fn is_plain_skip(says: Lcov2Line<'_>) -> bool
     }
 }
 
-/// Whether the line is one of LCOV 2 that isn't read: a version, a comment, or a line on conditions.
+/// Whether the line is a version (`VER:`), a comment, or a record of conditions. LCOV 2 writes these, and they aren't read.
 fn is_of_lcov2_alone(line: &[u8]) -> bool
     ensures { IsTrue result ↔ IsOfLcov2Alone line.now }
 {
     begins(line, b"VER:") || begins(line, b"#") || is_on_conditions(line)
 }
 
-/// Whether the line is on conditions (MC/DC).
+/// Whether the line is a record of conditions (MC/DC): `MCDC:`, or one of the totals `MCF:`, `MCH:`, `MRF:` and `MRH:`.
 fn is_on_conditions(line: &[u8]) -> bool
     ensures { IsTrue result ↔ IsOnConditions line.now }
 {

@@ -1,8 +1,9 @@
 //! What texts hold, without adding them up: how many sections and items, how many odd lines, and which lines aren't read.
 //!
-//! A text is read as covread reads it, so a check returns the same fault. Lines that aren't read are no fault: a tracefile
-//! may have records of later versions (`FNL:`), and gcov's text has `call` lines. They are counted, and the first of them
-//! is shown, because a text that has no other lines, such as a page of HTML, is read as an empty submission.
+//! A text is read as covread or covlcov2 reads it, so a check returns the same fault. Lines that aren't read are no fault: a
+//! tracefile may have records of later versions (`FNL:`), and gcov's text has `call` lines. Unless such a line is empty, or of a
+//! kind that is known to say nothing of counts, it is counted as skipped, and the first skipped line is shown: a text that has
+//! no other lines, such as a page of HTML, is read as an empty submission.
 //!
 //! An example, proved and run in `covuses`: the line that says what a tracefile holds.
 //!

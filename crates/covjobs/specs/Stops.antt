@@ -25,7 +25,7 @@ abbrev pub of_stop : (inputs : ℕ) → Stop → IntoBookFault
 of_stop inputs (stops.Unread index) = Unread index
 of_stop inputs (stops.Refused refusal) = Collect (of_refused inputs refusal.fault)
 
--- memory was refused before a job has read anything
+-- memory was refused before a job read its first input
 abbrev pub no_memory : Stop
 no_memory = stops.Refused (record { fault = book.Memory; upto = 0 })
 

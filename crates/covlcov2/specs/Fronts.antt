@@ -18,7 +18,7 @@ abbrev pub after_mark : List ℕ → Option (List ℕ)
 after_mark [] = None
 after_mark (b ∷ bs) = if b == 101 || b == 102 then Some bs else None
 
--- a marked branch, read to its end once its source line is read
+-- what follows a branch's source line, read as a mark and the rest of the line; `line` is the source line, and the text after it
 abbrev pub marked_after_line : ℕ × List ℕ → Option ((BranchPoint × Option ℕ) × List ℕ)
 marked_after_line line = option_and_then (λ (rest : List ℕ). branch_after_line (line.0, rest)) (after_mark line.1)
 

@@ -118,12 +118,12 @@ abbrev pub edge_of : Bool → Number → Number → Option Number → Option Num
 edge_of is_excluded line block branch taken =
     if_fits (fit line) (λ l. if_fits (fit block) (λ k. if_fits (fit_any branch) (λ b. if_fits (fit_any_count taken) (λ t. Ok (Edge is_excluded l k b t)))))
 
--- the fields after a block: the branch, and how often it was taken
+-- what follows the block, cut at the last comma: before it stands the branch, and after it how often the branch was taken
 abbrev pub edge_end : Bool → Number → Number → List ℕ × List ℕ → Result Lcov2Data LineFault
 edge_end is_excluded line block cut =
     if_part (branch_name cut.0) (λ branch. if_part (taken_of cut.1) (λ taken. edge_of is_excluded line block branch taken))
 
--- the fields after marks
+-- what follows the marks: the block, the branch and how often the branch was taken
 abbrev pub edge_rest : Bool → Number → List ℕ → Result Lcov2Data LineFault
 edge_rest is_excluded line text = if_part (field_at text) (λ block. if_part (last_cut block.1) (λ cut. edge_end is_excluded line block.0 cut))
 
