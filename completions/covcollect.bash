@@ -53,7 +53,9 @@ _covcollect() {
             ended=1
         elif [[ -z $ended && ${words[i]} == -* ]]; then
             # The value of an option is a word of its own, where it isn't part of the option's.
-            [[ ${words[i]} == -j || ${words[i]} == --jobs || ${words[i]} == --test ]] && ((i++))
+            case ${words[i]} in
+                -j | --jobs | --include | --exclude | --test) ((i++)) ;;
+            esac
             [[ $subcommand${words[i]} == check--gcov ]] && annotated=1
         elif [[ -z $subcommand ]]; then
             subcommand=${words[i]}
@@ -70,7 +72,8 @@ _covcollect() {
                 mapfile -t COMPREPLY < <(compgen -W "$((i > 64 ? 64 : i))" -- "$cur")
                 return
                 ;;
-            gcov--test)
+            # A pattern, and the name of a test.
+            merge--include | merge--exclude | summary--include | summary--exclude | gcov--test)
                 return
                 ;;
         esac
@@ -78,7 +81,7 @@ _covcollect() {
             local options='-h --help'
             case $subcommand in
                 '') options+=' -V --version' ;;
-                merge | summary) options+=' --lcov2 -j --jobs' ;;
+                merge | summary) options+=' --lcov2 -j --jobs --include --exclude' ;;
                 extract | remove) options+=' --lcov2' ;;
                 gcov) options+=' --test' ;;
                 check) options+=' --gcov --lcov2' ;;

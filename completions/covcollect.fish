@@ -12,7 +12,7 @@ function __covcollect_words
             echo -- $word
         else if test "$word" = --
             set ended yes
-        else if contains -- "$word" -j --jobs --test
+        else if contains -- "$word" -j --jobs --include --exclude --test
             set value yes
         else if not string match -q -- '-*' $word
             echo -- $word
@@ -93,7 +93,9 @@ complete -c covcollect -n __covcollect_begins -a remove -d 'Leave out the source
 complete -c covcollect -n __covcollect_begins -a gcov -d 'Make a tracefile of what gcov wrote'
 complete -c covcollect -n __covcollect_begins -a check -d 'Tell what is read of each file, and add nothing up'
 complete -c covcollect -n '__covcollect_within merge summary extract remove check' -l lcov2 -d 'The tracefiles may be of LCOV 2'
-complete -c covcollect -n '__covcollect_within merge summary' -s j -l jobs -x -a '(__covcollect_processors)' -d 'How many files are parsed at once, 1 to 64'
+complete -c covcollect -n '__covcollect_within merge summary' -s j -l jobs -x -a '(__covcollect_processors)' -d 'How many files are read at once, 1 to 64'
+complete -c covcollect -n '__covcollect_within merge summary' -l include -x -d 'Only source files that match the pattern'
+complete -c covcollect -n '__covcollect_within merge summary' -l exclude -x -d 'No source files that match the pattern'
 complete -c covcollect -n '__covcollect_within gcov' -l test -x -d 'The test that the counts are of'
 complete -c covcollect -n '__covcollect_within check' -l gcov -d 'The files are what gcov wrote'
 complete -c covcollect -n '__covcollect_within merge summary' -a '(__covcollect_tracefiles)'

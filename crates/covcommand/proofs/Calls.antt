@@ -7,7 +7,7 @@ use Rattle.clap.specs.Words.{takes, fault_of, subcommand_of}
 use Rattle.clap.specs.declared.error.kind.ErrorKind.TheVariants as kind
 use Rattle.covcommand.specs.Asked.{AsksFor}
 use Rattle.covcommand.specs.CommandLine.{covcollect}
-use Rattle.covcommand.specs.declared.asked.Command.TheVariants.{Check}
+use Rattle.covcommand.specs.declared.asked.Command.TheVariants.{Check, Merge, Summary}
 use Rattle.covcommand.specs.declared.asked.TextFormat.TheVariants as format
 use Rattle.covcommand.specs.declared.asked.LcovVersion.TheVariants.{One, Two}
 
@@ -67,6 +67,14 @@ pub summary_jobs_taken : takes covcollect (codes "covcollect" ∷ codes "summary
 unfolding clap_on_literals
 summary_jobs_taken = refl
 
+pub merge_filters_taken : takes covcollect (codes "covcollect" ∷ codes "merge" ∷ codes "--include" ∷ codes "*.c" ∷ codes "--include" ∷ codes "*.h" ∷ codes "--exclude" ∷ codes "*.t" ∷ codes "a.info" ∷ []) ≡ true
+unfolding clap_on_literals
+merge_filters_taken = refl
+
+pub summary_filters_taken : takes covcollect (codes "covcollect" ∷ codes "summary" ∷ codes "a.info" ∷ codes "--exclude=*.t" ∷ codes "--exclude" ∷ codes "*.h" ∷ []) ≡ true
+unfolding clap_on_literals
+summary_filters_taken = refl
+
 -- the rows of the subcommand that the words name
 abbrev rows_met : List Text → List Row
 rows_met words = option_map_or (λ met. met.1) (subcommand_of covcollect words) []
@@ -94,6 +102,26 @@ lcov2_asked = (rows_met (codes "covcollect" ∷ codes "check" ∷ codes "--lcov2
 pub both_asked : AsksFor (subcommand_of covcollect (codes "covcollect" ∷ codes "check" ∷ codes "--gcov" ∷ codes "--lcov2" ∷ codes "a.c.gcov" ∷ [])) (Check format.Gcov (codes "a.c.gcov" ∷ []))
 unfolding clap_on_literals
 both_asked = (rows_met (codes "covcollect" ∷ codes "check" ∷ codes "--gcov" ∷ codes "--lcov2" ∷ codes "a.c.gcov" ∷ []), refl, refl, refl)
+
+pub merge_filter_asked : AsksFor (subcommand_of covcollect (codes "covcollect" ∷ codes "merge" ∷ codes "--include" ∷ codes "b" ∷ codes "--exclude" ∷ codes "x" ∷ codes "--include=a" ∷ codes "--exclude" ∷ codes "y" ∷ codes "f" ∷ []))
+    (Merge One 1 (record { includes = codes "b" ∷ codes "a" ∷ []; excludes = codes "x" ∷ codes "y" ∷ [] }) (codes "f" ∷ []))
+unfolding clap_on_literals
+merge_filter_asked = (rows_met (codes "covcollect" ∷ codes "merge" ∷ codes "--include" ∷ codes "b" ∷ codes "--exclude" ∷ codes "x" ∷ codes "--include=a" ∷ codes "--exclude" ∷ codes "y" ∷ codes "f" ∷ []), refl, refl, (codes "1", refl, refl), (refl, refl), refl)
+
+pub summary_filter_asked : AsksFor (subcommand_of covcollect (codes "covcollect" ∷ codes "summary" ∷ codes "f" ∷ codes "--exclude=x" ∷ codes "--lcov2" ∷ []))
+    (Summary Two 1 (record { includes = []; excludes = codes "x" ∷ [] }) (codes "f" ∷ []))
+unfolding clap_on_literals
+summary_filter_asked = (rows_met (codes "covcollect" ∷ codes "summary" ∷ codes "f" ∷ codes "--exclude=x" ∷ codes "--lcov2" ∷ []), refl, refl, (codes "1", refl, refl), (refl, refl), refl)
+
+pub neither_filter_asked : AsksFor (subcommand_of covcollect (codes "covcollect" ∷ codes "merge" ∷ codes "f" ∷ []))
+    (Merge One 1 (record { includes = []; excludes = [] }) (codes "f" ∷ []))
+unfolding clap_on_literals
+neither_filter_asked = (rows_met (codes "covcollect" ∷ codes "merge" ∷ codes "f" ∷ []), refl, refl, (codes "1", refl, refl), (refl, refl), refl)
+
+pub name_filter_asked : AsksFor (subcommand_of covcollect (codes "covcollect" ∷ codes "merge" ∷ codes "--" ∷ codes "--include" ∷ codes "a" ∷ []))
+    (Merge One 1 (record { includes = []; excludes = [] }) (codes "--include" ∷ codes "a" ∷ []))
+unfolding clap_on_literals
+name_filter_asked = (rows_met (codes "covcollect" ∷ codes "merge" ∷ codes "--" ∷ codes "--include" ∷ codes "a" ∷ []), refl, refl, (codes "1", refl, refl), (refl, refl), refl)
 
 pub jobs_refused : fault_of covcollect (codes "covcollect" ∷ codes "merge" ∷ codes "--jobs" ∷ codes "65" ∷ codes "a.info" ∷ []) ≡ kind.ValueValidation ∷ []
 unfolding clap_on_literals
@@ -126,6 +154,14 @@ gcov_lcov2_refused = refl
 pub lcov2_twice_refused : fault_of covcollect (codes "covcollect" ∷ codes "merge" ∷ codes "--lcov2" ∷ codes "--lcov2" ∷ codes "a.info" ∷ []) ≡ kind.ArgumentConflict ∷ []
 unfolding clap_on_literals
 lcov2_twice_refused = refl
+
+pub extract_include_refused : fault_of covcollect (codes "covcollect" ∷ codes "extract" ∷ codes "--include" ∷ codes "*.c" ∷ codes "a.info" ∷ codes "*.h" ∷ []) ≡ kind.UnknownArgument ∷ []
+unfolding clap_on_literals
+extract_include_refused = refl
+
+pub no_pattern_refused : fault_of covcollect (codes "covcollect" ∷ codes "merge" ∷ codes "a.info" ∷ codes "--exclude" ∷ []) ≡ kind.InvalidValue ∷ []
+unfolding clap_on_literals
+no_pattern_refused = refl
 
 pub help_refused : fault_of covcollect (codes "covcollect" ∷ codes "merge" ∷ codes "--help" ∷ []) ≡ kind.DisplayHelp ∷ []
 unfolding clap_on_literals

@@ -13,7 +13,7 @@ use Rattle.clap.specs.Walk.{Row, Text, answers_to, has_row, nothing_held, rows_a
 use Rattle.clap.specs.Simple.{App, Shape, argument_words, built, entered, filled, help_rule, label_of, names_of, rows_at, subcommand_of, with_index, with_subcommand}
 use Rattle.clap.specs.Takes.{is_given}
 use Rattle.clap.specs.Faults.{built_fault, check_fault, entered_fault, fault_of, level_fault, repeat_fault, walk_fault}
-use Rattle.covcommand.specs.CommandLine.{check, covcollect, extract, filtering, flag, gcov, jobs, merge, merging, program, remove, several, single, summary, test}
+use Rattle.covcommand.specs.CommandLine.{check, covcollect, extract, filtering, flag, gcov, jobs, merge, merging, patterns, program, remove, several, single, summary, test}
 use Rattle.covcommand.specs.Found.{Fits, HasCheck, HasFiltering, HasFlag, HasMerging, HasSome, HasTest}
 use Rattle.covcommand.proofs.Walks.{EachKeeps, Keeps, level_keeps, no_faults, settled_after}
 use Rattle.covcommand.proofs.Rows.{EachDefaultFits, FitsValues, RowOf, RowsFit, append_fits, defaulted, defaults_fit, given_row, has_default, has_flag, has_jobs, has_some, has_test, held_row, is_flag, numbers, set_fits}
@@ -37,6 +37,11 @@ any_fit id v vs free = ((λ e. no (sym free.0 ∙ e)), (λ e. no (sym free.1 ∙
 several_keeps : (id : Text) (i : ℕ) → IsFree id → Keeps RowsFit (with_index i (filled (several id)))
 several_keeps id i free again [] rows none fit = absurd cc
 several_keeps id i free again (v ∷ vs) rows none fit =
+    append_fits id AsWritten CommandLine (v ∷ vs) rows (any_fit id v vs free) fit
+
+patterns_keeps : (id : Text) (i : ℕ) → IsFree id → Keeps RowsFit (with_index i (filled (patterns id)))
+patterns_keeps id i free again [] rows none fit = absurd cc
+patterns_keeps id i free again (v ∷ vs) rows none fit =
     append_fits id AsWritten CommandLine (v ∷ vs) rows (any_fit id v vs free) fit
 
 single_keeps : (id : Text) (i : ℕ) → IsFree id → Keeps RowsFit (with_index i (filled (single id)))
@@ -130,9 +135,17 @@ Leaves s P = (words : List Text) → level_fault s [] nothing_held words false [
 -- `merge` and `summary`
 merging_leaves : (name : Text) → Leaves (built_below (merging name)) HasMerging
 merging_leaves name words none =
-    let each : EachKeeps RowsFit (built_below (merging name)).rules =
-    (several_keeps (codes "FILE") 1 (refl, refl), (jobs_keeps 2, (flag_keeps (codes "lcov2") 2 refl, (help_keeps 2, tt)))) in
-    let defaults : EachDefaultFits (built_below (merging name)).rules = (tt, (one_job_fits, (unset_fits (codes "lcov2") refl, (tt, tt)))) in
+    let each : EachKeeps RowsFit (built_below (merging name)).rules = (
+      several_keeps (codes "FILE") 1 (refl, refl),
+      (
+        jobs_keeps 2,
+        (
+          flag_keeps (codes "lcov2") 2 refl,
+          (patterns_keeps (codes "include") 2 (refl, refl), (patterns_keeps (codes "exclude") 2 (refl, refl), (help_keeps 2, tt))),
+        ),
+      ),
+    ) in
+    let defaults : EachDefaultFits (built_below (merging name)).rules = (tt, (one_job_fits, (unset_fits (codes "lcov2") refl, (tt, (tt, (tt, tt)))))) in
     of_left _ (left_after (built_below (merging name)) words each defaults none)
   where
     of_left : (rows : List Row) → Left (built_below (merging name)) rows → HasMerging rows

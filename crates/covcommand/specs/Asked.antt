@@ -4,6 +4,7 @@ use Rattle.std.specs.Str.Parse.{digits_value, without_leading_plus}
 use Rattle.clap.specs.Walk.{Row, Text, all_of, first_of, one_of}
 use Rattle.covcommand.specs.declared.asked.Command.{Command}
 use Rattle.covcommand.specs.declared.asked.Command.TheVariants.{Session, Merge, Summary, Extract, Remove, Gcov, Check}
+use Rattle.covcommand.specs.declared.asked.SourceFilter.{SourceFilter}
 use Rattle.covcommand.specs.declared.asked.TextFormat.{TextFormat}
 use Rattle.covcommand.specs.declared.asked.TextFormat.TheVariants as format
 use Rattle.covcommand.specs.declared.asked.LcovVersion.{LcovVersion}
@@ -32,14 +33,18 @@ abbrev pub IsFormatOf : List Row → TextFormat → Type 0
 IsFormatOf rows (format.Tracefile version) = (one_of (codes "gcov") rows ≡ Some (codes "false")) × IsVersionOf rows version
 IsFormatOf rows format.Gcov = one_of (codes "gcov") rows ≡ Some (codes "true")
 
+-- the patterns that clap found for `--include` and those for `--exclude`, each in their order, and none if the option isn't given
+abbrev pub IsFilterOf : List Row → SourceFilter → Type 0
+IsFilterOf rows filter = (filter.includes ≡ values_of (codes "include") rows) × (filter.excludes ≡ values_of (codes "exclude") rows)
+
 -- a call asks for this command: `met` is the subcommand that clap reads of its words (`None` for a session), with a row for each
 -- of its arguments, and the command has what the rows say
 abbrev pub AsksFor : Option (Text × List Row) → Command → Type 0
 AsksFor met Session = met ≡ None
-AsksFor met (Merge version jobs names) = (rows : List Row) × (met ≡ Some (codes "merge", rows))
-    × IsVersionOf rows version × IsNumberOf rows jobs × (names ≡ values_of (codes "FILE") rows)
-AsksFor met (Summary version jobs names) = (rows : List Row) × (met ≡ Some (codes "summary", rows))
-    × IsVersionOf rows version × IsNumberOf rows jobs × (names ≡ values_of (codes "FILE") rows)
+AsksFor met (Merge version jobs filter names) = (rows : List Row) × (met ≡ Some (codes "merge", rows))
+    × IsVersionOf rows version × IsNumberOf rows jobs × IsFilterOf rows filter × (names ≡ values_of (codes "FILE") rows)
+AsksFor met (Summary version jobs filter names) = (rows : List Row) × (met ≡ Some (codes "summary", rows))
+    × IsVersionOf rows version × IsNumberOf rows jobs × IsFilterOf rows filter × (names ≡ values_of (codes "FILE") rows)
 AsksFor met (Extract version names) = (rows : List Row) × (met ≡ Some (codes "extract", rows))
     × IsVersionOf rows version × (names ≡ tracefile_and_patterns rows)
 AsksFor met (Remove version names) = (rows : List Row) × (met ≡ Some (codes "remove", rows))
@@ -53,8 +58,8 @@ AsksFor met (Check how names) = (rows : List Row) × (met ≡ Some (codes "check
 -- `merge` and `summary` have 1 to 64 jobs. Each subcommand has at least one name, and `extract` and `remove` have at least two
 abbrev pub IsInBounds : Command → Type 0
 IsInBounds Session = Unit {0}
-IsInBounds (Merge version jobs names) = (1 ≤ jobs) × (jobs ≤ 64) × (1 ≤ length names)
-IsInBounds (Summary version jobs names) = (1 ≤ jobs) × (jobs ≤ 64) × (1 ≤ length names)
+IsInBounds (Merge version jobs filter names) = (1 ≤ jobs) × (jobs ≤ 64) × (1 ≤ length names)
+IsInBounds (Summary version jobs filter names) = (1 ≤ jobs) × (jobs ≤ 64) × (1 ≤ length names)
 IsInBounds (Extract version names) = 2 ≤ length names
 IsInBounds (Remove version names) = 2 ≤ length names
 IsInBounds (Gcov test names) = 1 ≤ length names

@@ -51,9 +51,18 @@ annotated = flag (codes "gcov")
 abbrev pub lcov2 : Rule
 lcov2 = flag (codes "lcov2")
 
--- a subcommand that takes tracefiles, which jobs may read at once: `merge` and `summary`
+-- an option for a pattern, which may be given any number of times, also not at all: `--include PATTERN`, `--exclude PATTERN`
+abbrev pub patterns : Text → Rule
+patterns id = record (new_rule id) {
+  long = Some id;
+  value_names = 1;
+  action = Some Append;
+}
+
+-- a subcommand that takes tracefiles, which jobs may read at once, and patterns of source files: `merge` and `summary`
 abbrev pub merging : Text → App
-merging name = with_rule (with_rule (with_rule (new_app name) (several (codes "FILE"))) jobs) lcov2
+merging name = with_rule (with_rule (with_rule (with_rule (with_rule (new_app name) (several (codes "FILE"))) jobs) lcov2)
+    (patterns (codes "include"))) (patterns (codes "exclude"))
 
 abbrev pub merge : App
 merge = merging (codes "merge")

@@ -22,10 +22,11 @@ HasJobs rows = (text : Text) × (one_of (codes "jobs") rows ≡ Some (without_mi
 abbrev pub HasFlag : Text → List Row → Type 0
 HasFlag id rows = (one_of id rows ≡ Some (codes "true")) ⊎ (one_of id rows ≡ Some (codes "false"))
 
--- clap found what `merge` and `summary` require
+-- clap found what `merge` and `summary` require. They require nothing of `--include` and `--exclude`, which may have no row
 abbrev pub HasMerging : List Row → Type 0
 HasMerging rows = HasFlag (codes "lcov2") rows × HasJobs rows × HasSome (codes "FILE") rows
 
+-- clap found a tracefile and at least one pattern
 abbrev pub HasFilter : List Row → Type 0
 HasFilter rows = HasSome (codes "TRACEFILE") rows × HasSome (codes "PATTERN") rows
 

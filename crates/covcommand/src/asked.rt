@@ -14,6 +14,8 @@ pub enum Command {
         version: LcovVersion,
         /// How many jobs read at once, from 1 to 64.
         jobs: u32,
+        /// Which source files are printed.
+        filter: SourceFilter,
         /// The files' paths, at least one.
         names: Names,
     },
@@ -23,6 +25,8 @@ pub enum Command {
         version: LcovVersion,
         /// How many jobs read at once, from 1 to 64.
         jobs: u32,
+        /// Which source files are counted.
+        filter: SourceFilter,
         /// The files' paths, at least one.
         names: Names,
     },
@@ -54,6 +58,16 @@ pub enum Command {
         /// The files' paths, at least one.
         names: Names,
     },
+}
+
+/// Which source files a call is about, by shell patterns of their paths. Each list has the patterns in their order, and is empty
+/// if the call gives none.
+#[derive(Drop)]
+pub struct SourceFilter {
+    /// `--include`: if there are any, a file has to match at least one of these.
+    pub includes: Names,
+    /// `--exclude`: a file has to match none of these.
+    pub excludes: Names,
 }
 
 /// How the text of a file is read.

@@ -47,7 +47,7 @@ fn summary<'a>(alloc: Global) -> Result<Command<'a>, AllocError>
     Ok(summary.about(help::SUMMARY).after_help(help::SUMMARY_END))
 }
 
-/// A command that takes tracefiles, which jobs may read at once.
+/// A command that takes tracefiles, which jobs may read at once, and patterns of the source files to keep and to leave out.
 fn merging<'a>(alloc: Global, name: &'a str) -> Result<Command<'a>, AllocError>
     ensures { IfOk result (HasNoGlobals (line.merging name.entry.now)) }
 {
@@ -55,7 +55,9 @@ fn merging<'a>(alloc: Global, name: &'a str) -> Result<Command<'a>, AllocError>
     merging
         .arg(several(alloc, "FILE", help::TRACEFILES))?
         .arg(jobs(alloc))?
-        .arg(lcov2(alloc))
+        .arg(lcov2(alloc))?
+        .arg(patterns(alloc, "include", help::INCLUDE))?
+        .arg(patterns(alloc, "exclude", help::EXCLUDE))
 }
 
 fn extract<'a>(alloc: Global) -> Result<Command<'a>, AllocError>
@@ -150,6 +152,17 @@ fn test<'a>(alloc: Global) -> Arg<'a>
         .required(true)
         .action(ArgAction::Set)
         .help(help::TEST)
+}
+
+/// An option for a pattern, which a call may give any number of times.
+fn patterns<'a>(alloc: Global, id: &'a str, help: &'a str) -> Arg<'a>
+    ensures { IsRule (line.patterns id.entry.now) result }
+{
+    Arg::new(alloc, id)
+        .long(id)
+        .value_name("PATTERN")
+        .action(ArgAction::Append)
+        .help(help)
 }
 
 /// The flag `--gcov`, which says that gcov wrote the files.

@@ -42,7 +42,9 @@ write
 and where there are many files
   covcollect merge --jobs 4 jobs/*.info > OUT
 and where LCOV 2 wrote some of them
-  covcollect merge --lcov2 A.info B.info > OUT";
+  covcollect merge --lcov2 A.info B.info > OUT
+and to leave out source files (extract --help tells of patterns)
+  covcollect merge --exclude '/usr/*' A.info B.info > OUT";
 
 /// What `summary` does.
 pub(crate) const SUMMARY: &str = "Tells how much of the code is hit (lcov --summary)";
@@ -53,7 +55,9 @@ Prints how many lines, functions and branches are hit, of several files those of
 their merge. In place of
   lcov --summary A.info
 write
-  covcollect summary A.info";
+  covcollect summary A.info
+and of some source files alone (extract --help tells of patterns)
+  covcollect summary --include '*/src/*' A.info";
 
 /// What `extract` does.
 pub(crate) const EXTRACT: &str = "Keeps the source files that match a pattern (lcov -e)";
@@ -125,13 +129,19 @@ pub(crate) const SOURCES: &str = "Files that gcov wrote, read in this order";
 pub(crate) const CHECKED: &str = "Tracefiles, looked at in this order";
 
 /// The help of `--jobs`.
-pub(crate) const JOBS: &str = "How many files are parsed at once, 1 to 64";
+pub(crate) const JOBS: &str = "How many files are read at once, 1 to 64";
 
 /// The help of `--test`.
 pub(crate) const TEST: &str = "The test that the counts are of; --test= is the empty name";
 
 /// The help of `--lcov2`.
 pub(crate) const LCOV2: &str = "Tracefiles of LCOV 2 are read too";
+
+/// The help of `--include`.
+pub(crate) const INCLUDE: &str = "Only source files that match PATTERN; may be repeated";
+
+/// The help of `--exclude`.
+pub(crate) const EXCLUDE: &str = "No source files that match PATTERN; may be repeated";
 
 /// The help of `--gcov`.
 pub(crate) const ANNOTATED: &str = "The files are what gcov wrote, and not tracefiles";

@@ -6,7 +6,7 @@ ghost use Rattle.clap.specs.declared.error.kind.ErrorKind.TheVariants as kind;
 ghost use Rattle.clap.specs.Words.{subcommand_of};
 ghost use Rattle.covcommand.specs.Asked.{AsksFor};
 ghost use Rattle.covcommand.specs.CommandLine.{covcollect};
-ghost use Rattle.covcommand.specs.declared.asked.Command.TheVariants.{Check};
+ghost use Rattle.covcommand.specs.declared.asked.Command.TheVariants.{Check, Merge, Summary};
 ghost use Rattle.covcommand.specs.declared.asked.TextFormat.TheVariants as format;
 ghost use Rattle.covcommand.specs.declared.asked.LcovVersion.TheVariants.{One, Two};
 
@@ -26,6 +26,8 @@ pub fn calls_are_taken()
     ensures check_lcov2 { takes covcollect (codes "covcollect" ∷ codes "check" ∷ codes "--lcov2" ∷ codes "a.info" ∷ []) ≡ true }
     ensures short_jobs { takes covcollect (codes "covcollect" ∷ codes "merge" ∷ codes "-j" ∷ codes "4" ∷ codes "a.info" ∷ []) ≡ true }
     ensures summary_jobs { takes covcollect (codes "covcollect" ∷ codes "summary" ∷ codes "--jobs" ∷ codes "4" ∷ codes "a.info" ∷ []) ≡ true }
+    ensures merge_filters { takes covcollect (codes "covcollect" ∷ codes "merge" ∷ codes "--include" ∷ codes "*.c" ∷ codes "--include" ∷ codes "*.h" ∷ codes "--exclude" ∷ codes "*.t" ∷ codes "a.info" ∷ []) ≡ true }
+    ensures summary_filters { takes covcollect (codes "covcollect" ∷ codes "summary" ∷ codes "a.info" ∷ codes "--exclude=*.t" ∷ codes "--exclude" ∷ codes "*.h" ∷ []) ≡ true }
 {}
 
 /// What calls of `check` ask for. With the flag `--gcov`, before or after the files, the files are gcov's, also beside `--lcov2`;
@@ -43,6 +45,19 @@ pub fn checks_by_their_words()
         (Check (format.Tracefile Two) (codes "a.info" ∷ [])) }
     ensures both { AsksFor (subcommand_of covcollect (codes "covcollect" ∷ codes "check" ∷ codes "--gcov" ∷ codes "--lcov2" ∷ codes "a.c.gcov" ∷ []))
         (Check format.Gcov (codes "a.c.gcov" ∷ [])) }
+{}
+
+/// What calls of `merge` and `summary` ask for by `--include` and `--exclude`: all patterns of each, in their order. Without these
+/// options there are none, and after `--` they are names of files.
+pub fn filters_by_their_words()
+    ensures merge { AsksFor (subcommand_of covcollect (codes "covcollect" ∷ codes "merge" ∷ codes "--include" ∷ codes "b" ∷ codes "--exclude" ∷ codes "x" ∷ codes "--include=a" ∷ codes "--exclude" ∷ codes "y" ∷ codes "f" ∷ []))
+        (Merge One 1 (record { includes = codes "b" ∷ codes "a" ∷ []; excludes = codes "x" ∷ codes "y" ∷ [] }) (codes "f" ∷ [])) }
+    ensures summary { AsksFor (subcommand_of covcollect (codes "covcollect" ∷ codes "summary" ∷ codes "f" ∷ codes "--exclude=x" ∷ codes "--lcov2" ∷ []))
+        (Summary Two 1 (record { includes = []; excludes = codes "x" ∷ [] }) (codes "f" ∷ [])) }
+    ensures neither { AsksFor (subcommand_of covcollect (codes "covcollect" ∷ codes "merge" ∷ codes "f" ∷ []))
+        (Merge One 1 (record { includes = []; excludes = [] }) (codes "f" ∷ [])) }
+    ensures name { AsksFor (subcommand_of covcollect (codes "covcollect" ∷ codes "merge" ∷ codes "--" ∷ codes "--include" ∷ codes "a" ∷ []))
+        (Merge One 1 (record { includes = []; excludes = [] }) (codes "--include" ∷ codes "a" ∷ [])) }
 {}
 
 /// Calls that are refused, with clap's kind of error for each. The program takes `--version`, but its subcommands don't.
@@ -63,6 +78,10 @@ pub fn calls_are_refused()
         ≡ kind.UnknownArgument ∷ [] }
     ensures lcov2_twice { fault_of covcollect (codes "covcollect" ∷ codes "merge" ∷ codes "--lcov2" ∷ codes "--lcov2" ∷ codes "a.info" ∷ [])
         ≡ kind.ArgumentConflict ∷ [] }
+    ensures extract_include { fault_of covcollect (codes "covcollect" ∷ codes "extract" ∷ codes "--include" ∷ codes "*.c" ∷ codes "a.info" ∷ codes "*.h" ∷ [])
+        ≡ kind.UnknownArgument ∷ [] }
+    ensures no_pattern { fault_of covcollect (codes "covcollect" ∷ codes "merge" ∷ codes "a.info" ∷ codes "--exclude" ∷ [])
+        ≡ kind.InvalidValue ∷ [] }
     ensures help { fault_of covcollect (codes "covcollect" ∷ codes "merge" ∷ codes "--help" ∷ [])
         ≡ kind.DisplayHelp ∷ [] }
     ensures version { fault_of covcollect (codes "covcollect" ∷ codes "--version" ∷ [])

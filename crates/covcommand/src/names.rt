@@ -4,7 +4,7 @@ use covline::Memory;
 use std::alloc::Global;
 use std::marker::Model;
 
-/// The positional words of a call in their order: paths, and patterns. Contracts see a list with the bytes of each word.
+/// Words of a call in their order: paths, and patterns. Contracts see a list with the bytes of each word.
 #[derive(Drop)]
 pub struct Names {
     words: Vec<String>,

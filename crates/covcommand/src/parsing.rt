@@ -4,12 +4,12 @@ ghost use Rattle.std.specs.Prelude.{◌≡◌, ◌≤◌, ◌++◌, [], IfOk, If
 ghost use Rattle.std.specs.String.{string_bytes};
 ghost use Rattle.clap.specs.Words.{rows_of, found_of, subcommand_of, takes, fault_of, first_of};
 ghost use Rattle.covcommand.specs.CommandLine.{covcollect};
-ghost use Rattle.covcommand.specs.Asked.{AsksFor, IsFormatOf, IsInBounds, IsNumberOf, IsVersionOf, tracefile_and_patterns, values_of};
+ghost use Rattle.covcommand.specs.Asked.{AsksFor, IsFilterOf, IsFormatOf, IsInBounds, IsNumberOf, IsVersionOf, tracefile_and_patterns, values_of};
 ghost use Rattle.covcommand.specs.Found.{Fits, HasFilter, HasFlag, HasJobs, HasSome, HasTest};
 ghost use Rattle.covcommand.specs.Fault.{IsFaultAmong};
 ghost use Rattle.covcommand.specs.declared.fault.CommandFault.TheVariants as faults;
 
-use crate::asked::{Command, LcovVersion, TextFormat};
+use crate::asked::{Command, LcovVersion, SourceFilter, TextFormat};
 use crate::described::described;
 use crate::fault::CommandFault;
 use crate::names::Names;
@@ -50,11 +50,13 @@ fn command_from(alloc: Global, name: &str, found: &ArgMatches<'_>) -> Result<Com
         "merge" => Ok(Command::Merge {
             version: version_of(found),
             jobs: jobs_of(found),
+            filter: source_filter_of(alloc, found)?,
             names: files_of(alloc, found)?,
         }),
         "summary" => Ok(Command::Summary {
             version: version_of(found),
             jobs: jobs_of(found),
+            filter: source_filter_of(alloc, found)?,
             names: files_of(alloc, found)?,
         }),
         "extract" => Ok(Command::Extract {
@@ -94,6 +96,25 @@ fn files_of(alloc: Global, found: &ArgMatches<'_>) -> Result<Names, Memory>
     let mut names = Names::new(alloc);
     push_values(&mut names, alloc, found, "FILE")?;
     Ok(names)
+}
+
+/// Which source files the call is about, by the patterns that clap found for `--include` and `--exclude`.
+fn source_filter_of(alloc: Global, found: &ArgMatches<'_>) -> Result<SourceFilter, Memory>
+    ensures { IfOk result (IsFilterOf (rows_of (found_of found.now))) }
+{
+    Ok(SourceFilter {
+        includes: patterns_of(alloc, found, "include")?,
+        excludes: patterns_of(alloc, found, "exclude")?,
+    })
+}
+
+/// The patterns that clap found for the option, in their order.
+fn patterns_of(alloc: Global, found: &ArgMatches<'_>, id: &str) -> Result<Names, Memory>
+    ensures { IfOk result (λ n. n ≡ values_of id.now (rows_of (found_of found.now))) }
+{
+    let mut patterns = Names::new(alloc);
+    push_values(&mut patterns, alloc, found, id)?;
+    Ok(patterns)
 }
 
 /// The names of the tracefile and the patterns.

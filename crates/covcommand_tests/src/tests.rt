@@ -3,7 +3,7 @@
 //!
 //! Examples are text, so that they cost the proof of these tests nothing: a line has a call and, after ` => `, its answer.
 
-use covcommand::{Command, CommandFault, LcovVersion, Names, TextFormat, command};
+use covcommand::{Command, CommandFault, LcovVersion, Names, SourceFilter, TextFormat, command};
 use std::alloc::Global;
 use std::process::Abort;
 use std::test::*;
@@ -43,26 +43,29 @@ fn refused(alloc: Global, fault: &CommandFault) -> Result<String, Fail> {
     Ok(format!(in alloc; "{} {} {first}", fault.number(), fault.status())?)
 }
 
-/// The command in words: its subcommand, its version of LCOV, its number of jobs, its test or its format, and its names.
+/// The command in words: its subcommand, its version of LCOV, its number of jobs, its test or its format, then its filter and its
+/// names.
 fn told(alloc: Global, command: &Command) -> Result<String, Fail> {
     match command {
         Command::Session => Ok(String::from_str(alloc, "session")?),
         Command::Merge {
             version,
             jobs,
+            filter,
             names,
-        } => with_names(
-            format!(in alloc; "merge ({} {jobs})", number_of(version))?,
-            names,
-        ),
+        } => {
+            let merge = format!(in alloc; "merge ({} {jobs})", number_of(version))?;
+            with_names(with_filter(merge, filter)?, names)
+        }
         Command::Summary {
             version,
             jobs,
+            filter,
             names,
-        } => with_names(
-            format!(in alloc; "summary ({} {jobs})", number_of(version))?,
-            names,
-        ),
+        } => {
+            let summary = format!(in alloc; "summary ({} {jobs})", number_of(version))?;
+            with_names(with_filter(summary, filter)?, names)
+        }
         Command::Extract { version, names } => {
             with_names(
                 format!(in alloc; "extract ({})", number_of(version))?,
@@ -95,10 +98,21 @@ fn number_of(version: &LcovVersion) -> u8 {
     }
 }
 
+/// The text with the patterns after it: `+` stands before those to include, and `-` before those to exclude.
+fn with_filter(text: String, filter: &SourceFilter) -> Result<String, Fail> {
+    let text = with_marked(text, " +[", &filter.includes)?;
+    with_marked(text, " -[", &filter.excludes)
+}
+
 /// The text with each name after it, in brackets.
-fn with_names(mut text: String, names: &Names) -> Result<String, Fail> {
+fn with_names(text: String, names: &Names) -> Result<String, Fail> {
+    with_marked(text, " [", names)
+}
+
+/// The text with each name after it, in brackets that open with the mark.
+fn with_marked(mut text: String, mark: &str, names: &Names) -> Result<String, Fail> {
     for name in names.get() {
-        text.push_str(" [")?;
+        text.push_str(mark)?;
         text.push_str(name.as_str())?;
         text.push(']')?;
     }

@@ -107,6 +107,52 @@ covcollect --lcov2 merge a.info => 2 2 error: unexpected argument '--lcov2' foun
     )
 }
 
+/// The options `--include` and `--exclude`: each several times, mixed with each other and with other words. Each takes one word.
+#[test]
+fn filters(rt: HostRuntime) -> Result<(), Fail> {
+    check_all(
+        &rt,
+        "\
+covcollect merge --include '*/src/*' a.info => merge (1 1) +[*/src/*] [a.info]
+covcollect merge --exclude '/usr/*' a.info => merge (1 1) -[/usr/*] [a.info]
+covcollect merge --include=*.c a.info --include '*.h' b.info --include=*.c => merge (1 1) +[*.c] +[*.h] +[*.c] [a.info] [b.info]
+covcollect merge --exclude '*.h' --exclude=*/gen/* a.info => merge (1 1) -[*.h] -[*/gen/*] [a.info]
+covcollect merge --exclude x --include b --exclude y --include a f => merge (1 1) +[b] +[a] -[x] -[y] [f]
+covcollect merge --lcov2 --include a -j 4 --exclude b a.info b.info => merge (2 4) +[a] -[b] [a.info] [b.info]
+covcollect merge a.info --exclude b --jobs=3 --include a --lcov2 => merge (2 3) +[a] -[b] [a.info]
+covcollect summary --include '*.c' a.info => summary (1 1) +[*.c] [a.info]
+covcollect summary a.info --exclude '*.h' --include '*.c' -j2 --exclude '*.t' => summary (1 2) +[*.c] -[*.h] -[*.t] [a.info]
+covcollect merge --include '*.c' '*.h' a.info => merge (1 1) +[*.c] [*.h] [a.info]
+covcollect merge --include= a.info => merge (1 1) +[] [a.info]
+covcollect merge --exclude=-j --include=--exclude a.info => merge (1 1) +[--exclude] -[-j] [a.info]
+covcollect merge --include=a=b a.info => merge (1 1) +[a=b] [a.info]
+covcollect merge -- --include a => merge (1 1) [--include] [a]
+covcollect summary include exclude => summary (1 1) [include] [exclude]
+",
+    )
+}
+
+/// A filter without a pattern, without a file, of another subcommand, and of other names.
+#[test]
+fn filters_that_are_refused(rt: HostRuntime) -> Result<(), Fail> {
+    check_all(
+        &rt,
+        "\
+covcollect merge a.info --include => 2 2 error: a value is required for '--include <PATTERN>' but none was supplied
+covcollect summary a.info --exclude => 2 2 error: a value is required for '--exclude <PATTERN>' but none was supplied
+covcollect merge --include '*.c' => 2 2 error: the following required arguments were not provided:
+covcollect summary --exclude '*.c' => 2 2 error: the following required arguments were not provided:
+covcollect extract --include '*.c' a.info '*.h' => 2 2 error: unexpected argument '--include' found
+covcollect remove a.info '*.h' --exclude '*.c' => 2 2 error: unexpected argument '--exclude' found
+covcollect gcov --test unit --include '*.c' main.c.gcov => 2 2 error: unexpected argument '--include' found
+covcollect check --exclude '*.c' a.info => 2 2 error: unexpected argument '--exclude' found
+covcollect --include '*.c' merge a.info => 2 2 error: unexpected argument '--include' found
+covcollect merge --includes '*.c' a.info => 2 2 error: unexpected argument '--includes' found
+covcollect merge -i '*.c' a.info => 2 2 error: unexpected argument '-i' found
+",
+    )
+}
+
 /// Words that are missing, that come twice, and that nothing takes.
 #[test]
 fn refusals(rt: HostRuntime) -> Result<(), Fail> {

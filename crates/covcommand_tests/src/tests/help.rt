@@ -154,15 +154,19 @@ Arguments:
   <FILE>...  Tracefiles, read in this order
 
 Options:
-  -j, --jobs <N>  How many files are parsed at once, 1 to 64 [default: 1]
-      --lcov2     Tracefiles of LCOV 2 are read too
-  -h, --help      Print help
+  -j, --jobs <N>           How many files are read at once, 1 to 64 [default: 1]
+      --lcov2              Tracefiles of LCOV 2 are read too
+      --include <PATTERN>  Only source files that match PATTERN; may be repeated
+      --exclude <PATTERN>  No source files that match PATTERN; may be repeated
+  -h, --help               Print help
 
 Prints how many lines, functions and branches are hit, of several files those of
 their merge. In place of
   lcov --summary A.info
 write
   covcollect summary A.info
+and of some source files alone (extract --help tells of patterns)
+  covcollect summary --include '*/src/*' A.info
 ",
     )
 }
@@ -211,8 +215,8 @@ fn check_text(rt: &impl Abort, given: &str, wanted: &str) -> Result<(), Fail> {
 #[test]
 fn examples_are_taken(rt: HostRuntime) -> Result<(), Fail> {
     check_examples(&rt, "covcollect --help", 4)?;
-    check_examples(&rt, "covcollect merge --help", 3)?;
-    check_examples(&rt, "covcollect summary --help", 1)?;
+    check_examples(&rt, "covcollect merge --help", 4)?;
+    check_examples(&rt, "covcollect summary --help", 2)?;
     check_examples(&rt, "covcollect extract --help", 2)?;
     check_examples(&rt, "covcollect remove --help", 2)?;
     check_examples(&rt, "covcollect gcov --help", 1)?;
