@@ -63,6 +63,7 @@ some_values file texts test points section i none =
     })
     by some (inr j) = j
 
+-- nothing is found exactly if there is no line, no function and no branch
 none_of : (totals : Totals) → finds_nothing totals ≡ true → (totals.lf ≡ 0) × (totals.ff ≡ 0) × (totals.bf ≡ 0)
 none_of totals e =
     let two = and_parts (totals.lf == 0 && totals.ff == 0) (totals.bf == 0) e in
@@ -76,6 +77,7 @@ of_none totals lines functions branches =
 
 -- ---- a file, with the totals of its sections
 
+-- a file with these totals
 abbrev named : List ℕ → Totals → FileTotalsData
 named file totals = record { path = file; totals = totals }
 
