@@ -1,11 +1,17 @@
 -- How a call that collects files ends, from the results of its steps.
-use Rattle.std.proofs.Common.{◌≡◌, ◌⊎◌, inl, inr, ℕ, ◌-◌, Bool, false, if◌then◌else◌, List, [], ◌∷◌, ◌++◌, length, slice_get, Option, Some, Ok, Err, flat_map, codes, refl, sym, subst, ap, ◌∙◌, append-nil, length-append, arith}
-use Rattle.std.proofs.lemmas.List.{flat_map_more}
+use Rattle.std.proofs.Common.{◌≡◌, ◌⊎◌, inl, inr, ℕ, ◌-◌, Bool, false, if◌then◌else◌, List, [], ◌∷◌, ◌++◌, length, slice_get, Option, Some, Ok, Err, filter, flat_map, codes, refl, sym, subst, ap, ◌∙◌, append-nil, length-append, arith}
+use Rattle.std.proofs.lemmas.List.{flat_map_more, map-append}
 use Rattle.std.specs.Io.KnownBytes.{Appends}
 use Rattle.covsession.specs.Session.{said, clash_text}
 use Rattle.covsession.specs.declared.session.fault.SessionFault.TheVariants as faults
 use Rattle.covbook.specs.Op.{OpData, SubmitOp, DropTestOp, RenameOp, ReportOp, ExtractOp, RemoveOp, SummaryOp, TextAnswer, EntryData}
-use Rattle.covbook.specs.Step.{answer_of, next_entry, ops_in, table_of}
+use Rattle.covstore.specs.Content.{SectionData, content_at}
+use Rattle.covstore.specs.Table.{Table}
+use Rattle.covstore.specs.Totals.{totals_of}
+use Rattle.covreport.specs.Choice.{ChoiceData, is_chosen}
+use Rattle.covreport.specs.Report.{report_text}
+use Rattle.covreport.specs.Summary.{summary_of}
+use Rattle.covbook.specs.Step.{answer_of, next_entry, ops_in, table_after, table_from, table_of}
 use Rattle.covbook.specs.Texts.{IsText}
 use Rattle.covjobs.specs.Collect.{InputData, IsCollected}
 use Rattle.covjobs.specs.Late.{IsCollectedSoFar, MayCome}
@@ -23,25 +29,25 @@ use Rattle.covrun.specs.Call.{StopsEarly, AreTexts, IsUnreadable, WorkEnds, IsTa
 use Rattle.covrun.specs.Check.{IsCheck}
 use Rattle.covrun.specs.Folder.{FolderData}
 use Rattle.covrun.specs.Streams.{SourceData, SinksData, sinks}
-use Rattle.covrun.specs.Ending.{EndingData, Prints, Unreadable, Stopped, of_collect, of_collected, complaints, refusal_line, ran_out, text_in, text_at, last_text, unless_any}
-use Rattle.covrun.specs.Work.{WorkData, TaskData, Serves, Collects, Checks, task_of}
+use Rattle.covrun.specs.Ending.{EndingData, Prints, Unreadable, Stopped, of_collect, of_collected, complaints, refusal_line, ran_out, text_in, text_at, last_text, asked_text, unless_any}
+use Rattle.covrun.specs.Work.{QuestionData, Answer, ChosenReport, ChosenSummary, last_of, choice_of, asked_of, WorkData, TaskData, Serves, Collects, Checks, task_of}
 use Rattle.covcommand.specs.declared.asked.TextFormat.{TextFormat}
 use Rattle.covrun.proofs.Reading.{ReadTexts, texts_held}
 
 -- the texts were collected, and the call ends as `of_collected` says, or because memory ran out
 pub ends_collected : (folder : FolderData) (work : WorkData) (files : List (List ℕ)) → files ≡ work.files → (inputs : List InputData) (entries : List EntryData) (refused : List RefusedInput) (ending : EndingData)
-    → ReadTexts folder work.format files inputs → IsText work.last → IsCollectedSoFar inputs work.jobs entries refused
-    → (ending ≡ Stopped faults.Memory) ⊎ (ending ≡ of_collected files (entries ++ next_entry entries 0 work.last ∷ []) refused) → WorkEnds folder work ending
+    → ReadTexts folder work.format files inputs → IsText (last_of work.asks) → IsCollectedSoFar inputs work.jobs entries refused
+    → (ending ≡ Stopped faults.Memory) ⊎ (ending ≡ of_collected files work.asks (entries ++ next_entry entries 0 (last_of work.asks) ∷ []) refused) → WorkEnds folder work ending
 ends_collected folder work files named inputs entries refused ending read asks collected (inl ran_out) = inl ran_out
 ends_collected folder work files named inputs entries refused ending (texts, are, from) asks collected (inr is) =
-    let last = collected work.last asks in
-    let all = entries ++ next_entry entries 0 work.last ∷ [] in
+    let last = collected (last_of work.asks) asks in
+    let all = entries ++ next_entry entries 0 (last_of work.asks) ∷ [] in
     inr (inr (
       texts,
       Ok (record { entries = all; logs = last.0; refused = refused }),
       subst (λ (fs : List (List ℕ)). AreTexts folder fs texts) named are,
-      subst (λ (xs : List InputData). IsCollected xs work.jobs work.last all last.0 refused) from last.1,
-      is ∙ ap (λ (fs : List (List ℕ)). of_collected fs all refused) named,
+      subst (λ (xs : List InputData). IsCollected xs work.jobs (last_of work.asks) all last.0 refused) from last.1,
+      is ∙ ap (λ (fs : List (List ℕ)). of_collected fs work.asks all refused) named,
     ))
 
 -- the texts weren't collected, and the call ends with the ending for the fault
@@ -90,37 +96,77 @@ last_text_of entries entry =
     let place : length (entries ++ entry ∷ []) - 1 ≡ length entries = omega (arith, length-append entries (entry ∷ [])) in
     ap text_at (ap (λ (n : ℕ). slice_get (entries ++ entry ∷ []) n) place ∙ last_at entries entry)
 
--- no input was refused and nothing clashed, so the text of the last operation is printed
-pub ends_with_text : (files : List (List ℕ)) (entries : List EntryData) (refused : List RefusedInput) (last : OpData) (lines text : List ℕ) → IsText last
-    → ran_out refused ≡ false → lines ≡ complaints files refused entries → lines ≡ [] → TextAnswer text ≡ answer_of (table_of (ops_in entries)) last
-    → Prints text ≡ of_collected files (entries ++ next_entry entries 0 last ∷ []) refused
-ends_with_text files entries refused last lines text asks ran are none is =
-    let entry = next_entry entries 0 last in
-    let all = entries ++ entry ∷ [] in
-    let unrefused : [] ≡ complaints files refused all = sym none ∙ are ∙ sym (complaints_same files refused entries last asks) in
-    (λ k. unless_any (unrefused k) (text_in (is k)))
-    ∙ ap (λ (printed : List ℕ). unless_any (complaints files refused all) printed) (sym (last_text_of entries entry))
-    ∙ ap (λ (b : Bool). if b then Stopped faults.Memory else unless_any (complaints files refused all) (last_text all)) (sym ran)
+-- the answer to the last operation is the text that is asked for
+pub answer_is_asked : (entries : List EntryData) (op : OpData) (text : List ℕ) → TextAnswer text ≡ answer_of (table_of (ops_in entries)) op → text ≡ asked_text (Answer op) (entries ++ next_entry entries 0 op ∷ [])
+answer_is_asked entries op text is = ap text_in is ∙ sym (last_text_of entries (next_entry entries 0 op))
+
+tables_append : (table : Table) (ops : List OpData) (op : OpData) → table_from table (ops ++ op ∷ []) ≡ table_after (table_from table ops) op
+tables_append table [] op = refl
+tables_append table (first ∷ ops) op = tables_append (table_after table first) ops op
+
+text_leaves : (table : Table) (op : OpData) → IsText op → table_after table op ≡ table
+text_leaves table ReportOp asks = refl
+text_leaves table (ExtractOp patterns) asks = refl
+text_leaves table (RemoveOp patterns) asks = refl
+text_leaves table SummaryOp asks = refl
+text_leaves table (SubmitOp submission) asks = absurd asks
+text_leaves table (DropTestOp test) asks = absurd asks
+text_leaves table (RenameOp old new) asks = absurd asks
+
+-- the last operation leaves the table as it was
+table_stays : (entries : List EntryData) (op : OpData) → IsText op → table_of (ops_in (entries ++ next_entry entries 0 op ∷ [])) ≡ table_of (ops_in entries)
+table_stays entries op asks =
+    ap table_of (map-append (λ (e : EntryData). e.op) entries (next_entry entries 0 op ∷ [])) ∙ tables_append [] (ops_in entries) op ∙ text_leaves (table_of (ops_in entries)) op asks
+
+-- the sections of chosen files are the text that is asked for
+pub report_is_asked : (entries : List EntryData) (choice : ChoiceData) (sections : List SectionData) → sections ≡ content_at (table_of (ops_in entries))
+    → report_text choice sections ≡ asked_text (ChosenReport choice) (entries ++ next_entry entries 0 ReportOp ∷ [])
+report_is_asked entries choice sections are =
+    ap (report_text choice) (are ∙ ap content_at (sym (table_stays entries ReportOp tt)))
+
+-- and their summary
+pub summary_is_asked : (entries : List EntryData) (choice : ChoiceData) (sections : List SectionData) → sections ≡ content_at (table_of (ops_in entries))
+    → summary_of (totals_of (filter (λ s. is_chosen choice s.key.file) sections)) ≡ asked_text (ChosenSummary choice) (entries ++ next_entry entries 0 SummaryOp ∷ [])
+summary_is_asked entries choice sections are =
+    ap (λ (s : List SectionData). summary_of (totals_of (filter (λ (s : SectionData). is_chosen choice s.key.file) s))) (are ∙ ap content_at (sym (table_stays entries SummaryOp tt)))
+
+-- no input was refused and nothing clashed, so the text that is asked for is printed
+pub ends_with_text : (files : List (List ℕ)) (entries : List EntryData) (refused : List RefusedInput) (asks : QuestionData) (lines text : List ℕ) → IsText (last_of asks)
+    → ran_out refused ≡ false → lines ≡ complaints files refused entries → lines ≡ [] → text ≡ asked_text asks (entries ++ next_entry entries 0 (last_of asks) ∷ [])
+    → Prints text ≡ of_collected files asks (entries ++ next_entry entries 0 (last_of asks) ∷ []) refused
+ends_with_text files entries refused asks lines text is_text ran are none is =
+    let all = entries ++ next_entry entries 0 (last_of asks) ∷ [] in
+    let unrefused : [] ≡ complaints files refused all = sym none ∙ are ∙ sym (complaints_same files refused entries (last_of asks) is_text) in
+    (λ k. unless_any (unrefused k) (is k))
+    ∙ ap (λ (b : Bool). if b then Stopped faults.Memory else unless_any (complaints files refused all) (asked_text asks all)) (sym ran)
 
 -- ---- what the subcommands ask
 
 -- if the task is to collect files, its last operation asks for a text
 abbrev AsksText : TaskData → Type 0
 AsksText Serves = Unit {0}
-AsksText (Collects work) = IsText work.last
+AsksText (Collects work) = IsText (last_of work.asks)
 AsksText (Checks format files) = Unit {0}
+
+report_or_chosen : (choice : Option ChoiceData) → IsText (last_of (asked_of ReportOp ChosenReport choice))
+report_or_chosen None = tt
+report_or_chosen (Some choice) = tt
+
+summary_or_chosen : (choice : Option ChoiceData) → IsText (last_of (asked_of SummaryOp ChosenSummary choice))
+summary_or_chosen None = tt
+summary_or_chosen (Some choice) = tt
 
 asks_text_of : (command : Command) → AsksText (task_of command)
 asks_text_of commands.Session = tt
-asks_text_of (commands.Merge version jobs names) = tt
-asks_text_of (commands.Summary version jobs names) = tt
+asks_text_of (commands.Merge version jobs filter names) = report_or_chosen (choice_of filter)
+asks_text_of (commands.Summary version jobs filter names) = summary_or_chosen (choice_of filter)
 asks_text_of (commands.Extract version names) = tt
 asks_text_of (commands.Remove version names) = tt
 asks_text_of (commands.Gcov test names) = tt
 asks_text_of (commands.Check format names) = tt
 
 -- the last operation of each subcommand that collects files asks for a text
-pub asks_text : (command : Command) (work : WorkData) → Collects work ≡ task_of command → IsText work.last
+pub asks_text : (command : Command) (work : WorkData) → Collects work ≡ task_of command → IsText (last_of work.asks)
 asks_text command work is = subst AsksText (sym is) (asks_text_of command)
 
 -- ---- how a call ends

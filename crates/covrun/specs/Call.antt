@@ -24,7 +24,7 @@ use Rattle.covsession.specs.Session.{said}
 use Rattle.covsession.specs.declared.session.fault.SessionFault.TheVariants as faults
 use Rattle.covrun.specs.declared.argument_fault.ArgumentFault.{ArgumentFault}
 use Rattle.covrun.specs.Ending.{EndingData, Prints, BadLine, BadWords, Unreadable, Stopped, status_of, complaint, of_collect, of_collected}
-use Rattle.covrun.specs.Work.{WorkData, TaskData, Serves, Collects, Checks, task_of, input_of, AreTaken, AreRefused}
+use Rattle.covrun.specs.Work.{WorkData, TaskData, Serves, Collects, Checks, last_of, task_of, input_of, AreTaken, AreRefused}
 use Rattle.covrun.specs.Check.{IsCheck}
 use Rattle.covrun.specs.Folder.{FolderData, AreTextsOf}
 use Rattle.covrun.specs.Streams.{SourceData, SinksData, Complains, Withholds, Delivers}
@@ -50,13 +50,13 @@ pub record CollectedData : Type 0 where
 -- the result of collecting the texts. `BadJobs` is returned only if the number of jobs is out of range, and `Full` only if there
 -- are at least as many files as a full history has entries. `Gather` is never returned
 abbrev pub IsAnswer : WorkData → List (List ℕ) → Result CollectedData CollectFault → Type 0
-IsAnswer work texts (Ok c) = IsCollected (map (input_of work.format) texts) work.jobs work.last c.entries c.logs c.refused
+IsAnswer work texts (Ok c) = IsCollected (map (input_of work.format) texts) work.jobs (last_of work.asks) c.entries c.logs c.refused
 IsAnswer work texts (Err fault) = (fault ≡ collects.BadJobs → AreJobs work.jobs → ⊥) × MayCome (length work.files) fault
 
 -- the ending of a call whose collecting had this result
-abbrev pub ending_of : List (List ℕ) → Result CollectedData CollectFault → EndingData
-ending_of files (Ok c) = of_collected files c.entries c.refused
-ending_of files (Err fault) = of_collect fault
+abbrev pub ending_of : WorkData → Result CollectedData CollectFault → EndingData
+ending_of work (Ok c) = of_collected work.files work.asks c.entries c.refused
+ending_of work (Err fault) = of_collect fault
 
 -- how a call that collects files ends: memory ran out; or a file can't be read; or the ending is that of collecting texts of the
 -- files. If collecting ended in a fault, nothing is said of these texts: some files may not have been read
@@ -65,7 +65,7 @@ WorkEnds folder work ending =
     (ending ≡ Stopped faults.Memory)
     ⊎ (((name : List ℕ) × (ending ≡ Unreadable name) × IsUnreadable folder work.files name)
     ⊎ ((texts : List (List ℕ)) × (answer : Result CollectedData CollectFault)
-    × AreTexts folder work.files texts × IsAnswer work texts answer × (ending ≡ ending_of work.files answer)))
+    × AreTexts folder work.files texts × IsAnswer work texts answer × (ending ≡ ending_of work answer)))
 
 -- how a call ends before its work begins: memory ran out, or a pattern or the test's name is refused
 abbrev pub StopsEarly : Command → EndingData → Type 0

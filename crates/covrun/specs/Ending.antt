@@ -1,7 +1,13 @@
 -- How a call with a subcommand ends: this decides its exit status and what it writes.
 use Rattle.std.specs.List.{flat_map}
-use Rattle.std.specs.Prelude.{ℕ, ◌-◌, length, List, [], ◌∷◌, ◌++◌, Bool, true, false, if◌then◌else◌, Option, Some, None, codes, slice_get}
+use Rattle.std.specs.Prelude.{ℕ, ◌-◌, length, filter, List, [], ◌∷◌, ◌++◌, Bool, true, false, if◌then◌else◌, Option, Some, None, codes, slice_get}
 use Rattle.covread.specs.Fault.{is_memory}
+use Rattle.covstore.specs.Content.{content_at}
+use Rattle.covstore.specs.Totals.{totals_of}
+use Rattle.covreport.specs.Choice.{is_chosen}
+use Rattle.covreport.specs.Report.{report_text}
+use Rattle.covreport.specs.Summary.{summary_of}
+use Rattle.covbook.specs.Step.{ops_in, table_of}
 use Rattle.covbook.specs.Op.{EntryData, AnswerData, AcceptedAnswer, ClashAnswer, DroppedAnswer, RenamedAnswer, NoSuchTestAnswer, TextAnswer}
 use Rattle.covjobs.specs.declared.collect_fault.CollectFault.{CollectFault}
 use Rattle.covjobs.specs.declared.collect_fault.CollectFault.TheVariants as collects
@@ -12,8 +18,9 @@ use Rattle.covsession.specs.declared.session.fault.SessionFault.{SessionFault}
 use Rattle.covsession.specs.declared.session.fault.SessionFault.TheVariants as faults
 use Rattle.covrun.specs.declared.argument_fault.ArgumentFault.{ArgumentFault}
 use Rattle.covrun.specs.declared.argument_fault.ArgumentFault.TheVariants as arguments
+use Rattle.covrun.specs.Work.{QuestionData, Answer, ChosenReport, ChosenSummary}
 
--- how a call ends. `Prints`: it prints the text of the last entry, help or the version. `BadLine`: the words don't fit the
+-- how a call ends. `Prints`: it prints the text that was asked for, help or the version. `BadLine`: the words don't fit the
 -- command line. `BadWords`: the patterns, the test's name or the number of jobs are refused. `Unreadable`: this file can't be
 -- read. `Stopped`: memory ran out, or the history was full. `Ungathered`: the history doesn't fit the jobs' logs, or has an entry
 -- after that of the last operation. `Refuses`: texts were refused or clashed, and these lines report them
@@ -94,12 +101,19 @@ text_at None = []
 abbrev pub last_text : List EntryData → List ℕ
 last_text entries = text_at (slice_get entries (length entries - 1))
 
+-- the text that is asked for: the answer of the last entry; or, from the table after the entries, the sections of the chosen files, or
+-- the summary of those sections
+abbrev pub asked_text : QuestionData → List EntryData → List ℕ
+asked_text (Answer op) entries = last_text entries
+asked_text (ChosenReport choice) entries = report_text choice (content_at (table_of (ops_in entries)))
+asked_text (ChosenSummary choice) entries = summary_of (totals_of (filter (λ s. is_chosen choice s.key.file) (content_at (table_of (ops_in entries)))))
+
 -- if there are no lines, the text is printed. Otherwise the lines are the complaint
 abbrev pub unless_any : (lines : List ℕ) → (text : List ℕ) → EndingData
 unless_any [] text = Prints text
 unless_any (b ∷ bs) text = Refuses (b ∷ bs)
 
 -- how a call ends after collecting its files. If an input was refused because memory ran out, only that is reported
-abbrev pub of_collected : List (List ℕ) → List EntryData → List RefusedInput → EndingData
-of_collected files entries refused =
-    if ran_out refused then Stopped faults.Memory else unless_any (complaints files refused entries) (last_text entries)
+abbrev pub of_collected : List (List ℕ) → QuestionData → List EntryData → List RefusedInput → EndingData
+of_collected files asks entries refused =
+    if ran_out refused then Stopped faults.Memory else unless_any (complaints files refused entries) (asked_text asks entries)

@@ -1,5 +1,5 @@
 -- The files that a call reads, by their names.
-use Rattle.std.specs.Io.KnownBytes.{Consumes}
+use Rattle.std.specs.Io.KnownBytes.{Consumes, Keeps}
 use Rattle.std.specs.List.{AllByRecursion, zip}
 use Rattle.std.specs.Prelude.{◌≡◌, ◌⊎◌, ◌<◌, ℕ, suc, List, take, Option, None, Some}
 use Rattle.covread.specs.Outcome.{max_bytes}
@@ -10,10 +10,12 @@ pub record FolderData : Type 1 where
   pub holds : List ℕ → Option (List ℕ)
   pub MayFail : List ℕ → Type 0
 
--- an open file couldn't be read: reads gave these bytes, and a read failed. `MayOpen`: the folder may give this open file
-pub record HasFailed {File : Type 0} (MayOpen : File → Type 0) (left : File → Option (List ℕ)) (failed_reads : File → ℕ) : Type 0 where
+-- an open file of these bytes, if they are known, couldn't be read: reads gave the first of them, and a read failed. `MayOpen`: the
+-- folder may give this open file
+pub record HasFailed {File : Type 0} (held : Option (List ℕ)) (MayOpen : File → Type 0) (left : File → Option (List ℕ)) (failed_reads : File → ℕ) : Type 0 where
   pub opened : File
   pub may_open : MayOpen opened
+  pub keeps : Keeps held (left opened)
   pub after : File
   pub bytes : List ℕ
   pub given : Consumes (left opened) (left after) bytes
@@ -24,7 +26,7 @@ abbrev pub folder_data : {File : Type 0} → (holds : List ℕ → Option (List 
     → (left : File → Option (List ℕ)) → (failed_reads : File → ℕ) → FolderData
 folder_data holds may_refuse may_open left failed_reads = record {
   holds = holds;
-  MayFail = λ name. may_refuse name ⊎ HasFailed (may_open name) left failed_reads;
+  MayFail = λ name. may_refuse name ⊎ HasFailed (holds name) (may_open name) left failed_reads;
 }
 
 -- if the bytes are known, the text is all of them, or the first `most` of them

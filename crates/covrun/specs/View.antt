@@ -1,16 +1,24 @@
 -- Values of the code, seen as plain data.
 use Rattle.std.specs.String.{string_bytes}
 use Rattle.covbook.specs.View.{op_data}
-use Rattle.covrun.specs.Work.{WorkData, TaskData, Serves, Collects, Checks}
+use Rattle.covreport.specs.ChoiceView.{choice_data}
+use Rattle.covrun.specs.Work.{QuestionData, Answer, ChosenReport, ChosenSummary, WorkData, TaskData, Serves, Collects, Checks}
 use Rattle.covrun.specs.Ending.{EndingData, Prints, BadLine, BadWords, Unreadable, Stopped, Ungathered, Refuses}
+use Rattle.covrun.specs.declared.question.Question.{Question}
+use Rattle.covrun.specs.declared.question.Question.TheVariants as questions
 use Rattle.covrun.specs.declared.work.Work.{Work}
 use Rattle.covrun.specs.declared.work.Task.{Task}
 use Rattle.covrun.specs.declared.work.Task.TheVariants as tasks
 use Rattle.covrun.specs.declared.ending.Ending.{Ending}
 use Rattle.covrun.specs.declared.ending.Ending.TheVariants as endings
 
+abbrev pub question_data : Question → QuestionData
+question_data (questions.Answer op) = Answer (op_data op)
+question_data (questions.ChosenReport choice) = ChosenReport (choice_data choice)
+question_data (questions.ChosenSummary choice) = ChosenSummary (choice_data choice)
+
 abbrev pub work_data : Work → WorkData
-work_data work = record { files = work.files; format = work.format; jobs = work.jobs; last = op_data work.last }
+work_data work = record { files = work.files; format = work.format; jobs = work.jobs; asks = question_data work.asks }
 
 abbrev pub task_data : Task → TaskData
 task_data tasks.Session = Serves

@@ -1,12 +1,13 @@
 -- What a subcommand has to do, and which of its words are refused before any file is read.
 use Rattle.std.specs.List.{AllByRecursion}
-use Rattle.std.specs.Prelude.{◌≡◌, ◌<◌, ◌≤◌, ℕ, List, length, take, drop}
+use Rattle.std.specs.Prelude.{◌≡◌, ◌⊎◌, ◌<◌, ◌≤◌, ℕ, List, [], ◌∷◌, Option, None, Some, length, take, drop}
 use Rattle.covline.specs.Lawful.{IsGoodTest}
-use Rattle.covreport.specs.Choice.{max_patterns, max_pattern_bytes}
+use Rattle.covreport.specs.Choice.{ChoiceData, Filtered, max_patterns, max_pattern_bytes}
 use Rattle.covbook.specs.Op.{OpData, ReportOp, SummaryOp, ExtractOp, RemoveOp}
 use Rattle.covjobs.specs.Collect.{InputData, TraceInput, Lcov2Input, GcovInput}
 use Rattle.covcommand.specs.declared.asked.Command.{Command}
 use Rattle.covcommand.specs.declared.asked.Command.TheVariants.{Session, Merge, Summary, Extract, Remove, Gcov, Check}
+use Rattle.covcommand.specs.declared.asked.SourceFilter.{SourceFilter}
 use Rattle.covcommand.specs.declared.asked.LcovVersion.{LcovVersion}
 use Rattle.covcommand.specs.declared.asked.LcovVersion.TheVariants as versions
 use Rattle.covcommand.specs.declared.asked.TextFormat.{TextFormat}
@@ -15,17 +16,42 @@ use Rattle.covrun.specs.declared.argument_fault.ArgumentFault.TheVariants as arg
 use Rattle.covrun.specs.declared.work.FileFormat.{FileFormat}
 use Rattle.covrun.specs.declared.work.FileFormat.TheVariants.{Tracefile, GcovOutput}
 
+-- what is asked after all files are collected: an operation; or the report or the summary of the chosen source files alone
+pub data QuestionData : Type 0 where
+  Answer : (op : OpData) → QuestionData
+  ChosenReport : (choice : ChoiceData) → QuestionData
+  ChosenSummary : (choice : ChoiceData) → QuestionData
+
+-- the last operation of the history. Chosen files are no part of it: only what is printed depends on the choice
+abbrev pub last_of : QuestionData → OpData
+last_of (Answer op) = op
+last_of (ChosenReport choice) = ReportOp
+last_of (ChosenSummary choice) = SummaryOp
+
 -- what a subcommand that collects files has to do. `files`: the files to read. `format`: what they are. `jobs`: the number of jobs.
--- `last`: the operation that is asked after all files are collected
+-- `asks`: what is asked after all files are collected
 pub record WorkData : Type 0 where
   pub files : List (List ℕ)
   pub format : FileFormat
   pub jobs : ℕ
-  pub last : OpData
+  pub asks : QuestionData
+
+-- the source files that the patterns choose; `None` if there are no patterns
+abbrev pub choice_of : SourceFilter → Option ChoiceData
+choice_of filter = choice_by filter.includes filter.excludes
+
+abbrev pub choice_by : (includes excludes : List (List ℕ)) → Option ChoiceData
+choice_by [] [] = None
+choice_by includes excludes = Some (Filtered includes excludes)
+
+-- what is asked of all files, or of the chosen ones
+abbrev pub asked_of : OpData → (ChoiceData → QuestionData) → Option ChoiceData → QuestionData
+asked_of all chosen None = Answer all
+asked_of all chosen (Some choice) = chosen choice
 
 -- the work that chooses files of a tracefile: the first name is the tracefile's, and the other names are patterns
 abbrev pub filtering : LcovVersion → (List (List ℕ) → OpData) → List (List ℕ) → WorkData
-filtering version op names = record { files = take 1 names; format = Tracefile version; jobs = 1; last = op (drop 1 names) }
+filtering version op names = record { files = take 1 names; format = Tracefile version; jobs = 1; asks = Answer (op (drop 1 names)) }
 
 -- what a call has to do: a session; or to collect files and answer what is asked after them; or to check files one by one
 pub data TaskData : Type 0 where
@@ -36,11 +62,13 @@ pub data TaskData : Type 0 where
 -- what each subcommand has to do; a call without a subcommand is a session
 abbrev pub task_of : Command → TaskData
 task_of Session = Serves
-task_of (Merge version jobs names) = Collects (record { files = names; format = Tracefile version; jobs = jobs; last = ReportOp })
-task_of (Summary version jobs names) = Collects (record { files = names; format = Tracefile version; jobs = jobs; last = SummaryOp })
+task_of (Merge version jobs filter names) =
+    Collects (record { files = names; format = Tracefile version; jobs = jobs; asks = asked_of ReportOp ChosenReport (choice_of filter) })
+task_of (Summary version jobs filter names) =
+    Collects (record { files = names; format = Tracefile version; jobs = jobs; asks = asked_of SummaryOp ChosenSummary (choice_of filter) })
 task_of (Extract version names) = Collects (filtering version ExtractOp names)
 task_of (Remove version names) = Collects (filtering version RemoveOp names)
-task_of (Gcov test names) = Collects (record { files = names; format = GcovOutput test; jobs = 1; last = ReportOp })
+task_of (Gcov test names) = Collects (record { files = names; format = GcovOutput test; jobs = 1; asks = Answer ReportOp })
 task_of (Check format names) = Checks format names
 
 -- a file's text as an input of collecting: a tracefile of this version of lcov, or gcov's text of this test
@@ -62,14 +90,22 @@ IsPatternFault patterns arguments.TooLong = AllByRecursion IsShort (take max_pat
 IsPatternFault patterns arguments.BadTest = ⊥
 IsPatternFault patterns arguments.BadJobs = ⊥
 
+-- the patterns of both options are accepted
+abbrev pub IsFilter : SourceFilter → Type 0
+IsFilter filter = ArePatterns filter.includes × ArePatterns filter.excludes
+
+-- the first of the two lists that isn't accepted is refused for this reason
+abbrev pub IsFilterFault : SourceFilter → ArgumentFault → Type 0
+IsFilterFault filter fault = IsPatternFault filter.includes fault ⊎ (ArePatterns filter.includes × IsPatternFault filter.excludes fault)
+
 abbrev pub IsTestFault : List ℕ → ArgumentFault → Type 0
 IsTestFault test fault = (fault ≡ arguments.BadTest) × (IsGoodTest test → ⊥)
 
 -- the patterns and the test's name are accepted
 abbrev pub AreTaken : Command → Type 0
 AreTaken Session = Unit {0}
-AreTaken (Merge version jobs names) = Unit {0}
-AreTaken (Summary version jobs names) = Unit {0}
+AreTaken (Merge version jobs filter names) = IsFilter filter
+AreTaken (Summary version jobs filter names) = IsFilter filter
 AreTaken (Extract version names) = ArePatterns (drop 1 names)
 AreTaken (Remove version names) = ArePatterns (drop 1 names)
 AreTaken (Gcov test names) = IsGoodTest test
@@ -78,8 +114,8 @@ AreTaken (Check format names) = Unit {0}
 -- a pattern or the test's name is refused for this reason
 abbrev pub AreRefused : Command → ArgumentFault → Type 0
 AreRefused Session fault = ⊥
-AreRefused (Merge version jobs names) fault = ⊥
-AreRefused (Summary version jobs names) fault = ⊥
+AreRefused (Merge version jobs filter names) fault = IsFilterFault filter fault
+AreRefused (Summary version jobs filter names) fault = IsFilterFault filter fault
 AreRefused (Extract version names) fault = IsPatternFault (drop 1 names) fault
 AreRefused (Remove version names) fault = IsPatternFault (drop 1 names) fault
 AreRefused (Gcov test names) fault = IsTestFault test fault

@@ -8,7 +8,8 @@ use Rattle.covrun.specs.declared.work.WorkFault.{WorkFault}
 use Rattle.covrun.specs.declared.work.WorkFault.TheVariants.{Words, Memory}
 use Rattle.covsession.specs.declared.session.fault.SessionFault.TheVariants as faults
 use Rattle.covrun.specs.Ending.{EndingData, BadWords, Stopped}
-use Rattle.covrun.specs.Work.{AreRefused, IsPatternFault, IsTestFault}
+use Rattle.covcommand.specs.declared.asked.SourceFilter.{SourceFilter}
+use Rattle.covrun.specs.Work.{AreRefused, IsFilterFault, IsPatternFault, IsTestFault}
 
 abbrev pub of_pattern : PatternFault → WorkFault
 of_pattern patterns.TooMany = Words arguments.TooMany
@@ -22,6 +23,10 @@ IsRefusal command Memory = Unit {0}
 abbrev pub IsPatternRefusal : List (List ℕ) → WorkFault → Type 0
 IsPatternRefusal patterns (Words fault) = IsPatternFault patterns fault
 IsPatternRefusal patterns Memory = Unit {0}
+
+abbrev pub IsFilterRefusal : SourceFilter → WorkFault → Type 0
+IsFilterRefusal filter (Words fault) = IsFilterFault filter fault
+IsFilterRefusal filter Memory = Unit {0}
 
 abbrev pub IsTestRefusal : List ℕ → WorkFault → Type 0
 IsTestRefusal test (Words fault) = IsTestFault test fault

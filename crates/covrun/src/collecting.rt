@@ -6,22 +6,24 @@ ghost use Rattle.std.specs.String.{string_bytes};
 ghost use Rattle.covbook.specs.EntryView.{entry_data};
 ghost use Rattle.covbook.specs.Step.{next_entry};
 ghost use Rattle.covbook.specs.Texts.{IsText};
-ghost use Rattle.covbook.specs.View.{answer_data, op_data};
+ghost use Rattle.covbook.specs.View.{answer_data};
 ghost use Rattle.covsession.specs.Session.{clash_text};
 ghost use Rattle.covsession.specs.declared.session.fault.SessionFault.TheVariants as session_faults;
 ghost use Rattle.covrun.specs.Call.{IsEndingPrinted, WorkEnds};
 ghost use Rattle.covrun.specs.Ending.{EndingData, Stopped, of_collected, complaints, refusal_line, ran_out, name_at};
 ghost use Rattle.covrun.specs.Folder.{folder_data};
 ghost use Rattle.covrun.specs.Streams.{sinks};
-ghost use Rattle.covrun.specs.View.{ending_data, work_data};
+ghost use Rattle.covrun.specs.View.{ending_data, question_data, work_data};
+ghost use Rattle.covrun.specs.Work.{last_of};
 
 use crate::ending::{Ending, ending_of_collect};
 use crate::file_input::file_inputs;
 use crate::folder::Folder;
 use crate::output::report_ending;
+use crate::question::Question;
 use crate::ready_text::ReadyText;
 use crate::work::Work;
-use covbook::{Answer, Answered, Op};
+use covbook::{Answer, Answered};
 use covjobs::{CollectedBook, IntoBookFault, NoGate, RefusedInput, collect_into_book};
 use covsession::{SessionFault, Sink, clash_line, refused_line};
 use std::alloc::Global;
@@ -29,31 +31,37 @@ use std::sync::Wait;
 use std::thread::Threads;
 
 /// Does the work, reports the call's ending, and returns the exit status. A job reads a file when the file's turn comes, and then
-/// frees the file's text. The answer to the last operation is printed from the book, while it is made.
+/// frees the file's text. What is asked is printed from the book, while it is made.
 pub(crate) fn do_work<R: Threads + Wait + Sync, F: Folder<File: Send> + Sync, O: Sink, E: Sink>(
     rt: &R,
     folder: &F,
     alloc: Global,
-    work: &Work,
+    work: Work,
     output: &mut O,
     faults: &mut E,
 ) -> u8
-    requires text { IsText (op_data work.now.last) }
+    requires text { IsText (last_of (question_data work.asks)) }
     requires output { O.failed_writes output.old < 2 ^ 62 }
     requires faults { E.failed_writes faults.old < 2 ^ 62 }
     ensures { (ending : EndingData)
-        × WorkEnds (folder_data (F.holds folder.now) (F.may_refuse folder.now) (F.may_open folder.now) F.File.left F.File.failed_reads) (work_data work.now) ending
+        × WorkEnds (folder_data (F.holds folder.now) (F.may_refuse folder.now) (F.may_open folder.now) F.File.left F.File.failed_reads) (work_data work) ending
         × IsEndingPrinted ending result
         (sinks (O.written output.old) (O.failed_writes output.old) (E.written faults.old) (E.failed_writes faults.old))
         (sinks (O.written output.new) (O.failed_writes output.new) (E.written faults.new) (E.failed_writes faults.new)) }
 {
-    let files = work.files.get();
-    let Ok(inputs) = file_inputs(folder, alloc, &work.format, files) else {
+    let Work {
+        files,
+        format,
+        jobs,
+        asks,
+    } = work;
+    let files = files.get();
+    let Ok(inputs) = file_inputs(folder, alloc, &format, files) else {
         return report_ending(Ending::Stopped(SessionFault::Memory), output, faults);
     };
-    match collect_into_book(rt, alloc, inputs, work.jobs, &NoGate) {
+    match collect_into_book(rt, alloc, inputs, jobs, &NoGate) {
         Ok(collected) => report_ending(
-            ending_of_collected(alloc, files, &work.last, &collected),
+            ending_of_collected(alloc, files, asks, &collected),
             output,
             faults,
         ),
@@ -68,35 +76,34 @@ pub(crate) fn do_work<R: Threads + Wait + Sync, F: Folder<File: Send> + Sync, O:
     }
 }
 
-/// The ending of a call whose files are collected. `last` is the operation that is asked after them. Returns `Stopped` if memory
-/// runs out.
+/// The ending of a call whose files are collected, and of which this is asked. Returns `Stopped` if memory runs out.
 fn ending_of_collected<'a>(
     alloc: Global,
     files: &[String],
-    last: &Op,
+    asks: Question,
     collected: &'a CollectedBook,
 ) -> Ending<'a>
-    requires { IsText (op_data last.now) }
-    ensures { (ending_data result ≡ Stopped session_faults.Memory) ⊎ (ending_data result ≡ of_collected (map string_bytes files.now)
-        (collected.now.book.entries ++ next_entry collected.now.book.entries 0 (op_data last.now) ∷ []) collected.now.refused) }
+    requires { IsText (last_of (question_data asks)) }
+    ensures { (ending_data result ≡ Stopped session_faults.Memory) ⊎ (ending_data result ≡ of_collected (map string_bytes files.now) (question_data asks)
+        (collected.now.book.entries ++ next_entry collected.now.book.entries 0 (last_of (question_data asks)) ∷ []) collected.now.refused) }
 {
-    match ending_with_room(alloc, files, last, collected) {
+    match ending_with_room(alloc, files, asks, collected) {
         Ok(ending) => ending,
         Err(fault) => Ending::Stopped(fault),
     }
 }
 
-/// The ending of a call whose files are collected. `last` is the operation that is asked after them, and is answered by a text.
-/// All memory for reporting the ending is already reserved.
+/// The ending of a call whose files are collected, and of which this is asked. All memory for reporting the ending is already
+/// reserved.
 fn ending_with_room<'a>(
     alloc: Global,
     files: &[String],
-    last: &Op,
+    asks: Question,
     collected: &'a CollectedBook,
 ) -> Result<Ending<'a>, SessionFault>
-    requires { IsText (op_data last.now) }
-    ensures ending { IfOk result (λ ending. ending_data ending ≡ of_collected (map string_bytes files.now)
-        (collected.now.book.entries ++ next_entry collected.now.book.entries 0 (op_data last.now) ∷ []) collected.now.refused) }
+    requires { IsText (last_of (question_data asks)) }
+    ensures ending { IfOk result (λ ending. ending_data ending ≡ of_collected (map string_bytes files.now) (question_data asks)
+        (collected.now.book.entries ++ next_entry collected.now.book.entries 0 (last_of (question_data asks)) ∷ []) collected.now.refused) }
     ensures fault { IfErr result (λ fault. fault ≡ session_faults.Memory) }
 {
     if has_run_out(collected.refused.get()) {
@@ -104,7 +111,7 @@ fn ending_with_room<'a>(
     }
     let lines = complaint_lines(alloc, files, collected)?;
     if lines.is_empty() {
-        let text = collected.book.printing(alloc, last)?;
+        let text = asks.printing(alloc, collected)?;
         let ready = ReadyText::of(alloc, text)?;
         return Ok(Ending::Done(ready));
     }

@@ -35,6 +35,7 @@ mod files;
 mod folder;
 mod output;
 mod program;
+mod question;
 mod ready_text;
 mod work;
 

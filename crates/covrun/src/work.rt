@@ -1,10 +1,11 @@
 //! What a call has to do.
 
 use crate::argument_fault::ArgumentFault;
+use crate::question::Question;
 use covbook::Op;
-use covcommand::{Command, LcovVersion, Names, TextFormat};
+use covcommand::{Command, LcovVersion, Names, SourceFilter, TextFormat};
 use covline::{Bytes, Memory, good_test};
-use covreport::{PatternFault, Patterns};
+use covreport::{Choice, PatternFault, Patterns};
 use std::alloc::{AllocError, Global};
 
 /// What the files of a call are.
@@ -17,13 +18,13 @@ pub(crate) enum FileFormat {
 }
 
 /// What a subcommand that collects files has to do. `files`: the files to read. `format`: what they are. `jobs`: the number of jobs.
-/// `last`: the operation that is asked after all files are collected.
+/// `asks`: what is asked after all files are collected.
 #[derive(Drop)]
 pub(crate) struct Work {
     pub(crate) files: Names,
     pub(crate) format: FileFormat,
     pub(crate) jobs: u32,
-    pub(crate) last: Op,
+    pub(crate) asks: Question,
 }
 
 /// What a call has to do.
@@ -31,7 +32,7 @@ pub(crate) struct Work {
 pub(crate) enum Task {
     /// A session over the input and the output.
     Session,
-    /// Collects files, then asks one operation and prints the answer.
+    /// Collects files, and prints what is asked of them.
     Collect(Work),
     /// Checks files one by one.
     Check {
@@ -88,13 +89,13 @@ impl From<PatternFault> for WorkFault {
     }
 }
 
-ghost use Rattle.std.specs.Prelude.{◌≡◌, map, take, drop, IfOk, IfErr};
+ghost use Rattle.std.specs.Prelude.{◌≡◌, map, option_map, take, drop, IfOk, IfErr};
 ghost use Rattle.std.specs.String.{string_bytes};
 ghost use Rattle.covline.specs.Lawful.{IsGoodTest};
-ghost use Rattle.covbook.specs.View.{op_data};
-ghost use Rattle.covrun.specs.View.{task_data};
-ghost use Rattle.covrun.specs.Work.{task_of, ArePatterns, AreTaken, Collects};
-ghost use Rattle.covrun.specs.WorkFault.{IsRefusal, IsPatternRefusal, IsTestRefusal};
+ghost use Rattle.covreport.specs.ChoiceView.{choice_data};
+ghost use Rattle.covrun.specs.View.{question_data, task_data};
+ghost use Rattle.covrun.specs.Work.{choice_of, task_of, ArePatterns, AreTaken, Collects, IsFilter};
+ghost use Rattle.covrun.specs.WorkFault.{IsRefusal, IsFilterRefusal, IsPatternRefusal, IsTestRefusal};
 ghost use Rattle.covrun.specs.declared.work.FileFormat.TheVariants.{Tracefile};
 
 /// Checks the command's patterns and test name, and returns what the command has to do.
@@ -108,20 +109,36 @@ pub(crate) fn task_for(alloc: Global, command: Command) -> Result<Task, WorkFaul
         Command::Merge {
             version,
             jobs,
+            filter,
             names,
-        } => Ok(over_tracefiles(names, version, jobs, Op::Report)),
+        } => {
+            let asks = match chosen_files(alloc, &filter)? {
+                Some(choice) => Question::ChosenReport(choice),
+                None => Question::Answer(Op::Report),
+            };
+            Ok(over_tracefiles(names, version, jobs, asks))
+        }
         Command::Summary {
             version,
             jobs,
+            filter,
             names,
-        } => Ok(over_tracefiles(names, version, jobs, Op::Summary)),
+        } => {
+            let asks = match chosen_files(alloc, &filter)? {
+                Some(choice) => Question::ChosenSummary(choice),
+                None => Question::Answer(Op::Summary),
+            };
+            Ok(over_tracefiles(names, version, jobs, asks))
+        }
         Command::Extract { version, names } => {
             let (files, patterns) = split(alloc, &names)?;
-            Ok(over_tracefiles(files, version, 1, Op::Extract(patterns)))
+            let asks = Question::Answer(Op::Extract(patterns));
+            Ok(over_tracefiles(files, version, 1, asks))
         }
         Command::Remove { version, names } => {
             let (files, patterns) = split(alloc, &names)?;
-            Ok(over_tracefiles(files, version, 1, Op::Remove(patterns)))
+            let asks = Question::Answer(Op::Remove(patterns));
+            Ok(over_tracefiles(files, version, 1, asks))
         }
         Command::Gcov { test, names } => {
             test_name(&test)?;
@@ -129,7 +146,7 @@ pub(crate) fn task_for(alloc: Global, command: Command) -> Result<Task, WorkFaul
                 files: names,
                 format: FileFormat::GcovOutput(test),
                 jobs: 1,
-                last: Op::Report,
+                asks: Question::Answer(Op::Report),
             }))
         }
         Command::Check { format, names } => Ok(Task::Check {
@@ -140,15 +157,29 @@ pub(crate) fn task_for(alloc: Global, command: Command) -> Result<Task, WorkFaul
 }
 
 /// The task of collecting these tracefiles.
-fn over_tracefiles(files: Names, version: LcovVersion, jobs: u32, last: Op) -> Task
-    ensures { task_data result ≡ Collects (record { files = files; format = Tracefile version; jobs = jobs; last = op_data last }) }
+fn over_tracefiles(files: Names, version: LcovVersion, jobs: u32, asks: Question) -> Task
+    ensures { task_data result ≡ Collects (record { files = files; format = Tracefile version; jobs = jobs; asks = question_data asks }) }
 {
     Task::Collect(Work {
         files,
         format: FileFormat::Tracefile(version),
         jobs,
-        last,
+        asks,
     })
+}
+
+/// The source files that a filter chooses, or `None` if it has no patterns.
+fn chosen_files(alloc: Global, filter: &SourceFilter) -> Result<Option<Choice>, WorkFault>
+    ensures choice { IfOk result (λ choice. option_map choice_data choice ≡ choice_of filter.now) }
+    ensures taken { IfOk result (λ _. IsFilter filter.now) }
+    ensures refused { IfErr result (IsFilterRefusal filter.now) }
+{
+    let includes = patterns_of(alloc, filter.includes.get())?;
+    let excludes = patterns_of(alloc, filter.excludes.get())?;
+    if includes.get().is_empty() && excludes.get().is_empty() {
+        return Ok(None);
+    }
+    Ok(Some(Choice::Filter { includes, excludes }))
 }
 
 /// Checks the name of a test.

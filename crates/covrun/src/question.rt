@@ -1,0 +1,50 @@
+//! What is asked after all files of a call are collected.
+
+use covbook::Op;
+use covjobs::CollectedBook;
+use covline::Memory;
+use covreport::{Choice, Printing, chosen_totals, summary_text};
+use std::alloc::Global;
+
+/// What is asked after all files are collected, and printed.
+#[derive(Drop)]
+pub(crate) enum Question {
+    /// The answer to an operation.
+    Answer(Op),
+    /// The tracefile of the chosen source files.
+    ChosenReport(Choice),
+    /// The summary of the chosen source files.
+    ChosenSummary(Choice),
+}
+
+impl Question {
+    ghost use Rattle.std.specs.Prelude.{◌≡◌, ◌++◌, [], ◌∷◌, IfOk};
+    ghost use Rattle.covbook.specs.Step.{next_entry};
+    ghost use Rattle.covbook.specs.Texts.{IsText};
+    ghost use Rattle.covrun.specs.Ending.{asked_text};
+    ghost use Rattle.covrun.specs.View.{question_data};
+    ghost use Rattle.covrun.specs.Work.{last_of};
+
+    /// The text that is asked for, ready to be printed. The operation of an `Answer` has to ask for a text.
+    pub(crate) fn printing(
+        self,
+        alloc: Global,
+        collected: &CollectedBook,
+    ) -> Result<Printing<'_>, Memory>
+        requires { IsText (last_of (question_data self)) }
+        ensures { IfOk result (λ text. text ≡ asked_text (question_data self)
+            (collected.now.book.entries ++ next_entry collected.now.book.entries 0 (last_of (question_data self)) ∷ [])) }
+    {
+        match self {
+            Question::Answer(op) => collected.book.printing(alloc, &op),
+            Question::ChosenReport(choice) => {
+                Printing::of_store(alloc, collected.book.store(), choice)
+            }
+            Question::ChosenSummary(choice) => {
+                let totals = chosen_totals(collected.book.store(), &choice);
+                let text = summary_text(alloc, &totals)?;
+                Ok(Printing::of_text(text))
+            }
+        }
+    }
+}
