@@ -49,8 +49,8 @@ next_number line block (Edge is_excluded other that given taken ∷ above) =
     else next_number line block above
 next_number line block (says ∷ above) = next_number line block above
 
--- the number of a branch of this block below these lines: so no two branches of a block with an expression have the same number,
--- but for the largest one
+-- the number of a branch of this block below these lines. So from the first expression of a block on, each of its branches has a
+-- number of its own, but that none is above the largest
 abbrev pub branch_number : List Lcov2Data → (line block : ℕ) → (given : Option ℕ) → ℕ
 branch_number above line block given = number_from (has_expression line block above) (next_number line block above) given
 
