@@ -71,7 +71,7 @@ load projects
     # By hand: f is called three times, and its line 2 is run four times.
     printf 'TN:a\nSF:/x.c\nFNL:0,1,5\nFNA:0,3,f\nBRDA:2,e0,0,1\nBRDA:2,0,x,2\nDA:2,3\nend_of_record\n' >jobs/new.info
     printf 'TN:a\nSF:/x.c\nFN:1,f\nFNDA:0,f\nDA:2,1\nend_of_record\n' >jobs/plain.info
-    printf '%s\n' TN:a SF:/x.c FN:1,f FNDA:3,f FNF:1 FNH:1 BRDA:2,0,0,3 BRF:1 BRH:1 DA:2,4 LF:1 LH:1 end_of_record >../wanted
+    printf '%s\n' TN:a SF:/x.c FN:1,f FNDA:3,f FNF:1 FNH:1 BRDA:2,0,0,1 BRDA:2,0,1,2 BRF:2 BRH:2 DA:2,4 LF:1 LH:1 end_of_record >../wanted
     call ci/ci.sh --merge-only --no-html jobs/*.info
     ended 0 'ci.sh: tracefiles of both versions, without lcov2.awk'
     same ../wanted coverage/all.info 'ci.sh: and the counts worked out by hand'
@@ -83,7 +83,7 @@ load projects
     cp "$recipes/lcov2.awk" ci
     # The filter refuses a block with a number and an expression.
     sed -i '/^BRDA:2,0,x/s/2,0,x/3,0,x/' jobs/new.info
-    sed -i 's/^BRDA:2,0,0,3/BRDA:2,0,0,1\nBRDA:3,0,0,2/; s/^BR\([FH]\):1/BR\1:2/' ../wanted
+    sed -i 's/^BRDA:2,0,1,2/BRDA:3,0,0,2/' ../wanted
     call env COVCOLLECT="$PWD/../old" ci/ci.sh --merge-only --no-html jobs/*.info
     ended 0 'ci.sh: a covcollect without --lcov2, by lcov2.awk'
     same ../wanted coverage/all.info 'ci.sh: the same counts'

@@ -450,11 +450,11 @@ END
         same_totals "a text by hand: the totals of LCOV $(cat "$BATS_FILE_TMPDIR/lcov.$release.version")" "$work/said" hand.new
     done
 
-    # What no tool writes. An index that is given twice, numbers and expressions in one block, all marks, and an excluded branch.
+    # An index that is given twice, which no tool writes; numbers and expressions in one block, all marks, and excluded branches.
     printf '%s\n' SF:/a.c FNL:0,3 FNA:0,1,f FNL:0,9 FNA:0,2,g FNA:0,4,f BRDA:1,0,0,1 'BRDA:1,0,x,2' BRDA:1,0,1,4 BRDA:1,0,y,8 \
         BRDA:2,fe0,0,1 BRDA:2,U0,z,5 BRDA:2,eU0,1,5 BRDA:2,0,z,7 FNF:9 DA:1,1 end_of_record FNH:9 BRDA:9,U9,9,9 >odd.new
-    printf '%s\n' TN: SF:/a.c FN:3,f FN:9,g FNDA:5,f FNDA:2,g FNF:2 FNH:2 BRDA:1,0,0,3 BRDA:1,0,1,12 BRDA:2,0,0,1 BRDA:2,0,1,7 \
-        BRF:4 BRH:4 DA:1,1 LF:1 LH:1 end_of_record >odd.wanted
+    printf '%s\n' TN: SF:/a.c FN:3,f FN:9,g FNDA:5,f FNDA:2,g FNF:2 FNH:2 BRDA:1,0,0,1 BRDA:1,0,1,2 BRDA:1,0,2,4 BRDA:1,0,3,8 \
+        BRDA:2,0,0,1 BRDA:2,0,3,7 BRF:6 BRH:6 DA:1,1 LF:1 LH:1 end_of_record >odd.wanted
     call "$COVCOLLECT" merge --lcov2 odd.new
     same odd.wanted "$work/out" '--lcov2: an index given twice, and a block with numbers and expressions'
     checked 'these' odd.new

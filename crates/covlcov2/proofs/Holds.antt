@@ -1,6 +1,6 @@
 -- What a reader holds after some lines: what the reader of version 1 holds after the printed records that they stand for. So the
 -- lemmas of version 1 on what a reader holds serve as they are.
-use Rattle.std.proofs.Common.{◌≡◌, ℕ, ◌+◌, ◌<◌, ◌≤◌, ◌^◌, List, [], ◌∷◌, ◌++◌, length, map, All, Some, refl, sym, ap, subst, ◌∙◌, append_assoc, arith}
+use Rattle.std.proofs.Common.{◌≡◌, ℕ, ◌+◌, ◌≤◌, List, [], ◌∷◌, ◌++◌, length, map, All, Some, refl, sym, ap, subst, ◌∙◌, append_assoc, arith}
 use Rattle.std.specs.Prelude.{codes}
 use Rattle.std.specs.List.{flat_map, sum_by, AllByRecursion}
 use Rattle.std.proofs.lemmas.List.{append-nil, map-append, length-append}
@@ -21,7 +21,7 @@ use Rattle.covlcov2.specs.LineLaws.{Lcov2LineLaw}
 use Rattle.covlcov2.specs.Reads.{said, above_after, StandFor, Reads}
 use Rattle.covlcov2.specs.Outcome.{IsLawfulText, MayGoOn, IsFirstFaulty}
 use Rattle.covlcov2.specs.Run.{StepsTo}
-use Rattle.covlcov2.proofs.Records.{same_some, readable, small_after, above_grows, few}
+use Rattle.covlcov2.proofs.Records.{same_some, readable, small_after, few}
 
 -- all that is known of lines
 pub record Laws : Type 0 where
@@ -90,11 +90,10 @@ pub record Lcov2Holds (lines : List (List ℕ)) (above : List Lcov2Data) (held :
   pub can_print : AllByRecursion IsReadable records
   pub small : AllByRecursion HasSmallLcov2Numbers above
   pub bound : length records ≤ sum_by length lines
-  pub few_above : length above ≤ length lines
   pub holds : Holds (map line_text records) held
 
 pub holds_nothing : Lcov2Holds [] [] empty
-holds_nothing = record { records = []; goes = (refl, refl); can_print = tt; small = tt; bound = omega arith; few_above = omega arith; holds = holds_at_first }
+holds_nothing = record { records = []; goes = (refl, refl); can_print = tt; small = tt; bound = omega arith; holds = holds_at_first }
 
 holds_records : PrintedSpells → (now : List LineData) (lines : List (List ℕ)) (held after : HeldData) → Holds lines held → AllByRecursion IsReadable now → StepsTo now held after → Holds (lines ++ map line_text now) after
 holds_records law [] lines held after h reads steps =
@@ -104,17 +103,16 @@ holds_records law (says ∷ now) lines held after h reads steps =
     subst (λ (x : List (List ℕ)). Holds x after) (append_assoc lines (line_text says ∷ []) (map line_text now)) (holds_records law now (lines ++ line_text says ∷ []) steps.0 after one reads.1 steps.2)
 
 -- one more line
-pub holds_line : Laws → (lines : List (List ℕ)) (line : List ℕ) (above : List Lcov2Data) (held after : HeldData) (says : Lcov2Data) (now : List LineData) → Lcov2Holds lines above held → length lines < 2 ^ 64 → IsGoodTest line
+pub holds_line : Laws → (lines : List (List ℕ)) (line : List ℕ) (above : List Lcov2Data) (held after : HeldData) (says : Lcov2Data) (now : List LineData) → Lcov2Holds lines above held → IsGoodTest line
     → Lcov2Spells line says → said above says ≡ Some now → StepsTo now held after → Lcov2Holds (lines ++ line ∷ []) (above_after above says) after
-holds_line laws lines line above held after says now h short good spells e steps =
-    let reads = readable laws.good_rest line above says now good h.small (omega (arith, h.few_above, short)) spells e in
+holds_line laws lines line above held after says now h good spells e steps =
+    let reads = readable laws.good_rest line above says now good h.small spells e in
     record {
       records = h.records ++ now;
       goes = goes_more lines line [] above h.records now says h.goes spells e;
       can_print = all_append IsReadable h.records now h.can_print reads;
       small = small_after above says h.small spells.small;
       bound = omega (arith, h.bound, few line above says now spells e, length-append h.records now, sum_by_push length lines line);
-      few_above = omega (arith, h.few_above, above_grows above says, length-append lines (line ∷ []));
       holds = subst (λ (x : List (List ℕ)). Holds x after) (sym (map-append line_text h.records now)) (holds_records laws.printed now (map line_text h.records) held after h.holds reads steps);
     }
 

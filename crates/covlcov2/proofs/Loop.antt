@@ -41,9 +41,7 @@ reading_begins text rest held e f =
     record { before = []; whole = ap lines_of (sym f); holds = subst (λ (x : HeldData). Lcov2Holds [] [] x) (sym e) holds_nothing; number = refl }
 
 module _ (laws : Laws) (text : List ℕ) (short : length text ≤ max_bytes) where
-  -- the lines before one are few, and each line is good
-  few_before : (before : List (List ℕ)) (line : List ℕ) (after : List (List ℕ)) → lines_of text ≡ before ++ line ∷ after → length before < 2 ^ 64
-  few_before before line after e = omega (arith, short, laws.few_lines text, ap length e, length-append before (line ∷ after))
+  -- each line is good
 
   good_line : (before : List (List ℕ)) (line : List ℕ) (after : List (List ℕ)) → lines_of text ≡ before ++ line ∷ after → IsGoodTest line
   good_line before line after e =
@@ -55,7 +53,7 @@ module _ (laws : Laws) (text : List ℕ) (short : length text ≤ max_bytes) whe
       → Taken line above next held taken → Lcov2Holds (before ++ line ∷ []) next taken
   holds_next before line after above next held taken e h t =
       subst (λ (x : List Lcov2Data). Lcov2Holds (before ++ line ∷ []) x taken) (sym t.leads)
-      (holds_line laws before line above held taken t.says t.now h (few_before before line after e) (good_line before line after e) t.spells t.stands_for t.steps)
+      (holds_line laws before line above held taken t.says t.now h (good_line before line after e) t.spells t.stands_for t.steps)
 
   -- ---- where memory ran out
 
@@ -118,10 +116,6 @@ module _ (laws : Laws) (text : List ℕ) (short : length text ≤ max_bytes) whe
     -- the number of the next line fits into 64 bits
     pub reading_next : at + 1 < 2 ^ 64
     reading_next = omega (arith, short, laws.few_lines text, r.number, ap length r.whole, length-append r.before (lines_of rest))
-
-    -- there are few lines above the next one
-    pub reading_above : length above + 1 < 2 ^ 64
-    reading_above = omega (arith, short, laws.few_lines text, r.holds.few_above, ap length r.whole, length-append r.before (lines_of rest))
 
     -- there is room for two more records
     pub reading_room : held.odd + length (kept_in held.section) + 2 < 2 ^ 64

@@ -1,8 +1,7 @@
 -- What becomes of a line once the reader of version 1 took its records, or refused one.
-use Rattle.std.proofs.Common.{◌≡◌, ℕ, Bool, true, false, List, [], ◌∷◌, Option, Some, None, Result, Ok, Err, refl, sym, ap, subst, ◌∙◌, arith, cond}
+use Rattle.std.proofs.Common.{◌≡◌, ℕ, Bool, true, false, List, [], ◌∷◌, Option, Some, None, Result, Ok, Err, refl, sym, ap, subst, ◌∙◌, cond}
 use Rattle.std.specs.Prelude.{option_map, is_some}
 use Rattle.std.specs.List.{list_any}
-use Rattle.std.proofs.lemmas.List.Sums.{sum_by-cons}
 use Rattle.covline.specs.declared.trace_line.TotalKind.{TotalKind}
 use Rattle.covline.specs.declared.trace_line.TotalKind.TheVariants.{FuncFound, FuncHit, BranchFound, BranchHit, LineFound, LineHit}
 use Rattle.covline.specs.Spells.{LineData, Test, Path, FuncStart, FuncCount, Branch, Line, Total, End, Skip}
@@ -16,9 +15,10 @@ use Rattle.covlcov2.specs.declared.take_fault.TakeFault.TheVariants as why
 use Rattle.covlcov2.specs.declared.indexes.Indexes.{Indexes}
 use Rattle.covlcov2.specs.declared.reader.Lcov2Reader.{Lcov2Reader}
 use Rattle.covlcov2.specs.Spells.{Lcov2Data, Plain, Leader, Alias, Edge}
-use Rattle.covlcov2.specs.Reads.{leader, is_leader, is_expression, expressions, total_said, alias_said, said, above_after}
+use Rattle.covlcov2.specs.Reads.{leader, is_leader, branch_number, total_said, alias_said, said, above_after}
 use Rattle.covlcov2.specs.Outcome.{NeedsSection, NeedsOutside}
 use Rattle.covlcov2.specs.Run.{StepsTo, IsWithin, Grows}
+use Rattle.covlcov2.proofs.Blocks.{same_numbers}
 use Rattle.covlcov2.specs.Steps.{AreIndexes, AreOpenIndexes, IsHeld, IsNoPath, Lcov2Steps, counts_functions, Given, IsQuiet, StandsFor}
 
 -- ---- one record
@@ -51,15 +51,10 @@ indexes_if (Some s) inside indexes above are = are tt
 
 -- ---- lines of which later ones need nothing
 
-same_expressions : (number block : ℕ) (line : Lcov2Data) (above : List Lcov2Data) → is_expression number block line ≡ false → expressions number block above ≡ expressions number block (line ∷ above)
-same_expressions number block line above e =
-    let none : cond {A = ℕ} (is_expression number block line) 1 0 ≡ 0 = ap (λ (b : Bool). cond {A = ℕ} b 1 0) e in
-    omega (arith, none, sum_by-cons (λ x. cond (is_expression number block x) 1 0) line above)
-
-same_indexes : {A : Type 0} (indexes : Indexes A) (above : List Lcov2Data) (line : Lcov2Data) → IsQuiet above line → AreIndexes indexes above → AreIndexes indexes (line ∷ above)
+pub same_indexes : {A : Type 0} (indexes : Indexes A) (above : List Lcov2Data) (line : Lcov2Data) → IsQuiet above line → AreIndexes indexes above → AreIndexes indexes (line ∷ above)
 same_indexes indexes above line quiet are = record {
   leaders = λ index. are.leaders index ∙ sym (quiet.leads index);
-  expressions = λ b. are.expressions b ∙ same_expressions b.line b.block line above (quiet.no_expression b.line b.block);
+  numbers = same_numbers indexes.numbers above line quiet.next quiet.expressions are.numbers;
 }
 
 same_leaders : (line : Lcov2Data) (above : List Lcov2Data) → is_leader line ≡ false → list_any is_leader above ≡ list_any is_leader (line ∷ above)
@@ -110,25 +105,32 @@ refusal {A} {T} w r held plain after above line says same alone section outside 
 
 -- ---- a line that stands for one record
 
-pub passed : {A T : Type 0} (r : Result T TakeFault) (old : Lcov2Reader A) (plain : Reader A) (above : List Lcov2Data) (inside : List LineData) (line : Lcov2Data) (says : LineData) → IsHeld old above inside → StandsFor above line says
-    → Given r (held_data old.plain inside) plain says → Lcov2Steps r above (held_data old.plain inside) (record { plain = plain; indexes = old.indexes; is_grouped = old.is_grouped }) line
-passed (Ok done) old plain above inside line says is stands given =
-    let new : Lcov2Reader _ = record { plain = plain; indexes = old.indexes; is_grouped = old.is_grouped } in
+-- the indexes become those below this line too
+pub passed_to : {A T : Type 0} (r : Result T TakeFault) (old : Lcov2Reader A) (plain : Reader A) (next : Indexes A) (above : List Lcov2Data) (inside : List LineData) (line : Lcov2Data) (says : LineData) → IsHeld old above inside
+    → StandsFor above line says → is_leader line ≡ false → (AreIndexes old.indexes above → AreIndexes next (line ∷ above)) → Given r (held_data old.plain inside) plain says
+    → Lcov2Steps r above (held_data old.plain inside) (record { plain = plain; indexes = next; is_grouped = old.is_grouped }) line
+passed_to (Ok done) old plain next above inside line says is stands no_leader more given =
+    let new : Lcov2Reader _ = record { plain = plain; indexes = next; is_grouped = old.is_grouped } in
     let held = held_data old.plain inside in
     let after : IsHeld new (line ∷ above) given.0 =
     record {
       is_open = given.2;
-      grouped = is.grouped ∙ same_leaders line above stands.quiet.no_leader;
-      indexes = indexes_if plain.section given.0 old.indexes (line ∷ above) (λ w.
-          same_indexes old.indexes above line stands.quiet
-          (open_indexes old.plain.section inside old.indexes above (was_open held.section held (held_data plain given.0) says refl stands.no_path given.1 w) is.indexes));
+      grouped = is.grouped ∙ same_leaders line above no_leader;
+      indexes = indexes_if plain.section given.0 next (line ∷ above) (λ w.
+          more (open_indexes old.plain.section inside old.indexes above (was_open held.section held (held_data plain given.0) says refl stands.no_path given.1 w) is.indexes));
     } in
     (says ∷ [], given.0, stands.alone, (held_data plain given.0, given.1, refl), subst (λ (x : List Lcov2Data). IsHeld new x given.0) (sym stands.after) after)
-passed {T = T} (Err w) old plain above inside line says is stands given =
+passed_to {T = T} (Err w) old plain next above inside line says is stands no_leader more given =
     refusal {T = T} w (Err w) (held_data old.plain inside) plain _ above line says refl stands.alone stands.needs_section stands.needs_outside (grows_from (held_data old.plain inside).section says line stands.no_path) given
 
-plain_quiet : (above : List Lcov2Data) (says : LineData) → IsQuiet above (Plain says)
-plain_quiet above says = record { no_leader = refl; no_expression = λ number block. refl; leads = λ index. refl }
+pub passed : {A T : Type 0} (r : Result T TakeFault) (old : Lcov2Reader A) (plain : Reader A) (above : List Lcov2Data) (inside : List LineData) (line : Lcov2Data) (says : LineData) → IsHeld old above inside → StandsFor above line says
+    → IsQuiet above line → Given r (held_data old.plain inside) plain says
+    → Lcov2Steps r above (held_data old.plain inside) (record { plain = plain; indexes = old.indexes; is_grouped = old.is_grouped }) line
+passed r old plain above inside line says is stands quiet given =
+    passed_to r old plain old.indexes above inside line says is stands quiet.no_leader (same_indexes old.indexes above line quiet) given
+
+pub plain_quiet : (above : List Lcov2Data) (says : LineData) → IsQuiet above (Plain says)
+plain_quiet above says = record { no_leader = refl; expressions = λ number block. refl; next = λ number block. refl; leads = λ index. refl }
 
 stays_above : (above : List Lcov2Data) (says : LineData) → IsNoPath says → above_after above (Plain says) ≡ Plain says ∷ above
 stays_above above (Path path) no_path = absurd no_path
@@ -145,7 +147,6 @@ pub plain_stands : (above : List Lcov2Data) (says : LineData) → IsNoPath says 
 plain_stands above says no_path alone = record {
   alone = alone;
   after = stays_above above says no_path;
-  quiet = plain_quiet above says;
   no_path = no_path;
   needs_section = λ n. n;
   needs_outside = λ n. n;
@@ -194,19 +195,10 @@ path_refused w r held plain after above path same given =
 
 -- ---- branches
 
-edge_quiet : (above : List Lcov2Data) (is_excluded : Bool) (line block number : ℕ) (taken : Option ℕ) → IsQuiet above (Edge is_excluded line block (Some number) taken)
-edge_quiet above is_excluded line block number taken = record { no_leader = refl; no_expression = λ n b. refl; leads = λ index. refl }
-
-pub excluded_number : {A : Type 0} (r : Lcov2Reader A) (above : List Lcov2Data) (inside : List LineData) (line block number : ℕ) (taken : Option ℕ) → IsHeld r above inside
-    → Lcov2Steps {A = A} {T = Unit {0}} (Ok tt) above (held_data r.plain inside) r (Edge true line block (Some number) taken)
-excluded_number r above inside line block number taken is =
-    nothing_said r above inside (Edge true line block (Some number) taken) (edge_quiet above true line block number taken) refl refl is
-
-pub edge_stands : (above : List Lcov2Data) (line block number : ℕ) (taken : Option ℕ) → StandsFor above (Edge false line block (Some number) taken) (Branch line block number taken)
-edge_stands above line block number taken = record {
+pub edge_stands : (above : List Lcov2Data) (line block : ℕ) (given taken : Option ℕ) → StandsFor above (Edge false line block given taken) (Branch line block (branch_number above line block given) taken)
+edge_stands above line block given taken = record {
   alone = refl;
   after = refl;
-  quiet = edge_quiet above false line block number taken;
   no_path = tt;
   needs_section = λ n. tt;
   needs_outside = λ n. n;
@@ -220,7 +212,7 @@ pub some_indexes : {A : Type 0} (section : Option (OpenSection A)) (indexes : In
 some_indexes None indexes above e are = absurd cc
 some_indexes (Some s) indexes above e are = are
 
-closed_data : {A : Type 0} (section : Option (OpenSection A)) (inside : List LineData) → is_some section ≡ false → option_map (section_data inside) section ≡ None
+pub closed_data : {A : Type 0} (section : Option (OpenSection A)) (inside : List LineData) → is_some section ≡ false → option_map (section_data inside) section ≡ None
 closed_data None inside e = refl
 closed_data (Some s) inside e = absurd cc
 
@@ -232,20 +224,20 @@ grows_within : (section : Option SectionData) (line : Lcov2Data) → IsWithin se
 grows_within None line w = absurd w
 grows_within (Some s) line w = tt
 
--- a branch with an expression outside of sections
-pub outside_taken : {A : Type 0} (r : Lcov2Reader A) (above : List Lcov2Data) (inside : List LineData) (is_excluded : Bool) (line block : ℕ) (taken : Option ℕ) (result : Result (Unit {0}) TakeFault)
-    → result ≡ cond is_excluded (Ok tt) (Err why.Outside) → IsHeld r above inside → is_some r.plain.section ≡ false → Lcov2Steps result above (held_data r.plain inside) r (Edge is_excluded line block None taken)
-outside_taken r above inside true line block taken result same is closed =
-    subst (λ (x : Result (Unit {0}) TakeFault). Lcov2Steps x above (held_data r.plain inside) r (Edge true line block None taken)) (sym same)
-    ([], inside, refl, refl, record { is_open = is.is_open; grouped = is.grouped; indexes = no_indexes r.plain.section r.indexes (Edge true line block None taken ∷ above) closed })
-outside_taken r above inside false line block taken result same is closed =
-    subst (λ (x : Result (Unit {0}) TakeFault). Lcov2Steps x above (held_data r.plain inside) r (Edge false line block None taken)) (sym same)
-    (record { needs = tt; only = Branch line block (expressions line block above) taken; stands_for = refl; only_needs = tt; closed = closed_data r.plain.section inside closed })
+-- a branch outside of sections
+pub outside_taken : {A : Type 0} (r : Lcov2Reader A) (above : List Lcov2Data) (inside : List LineData) (is_excluded : Bool) (line block : ℕ) (given taken : Option ℕ) (result : Result (Unit {0}) TakeFault)
+    → result ≡ cond is_excluded (Ok tt) (Err why.Outside) → IsHeld r above inside → is_some r.plain.section ≡ false → Lcov2Steps result above (held_data r.plain inside) r (Edge is_excluded line block given taken)
+outside_taken r above inside true line block given taken result same is closed =
+    subst (λ (x : Result (Unit {0}) TakeFault). Lcov2Steps x above (held_data r.plain inside) r (Edge true line block given taken)) (sym same)
+    ([], inside, refl, refl, record { is_open = is.is_open; grouped = is.grouped; indexes = no_indexes r.plain.section r.indexes (Edge true line block given taken ∷ above) closed })
+outside_taken r above inside false line block given taken result same is closed =
+    subst (λ (x : Result (Unit {0}) TakeFault). Lcov2Steps x above (held_data r.plain inside) r (Edge false line block given taken)) (sym same)
+    (record { needs = tt; only = Branch line block (branch_number above line block given) taken; stands_for = refl; only_needs = tt; closed = closed_data r.plain.section inside closed })
 
--- the reader counted one more expression of the block
-pub expression_excluded : {A : Type 0} (old new : Lcov2Reader A) (above : List Lcov2Data) (inside : List LineData) (line block : ℕ) (taken : Option ℕ) → IsHeld old above inside → new.plain ≡ old.plain → new.is_grouped ≡ old.is_grouped
-    → AreIndexes new.indexes (Edge true line block None taken ∷ above) → Lcov2Steps {A = A} {T = Unit {0}} (Ok tt) above (held_data old.plain inside) new (Edge true line block None taken)
-expression_excluded {A} old new above inside line block taken is same grouped are = (
+-- an excluded branch in a section, which was counted
+pub edge_excluded : {A : Type 0} (old new : Lcov2Reader A) (above : List Lcov2Data) (inside : List LineData) (line block : ℕ) (given taken : Option ℕ) → IsHeld old above inside → new.plain ≡ old.plain → new.is_grouped ≡ old.is_grouped
+    → AreIndexes new.indexes (Edge true line block given taken ∷ above) → Lcov2Steps {A = A} {T = Unit {0}} (Ok tt) above (held_data old.plain inside) new (Edge true line block given taken)
+edge_excluded {A} old new above inside line block given taken is same grouped are = (
   [],
   inside,
   refl,
@@ -253,24 +245,17 @@ expression_excluded {A} old new above inside line block taken is same grouped ar
   record {
     is_open = subst (λ (x : Reader A). IsOpen x.section inside) (sym same) is.is_open;
     grouped = grouped ∙ is.grouped;
-    indexes = any_indexes new.plain.section new.indexes (Edge true line block None taken ∷ above) are;
+    indexes = any_indexes new.plain.section new.indexes (Edge true line block given taken ∷ above) are;
   },
 )
 
-pub expression_taken : {A T : Type 0} (r : Result T TakeFault) (old new : Lcov2Reader A) (above : List Lcov2Data) (inside : List LineData) (line block number : ℕ) (taken : Option ℕ) → IsHeld old above inside → is_some old.plain.section ≡ true
-    → number ≡ expressions line block above → new.is_grouped ≡ old.is_grouped → AreIndexes new.indexes (Edge false line block None taken ∷ above) → Given r (held_data old.plain inside) new.plain (Branch line block number taken)
-    → Lcov2Steps r above (held_data old.plain inside) new (Edge false line block None taken)
-expression_taken (Ok done) old new above inside line block number taken is open_is number_is grouped are given = (
-  Branch line block number taken ∷ [],
-  given.0,
-  ap (λ (n : ℕ). Some (Branch line block n taken ∷ [])) (sym number_is),
-  (held_data new.plain given.0, given.1, refl),
-  record { is_open = given.2; grouped = grouped ∙ is.grouped; indexes = any_indexes new.plain.section new.indexes (Edge false line block None taken ∷ above) are },
-)
-expression_taken {T = T} (Err w) old new above inside line block number taken is open_is number_is grouped are given =
-    refusal {T = T} w (Err w) (held_data old.plain inside) new.plain new above (Edge false line block None taken) (Branch line block number taken) refl
-    (ap (λ (n : ℕ). Some (Branch line block n taken ∷ [])) (sym number_is)) (λ n. tt) (λ n. n)
-    (λ grows. grows_within (held_data old.plain inside).section (Edge false line block None taken) (open_data old.plain.section inside open_is)) given
+-- a branch that is given to the reader of version 1 with its number
+pub edge_taken : {A T : Type 0} (r : Result T TakeFault) (old : Lcov2Reader A) (plain : Reader A) (next : Indexes A) (above : List Lcov2Data) (inside : List LineData) (line block number : ℕ) (given taken : Option ℕ) → IsHeld old above inside
+    → number ≡ branch_number above line block given → (AreIndexes old.indexes above → AreIndexes next (Edge false line block given taken ∷ above)) → Given r (held_data old.plain inside) plain (Branch line block number taken)
+    → Lcov2Steps r above (held_data old.plain inside) (record { plain = plain; indexes = next; is_grouped = old.is_grouped }) (Edge false line block given taken)
+edge_taken r old plain next above inside line block number given taken is number_is more given_is =
+    passed_to r old plain next above inside (Edge false line block given taken) (Branch line block (branch_number above line block given) taken) is (edge_stands above line block given taken) refl more
+    (subst (λ (n : ℕ). Given r (held_data old.plain inside) plain (Branch line block n taken)) number_is given_is)
 
 pub grows_open : {A : Type 0} (r : Lcov2Reader A) (inside : List LineData) (line : Lcov2Data) → is_some r.plain.section ≡ true → Grows (held_data r.plain inside).section line
 grows_open r inside line open_is = grows_within (held_data r.plain inside).section line (open_data r.plain.section inside open_is)
@@ -324,7 +309,7 @@ start_stays None held after line name e = absurd cc
 start_stays (Some s) held after line name e = subst (λ (x : HeldData). IsWithin x.section) (ok_is (kept s held (FuncStart line name)) after e) tt
 
 alias_quiet : (above : List Lcov2Data) (index count : ℕ) (name : List ℕ) → IsQuiet above (Alias index count name)
-alias_quiet above index count name = record { no_leader = refl; no_expression = λ n b. refl; leads = λ i. refl }
+alias_quiet above index count name = record { no_leader = refl; expressions = λ n b. refl; next = λ n b. refl; leads = λ i. refl }
 
 pub alias_taken : {A T : Type 0} (r : Result T TakeFault) (old : Lcov2Reader A) (between plain : Reader A) (above : List Lcov2Data) (inside after : List LineData) (line index count : ℕ) (name : List ℕ) → IsHeld old above inside → is_some old.plain.section ≡ true
     → leader index above ≡ Some line → step (held_data old.plain inside) (FuncStart line name) ≡ Ok (held_data between after) → Given r (held_data between after) plain (FuncCount count name)

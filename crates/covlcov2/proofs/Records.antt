@@ -1,8 +1,7 @@
 -- The records that a line stands for can be printed, and are few.
-use Rattle.std.proofs.Common.{◌≡◌, ℕ, ◌+◌, ◌<◌, ◌≤◌, ◌^◌, Bool, true, false, eqb, List, [], ◌∷◌, ◌++◌, length, Option, Some, None, refl, ap, subst, arith, inl, inr}
+use Rattle.std.proofs.Common.{◌≡◌, ℕ, ◌<◌, ◌≤◌, ◌^◌, Bool, true, false, ◌&&◌, eqb, max, List, [], ◌∷◌, ◌++◌, length, Option, Some, None, refl, ap, subst, arith, inl, inr}
 use Rattle.std.specs.Prelude.{codes, IfSome, if◌then◌else◌}
 use Rattle.std.specs.List.{list_any, AllByRecursion}
-use Rattle.std.proofs.lemmas.List.Sums.{count_by-le-length}
 use Rattle.covline.specs.declared.trace_line.TotalKind.{TotalKind}
 use Rattle.covline.specs.declared.trace_line.TotalKind.TheVariants.{FuncFound, FuncHit, BranchFound, BranchHit, LineFound, LineHit}
 use Rattle.covline.specs.Lawful.{IsGoodTest, IsGoodName}
@@ -10,7 +9,7 @@ use Rattle.covline.specs.LineLaws.{GoodRest}
 use Rattle.covline.specs.Printed.{IsReadable}
 use Rattle.covline.specs.Spells.{LineData, Test, Path, FuncStart, FuncCount, Branch, Line, Total, End, Skip, comma, key_of, HasSmallNumbers}
 use Rattle.covlcov2.specs.Spells.{Lcov2Data, Plain, Leader, Alias, Edge, IsNameIn, IsBelow, HasSmallLcov2Numbers, Lcov2Spells}
-use Rattle.covlcov2.specs.Reads.{leader, is_leader, is_expression, expressions, total_said, plain_said, alias_said, edge_said, said, above_after}
+use Rattle.covlcov2.specs.Reads.{leader, is_leader, has_expression, one_more, number_from, next_number, branch_number, total_said, plain_said, alias_said, edge_said, said, above_after}
 
 abbrev some_of : List LineData → Option (List LineData)
 some_of records = Some records
@@ -71,14 +70,37 @@ branch_small : (line block number : ℕ) (taken : Option ℕ) → line < 2 ^ 64 
 branch_small line block number None l k n small = (l, k, n)
 branch_small line block number (Some t) l k n small = (l, k, n, small)
 
-edge_readable : (above : List Lcov2Data) (is_excluded : Bool) (line block : ℕ) (number taken : Option ℕ) → length above < 2 ^ 64
-    → HasSmallLcov2Numbers (Edge is_excluded line block number taken) → AllByRecursion IsReadable (edge_said above is_excluded line block number taken)
-edge_readable above true line block number taken few small = tt
-edge_readable above false line block (Some number) taken few small =
-    (record { texts = tt; small = branch_small line block number taken small.0 small.1 small.2 small.3 }, tt)
-edge_readable above false line block None taken few small =
-    let fits : expressions line block above < 2 ^ 64 = omega (arith, few, count_by-le-length (is_expression line block) above) in
-    (record { texts = tt; small = branch_small line block (expressions line block above) taken small.0 small.1 fits small.3 }, tt)
+one_more_small : (n : ℕ) → one_more n < 2 ^ 64
+one_more_small n = omega arith
+
+max_small : (same : Bool) (n m : ℕ) → n < 2 ^ 64 → m < 2 ^ 64 → (if same then max n m else n) < 2 ^ 64
+max_small true n m first second = omega (arith, first, second)
+max_small false n m first second = first
+
+next_small : (line block : ℕ) (above : List Lcov2Data) → next_number line block above < 2 ^ 64
+next_small line block [] = omega arith
+next_small line block (Edge is_excluded other that given taken ∷ above) =
+    max_small (eqb other line && eqb that block) (next_number line block above) (one_more (branch_number above line block given)) (next_small line block above)
+    (one_more_small (branch_number above line block given))
+next_small line block (Plain says ∷ above) = next_small line block above
+next_small line block (Leader index number ∷ above) = next_small line block above
+next_small line block (Alias index count name ∷ above) = next_small line block above
+
+from_small : (below : Bool) (next : ℕ) (given : Option ℕ) → next < 2 ^ 64 → IsBelow (2 ^ 64) given → number_from below next given < 2 ^ 64
+from_small false next (Some number) few small = small
+from_small true next (Some number) few small = few
+from_small false next None few small = few
+from_small true next None few small = few
+
+-- the number that a branch gets fits into 64 bits
+pub number_fits : (above : List Lcov2Data) (line block : ℕ) (given : Option ℕ) → IsBelow (2 ^ 64) given → branch_number above line block given < 2 ^ 64
+number_fits above line block given small = from_small (has_expression line block above) (next_number line block above) given (next_small line block above) small
+
+edge_readable : (above : List Lcov2Data) (is_excluded : Bool) (line block : ℕ) (given taken : Option ℕ)
+    → HasSmallLcov2Numbers (Edge is_excluded line block given taken) → AllByRecursion IsReadable (edge_said above is_excluded line block given taken)
+edge_readable above true line block given taken small = tt
+edge_readable above false line block given taken small =
+    (record { texts = tt; small = branch_small line block (branch_number above line block given) taken small.0 small.1 (number_fits above line block given small.2) small.3 }, tt)
 
 alias_readable : (start : Option ℕ) (count : ℕ) (name : List ℕ) (now : List LineData) → IfSome start (λ n. n < 2 ^ 64) → count < 2 ^ 128 → IsGoodName name → alias_said start count name ≡ Some now → AllByRecursion IsReadable now
 alias_readable None count name now small count_small good e = absurd (some_isnt_none now e)
@@ -86,19 +108,19 @@ alias_readable (Some line) count name now small count_small good e =
     subst (λ (x : List LineData). AllByRecursion IsReadable x) (same_some (FuncStart line name ∷ FuncCount count name ∷ []) now e)
     (record { texts = good; small = small }, (record { texts = good; small = count_small }, tt))
 
-pub readable : GoodRest → (line : List ℕ) (above : List Lcov2Data) (says : Lcov2Data) (now : List LineData) → IsGoodTest line → AllByRecursion HasSmallLcov2Numbers above → length above < 2 ^ 64 → Lcov2Spells line says
+pub readable : GoodRest → (line : List ℕ) (above : List Lcov2Data) (says : Lcov2Data) (now : List LineData) → IsGoodTest line → AllByRecursion HasSmallLcov2Numbers above → Lcov2Spells line says
     → said above says ≡ Some now → AllByRecursion IsReadable now
-readable good_rest line above (Plain says) now good small few_above spells e =
+readable good_rest line above (Plain says) now good small spells e =
     subst (λ (x : List LineData). AllByRecursion IsReadable x) (same_some (plain_said (list_any is_leader above) says) now e) (plain_readable good_rest line (list_any is_leader above) says good spells)
-readable good_rest line above (Leader index number) now good small few_above spells e = subst (λ (x : List LineData). AllByRecursion IsReadable x) (same_some [] now e) tt
-readable good_rest line above (Alias index count name) now good small few_above spells e =
+readable good_rest line above (Leader index number) now good small spells e = subst (λ (x : List LineData). AllByRecursion IsReadable x) (same_some [] now e) tt
+readable good_rest line above (Alias index count name) now good small spells e =
     let form = spells.form in
     let rest = after_comma good_rest (codes "FNA:") form.0 (form.1 ++ comma ∷ name) line form.2 good in
     alias_readable (leader index above) count name now (leader_small index above small) spells.small.1
     (record { fits = after_comma good_rest [] form.1 name (form.1 ++ comma ∷ name) refl rest; some = form.5 }) e
-readable good_rest line above (Edge is_excluded number block branch taken) now good small few_above spells e =
+readable good_rest line above (Edge is_excluded number block branch taken) now good small spells e =
     subst (λ (x : List LineData). AllByRecursion IsReadable x) (same_some (edge_said above is_excluded number block branch taken) now e)
-    (edge_readable above is_excluded number block branch taken few_above spells.small)
+    (edge_readable above is_excluded number block branch taken spells.small)
 
 pub small_after : (above : List Lcov2Data) (says : Lcov2Data) → AllByRecursion HasSmallLcov2Numbers above → HasSmallLcov2Numbers says → AllByRecursion HasSmallLcov2Numbers (above_after above says)
 small_after above (Plain (Path path)) small now = tt
@@ -106,14 +128,6 @@ small_after above (Plain says) small now = (now, small)
 small_after above (Leader index line) small now = (now, small)
 small_after above (Alias index count name) small now = (now, small)
 small_after above (Edge is_excluded line block number taken) small now = (now, small)
-
--- there is at most one line more above the next line
-pub above_grows : (above : List Lcov2Data) (says : Lcov2Data) → length (above_after above says) ≤ length above + 1
-above_grows above (Plain (Path path)) = omega arith
-above_grows above (Plain says) = omega arith
-above_grows above (Leader index line) = omega arith
-above_grows above (Alias index count name) = omega arith
-above_grows above (Edge is_excluded line block number taken) = omega arith
 
 -- ---- they are no more than the bytes of the line
 
@@ -168,10 +182,9 @@ alias_few : (start : Option ℕ) (count : ℕ) (name : List ℕ) (now : List Lin
 alias_few None count name now e = absurd (some_isnt_none now e)
 alias_few (Some line) count name now e = let k = ap length (same_some (FuncStart line name ∷ FuncCount count name ∷ []) now e) in omega (arith, k)
 
-edge_few : (above : List Lcov2Data) (is_excluded : Bool) (line block : ℕ) (number taken : Option ℕ) → length (edge_said above is_excluded line block number taken) ≤ 1
-edge_few above true line block number taken = omega arith
-edge_few above false line block (Some number) taken = omega arith
-edge_few above false line block None taken = omega arith
+edge_few : (above : List Lcov2Data) (is_excluded : Bool) (line block : ℕ) (given taken : Option ℕ) → length (edge_said above is_excluded line block given taken) ≤ 1
+edge_few above true line block given taken = omega arith
+edge_few above false line block given taken = omega arith
 
 pub few : (line : List ℕ) (above : List Lcov2Data) (says : Lcov2Data) (now : List LineData) → Lcov2Spells line says → said above says ≡ Some now → length now ≤ length line
 few line above (Plain says) now spells e =

@@ -181,8 +181,7 @@ alias_path (Some line) count name now e any = subst (λ (x : List LineData). Any
 
 edge_path : (above : List Lcov2Data) (is_excluded : Bool) (line block : ℕ) (number taken : Option ℕ) → ¬ AnyPath (edge_said above is_excluded line block number taken)
 edge_path above true line block number taken any = any
-edge_path above false line block (Some number) taken any = any
-edge_path above false line block None taken any = any
+edge_path above false line block number taken any = any
 
 -- only a line that says a path stands for one
 path_said : (above : List Lcov2Data) (says : Lcov2Data) (now : List LineData) → said above says ≡ Some now → AnyPath now → (path : List ℕ) × (says ≡ Plain (Path path))

@@ -15,7 +15,7 @@ use Rattle.covread.specs.declared.fault.ReadFault.TheVariants as faults
 use Rattle.covread.specs.Outcome as version1
 use Rattle.covread.specs.TraceSteps.{SectionData, HeldData, empty, kept, step, step_at, ends, ends_at, IsLawfulAt}
 use Rattle.covlcov2.specs.Spells.{Lcov2Data, Plain, Leader, Alias, Edge}
-use Rattle.covlcov2.specs.Reads.{leader, is_leader, total_said, alias_said, said, above_after}
+use Rattle.covlcov2.specs.Reads.{leader, is_leader, branch_number, total_said, alias_said, said, above_after}
 use Rattle.covlcov2.specs.Outcome.{NeedsSection, NeedsOutside, IsOutcome, Answers}
 use Rattle.covlcov2.specs.Run.{StepsTo, IsWithin, IsOutside, IsInside, IsMisplaced, Stopped}
 use Rattle.covlcov2.proofs.Holds.{Laws, Lcov2Holds, holds_nothing}
@@ -83,11 +83,10 @@ verdict above held (Plain (Total kind value)) = total_verdict above held (list_a
 verdict above held (Plain says) = alone above held (Plain says) says refl (λ n. n) (λ n. n) (step_is held.section held says)
 verdict above held (Leader index line) = On [] held refl refl
 verdict above held (Alias index count name) = alias_verdict above held index count name (leader index above) refl
-verdict above held (Edge true line block number taken) = On [] held refl refl
-verdict above held (Edge false line block (Some number) taken) =
-    alone above held (Edge false line block (Some number) taken) (Branch line block number taken) refl (λ n. tt) (λ n. n) (step_is held.section held (Branch line block number taken))
-verdict above held (Edge false line block None taken) =
-    alone above held (Edge false line block None taken) _ refl (λ n. tt) (λ n. n) (step_is held.section held _)
+verdict above held (Edge true line block given taken) = On [] held refl refl
+verdict above held (Edge false line block given taken) =
+    let says = Branch line block (branch_number above line block given) taken in
+    alone above held (Edge false line block given taken) says refl (λ n. tt) (λ n. n) (step_is held.section held says)
 
 -- ---- all lines
 

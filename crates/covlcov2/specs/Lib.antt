@@ -4,5 +4,6 @@ pub mod LineLaws
 pub mod Reads
 pub mod Outcome
 pub mod Run
+pub mod Numbers
 pub mod Steps
 pub mod Fronts

@@ -1,6 +1,6 @@
 -- What the lines of a tracefile of LCOV 2 say together (geninfo(1) of LCOV 2.x, TRACEFILE FORMAT): each line stands for records of
 -- version 1, and these say what they say there.
-use Rattle.std.specs.Prelude.{◌≡◌, ℕ, ◌==◌, ◌&&◌, if◌then◌else◌, Bool, true, false, List, [], ◌∷◌, ◌++◌, Option, Some, None, count_by}
+use Rattle.std.specs.Prelude.{◌≡◌, ℕ, ◌+◌, ◌-◌, ◌^◌, ◌==◌, ◌&&◌, if◌then◌else◌, min, max, Bool, true, false, List, [], ◌∷◌, ◌++◌, Option, Some, None}
 use Rattle.std.specs.List.{flat_map, sum_by, list_any, AllByRecursion}
 use Rattle.covline.specs.declared.trace_line.TotalKind.{TotalKind}
 use Rattle.covline.specs.declared.trace_line.TotalKind.TheVariants.{FuncFound, FuncHit}
@@ -24,10 +24,35 @@ abbrev pub is_expression : (line block : ℕ) → Lcov2Data → Bool
 is_expression line block (Edge is_excluded other that None taken) = other == line && that == block
 is_expression line block says = false
 
--- how many branches with expressions this block has, excluded ones too: excluding a branch leaves the numbers of the others as
--- they are
-abbrev pub expressions : (line block : ℕ) → List Lcov2Data → ℕ
-expressions line block above = count_by (is_expression line block) above
+-- one of these lines is a branch of this block that has an expression
+abbrev pub has_expression : (line block : ℕ) → List Lcov2Data → Bool
+has_expression line block above = list_any (is_expression line block) above
+
+-- one more than the number, but no more than the largest number that a branch can have
+abbrev pub one_more : ℕ → ℕ
+one_more number = min (number + 1) (2 ^ 64 - 1)
+
+-- a branch keeps the number that it is given, unless an expression is above it in its block. It gets the next number of the block
+-- otherwise, and also if it has an expression itself
+abbrev pub number_from : (below_expression : Bool) → (next : ℕ) → (given : Option ℕ) → ℕ
+number_from false next (Some number) = number
+number_from true next (Some number) = next
+number_from below_expression next None = next
+
+-- the next number of this block: one more than the greatest number of its branches above, or 0 if there are none. Excluded branches
+-- count too, so excluding a branch leaves the numbers of the others as they are
+abbrev pub next_number : (line block : ℕ) → List Lcov2Data → ℕ
+next_number line block [] = 0
+next_number line block (Edge is_excluded other that given taken ∷ above) =
+    if other == line && that == block
+    then max (next_number line block above) (one_more (number_from (has_expression line block above) (next_number line block above) given))
+    else next_number line block above
+next_number line block (says ∷ above) = next_number line block above
+
+-- the number of a branch of this block below these lines. So from the first expression of a block on, each of its branches has a
+-- number of its own, but that none is above the largest
+abbrev pub branch_number : List Lcov2Data → (line block : ℕ) → (given : Option ℕ) → ℕ
+branch_number above line block given = number_from (has_expression line block above) (next_number line block above) given
 
 -- with `FNL:` lines above, the totals of functions say nothing: LCOV 2 counts all functions of an index as one there. (This is so
 -- until the next path, also after the section's end)
@@ -47,12 +72,10 @@ abbrev pub alias_said : Option ℕ → ℕ → List ℕ → Option (List LineDat
 alias_said None count name = None
 alias_said (Some line) count name = Some (FuncStart line name ∷ FuncCount count name ∷ [])
 
--- an excluded branch says nothing. A branch with an expression has the next number after the branches with expressions above it in
--- its block. So in a block that also has branches with numbers, a number may mean one of either kind, and both count as one branch
-abbrev pub edge_said : List Lcov2Data → (is_excluded : Bool) → (line block : ℕ) → (number taken : Option ℕ) → List LineData
-edge_said above true line block number taken = []
-edge_said above false line block (Some number) taken = Branch line block number taken ∷ []
-edge_said above false line block None taken = Branch line block (expressions line block above) taken ∷ []
+-- an excluded branch says nothing
+abbrev pub edge_said : List Lcov2Data → (is_excluded : Bool) → (line block : ℕ) → (given taken : Option ℕ) → List LineData
+edge_said above true line block given taken = []
+edge_said above false line block given taken = Branch line block (branch_number above line block given) taken ∷ []
 
 -- the records that a line stands for, below these lines; `None` for an `FNA:` line without an `FNL:` line of its index above it
 abbrev pub said : List Lcov2Data → Lcov2Data → Option (List LineData)

@@ -3,9 +3,7 @@
 use Rattle.std.specs.Prelude.{◌≡◌, ℕ, ◌+◌, ◌<◌, ◌^◌, Bool, true, false, List, [], ◌∷◌, length, Option, Some, None, Result, Ok, Err}
 use Rattle.std.specs.BTreeMap.{BTreeMap, get}
 use Rattle.std.specs.List.{list_any}
-use Rattle.std.specs.Option.{unwrap_or}
-use Rattle.std.specs.Ordering.{nat_cmp, ordering_then}
-use Rattle.std.specs.declared.cmp.Ordering.{Ordering}
+use Rattle.std.specs.Ordering.{nat_cmp}
 use Rattle.covline.specs.declared.trace_line.TotalKind.{TotalKind}
 use Rattle.covline.specs.declared.trace_line.TotalKind.TheVariants.{FuncFound, FuncHit, BranchFound, BranchHit, LineFound, LineHit}
 use Rattle.covline.specs.Spells.{LineData, Path}
@@ -19,30 +17,22 @@ use Rattle.covread.specs.Outcome as version1_outcome
 use Rattle.covread.specs.TraceSteps.{HeldData, held_data, GrowsAt, IsOpen, step, ends, EndsLawfully}
 use Rattle.covlcov2.specs.declared.take_fault.TakeFault.{TakeFault}
 use Rattle.covlcov2.specs.declared.take_fault.TakeFault.TheVariants as why
-use Rattle.covlcov2.specs.declared.indexes.Block.{Block}
 use Rattle.covlcov2.specs.declared.indexes.Indexes.{Indexes}
 use Rattle.covlcov2.specs.declared.reader.Lcov2Reader.{Lcov2Reader}
 use Rattle.covlcov2.specs.Spells.{Lcov2Data}
-use Rattle.covlcov2.specs.Reads.{leader, is_leader, is_expression, expressions, said, above_after}
+use Rattle.covlcov2.specs.Reads.{leader, is_leader, has_expression, next_number, said, above_after}
 use Rattle.covlcov2.specs.Outcome.{Answers, GrowsLate, NeedsSection, NeedsOutside}
+use Rattle.covlcov2.specs.Numbers.{HasNumbers}
 use Rattle.covlcov2.specs.Run.{StepsTo, Taken, IsWithin, IsOutside, IsInside, IsMisplaced, Grows, Stopped}
-
--- blocks by line and number, as their `Ord` has them
-abbrev pub block_cmp : Block → Block → Ordering
-block_cmp a b = ordering_then (nat_cmp a.line b.line) (nat_cmp a.block b.block)
 
 -- the map has the start lines that these lines give the indexes
 abbrev pub HasLeaders : BTreeMap ℕ ℕ → List Lcov2Data → Type 0
 HasLeaders leaders above = (index : ℕ) → get nat_cmp leaders index ≡ leader index above
 
--- the map counts the branches with expressions that these lines have in each block; it lacks blocks without one
-abbrev pub HasExpressions : BTreeMap Block ℕ → List Lcov2Data → Type 0
-HasExpressions counts above = (b : Block) → unwrap_or (get block_cmp counts b) 0 ≡ expressions b.line b.block above
-
 -- what the reader keeps of these lines
 pub record AreIndexes {A : Type 0} (indexes : Indexes A) (above : List Lcov2Data) : Type 0 where
   pub leaders : HasLeaders indexes.leaders above
-  pub expressions : HasExpressions indexes.expressions above
+  pub numbers : HasNumbers indexes.numbers above
 
 -- the same if a section is open. Outside of sections the reader keeps nothing, so that memory can run out only below a path
 abbrev pub AreOpenIndexes : {A : Type 0} → Option (OpenSection A) → Indexes A → List Lcov2Data → Type 0
@@ -59,7 +49,6 @@ pub record IsHeld {A : Type 0} (r : Lcov2Reader A) (above : List Lcov2Data) (ins
 pub record HasLineRoom {A : Type 0} (r : Lcov2Reader A) (above : List Lcov2Data) (inside : List LineData) : Type 0 where
   pub held : IsHeld r above inside
   pub few : r.plain.odd + length inside + 2 < 2 ^ 64
-  pub few_above : length above + 1 < 2 ^ 64
 
 -- the record doesn't begin a section
 abbrev pub IsNoPath : LineData → Type 0
@@ -95,14 +84,14 @@ Given (Err why.Memory) before after says = GrowsAt before.section says
 -- later lines need nothing of this line
 pub record IsQuiet (above : List Lcov2Data) (line : Lcov2Data) : Type 0 where
   pub no_leader : is_leader line ≡ false
-  pub no_expression : (number block : ℕ) → is_expression number block line ≡ false
+  pub expressions : (number block : ℕ) → has_expression number block (line ∷ above) ≡ has_expression number block above
+  pub next : (number block : ℕ) → next_number number block (line ∷ above) ≡ next_number number block above
   pub leads : (index : ℕ) → leader index (line ∷ above) ≡ leader index above
 
--- the line stands for this record alone, which isn't a path, and later lines need nothing of it
+-- the line stands for this record alone, which isn't a path
 pub record StandsFor (above : List Lcov2Data) (line : Lcov2Data) (says : LineData) : Type 0 where
   pub alone : said above line ≡ Some (says ∷ [])
   pub after : above_after above line ≡ line ∷ above
-  pub quiet : IsQuiet above line
   pub no_path : IsNoPath says
   pub needs_section : version1_outcome.NeedsSection says → NeedsSection line
   pub needs_outside : version1_outcome.NeedsOutside says → NeedsOutside line

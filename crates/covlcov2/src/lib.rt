@@ -17,6 +17,7 @@ mod indexes;
 mod laws;
 mod line;
 mod marked;
+mod numbers;
 mod read;
 mod read_line;
 mod reader;

@@ -3,7 +3,7 @@
 ghost use Rattle.std.specs.Prelude.{◌≡◌, ◌≤◌, ◌<◌, ◌∷◌, ℕ, IfOk, length, List, Option, Some, false, Result, option_map};
 ghost use Rattle.covline.specs.Row.{SubmissionData};
 ghost use Rattle.covline.specs.Lines.{lines_of};
-ghost use Rattle.covline.specs.Spells.{LineData, Branch, Line, Spells};
+ghost use Rattle.covline.specs.Spells.{LineData, Line, Spells};
 ghost use Rattle.covread.specs.declared.fault.ReadFault.{ReadFault as Fault};
 ghost use Rattle.covread.specs.Outcome.{max_bytes, IsOrMemory};
 ghost use Rattle.covread.specs.TraceSteps.{held_data};
@@ -13,6 +13,7 @@ ghost use Rattle.covlcov2.specs.Steps.{HasLineRoom, IsHeld, ReadsTo, TakesLcov2L
 
 use crate::laws::each_lcov2_line_has_one_meaning;
 use crate::marked::try_marked_branch;
+use crate::numbers::Block;
 use crate::read_line::read_lcov2_line;
 use crate::reader::Lcov2Reader;
 use covline::laws::printed_records_spell;
@@ -83,11 +84,11 @@ fn take_first<'a, A: Allocator + Copy>(
         return Ok(first.rest);
     }
     if let Some(first) = try_branch_line(text) {
-        take_plain_branch(reader, at, first.point, first.taken)?;
+        take_numbered(reader, alloc, at, first.point, first.taken)?;
         return Ok(first.rest);
     }
     if let Some(first) = try_marked_branch(text) {
-        take_marked_branch(reader, at, first.point, first.taken)?;
+        take_numbered(reader, alloc, at, first.point, first.taken)?;
         return Ok(first.rest);
     }
     let (line, rest) = first_line(text);
@@ -111,24 +112,11 @@ fn take_count<A: Allocator + Copy>(
     take_line_count(&mut reader.plain, alloc, at, line, count, checksum)
 }
 
-/// Takes how often a branch without marks was taken. `at` is the number of the tracefile's line that says it.
+/// Takes how often a branch was taken that isn't excluded and has a number. `at` is the number of the tracefile's line that says it.
 #[inline]
-fn take_plain_branch<A: Allocator + Copy>(
+fn take_numbered<A: Allocator + Copy>(
     reader: &mut Lcov2Reader<'_, A>,
-    at: u64,
-    point: BranchPoint,
-    taken: Option<u64>,
-) -> Result<(), ReadFault>
-    requires { (above : List Lcov2Data) × (inside : List LineData) × HasLineRoom reader.old above inside }
-    ensures { (text : List ℕ) → Spells text (Branch point.line point.block point.branch taken) → (above : List Lcov2Data) (inside : List LineData) → IsHeld reader.old above inside → TakesLcov2Line result above (held_data reader.old.plain inside) reader.new text at }
-{
-    take_branch(&mut reader.plain, at, point, taken)
-}
-
-/// Takes how often a branch with a mark was taken. `at` is the number of the tracefile's line that says it.
-#[inline]
-fn take_marked_branch<A: Allocator + Copy>(
-    reader: &mut Lcov2Reader<'_, A>,
+    alloc: A,
     at: u64,
     point: BranchPoint,
     taken: Option<u64>,
@@ -136,7 +124,18 @@ fn take_marked_branch<A: Allocator + Copy>(
     requires { (above : List Lcov2Data) × (inside : List LineData) × HasLineRoom reader.old above inside }
     ensures { (text : List ℕ) → Lcov2Spells text (Edge false point.line point.block (Some point.branch) taken) → (above : List Lcov2Data) (inside : List LineData) → IsHeld reader.old above inside → TakesLcov2Line result above (held_data reader.old.plain inside) reader.new text at }
 {
-    take_branch(&mut reader.plain, at, point, taken)
+    if reader.plain.section.is_none() {
+        return Err(ReadFault::Outside { at });
+    }
+    let block = Block {
+        line: point.line,
+        block: point.block,
+    };
+    let branch = match reader.indexes.number(alloc, block, Some(point.branch)) {
+        Ok(branch) => branch,
+        Err(_) => return Err(ReadFault::Memory),
+    };
+    take_branch(&mut reader.plain, at, BranchPoint { branch, ..point }, taken)
 }
 
 /// Takes the line with this number.

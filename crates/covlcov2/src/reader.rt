@@ -6,12 +6,13 @@ ghost use Rattle.covline.specs.Spells.{LineData, Path, Total, Branch, line_data}
 ghost use Rattle.covread.specs.TraceSteps.{held_data, empty, HasRoom, IsOpen};
 ghost use Rattle.covlcov2.specs.declared.take_fault.TakeFault.TheVariants as outside;
 ghost use Rattle.covlcov2.specs.Spells.{Lcov2Data, Plain, Leader, Alias, Edge, lcov2_data};
-ghost use Rattle.covlcov2.specs.Steps.{HasLineRoom, IsHeld, Lcov2Steps, Given, StandsFor, counts_functions};
+ghost use Rattle.covlcov2.specs.Steps.{HasLineRoom, IsHeld, IsQuiet, Lcov2Steps, Given, StandsFor, counts_functions};
 
-use crate::indexes::{Block, Indexes};
+use crate::indexes::Indexes;
 use crate::line::Lcov2Line;
+use crate::numbers::Block;
 use crate::take_fault::{TakeFault, placed};
-use covline::{BranchPoint, TotalKind, TraceLine};
+use covline::{TotalKind, TraceLine};
 use covread::Reader;
 use std::alloc::Allocator;
 
@@ -52,25 +53,9 @@ impl<'a, A: Allocator + Copy> Lcov2Reader<'a, A> {
                 is_excluded,
                 line,
                 block,
-                number: Some(branch),
+                number,
                 taken,
-            } => self.take_numbered(
-                alloc,
-                is_excluded,
-                BranchPoint {
-                    line,
-                    block,
-                    branch,
-                },
-                taken,
-            ),
-            Lcov2Line::Edge {
-                is_excluded,
-                line,
-                block,
-                number: None,
-                taken,
-            } => self.take_expression(alloc, is_excluded, Block { line, block }, taken),
+            } => self.take_edge(alloc, is_excluded, Block { line, block }, number, taken),
         }
     }
 
@@ -92,10 +77,10 @@ impl<'a, A: Allocator + Copy> Lcov2Reader<'a, A> {
         }
     }
 
-    /// Takes a record of version 1, if the line stands for this record alone.
+    /// Takes a record of version 1, if the line stands for this record alone, and later lines need nothing of it.
     fn pass(&mut self, alloc: A, says: TraceLine<'a>) -> Result<(), TakeFault>
         requires { (above : List Lcov2Data) × (inside : List LineData) × HasLineRoom self.old above inside }
-        ensures { (above : List Lcov2Data) (inside : List LineData) (line : Lcov2Data) → IsHeld self.old above inside → StandsFor above line (line_data says.entry) → Lcov2Steps result above (held_data self.old.plain inside) self.new line }
+        ensures { (above : List Lcov2Data) (inside : List LineData) (line : Lcov2Data) → IsHeld self.old above inside → StandsFor above line (line_data says.entry) → IsQuiet above line → Lcov2Steps result above (held_data self.old.plain inside) self.new line }
     {
         give(&mut self.plain, alloc, says)
     }
@@ -107,7 +92,7 @@ impl<'a, A: Allocator + Copy> Lcov2Reader<'a, A> {
     {
         match give(&mut self.plain, alloc, TraceLine::Path(path)) {
             Ok(()) => {
-                self.indexes.clear();
+                self.indexes.clear(alloc);
                 self.is_grouped = false;
                 Ok(())
             }
@@ -164,46 +149,23 @@ impl<'a, A: Allocator + Copy> Lcov2Reader<'a, A> {
         }
     }
 
-    /// Takes a branch with a number.
-    fn take_numbered(
-        &mut self,
-        alloc: A,
-        is_excluded: bool,
-        point: BranchPoint,
-        taken: Option<u128>,
-    ) -> Result<(), TakeFault>
-        requires { (above : List Lcov2Data) × (inside : List LineData) × HasLineRoom self.old above inside }
-        ensures { (above : List Lcov2Data) (inside : List LineData) → IsHeld self.old above inside → Lcov2Steps result above (held_data self.old.plain inside) self.new (Edge is_excluded point.line point.block (Some point.branch) taken) }
-    {
-        if is_excluded {
-            return Ok(());
-        }
-        self.pass(
-            alloc,
-            TraceLine::Branch {
-                line: point.line,
-                block: point.block,
-                branch: point.branch,
-                taken,
-            },
-        )
-    }
-
-    /// Takes a branch with an expression: it gets the next number of its block. An excluded one takes a number too.
-    fn take_expression(
+    /// Takes a branch. `given` is the number that its line has, or `None` for an expression. An excluded branch takes a number
+    /// too.
+    fn take_edge(
         &mut self,
         alloc: A,
         is_excluded: bool,
         block: Block,
+        given: Option<u64>,
         taken: Option<u128>,
     ) -> Result<(), TakeFault>
         requires { (above : List Lcov2Data) × (inside : List LineData) × HasLineRoom self.old above inside }
-        ensures { (above : List Lcov2Data) (inside : List LineData) → IsHeld self.old above inside → Lcov2Steps result above (held_data self.old.plain inside) self.new (Edge is_excluded block.line block.block None taken) }
+        ensures { (above : List Lcov2Data) (inside : List LineData) → IsHeld self.old above inside → Lcov2Steps result above (held_data self.old.plain inside) self.new (Edge is_excluded block.line block.block given taken) }
     {
         if self.plain.section.is_none() {
-            return outside_expression(is_excluded);
+            return outside_edge(is_excluded);
         }
-        let branch = match self.indexes.count_expression(block) {
+        let branch = match self.indexes.number(alloc, block, given) {
             Ok(branch) => branch,
             Err(_) => return Err(TakeFault::Memory),
         };
@@ -234,8 +196,8 @@ fn counts_functions(kind: TotalKind) -> bool
     }
 }
 
-/// A branch with an expression outside of sections: only an excluded one may be there.
-fn outside_expression(is_excluded: bool) -> Result<(), TakeFault>
+/// A branch outside of sections: only an excluded one may be there.
+fn outside_edge(is_excluded: bool) -> Result<(), TakeFault>
     ensures { result ≡ cond is_excluded (Ok tt) (Err outside.Outside) }
 {
     if is_excluded {

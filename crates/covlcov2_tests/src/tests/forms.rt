@@ -202,21 +202,66 @@ BRDA:5,0,u,4
 > BRDA:5,1,0,2
 > BRDA:6,0,0,3
 > BRDA:5,0,1,4
-= each block counts its own expressions
+= each block has its own next number
 BRDA:5,0,x,1
 BRDA:5,U0,y,2
 BRDA:5,0,z,3
 > BRDA:5,0,0,1
 > BRDA:5,0,2,3
-= an excluded expression takes a number
+= an excluded expression takes a number too
 BRDA:5,0,4,1
 BRDA:5,0,x,2
 BRDA:5,U0,5,3
 BRDA:5,0,y,4
 > BRDA:5,0,4,1
-> BRDA:5,0,0,2
+> BRDA:5,0,5,2
+> BRDA:5,0,7,4
+= an expression comes after the numbers above it
+BRDA:5,0,x,1
+BRDA:5,0,0,2
+BRDA:5,0,0,3
+BRDA:5,0,y,4
+> BRDA:5,0,0,1
+> BRDA:5,0,1,2
+> BRDA:5,0,2,3
+> BRDA:5,0,3,4
+= numbers below an expression
+BRDA:5,0,7,1
+BRDA:5,0,2,2
+BRDA:5,0,x,3
+> BRDA:5,0,7,1
+> BRDA:5,0,2,2
+> BRDA:5,0,8,3
+= after the greatest number, not the last
+BRDA:5,0,3,1
+BRDA:5,1,x,2
+BRDA:5,0,3,4
+BRDA:6,0,9,8
+> BRDA:5,0,3,1
+> BRDA:5,1,0,2
+> BRDA:5,0,3,4
+> BRDA:6,0,9,8
+= an expression of another block changes no number
+BRDA:5,0,3,1
+BRDA:5,1,8,2
+BRDA:5,0,1,4
+BRDA:5,0,x,8
+BRDA:5,1,y,16
+> BRDA:5,0,3,1
+> BRDA:5,1,8,2
 > BRDA:5,0,1,4
-= numbers don't count among expressions
+> BRDA:5,0,4,8
+> BRDA:5,1,9,16
+= blocks in turn
+BRDA:5,U0,6,1
+BRDA:5,0,x,2
+> BRDA:5,0,7,2
+= an excluded number counts
+BRDA:5,0,18446744073709551615,1
+BRDA:5,0,x,2
+> BRDA:5,0,18446744073709551615,1
+> BRDA:5,0,18446744073709551615,2
+= no number is above the largest
 BRDA:5,e0,jump to line 7,1
 BRDA:5,e0,jump to the function exit,0
 > BRDA:5,0,0,1

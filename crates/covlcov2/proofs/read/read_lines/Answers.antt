@@ -4,7 +4,7 @@ use Rattle.covline.specs.Lines.{lines_of}
 use Rattle.covread.specs.TraceSteps.{held_data}
 use Rattle.covread.proofs.TraceLoop.{no_lines, open_length}
 use Rattle.covlcov2.proofs.Holds.{Laws}
-use Rattle.covlcov2.proofs.Loop.{reading_begins, reading_more, reading_next, reading_above, reading_room, reading_stop, reading_grows, reading_end, ends_without}
+use Rattle.covlcov2.proofs.Loop.{reading_begins, reading_more, reading_next, reading_room, reading_stop, reading_grows, reading_end, ends_without}
 use Rattle.covlcov2.proofs.read.read_lines.Goals as goal
 
 pub loop-rest-init : goal.loop-rest-init
@@ -65,7 +65,6 @@ take_first-requires-clause-room g c =
       record {
         held = h.2;
         few = omega (arith, len, reading_room laws text c.requires rest h.0 held c.loop-rest.at h.3);
-        few_above = reading_above laws text c.requires rest h.0 held c.loop-rest.at h.3;
       },
     )
 

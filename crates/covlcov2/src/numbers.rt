@@ -1,0 +1,234 @@
+//! How the branches of an open section are numbered.
+
+ghost use Rattle.std.specs.Prelude.{◌≡◌, ◌∷◌, ◌<◌, ◌^◌, ◌||◌, ◌&&◌, ◌==◌, ℕ, List, [], Option, Some, Bool, max, not, OnOk, IfOk};
+ghost use Rattle.std.specs.BTreeMap.{get, Updates};
+ghost use Rattle.std.specs.Option.{is_some};
+ghost use Rattle.covlcov2.specs.Spells.{Lcov2Data, Edge};
+ghost use Rattle.covlcov2.specs.Reads.{branch_number, number_from, one_more as one_more_of};
+ghost use Rattle.covlcov2.specs.Numbers.{HasNumbers, HasRuns, block_cmp, next_in_run, next_in_runs, numbering_of, numbering_after, ArePut, IsPut};
+
+use covline::Memory;
+use std::alloc::Allocator;
+use std::collections::BTreeMap;
+
+/// A block of branches: those that share it share a condition of this source line.
+#[derive(Clone, Copy, PartialEq, Eq, PartialOrd, Ord, Drop)]
+pub struct Block {
+    pub line: u64,
+    pub block: u64,
+}
+
+/// Branches of one block, one below the other, and the number that comes after theirs.
+#[derive(Clone, Copy, Drop)]
+pub struct Run {
+    pub block: Block,
+    pub next: u64,
+}
+
+/// The runs of a section in which no branch has an expression.
+#[derive(Drop)]
+pub struct Runs<A: Allocator> {
+    /// The runs that ended.
+    pub ended: Vec<Run, A>,
+    /// The run of the last branch. Before the first branch its next number is 0.
+    pub current: Run,
+}
+
+/// The next number of a block, and whether one of its branches has an expression.
+#[derive(Clone, Copy, Drop)]
+pub struct Numbering {
+    pub next: u64,
+    pub has_expression: bool,
+}
+
+/// How the branches of an open section are numbered.
+#[derive(Drop)]
+pub enum Numbers<A: Allocator> {
+    /// No branch has an expression, so each keeps its number. What comes after these numbers is kept for the first expression.
+    Given(Runs<A>),
+    /// A branch has an expression. Blocks without branches are missing.
+    Assigned(BTreeMap<Block, Numbering, A>),
+}
+
+impl<A: Allocator + Copy> Numbers<A> {
+    /// The numbers of a section without branches.
+    pub fn new(alloc: A) -> Numbers<A>
+        ensures { HasNumbers result [] }
+    {
+        Numbers::Given(Runs::new(alloc))
+    }
+
+    /// Forgets all branches. Keeps the room for runs.
+    pub fn clear(&mut self, alloc: A)
+        ensures { HasNumbers self.new [] }
+    {
+        match self {
+            Numbers::Given(runs) => runs.clear(),
+            Numbers::Assigned(_) => *self = Numbers::new(alloc),
+        }
+    }
+
+    /// The number of one more branch of the block. `given` is the number that its line has, or `None` for an expression.
+    #[inline]
+    pub fn number(&mut self, alloc: A, block: Block, given: Option<u64>) -> Result<u64, Memory>
+        ensures number { IfOk result (λ n. (above : List Lcov2Data) → HasNumbers self.old above → n ≡ branch_number above block.line block.block given) }
+        ensures counted { OnOk result ((above : List Lcov2Data) (is_excluded : Bool) (taken : Option ℕ) → HasNumbers self.old above → HasNumbers self.new (Edge is_excluded block.line block.block given taken ∷ above)) }
+    {
+        match self {
+            Numbers::Given(runs) => match given {
+                Some(number) => {
+                    runs.add(block, number)?;
+                    Ok(number)
+                }
+                None => {
+                    let mut numberings = by_block(alloc, runs)?;
+                    let number = number_in(&mut numberings, block, None)?;
+                    *self = Numbers::Assigned(numberings);
+                    Ok(number)
+                }
+            },
+            Numbers::Assigned(numberings) => number_in(numberings, block, given),
+        }
+    }
+}
+
+impl<A: Allocator> Runs<A> {
+    /// No runs.
+    fn new(alloc: A) -> Runs<A>
+        ensures { (q : Block) → next_in_runs q result ≡ 0 }
+    {
+        Runs {
+            ended: Vec::new(alloc),
+            current: no_run(),
+        }
+    }
+
+    /// Forgets all runs. Keeps the room for them.
+    fn clear(&mut self)
+        ensures { (q : Block) → next_in_runs q self.new ≡ 0 }
+    {
+        self.ended.clear();
+        self.current = no_run();
+    }
+
+    /// Adds a branch with this number.
+    #[inline]
+    fn add(&mut self, block: Block, number: u64) -> Result<(), Memory>
+        ensures { OnOk result ((q : Block) → next_in_runs q self.new ≡ max (next_in_runs q self.old) (next_in_run q (record { block = block; next = one_more_of number }))) }
+    {
+        let next = one_more(number);
+        if self.current.block == block {
+            self.current.next = self.current.next.max(next);
+            return Ok(());
+        }
+        self.ended.push(self.current)?;
+        self.current = Run { block, next };
+        Ok(())
+    }
+}
+
+/// A run without branches.
+fn no_run() -> Run
+    ensures { result.next ≡ 0 }
+{
+    Run {
+        block: Block { line: 0, block: 0 },
+        next: 0,
+    }
+}
+
+/// One more than the number, but at most the largest number.
+#[inline]
+fn one_more(number: u64) -> u64
+    ensures { result ≡ one_more_of number }
+{
+    number.saturating_add(1)
+}
+
+/// The numberings of all blocks that have a run.
+fn by_block<A: Allocator + Copy>(
+    alloc: A,
+    runs: &Runs<A>,
+) -> Result<BTreeMap<Block, Numbering, A>, Memory>
+    ensures { IfOk result (HasRuns runs.now) }
+{
+    let mut numberings = BTreeMap::new(alloc);
+    put_runs(&mut numberings, runs.ended.as_slice())?;
+    put_run(&mut numberings, runs.current)?;
+    Ok(numberings)
+}
+
+/// Adds runs to the numberings of their blocks.
+fn put_runs<A: Allocator + Clone>(
+    numberings: &mut BTreeMap<Block, Numbering, A>,
+    runs: &[Run],
+) -> Result<(), Memory>
+    ensures { OnOk result (ArePut runs.now numberings.old numberings.new) }
+{
+    for run in runs {
+        put_run(numberings, *run)?;
+    }
+    Ok(())
+}
+
+/// Adds a run to the numbering of its block.
+fn put_run<A: Allocator + Clone>(
+    numberings: &mut BTreeMap<Block, Numbering, A>,
+    run: Run,
+) -> Result<(), Memory>
+    ensures { OnOk result (IsPut run numberings.old numberings.new) }
+{
+    let before = numbering_in(numberings, run.block);
+    numberings.insert(
+        run.block,
+        Numbering {
+            next: before.next.max(run.next),
+            has_expression: before.has_expression,
+        },
+    )?;
+    Ok(())
+}
+
+/// The numbering of the block. Without branches its next number is 0.
+fn numbering_in<A: Allocator>(numberings: &BTreeMap<Block, Numbering, A>, block: Block) -> Numbering
+    ensures { result ≡ numbering_of (get block_cmp numberings.now block) }
+{
+    match numberings.get(&block) {
+        Some(numbering) => *numbering,
+        None => Numbering {
+            next: 0,
+            has_expression: false,
+        },
+    }
+}
+
+/// The number of one more branch of the block, which is counted in the block's numbering.
+fn number_in<A: Allocator + Clone>(
+    numberings: &mut BTreeMap<Block, Numbering, A>,
+    block: Block,
+    given: Option<u64>,
+) -> Result<u64, Memory>
+    ensures number { IfOk result (λ n. n ≡ number_from (numbering_of (get block_cmp numberings.old block)).has_expression (numbering_of (get block_cmp numberings.old block)).next given) }
+    ensures counted { OnOk result (Updates block_cmp numberings.old numberings.new block (Some (numbering_after (numbering_of (get block_cmp numberings.old block)) given))) }
+{
+    let before = numbering_in(numberings, block);
+    let number = number_below(before, given);
+    numberings.insert(
+        block,
+        Numbering {
+            next: before.next.max(one_more(number)),
+            has_expression: before.has_expression || given.is_none(),
+        },
+    )?;
+    Ok(number)
+}
+
+/// The number of a branch below those of the numbering.
+fn number_below(numbering: Numbering, given: Option<u64>) -> u64
+    ensures { result ≡ number_from numbering.has_expression numbering.next given }
+{
+    match given {
+        Some(number) if !numbering.has_expression => number,
+        _ => numbering.next,
+    }
+}
