@@ -18,12 +18,34 @@ pub(crate) enum Question {
 }
 
 impl Question {
-    ghost use Rattle.std.specs.Prelude.{◌≡◌, ◌++◌, [], ◌∷◌, IfOk};
+    ghost use Rattle.std.specs.Prelude.{◌≡◌, ◌++◌, [], ◌∷◌, option_map, IfOk};
+    ghost use Rattle.covbook.specs.Op.{ReportOp, SummaryOp};
     ghost use Rattle.covbook.specs.Step.{next_entry};
     ghost use Rattle.covbook.specs.Texts.{IsText};
+    ghost use Rattle.covreport.specs.ChoiceView.{choice_data};
     ghost use Rattle.covrun.specs.Ending.{asked_text};
     ghost use Rattle.covrun.specs.View.{question_data};
-    ghost use Rattle.covrun.specs.Work.{last_of};
+    ghost use Rattle.covrun.specs.Work.{ChosenReport, ChosenSummary, asked_of, last_of};
+
+    /// The tracefile of the chosen source files, or of all.
+    pub(crate) fn report(choice: Option<Choice>) -> Question
+        ensures { question_data result ≡ asked_of ReportOp ChosenReport (option_map choice_data choice) }
+    {
+        match choice {
+            Some(choice) => Question::ChosenReport(choice),
+            None => Question::Answer(Op::Report),
+        }
+    }
+
+    /// The summary of the chosen source files, or of all.
+    pub(crate) fn summary(choice: Option<Choice>) -> Question
+        ensures { question_data result ≡ asked_of SummaryOp ChosenSummary (option_map choice_data choice) }
+    {
+        match choice {
+            Some(choice) => Question::ChosenSummary(choice),
+            None => Question::Answer(Op::Summary),
+        }
+    }
 
     /// The text that is asked for, ready to be printed. The operation of an `Answer` has to ask for a text.
     pub(crate) fn printing(

@@ -112,11 +112,8 @@ pub(crate) fn task_for(alloc: Global, command: Command) -> Result<Task, WorkFaul
             filter,
             names,
         } => {
-            let asks = match chosen_files(alloc, &filter)? {
-                Some(choice) => Question::ChosenReport(choice),
-                None => Question::Answer(Op::Report),
-            };
-            Ok(over_tracefiles(names, version, jobs, asks))
+            let report = Question::report(chosen_files(alloc, &filter)?);
+            Ok(over_tracefiles(names, version, jobs, report))
         }
         Command::Summary {
             version,
@@ -124,21 +121,18 @@ pub(crate) fn task_for(alloc: Global, command: Command) -> Result<Task, WorkFaul
             filter,
             names,
         } => {
-            let asks = match chosen_files(alloc, &filter)? {
-                Some(choice) => Question::ChosenSummary(choice),
-                None => Question::Answer(Op::Summary),
-            };
-            Ok(over_tracefiles(names, version, jobs, asks))
+            let summary = Question::summary(chosen_files(alloc, &filter)?);
+            Ok(over_tracefiles(names, version, jobs, summary))
         }
         Command::Extract { version, names } => {
             let (files, patterns) = split(alloc, &names)?;
-            let asks = Question::Answer(Op::Extract(patterns));
-            Ok(over_tracefiles(files, version, 1, asks))
+            let extract = Question::Answer(Op::Extract(patterns));
+            Ok(over_tracefiles(files, version, 1, extract))
         }
         Command::Remove { version, names } => {
             let (files, patterns) = split(alloc, &names)?;
-            let asks = Question::Answer(Op::Remove(patterns));
-            Ok(over_tracefiles(files, version, 1, asks))
+            let remove = Question::Answer(Op::Remove(patterns));
+            Ok(over_tracefiles(files, version, 1, remove))
         }
         Command::Gcov { test, names } => {
             test_name(&test)?;

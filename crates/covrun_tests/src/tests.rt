@@ -19,6 +19,7 @@ mod checks;
 mod commands;
 mod faults;
 mod files;
+mod filters;
 mod folders;
 mod lcov2;
 mod limits;
