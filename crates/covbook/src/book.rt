@@ -155,6 +155,14 @@ impl<A: Allocator + Copy, K: Keep<Of = Entry<A>>> Book<A, K> {
         self.store.totals()
     }
 
+    /// The store, which represents the last table of the history's run: for texts that no operation asks for. Takes no memory.
+    pub fn store(&self) -> &Store<A>
+        ensures store { result.now ≡ self.now.store }
+        ensures stands { StandsFor self.now.store (table_of (ops_in self.now.entries)) }
+    {
+        &self.store
+    }
+
     /// Takes one step of the table: answers the operation, and appends its entry. If the step is refused, history and table stay
     /// as they were. This is `ready` and then `finish`.
     pub fn step(&mut self, alloc: A, job: u32, op: &Op<A>) -> Result<Receipt<A>, BookFault>

@@ -1,5 +1,5 @@
--- Which files a printed text includes, by patterns (lcov(1), --extract and --remove).
-use Rattle.std.specs.Prelude.{ℕ, Bool, true, not, List}
+-- Which files a printed text includes, by patterns (lcov(1), --extract and --remove; of LCOV 2.x, --include and --exclude).
+use Rattle.std.specs.Prelude.{ℕ, Bool, true, not, ◌&&◌, List, [], ◌∷◌}
 use Rattle.std.specs.List.{list_any}
 use Rattle.covreport.specs.Pattern.{matches}
 
@@ -7,16 +7,24 @@ pub data ChoiceData : Type 0 where
   AllFiles : ChoiceData
   Extracted : (patterns : List (List ℕ)) → ChoiceData
   Removed : (patterns : List (List ℕ)) → ChoiceData
+  Filtered : (includes excludes : List (List ℕ)) → ChoiceData
 
 -- at least one of the patterns matches the path
 abbrev pub any_matches : List (List ℕ) → List ℕ → Bool
 any_matches patterns path = list_any (λ pattern. matches pattern path) patterns
 
--- the file is chosen: any file is; or only a file that a pattern matches; or only a file that no pattern matches
+-- at least one of the includes matches the path, or there are none
+abbrev pub is_included : (includes : List (List ℕ)) → List ℕ → Bool
+is_included [] path = true
+is_included (pattern ∷ patterns) path = any_matches (pattern ∷ patterns) path
+
+-- the file is chosen: any file is; or only a file that a pattern matches; or only a file that no pattern matches; or only an
+-- included file that no exclude matches
 abbrev pub is_chosen : ChoiceData → List ℕ → Bool
 is_chosen AllFiles file = true
 is_chosen (Extracted patterns) file = any_matches patterns file
 is_chosen (Removed patterns) file = not (any_matches patterns file)
+is_chosen (Filtered includes excludes) file = is_included includes file && not (any_matches excludes file)
 
 -- the most patterns in one list
 abbrev pub max_patterns : ℕ

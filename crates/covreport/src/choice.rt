@@ -12,6 +12,12 @@ pub enum Choice<A: Allocator = Global> {
     Extract(Patterns<A>),
     /// The files that match none of the patterns; every file if there are no patterns.
     Remove(Patterns<A>),
+    /// The files that match at least one of the includes, or any files if there are no includes, and that match none of the
+    /// excludes (lcov(1) of LCOV 2.x, `--include` and `--exclude`).
+    Filter {
+        includes: Patterns<A>,
+        excludes: Patterns<A>,
+    },
 }
 
 impl<A: Allocator> Choice<A> {
@@ -27,6 +33,10 @@ impl<A: Allocator> Choice<A> {
             Choice::All => true,
             Choice::Extract(patterns) => patterns.any_matches(file),
             Choice::Remove(patterns) => !patterns.any_matches(file),
+            Choice::Filter { includes, excludes } => {
+                (includes.get().is_empty() || includes.any_matches(file))
+                    && !excludes.any_matches(file)
+            }
         }
     }
 }

@@ -4,7 +4,7 @@ use super::check_bytes;
 use super::held::store_of;
 use super::wrappers::list_of;
 use covline::{Bytes, Memory};
-use covreport::{Choice, Noted, Printer, Printing};
+use covreport::{Choice, Noted, Patterns, Printer, Printing};
 use covstore::Store;
 use std::alloc::Global;
 use std::process::Abort;
@@ -102,4 +102,25 @@ fn a_text_that_is_there(rt: HostRuntime) -> Result<(), Fail> {
     printing.print(&mut pieces);
     check_bytes(&rt, pieces.text.get(), b"some text\n");
     Ok(())
+}
+
+/// Files that an include matches, or all files without includes; but none that an exclude matches.
+#[test]
+fn included_and_excluded_files(rt: HostRuntime) -> Result<(), Fail> {
+    let store = store_of(&rt, GIVEN)?;
+    let included = filter(list_of(rt.alloc(), b"/a.?")?, Patterns::new(rt.alloc()));
+    check_printed(&rt, &store, included, usize::MAX, FIRST)?;
+    let not_excluded = filter(Patterns::new(rt.alloc()), list_of(rt.alloc(), b"/x|/b*")?);
+    check_printed(&rt, &store, not_excluded, usize::MAX, FIRST)?;
+    let both = filter(list_of(rt.alloc(), b"/a*|/b*")?, list_of(rt.alloc(), b"*b.c")?);
+    check_printed(&rt, &store, both, usize::MAX, FIRST)?;
+    let neither = filter(Patterns::new(rt.alloc()), Patterns::new(rt.alloc()));
+    check_printed(&rt, &store, neither, usize::MAX, BOTH)?;
+    let nothing = filter(list_of(rt.alloc(), b"/b*")?, list_of(rt.alloc(), b"/*")?);
+    check_printed(&rt, &store, nothing, usize::MAX, b"")
+}
+
+/// The choice by includes and excludes.
+fn filter(includes: Patterns, excludes: Patterns) -> Choice {
+    Choice::Filter { includes, excludes }
 }
