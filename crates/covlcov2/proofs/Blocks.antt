@@ -139,7 +139,7 @@ numberings_more old new above block given is_excluded taken u are q =
     by true e =
         ap (λ (n : Numbering). numbering_after n given) (ap (λ (b : Block). numbering_of (get block_cmp old b)) (same_block block q e) ∙ are q)
         ∙ ap (λ (x : Bool). numbering (max here.next (one_more (number_from here.has_expression here.next given))) x)
-            (or_other here.has_expression (not (is_some given)) ∙ ap (λ (x : Bool). x || here.has_expression) (sym (expression_of true given e)))
+        (or_other here.has_expression (not (is_some given)) ∙ ap (λ (x : Bool). x || here.has_expression) (sym (expression_of true given e)))
         ∙ ap (λ (t : Bool). numbering (if t then max here.next (one_more (number_from here.has_expression here.next given)) else here.next) (has_expression q.line q.block (Edge is_excluded block.line block.block given taken ∷ above))) (sym e)
     by false e =
         are q
@@ -191,7 +191,7 @@ put_all runs ended first old new same none are u = λ q.
 pub numberings_then : {A E : Type 0} (result : Result ℕ E) (old new : BTreeMap Block Numbering) (block : Block) (given : Option ℕ)
     → OnOk result (Updates block_cmp old new block (Some (numbering_after (numbering_of (get block_cmp old block)) given))) → (before : Numbers A) → before ≡ numbers.Assigned old
     → OnOk result ((above : List Lcov2Data) (is_excluded : Bool) (taken : Option ℕ) → HasNumbers before above
-      → (q : Block) → numbering_of (get block_cmp new q) ≡ numbering (next_number q.line q.block (Edge is_excluded block.line block.block given taken ∷ above)) (has_expression q.line q.block (Edge is_excluded block.line block.block given taken ∷ above)))
+    → (q : Block) → numbering_of (get block_cmp new q) ≡ numbering (next_number q.line q.block (Edge is_excluded block.line block.block given taken ∷ above)) (has_expression q.line q.block (Edge is_excluded block.line block.block given taken ∷ above)))
 numberings_then (Err e) old new block given updates before is = tt
 numberings_then (Ok n) old new block given updates before is = λ above is_excluded taken are.
     numberings_more old new above block given is_excluded taken updates (subst (λ (x : Numbers _). HasNumbers x above) is are)

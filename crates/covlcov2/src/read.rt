@@ -135,7 +135,12 @@ fn take_numbered<A: Allocator + Copy>(
         Ok(branch) => branch,
         Err(_) => return Err(ReadFault::Memory),
     };
-    take_branch(&mut reader.plain, at, BranchPoint { branch, ..point }, taken)
+    take_branch(
+        &mut reader.plain,
+        at,
+        BranchPoint { branch, ..point },
+        taken,
+    )
 }
 
 /// Takes the line with this number.

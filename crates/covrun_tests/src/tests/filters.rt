@@ -186,6 +186,11 @@ fn limits_of_filters(rt: HostRuntime) -> Result<(), Fail> {
     check_text(&rt, "65 excludes", excludes.faults.as_slice(), "TooMany\n")?;
     let long = call(&rt, filtered_by(alloc, 0, 1, 1_025)?.as_slice(), b"");
     check_text(&rt, "a long exclude", long.faults.as_slice(), "TooLong\n")?;
-    assert!(&rt; long.status == 2 && most.status == 1, "the statuses are {} and {}", long.status, most.status);
+    assert!(&rt;
+        long.status == 2 && most.status == 1,
+        "the statuses are {} and {}",
+        long.status,
+        most.status
+    );
     Ok(())
 }
