@@ -51,6 +51,7 @@ pub mod Prepares
 pub mod StateMore
 pub mod StateFiles
 pub mod StateTotals
+pub mod FilesTotals
 pub mod AddsLists
 pub mod AddsLoop
 pub mod AddsPlace

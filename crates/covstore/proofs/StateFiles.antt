@@ -72,11 +72,11 @@ own_seen (first ∷ files) sorted pair (inr i) =
 -- ---- the files with sections
 
 -- the file's name, if it has a section
-abbrev name_if : List ℕ → List SectionData → List (List ℕ)
+abbrev pub name_if : List ℕ → List SectionData → List (List ℕ)
 name_if name [] = []
 name_if name (section ∷ sections) = name ∷ []
 
-abbrev name_seen : List ℕ × FileData → List (List ℕ)
+abbrev pub name_seen : List ℕ × FileData → List (List ℕ)
 name_seen pair = name_if pair.0 (sections_of_file pair)
 
 name_if_sorted : (name : List ℕ) (sections : List SectionData) → IsStrictlySortedBy (slice_cmp nat_cmp) (name_if name sections)
@@ -92,7 +92,7 @@ In-to_name_if : (name : List ℕ) (section : SectionData) (sections : List Secti
 In-to_name_if name section [] i = absurd i
 In-to_name_if name section (first ∷ sections) i = inl refl
 
-names_seen : (files : List (List ℕ × FileData)) → ArePairs (slice_cmp nat_cmp) files → files_in (sections_of files) ≡ flat_map name_seen files
+pub names_seen : (files : List (List ℕ × FileData)) → ArePairs (slice_cmp nat_cmp) files → files_in (sections_of files) ≡ flat_map name_seen files
 names_seen files sorted =
     one_sorted names_order.total (files_in (sections_of files)) (flat_map name_seen files) (ascending_sorted names_order.total (map file_of (sections_of files)))
     (sorted_parts (slice_cmp nat_cmp) (slice_cmp nat_cmp) name_seen files sorted (λ pair i. name_if_sorted pair.0 (sections_of_file pair)) apart) to from

@@ -108,7 +108,7 @@ module _ (rows : List Row) (files : List (List ℕ × FileData)) (state : IsStat
   pair_whole : (pair : List ℕ × FileData) → In pair files → IsConsistentFile pair.1
   pair_whole pair i = All-in (λ (p : List ℕ × FileData). IsConsistentFile p.1) files pair state.whole i
 
-  kept : (kind : Kind) (pair : List ℕ × FileData) → In pair files
+  pub kept : (kind : Kind) (pair : List ℕ × FileData) → In pair files
       → (length (found_in kind (sections_of_file pair)) ≡ found_at kind pair) × (count_by (is_hit_in kind (sections_of_file pair)) (found_in kind (sections_of_file pair)) ≡ hit_at kind pair)
   kept kind pair i =
       counted kind (sections_of_file pair) (at kind pair.1.index.counts) (of_seen (λ s. ArePairs (cmp_of kind) (valued kind s)) pair i (ascend kind pair.0 rows)) (kind_seen kind pair (pair_whole pair i))

@@ -45,3 +45,5 @@ pub mod PointIndexDrops
 pub mod FileDrops
 pub mod Renamed
 pub mod Renaming
+pub mod Files
+pub mod FilesView

@@ -12,7 +12,7 @@
 //! `prepare` stages values beside the committed ones, and `commit` replaces the committed ones by them.
 //!
 //! An example, proved and run in `covuses`: the store of two submissions, or a `Refuse::Clash` if they have two checksums
-//! of one line. `Store::sections` and `Store::totals` show what it holds.
+//! of one line. `Store::sections`, `Store::files` and `Store::totals` show what it holds.
 //!
 //! ```text
 //! pub fn merged(alloc: Global, first: &Submission, second: &Submission) -> Result<Store, Refuse> {
@@ -31,6 +31,7 @@ mod checksums;
 mod content;
 mod file;
 mod file_walks;
+mod files;
 mod held_checksums;
 mod index;
 mod kept_texts;
@@ -62,6 +63,7 @@ mod totals;
 mod values;
 
 pub use content::{Branches, Functions, Lines, Section, Sections};
+pub use files::{FileTotals, Files};
 pub use plan::Plan;
 pub use refuse::Refuse;
 pub use renaming::Renaming;

@@ -17,6 +17,7 @@ use crate::boxed::Boxed;
 use crate::content::Sections;
 use crate::file::File;
 use crate::file_walks::{add_up, count_sections, count_without, drop_from_files, names_with};
+use crate::files::Files;
 use crate::path::Path;
 use crate::plan::Plan;
 use crate::refuse::Refuse;
@@ -164,6 +165,7 @@ impl<A: Allocator + Copy> Store<A> {
     ghost use Rattle.covline.specs.Row.{SubmissionData, item_data, rows_of, rows_of_sect};
     ghost use Rattle.covline.specs.SectView.{sect_data};
     ghost use Rattle.covstore.specs.Content.{content_at};
+    ghost use Rattle.covstore.specs.Files.{files_with_totals};
     ghost use Rattle.covstore.specs.Store.{AddsRows, ClashesWith, HasRoomForRows, IsPlanOf, SameContent, SameCommitted, StandsFor, IsRefusedAt, max_members};
     ghost use Rattle.covstore.specs.StoreSection.{rows_of_items};
     ghost use Rattle.covstore.specs.StoreKept.{IsKept};
@@ -439,6 +441,13 @@ impl<A: Allocator + Copy> Store<A> {
         ensures bounds { AreTotals result }
     {
         self.totals
+    }
+
+    /// The files with a row, ascending by path, each with its totals over all tests. Takes no memory.
+    pub fn files(&self) -> Files<'_, A>
+        ensures { result ≡ files_with_totals self.now.sections }
+    {
+        Files::of(self.files.iter())
     }
 
     /// The sections of the files and tests with a row, ascending by file and then by test. Takes no memory.

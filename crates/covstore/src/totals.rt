@@ -1,6 +1,7 @@
 //! How many lines, functions and branches there are in all files, and how many of them are hit.
 
 ghost use Rattle.std.specs.Prelude.{◌≡◌};
+ghost use Rattle.covstore.specs.FilesView.{finds_nothing};
 ghost use Rattle.covstore.specs.TotalsExchanged.{FitTogether, IsAmong, exchanged, no_totals, together};
 
 /// The totals of a store (geninfo(1): `LF:`, `LH:`, `FNF:`, `FNH:`, `BRF:`, `BRH:`). A point
@@ -34,6 +35,13 @@ impl Totals {
             bf: 0,
             bh: 0,
         }
+    }
+
+    /// Whether no point of any kind is found.
+    pub(crate) fn finds_nothing(self) -> bool
+        ensures { result ≡ finds_nothing self }
+    {
+        self.lf == 0 && self.ff == 0 && self.bf == 0
     }
 
     /// These totals with the part `before` replaced by `after`.

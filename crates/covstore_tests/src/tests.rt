@@ -4,6 +4,7 @@ use std::process::Abort;
 use std::test::*;
 
 mod drops;
+mod files;
 mod held;
 mod images;
 mod maps;

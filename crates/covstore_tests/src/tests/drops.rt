@@ -7,7 +7,7 @@ use covstore::{Store, Totals};
 use std::test::*;
 
 /// Two tests that have the same points and the same checksum in one file. One of the tests has another file too.
-const SHARED: &[u8] =
+pub(super) const SHARED: &[u8] =
     b"TN:t\nSF:/a.c\nFN:3,f\nFNDA:2,f\nBRDA:1,0,0,4\nDA:1,2,k\nDA:2,1\nend_of_record\n\
     SF:/b.c\nDA:1,1\nend_of_record\n\
     TN:u\nSF:/a.c\nFN:3,f\nFNDA:0,f\nBRDA:1,0,0,-\nDA:1,1,k\nDA:2,0\nend_of_record\n";
@@ -18,7 +18,7 @@ fn after(store: &Store, test: &[u8]) -> (u64, Totals) {
 }
 
 /// Drops a test, and returns in how many sections it was.
-fn dropped(store: &mut Store, test: &[u8]) -> u64 {
+pub(super) fn dropped(store: &mut Store, test: &[u8]) -> u64 {
     store.drop_test(test)
 }
 
