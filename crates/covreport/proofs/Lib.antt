@@ -8,3 +8,4 @@ pub mod Sorting
 pub mod Texts
 pub mod Room
 pub mod Rates
+pub mod ChosenFiles

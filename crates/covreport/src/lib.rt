@@ -33,5 +33,5 @@ pub use pattern::matches;
 pub use patterns::{MAX_PATTERN_BYTES, MAX_PATTERNS, PatternFault, Patterns};
 pub use printer::Printer;
 pub use printing::Printing;
-pub use summary::{summary_text, tenths};
+pub use summary::{chosen_totals, summary_text, tenths};
 pub use tracefile::trace_text;

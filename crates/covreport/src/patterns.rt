@@ -109,13 +109,6 @@ impl<A: Allocator + Copy> Patterns<A> {
         Ok(())
     }
 
-    /// The patterns in order. Takes no memory.
-    pub fn get(&self) -> &[Bytes<A>]
-        ensures { result.now ≡ self.now }
-    {
-        self.patterns.as_slice()
-    }
-
     /// An equal list, in memory of its own.
     pub fn copy(&self, alloc: A) -> Result<Patterns<A>, Memory>
         ensures { IfOk result (λ p. p ≡ self.now) }
@@ -131,6 +124,13 @@ impl<A: Allocator + Copy> Patterns<A> {
 impl<A: Allocator> Patterns<A> {
     ghost use Rattle.std.specs.Prelude.{◌≡◌, ◌↔◌, IsTrue};
     ghost use Rattle.covreport.specs.Choice.{any_matches};
+
+    /// The patterns in order. Takes no memory.
+    pub fn get(&self) -> &[Bytes<A>]
+        ensures { result.now ≡ self.now }
+    {
+        self.patterns.as_slice()
+    }
 
     /// Whether the other list has equal patterns in the same order. Takes no memory.
     pub fn is_same(&self, other: &Patterns<A>) -> bool

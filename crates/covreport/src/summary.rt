@@ -1,13 +1,46 @@
 //! The summary of totals, as lcov(1) prints it with `--summary`.
 
-ghost use Rattle.std.specs.Prelude.{◌≡◌, ◌<◌, ◌≤◌, ◌++◌, ◌/◌, ◌%◌, IfOk, OnOk, codes, decimal};
-ghost use Rattle.covstore.specs.Totals.{AreTotals};
+ghost use Rattle.std.specs.Prelude.{◌≡◌, ◌<◌, ◌≤◌, ◌++◌, ◌/◌, ◌%◌, IfOk, OnOk, codes, decimal, filter};
+ghost use Rattle.covstore.specs.Totals.{AreTotals, totals_of};
+ghost use Rattle.covstore.specs.TotalsExchanged.{IsAmong, together};
+ghost use Rattle.covreport.specs.Choice.{is_chosen};
+ghost use Rattle.covreport.specs.ChoiceView.{choice_data};
 ghost use Rattle.covreport.specs.Summary.{summary_of, summary_line, value_text, tenths_of, noun as noun_of, rounded as rounded_of};
 
+use crate::choice::Choice;
 use covline::{Bytes, Memory};
-use covstore::Totals;
+use covstore::{Store, Totals};
 use itoa::Buffer;
 use std::alloc::Allocator;
+
+/// The totals of the chosen files, over all tests. Takes no memory.
+pub fn chosen_totals<A: Allocator + Copy>(store: &Store<A>, choice: &Choice<A>) -> Totals
+    ensures value { result ≡ totals_of (filter (λ s. is_chosen (choice_data choice.now) s.key.file) store.now.sections) }
+    ensures bounds { AreTotals result }
+{
+    let mut totals = store.totals();
+    for file in store.files() {
+        if !choice.takes(file.path) {
+            totals = without(totals, file.totals);
+        }
+    }
+    totals
+}
+
+/// The totals of the whole less those of a part.
+fn without(whole: Totals, part: Totals) -> Totals
+    requires { IsAmong part whole }
+    ensures { together result part ≡ whole }
+{
+    Totals {
+        lf: whole.lf - part.lf,
+        lh: whole.lh - part.lh,
+        ff: whole.ff - part.ff,
+        fh: whole.fh - part.fh,
+        bf: whole.bf - part.bf,
+        bh: whole.bh - part.bh,
+    }
+}
 
 /// The rate of points hit, in tenths of a percent from 0 to 1000: rounded to the nearest, halves up, but at most 999 if some
 /// point isn't hit, and at least 1 if some point is. Takes no memory.

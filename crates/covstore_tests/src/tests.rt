@@ -3,6 +3,7 @@
 use std::process::Abort;
 use std::test::*;
 
+mod chosen;
 mod drops;
 mod files;
 mod held;

@@ -112,7 +112,10 @@ fn included_and_excluded_files(rt: HostRuntime) -> Result<(), Fail> {
     check_printed(&rt, &store, included, usize::MAX, FIRST)?;
     let not_excluded = filter(Patterns::new(rt.alloc()), list_of(rt.alloc(), b"/x|/b*")?);
     check_printed(&rt, &store, not_excluded, usize::MAX, FIRST)?;
-    let both = filter(list_of(rt.alloc(), b"/a*|/b*")?, list_of(rt.alloc(), b"*b.c")?);
+    let both = filter(
+        list_of(rt.alloc(), b"/a*|/b*")?,
+        list_of(rt.alloc(), b"*b.c")?,
+    );
     check_printed(&rt, &store, both, usize::MAX, FIRST)?;
     let neither = filter(Patterns::new(rt.alloc()), Patterns::new(rt.alloc()));
     check_printed(&rt, &store, neither, usize::MAX, BOTH)?;
@@ -121,6 +124,6 @@ fn included_and_excluded_files(rt: HostRuntime) -> Result<(), Fail> {
 }
 
 /// The choice by includes and excludes.
-fn filter(includes: Patterns, excludes: Patterns) -> Choice {
+pub(super) fn filter(includes: Patterns, excludes: Patterns) -> Choice {
     Choice::Filter { includes, excludes }
 }
