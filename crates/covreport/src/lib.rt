@@ -4,6 +4,8 @@
 //! `trace_text` makes the whole text of a tracefile. A `Printing` doesn't: once it is there, it prints the text piece by piece to
 //! a `Printer` of the caller's own, and takes no more memory.
 //!
+//! `chosen_totals` gives the totals of chosen files, for a summary of these alone.
+//!
 //! An example, proved and run in `covuses`: the merged tracefile of the files that match a pattern, and the summary of all files.
 //!
 //! ```text
