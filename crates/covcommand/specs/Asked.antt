@@ -1,4 +1,4 @@
--- What a call asks for, by the subcommand that clap reads of its words and by what clap found for that subcommand's arguments.
+-- What a call asks for, given the subcommand that clap reads from its words and what clap found for that subcommand's arguments.
 use Rattle.std.specs.Prelude.{◌≡◌, ◌≤◌, ◌++◌, ℕ, List, [], Option, Some, None, codes, length, unwrap_or}
 use Rattle.std.specs.Str.Parse.{digits_value, without_leading_plus}
 use Rattle.clap.specs.Walk.{Row, Text, all_of, first_of, one_of}
@@ -14,7 +14,7 @@ use Rattle.covcommand.specs.declared.asked.LcovVersion.TheVariants.{One, Two}
 abbrev pub values_of : Text → List Row → List Text
 values_of id rows = unwrap_or (all_of id rows) []
 
--- the number that clap found for `--jobs`. Its value is decimal digits, and a plus may come before them
+-- the number that clap found for `--jobs`. It is written in decimal digits, and a plus may come before them
 abbrev pub IsNumberOf : List Row → ℕ → Type 0
 IsNumberOf rows jobs = (text : Text) × (one_of (codes "jobs") rows ≡ Some text)
     × (jobs ≡ digits_value 10 (without_leading_plus text))
@@ -37,8 +37,8 @@ IsFormatOf rows format.Gcov = one_of (codes "gcov") rows ≡ Some (codes "true")
 abbrev pub IsFilterOf : List Row → SourceFilter → Type 0
 IsFilterOf rows filter = (filter.includes ≡ values_of (codes "include") rows) × (filter.excludes ≡ values_of (codes "exclude") rows)
 
--- a call asks for this command: `met` is the subcommand that clap reads of its words (`None` for a session), with a row for each
--- of its arguments, and the command has what the rows say
+-- a call asks for this command: `met` is the subcommand that clap reads from its words (`None` for a session), with a row for
+-- each of the subcommand's arguments, and the command has what the rows say
 abbrev pub AsksFor : Option (Text × List Row) → Command → Type 0
 AsksFor met Session = met ≡ None
 AsksFor met (Merge version jobs filter names) = (rows : List Row) × (met ≡ Some (codes "merge", rows))

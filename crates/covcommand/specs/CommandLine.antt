@@ -1,5 +1,5 @@
--- The program's command line, as it is described to clap: a command with one level of subcommands. What clap reads of
--- words for such a command is clap's own definition (`subcommand_of`, `takes`, `fault_of` of `Rattle.clap.specs`).
+-- The program's command line, as it is described to clap: a command with one level of subcommands. What clap reads from the words
+-- of a call is defined by clap itself (`subcommand_of`, `takes`, `fault_of` of `Rattle.clap.specs`).
 use Rattle.std.specs.Prelude.{[], ◌∷◌, Some, true, codes, pos}
 use Rattle.clap.specs.Lexer.{usize_max}
 use Rattle.clap.specs.Walk.{Rule, Text}
@@ -59,7 +59,7 @@ patterns id = record (new_rule id) {
   action = Some Append;
 }
 
--- a subcommand that takes tracefiles, which jobs may read at once, and patterns of source files: `merge` and `summary`
+-- a subcommand that takes tracefiles, a number of jobs, and patterns of source files: `merge` and `summary`
 abbrev pub merging : Text → App
 merging name = with_rule (with_rule (with_rule (with_rule (with_rule (new_app name) (several (codes "FILE"))) jobs) lcov2)
     (patterns (codes "include"))) (patterns (codes "exclude"))

@@ -19,7 +19,7 @@ pub enum Command {
         /// The files' paths, at least one.
         names: Names,
     },
-    /// `summary`: how much of all lines, functions and branches is hit.
+    /// `summary`: how many of the lines, functions and branches are hit.
     Summary {
         /// Which tracefiles are read.
         version: LcovVersion,
@@ -64,7 +64,7 @@ pub enum Command {
 /// if the call gives none.
 #[derive(Drop)]
 pub struct SourceFilter {
-    /// `--include`: if there are any, a file has to match at least one of these.
+    /// `--include`: a file has to match at least one of these, if there are any.
     pub includes: Names,
     /// `--exclude`: a file has to match none of these.
     pub excludes: Names,

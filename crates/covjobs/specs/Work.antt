@@ -94,7 +94,7 @@ abbrev pub HasReadBefore : {X : Type 0} → Chances X → (inputs : List X) → 
 HasReadBefore chances inputs jobs job index =
     (place : ℕ) → place < index → place < length inputs → IsTrue (places_of_job jobs job place) → IsSomeAnd (slice_get inputs place) (λ input. HasOutcome (chances.Gives input))
 
--- a worker's input at this place can't be read, and the worker has read its inputs before it
+-- the input at this place is the worker's own and may fail to be read, and the worker has read its inputs before this place
 pub record IsUnreadAt {X : Type 0} (chances : Chances X) (inputs : List X) (jobs job index : ℕ) : Type 0 where
   pub own : IsTrue (places_of_job jobs job index)
   pub before : HasReadBefore chances inputs jobs job index

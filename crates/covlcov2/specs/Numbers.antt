@@ -13,18 +13,18 @@ use Rattle.covlcov2.specs.declared.numbers.Numbers.TheVariants as numbers
 use Rattle.covlcov2.specs.Spells.{Lcov2Data}
 use Rattle.covlcov2.specs.Reads.{has_expression, next_number, number_from, one_more}
 
--- blocks by line and number, as their `Ord` has them
+-- the order of blocks, as their `Ord` has it: by line, then by number
 abbrev pub block_cmp : Block → Block → Ordering
 block_cmp a b = ordering_then (nat_cmp a.line b.line) (nat_cmp a.block b.block)
 
 abbrev pub is_same_block : Block → Block → Bool
 is_same_block a b = a.line == b.line && a.block == b.block
 
--- what comes after the run's numbers, if it is one of this block, or 0
+-- the run's next number if the run is of this block, otherwise 0
 abbrev pub next_in_run : Block → Run → ℕ
 next_in_run q run = if is_same_block run.block q then run.next else 0
 
--- what comes after the numbers of all these runs that are of this block
+-- the greatest next number of the runs of this block, or 0 if there are none
 abbrev pub next_in_list : Block → List Run → ℕ
 next_in_list q [] = 0
 next_in_list q (run ∷ runs) = max (next_in_run q run) (next_in_list q runs)
@@ -62,7 +62,7 @@ ArePut runs before after = (q : Block) → numbering_of (get block_cmp after q) 
 abbrev pub HasRuns : {A : Type 0} → Runs A → BTreeMap Block Numbering → Type 0
 HasRuns runs numberings = (q : Block) → numbering_of (get block_cmp numberings q) ≡ record { next = next_in_runs q runs; has_expression = false }
 
--- the numbers tell of each block what these lines make of it
+-- for each block, the numbers have the block's next number below these lines, and whether one of its branches has an expression
 abbrev pub HasNumbers : {A : Type 0} → Numbers A → List Lcov2Data → Type 0
 HasNumbers (numbers.Given runs) above = (q : Block) → (next_in_runs q runs ≡ next_number q.line q.block above) × (has_expression q.line q.block above ≡ false)
 HasNumbers (numbers.Assigned numberings) above =

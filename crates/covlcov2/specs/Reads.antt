@@ -1,5 +1,5 @@
--- What the lines of a tracefile of LCOV 2 say together (geninfo(1) of LCOV 2.x, TRACEFILE FORMAT): each line stands for records of
--- version 1, and these say what they say there.
+-- What the lines of a tracefile of LCOV 2 say together (geninfo(1) of LCOV 2.x, TRACEFILE FORMAT): each line stands for records
+-- of version 1, which say the same as in a tracefile of version 1.
 use Rattle.std.specs.Prelude.{◌≡◌, ℕ, ◌+◌, ◌-◌, ◌^◌, ◌==◌, ◌&&◌, if◌then◌else◌, min, max, Bool, true, false, List, [], ◌∷◌, ◌++◌, Option, Some, None}
 use Rattle.std.specs.List.{flat_map, sum_by, list_any, AllByRecursion}
 use Rattle.covline.specs.declared.trace_line.TotalKind.{TotalKind}
@@ -32,15 +32,15 @@ has_expression line block above = list_any (is_expression line block) above
 abbrev pub one_more : ℕ → ℕ
 one_more number = min (number + 1) (2 ^ 64 - 1)
 
--- a branch keeps the number that it is given, unless an expression is above it in its block. It gets the next number of the block
--- otherwise, and also if it has an expression itself
+-- a branch keeps the number that it is given if no expression is above it in its block. Below an expression, or with an
+-- expression itself, it gets the next number of the block
 abbrev pub number_from : (below_expression : Bool) → (next : ℕ) → (given : Option ℕ) → ℕ
 number_from false next (Some number) = number
 number_from true next (Some number) = next
 number_from below_expression next None = next
 
--- the next number of this block: one more than the greatest number of its branches above, or 0 if there are none. Excluded branches
--- count too, so excluding a branch leaves the numbers of the others as they are
+-- the next number of this block: `one_more` of the greatest number of its branches above, or 0 if there are none. Excluded
+-- branches count too, so excluding a branch leaves the numbers of the others as they are
 abbrev pub next_number : (line block : ℕ) → List Lcov2Data → ℕ
 next_number line block [] = 0
 next_number line block (Edge is_excluded other that given taken ∷ above) =
@@ -49,13 +49,13 @@ next_number line block (Edge is_excluded other that given taken ∷ above) =
     else next_number line block above
 next_number line block (says ∷ above) = next_number line block above
 
--- the number of a branch of this block below these lines. So from the first expression of a block on, each of its branches has a
--- number of its own, but that none is above the largest
+-- the number of a branch of this block below these lines. From the first expression of a block on, each of its branches gets a
+-- number that none above it has, except that the largest number may come more than once
 abbrev pub branch_number : List Lcov2Data → (line block : ℕ) → (given : Option ℕ) → ℕ
 branch_number above line block given = number_from (has_expression line block above) (next_number line block above) given
 
--- with `FNL:` lines above, the totals of functions say nothing: LCOV 2 counts all functions of an index as one there. (This is so
--- until the next path, also after the section's end)
+-- below an `FNL:` line the totals of functions say nothing: in them LCOV 2 counts all functions of an index as one. This holds
+-- until the next path, also after the section's end
 abbrev pub total_said : (is_grouped : Bool) → TotalKind → ℕ → List LineData
 total_said false kind value = Total kind value ∷ []
 total_said true FuncFound value = []

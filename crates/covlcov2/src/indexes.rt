@@ -53,7 +53,8 @@ impl<A: Allocator + Copy> Indexes<A> {
         Ok(())
     }
 
-    /// The number of one more branch of the block. `given` is the number that its line has, or `None` for an expression.
+    /// Counts one more branch of the block, and returns its number. `given` is the number that its line has, or `None` for an
+    /// expression.
     #[inline]
     pub fn number(&mut self, alloc: A, block: Block, given: Option<u64>) -> Result<u64, Memory>
         ensures number { IfOk result (λ n. (above : List Lcov2Data) → AreIndexes self.old above → n ≡ branch_number above block.line block.block given) }

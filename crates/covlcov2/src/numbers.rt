@@ -11,14 +11,15 @@ use covline::Memory;
 use std::alloc::Allocator;
 use std::collections::BTreeMap;
 
-/// A block of branches: those that share it share a condition of this source line.
+/// A block of branches: those of one condition of the source line `line`. `block` is the block's number on that line.
 #[derive(Clone, Copy, PartialEq, Eq, PartialOrd, Ord, Drop)]
 pub struct Block {
     pub line: u64,
     pub block: u64,
 }
 
-/// Branches of one block, one below the other, and the number that comes after theirs.
+/// Branches of one block, with no branch of another block between them. `next` is one more than the greatest of their numbers,
+/// but at most the largest number.
 #[derive(Clone, Copy, Drop)]
 pub struct Run {
     pub block: Block,
@@ -44,9 +45,10 @@ pub struct Numbering {
 /// How the branches of an open section are numbered.
 #[derive(Drop)]
 pub enum Numbers<A: Allocator> {
-    /// No branch has an expression, so each keeps its number. What comes after these numbers is kept for the first expression.
+    /// No branch has an expression, so each keeps its number. The runs are kept to number the branches from the first expression
+    /// on.
     Given(Runs<A>),
-    /// A branch has an expression. Blocks without branches are missing.
+    /// A branch has an expression. A block that is missing has no branches.
     Assigned(BTreeMap<Block, Numbering, A>),
 }
 
@@ -58,7 +60,7 @@ impl<A: Allocator + Copy> Numbers<A> {
         Numbers::Given(Runs::new(alloc))
     }
 
-    /// Forgets all branches. Keeps the room for runs.
+    /// Forgets all branches. Keeps the room for runs, if there is any.
     pub fn clear(&mut self, alloc: A)
         ensures { HasNumbers self.new [] }
     {
@@ -68,7 +70,8 @@ impl<A: Allocator + Copy> Numbers<A> {
         }
     }
 
-    /// The number of one more branch of the block. `given` is the number that its line has, or `None` for an expression.
+    /// Counts one more branch of the block, and returns its number. `given` is the number that its line has, or `None` for an
+    /// expression.
     #[inline]
     pub fn number(&mut self, alloc: A, block: Block, given: Option<u64>) -> Result<u64, Memory>
         ensures number { IfOk result (λ n. (above : List Lcov2Data) → HasNumbers self.old above → n ≡ branch_number above block.line block.block given) }
@@ -202,7 +205,7 @@ fn numbering_in<A: Allocator>(numberings: &BTreeMap<Block, Numbering, A>, block:
     }
 }
 
-/// The number of one more branch of the block, which is counted in the block's numbering.
+/// Counts one more branch in the block's numbering, and returns the branch's number.
 fn number_in<A: Allocator + Clone>(
     numberings: &mut BTreeMap<Block, Numbering, A>,
     block: Block,
@@ -223,7 +226,8 @@ fn number_in<A: Allocator + Clone>(
     Ok(number)
 }
 
-/// The number of a branch below those of the numbering.
+/// The number of the next branch of a block with this numbering. `given` is the number that its line has, or `None` for an
+/// expression.
 fn number_below(numbering: Numbering, given: Option<u64>) -> u64
     ensures { result ≡ number_from numbering.has_expression numbering.next given }
 {

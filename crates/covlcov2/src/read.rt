@@ -25,7 +25,7 @@ use covread::{MAX_BYTES, ReadFault, take_branch, take_line_count};
 use std::alloc::Allocator;
 
 /// Reads a tracefile of LCOV 2 (geninfo(1) of LCOV 2.x, TRACEFILE FORMAT). Returns the submission that its lines make, or the
-/// text's first fault. An `FNA:` line without an `FNL:` line of its index above it in its section is `Misplaced`.
+/// text's first fault. An `FNA:` line is `Misplaced` if it isn't in a section, or has no `FNL:` line of its index above it there.
 pub fn read_lcov2<A: Allocator + Copy>(alloc: A, text: &[u8]) -> Result<Submission<A>, ReadFault>
     // The answer is what the text is read as, or memory ran out.
     ensures answers { Answers text.now result }
@@ -112,7 +112,8 @@ fn take_count<A: Allocator + Copy>(
     take_line_count(&mut reader.plain, alloc, at, line, count, checksum)
 }
 
-/// Takes how often a branch was taken that isn't excluded and has a number. `at` is the number of the tracefile's line that says it.
+/// Takes how often a branch was taken. The branch isn't excluded, and its line has a number, not an expression. `at` is the
+/// number of the tracefile's line that says it.
 #[inline]
 fn take_numbered<A: Allocator + Copy>(
     reader: &mut Lcov2Reader<'_, A>,

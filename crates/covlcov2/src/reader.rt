@@ -1,5 +1,5 @@
-//! What the reader of a tracefile of LCOV 2 holds between two lines: what the reader of version 1 holds after the records that the
-//! lines stand for, and what later lines of the open section need.
+//! What the reader of a tracefile of LCOV 2 holds between two lines: what the reader of version 1 holds after the records that
+//! the lines so far stand for, and what later lines need of the lines since the last path.
 
 ghost use Rattle.std.specs.Prelude.{◌≡◌, ℕ, List, [], ◌∷◌, Option, Some, None, Ok, Err, cond};
 ghost use Rattle.covline.specs.Spells.{LineData, Path, Total, Branch, line_data};
@@ -21,7 +21,7 @@ use std::alloc::Allocator;
 pub struct Lcov2Reader<'a, A: Allocator> {
     /// What the reader of version 1 holds.
     pub plain: Reader<'a, A>,
-    /// What later lines of the open section need. Without an open section it says nothing.
+    /// What later lines of the open section need. It isn't used while no section is open.
     pub indexes: Indexes<A>,
     /// Whether an `FNL:` line came since the last path.
     pub is_grouped: bool,
@@ -77,7 +77,7 @@ impl<'a, A: Allocator + Copy> Lcov2Reader<'a, A> {
         }
     }
 
-    /// Takes a record of version 1, if the line stands for this record alone, and later lines need nothing of it.
+    /// Takes a record of version 1. Its line stands for this record alone, and later lines need nothing of the line.
     fn pass(&mut self, alloc: A, says: TraceLine<'a>) -> Result<(), TakeFault>
         requires { (above : List Lcov2Data) × (inside : List LineData) × HasLineRoom self.old above inside }
         ensures { (above : List Lcov2Data) (inside : List LineData) (line : Lcov2Data) → IsHeld self.old above inside → StandsFor above line (line_data says.entry) → IsQuiet above line → Lcov2Steps result above (held_data self.old.plain inside) self.new line }
@@ -85,7 +85,7 @@ impl<'a, A: Allocator + Copy> Lcov2Reader<'a, A> {
         give(&mut self.plain, alloc, says)
     }
 
-    /// Begins a section. What later lines of the section before needed is forgotten.
+    /// Begins a section. What was kept for later lines of the section before is forgotten.
     fn take_path(&mut self, alloc: A, path: &'a [u8]) -> Result<(), TakeFault>
         requires { (above : List Lcov2Data) × (inside : List LineData) × HasLineRoom self.old above inside }
         ensures { (above : List Lcov2Data) (inside : List LineData) → IsHeld self.old above inside → Lcov2Steps result above (held_data self.old.plain inside) self.new (Plain (Path path.now)) }
@@ -125,7 +125,8 @@ impl<'a, A: Allocator + Copy> Lcov2Reader<'a, A> {
         Ok(())
     }
 
-    /// Takes the count of a function: first its start line, which its index has, and then its count.
+    /// Takes the count of a function. The line stands for two records: the function's start line, which is that of its index, and
+    /// its count. The line is `Misplaced` outside of sections, or if the index has no start line.
     fn take_alias(
         &mut self,
         alloc: A,

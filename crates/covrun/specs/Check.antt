@@ -37,8 +37,8 @@ IsTextOutcome (Tracefile versions.Two) text answer =
 IsTextOutcome Gcov text answer =
     (read : Result SubmissionData ReadFault) × gcov.IsOutcome [] text read × Tells IsSkippedGcov text read answer
 
--- this is the result of checking the file's text. If the folder knows the file's bytes (`held`), the text is those bytes. If they
--- are more than the limit, the text has only the first ones, one more than the limit
+-- this is the result of checking the file's text, which has at most one byte more than the limit. If the folder knows the file's
+-- bytes (`held`), the text is those bytes, up to that length
 abbrev pub IsAnswered : Option (List ℕ) → TextFormat → Result TextSummary ReadFault → Type 0
 IsAnswered held format answer = (text : List ℕ) × (length text ≤ suc max_bytes) × IsTextOf held text × IsTextOutcome format text answer
 

@@ -22,8 +22,8 @@ use Rattle.covrun.specs.Work.{QuestionData, Answer, ChosenReport, ChosenSummary}
 
 -- how a call ends. `Prints`: it prints the text that was asked for, help or the version. `BadLine`: the words don't fit the
 -- command line. `BadWords`: the patterns, the test's name or the number of jobs are refused. `Unreadable`: this file can't be
--- read. `Stopped`: memory ran out, or the history was full. `Ungathered`: the history doesn't fit the jobs' logs, or has an entry
--- after that of the last operation. `Refuses`: texts were refused or clashed, and these lines report them
+-- read. `Stopped`: memory ran out, or the history was full. `Ungathered`: collecting ended in `Gather` or `NotLast`, which no run
+-- meets. `Refuses`: texts were refused or clashed, and these lines report them
 pub data EndingData : Type 0 where
   Prints : (text : List ℕ) → EndingData
   BadLine : (text : List ℕ) → EndingData
@@ -101,8 +101,8 @@ text_at None = []
 abbrev pub last_text : List EntryData → List ℕ
 last_text entries = text_at (slice_get entries (length entries - 1))
 
--- the text that is asked for: the answer of the last entry; or, from the table after the entries, the sections of the chosen files, or
--- the summary of those sections
+-- the text that is asked for: the answer of the last entry; or the report, or the summary, of the chosen files' sections in the
+-- table after the entries
 abbrev pub asked_text : QuestionData → List EntryData → List ℕ
 asked_text (Answer op) entries = last_text entries
 asked_text (ChosenReport choice) entries = report_text choice (content_at (table_of (ops_in entries)))

@@ -10,8 +10,8 @@ pub record FolderData : Type 1 where
   pub holds : List ℕ → Option (List ℕ)
   pub MayFail : List ℕ → Type 0
 
--- an open file of these bytes, if they are known, couldn't be read: reads gave the first of them, and a read failed. `MayOpen`: the
--- folder may give this open file
+-- an open file couldn't be read: reads gave the first of its bytes, and a read failed. `held`: the file's bytes, if they are
+-- known. `MayOpen`: the folder may give this open file
 pub record HasFailed {File : Type 0} (held : Option (List ℕ)) (MayOpen : File → Type 0) (left : File → Option (List ℕ)) (failed_reads : File → ℕ) : Type 0 where
   pub opened : File
   pub may_open : MayOpen opened

@@ -16,20 +16,21 @@ use Rattle.covrun.specs.declared.argument_fault.ArgumentFault.TheVariants as arg
 use Rattle.covrun.specs.declared.work.FileFormat.{FileFormat}
 use Rattle.covrun.specs.declared.work.FileFormat.TheVariants.{Tracefile, GcovOutput}
 
--- what is asked after all files are collected: an operation; or the report or the summary of the chosen source files alone
+-- what is asked after all files are collected: the answer to an operation; or the report, or the summary, of only the chosen
+-- source files
 pub data QuestionData : Type 0 where
   Answer : (op : OpData) → QuestionData
   ChosenReport : (choice : ChoiceData) → QuestionData
   ChosenSummary : (choice : ChoiceData) → QuestionData
 
--- the last operation of the history. Chosen files are no part of it: only what is printed depends on the choice
+-- the last operation of the history. The choice is no part of the history: only what is printed depends on it
 abbrev pub last_of : QuestionData → OpData
 last_of (Answer op) = op
 last_of (ChosenReport choice) = ReportOp
 last_of (ChosenSummary choice) = SummaryOp
 
--- what a subcommand that collects files has to do. `files`: the files to read. `format`: what they are. `jobs`: the number of jobs.
--- `asks`: what is asked after all files are collected
+-- what a subcommand that collects files has to do. `files`: the files to read. `format`: what they are. `jobs`: the number of
+-- jobs. `asks`: what is asked after all files are collected
 pub record WorkData : Type 0 where
   pub files : List (List ℕ)
   pub format : FileFormat
@@ -44,16 +45,16 @@ abbrev pub choice_by : (includes excludes : List (List ℕ)) → Option ChoiceDa
 choice_by [] [] = None
 choice_by includes excludes = Some (Filtered includes excludes)
 
--- what is asked of all files, or of the chosen ones
+-- what is asked: the answer to the operation `all` if there is no choice, otherwise what `chosen` asks of the chosen source files
 abbrev pub asked_of : OpData → (ChoiceData → QuestionData) → Option ChoiceData → QuestionData
 asked_of all chosen None = Answer all
 asked_of all chosen (Some choice) = chosen choice
 
--- the work that chooses files of a tracefile: the first name is the tracefile's, and the other names are patterns
+-- the work of `extract` and `remove`: the first name is the tracefile's, and the other names are patterns
 abbrev pub filtering : LcovVersion → (List (List ℕ) → OpData) → List (List ℕ) → WorkData
 filtering version op names = record { files = take 1 names; format = Tracefile version; jobs = 1; asks = Answer (op (drop 1 names)) }
 
--- what a call has to do: a session; or to collect files and answer what is asked after them; or to check files one by one
+-- what a call has to do: a session; or to collect files and then answer what is asked; or to check files one by one
 pub data TaskData : Type 0 where
   Serves : TaskData
   Collects : (work : WorkData) → TaskData

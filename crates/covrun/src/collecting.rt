@@ -31,7 +31,7 @@ use std::sync::Wait;
 use std::thread::Threads;
 
 /// Does the work, reports the call's ending, and returns the exit status. A job reads a file when the file's turn comes, and then
-/// frees the file's text. What is asked is printed from the book, while it is made.
+/// frees the file's text. A tracefile that is asked for is made from the book piece by piece, while it is printed.
 pub(crate) fn do_work<R: Threads + Wait + Sync, F: Folder<File: Send> + Sync, O: Sink, E: Sink>(
     rt: &R,
     folder: &F,
@@ -76,7 +76,7 @@ pub(crate) fn do_work<R: Threads + Wait + Sync, F: Folder<File: Send> + Sync, O:
     }
 }
 
-/// The ending of a call whose files are collected, and of which this is asked. Returns `Stopped` if memory runs out.
+/// The ending of a call after its files are collected. `asks` is what is asked then. It is `Stopped` if memory runs out.
 fn ending_of_collected<'a>(
     alloc: Global,
     files: &[String],
@@ -93,8 +93,8 @@ fn ending_of_collected<'a>(
     }
 }
 
-/// The ending of a call whose files are collected, and of which this is asked. All memory for reporting the ending is already
-/// reserved.
+/// As `ending_of_collected`, but the fault `Memory` is returned if memory runs out here. All memory for reporting the ending is
+/// already reserved.
 fn ending_with_room<'a>(
     alloc: Global,
     files: &[String],

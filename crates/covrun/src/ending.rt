@@ -16,7 +16,7 @@ use covsession::SessionFault;
 /// How a call with a subcommand ends: this decides its exit status and what it writes.
 #[derive(Drop)]
 pub(crate) enum Ending<'a> {
-    /// This text, the answer to the last operation, is printed.
+    /// This text, which was asked for, is printed.
     Done(ReadyText<'a>),
     /// Help, or the version, is printed.
     Help(String),
@@ -28,7 +28,7 @@ pub(crate) enum Ending<'a> {
     Unreadable(&'a str),
     /// Memory ran out, or the history was full.
     Stopped(SessionFault),
-    /// The history doesn't fit the jobs' logs, or has an entry after that of the last operation.
+    /// Collecting ended in `Gather` or `NotLast`, which no run meets.
     Ungathered,
     /// Texts were refused or clashed. These lines report them.
     Refused(Vec<u8>),

@@ -6,7 +6,7 @@ use covline::Memory;
 use covreport::{Choice, Printing, chosen_totals, summary_text};
 use std::alloc::Global;
 
-/// What is asked after all files are collected, and printed.
+/// What is asked, and printed, after all files are collected.
 #[derive(Drop)]
 pub(crate) enum Question {
     /// The answer to an operation.
@@ -27,7 +27,7 @@ impl Question {
     ghost use Rattle.covrun.specs.View.{question_data};
     ghost use Rattle.covrun.specs.Work.{ChosenReport, ChosenSummary, asked_of, last_of};
 
-    /// The tracefile of the chosen source files, or of all.
+    /// Asks for the tracefile of the chosen source files, or of all source files if there is no choice.
     pub(crate) fn report(choice: Option<Choice>) -> Question
         ensures { question_data result ≡ asked_of ReportOp ChosenReport (option_map choice_data choice) }
     {
@@ -37,7 +37,7 @@ impl Question {
         }
     }
 
-    /// The summary of the chosen source files, or of all.
+    /// Asks for the summary of the chosen source files, or of all source files if there is no choice.
     pub(crate) fn summary(choice: Option<Choice>) -> Question
         ensures { question_data result ≡ asked_of SummaryOp ChosenSummary (option_map choice_data choice) }
     {

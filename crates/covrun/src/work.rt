@@ -17,8 +17,8 @@ pub(crate) enum FileFormat {
     GcovOutput(Bytes),
 }
 
-/// What a subcommand that collects files has to do. `files`: the files to read. `format`: what they are. `jobs`: the number of jobs.
-/// `asks`: what is asked after all files are collected.
+/// What a subcommand that collects files has to do. `files`: the files to read. `format`: what they are. `jobs`: the number of
+/// jobs. `asks`: what is asked after all files are collected.
 #[derive(Drop)]
 pub(crate) struct Work {
     pub(crate) files: Names,
@@ -204,7 +204,7 @@ fn split(alloc: Global, names: &Names) -> Result<(Names, Patterns), WorkFault>
     Ok((files, patterns))
 }
 
-/// The list of these patterns, or why the first bad one is refused.
+/// The list of these patterns, or the fault of the first one that can't be added.
 fn patterns_of(alloc: Global, words: &[String]) -> Result<Patterns, WorkFault>
     ensures patterns { IfOk result (λ patterns. patterns ≡ map string_bytes words.now) }
     ensures taken { IfOk result (λ _. ArePatterns (map string_bytes words.now)) }
