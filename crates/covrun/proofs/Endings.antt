@@ -1,5 +1,5 @@
 -- How a call that collects files ends, from the results of its steps.
-use Rattle.std.proofs.Common.{◌≡◌, ◌⊎◌, inl, inr, ℕ, ◌-◌, Bool, false, if◌then◌else◌, List, [], ◌∷◌, ◌++◌, length, slice_get, Option, Some, Ok, Err, filter, flat_map, codes, refl, sym, subst, ap, ◌∙◌, append-nil, length-append, arith}
+use Rattle.std.proofs.Common.{◌≡◌, ◌⊎◌, inl, inr, ℕ, ◌-◌, Bool, false, if◌then◌else◌, List, [], ◌∷◌, ◌++◌, length, slice_get, Option, Some, None, Result, Ok, Err, IfOk, filter, flat_map, codes, refl, sym, subst, ap, ◌∙◌, append-nil, length-append, arith}
 use Rattle.std.proofs.lemmas.List.{flat_map_more, map-append}
 use Rattle.std.specs.Io.KnownBytes.{Appends}
 use Rattle.covsession.specs.Session.{said, clash_text}
@@ -129,6 +129,11 @@ pub summary_is_asked : (entries : List EntryData) (choice : ChoiceData) (section
     → summary_of (totals_of (filter (λ s. is_chosen choice s.key.file) sections)) ≡ asked_text (ChosenSummary choice) (entries ++ next_entry entries 0 SummaryOp ∷ [])
 summary_is_asked entries choice sections are =
     ap (λ (s : List SectionData). summary_of (totals_of (filter (λ (s : SectionData). is_chosen choice s.key.file) s))) (are ∙ ap content_at (sym (table_stays entries SummaryOp tt)))
+
+-- a text that is this one is the other that equals it
+pub text_then : {E : Type 0} (result : Result (List ℕ) E) (text other : List ℕ) → IfOk result (λ t. t ≡ text) → text ≡ other → IfOk result (λ t. t ≡ other)
+text_then (Ok t) text other is same = is ∙ same
+text_then (Err e) text other is same = tt
 
 -- no input was refused and nothing clashed, so the text that is asked for is printed
 pub ends_with_text : (files : List (List ℕ)) (entries : List EntryData) (refused : List RefusedInput) (asks : QuestionData) (lines text : List ℕ) → IsText (last_of asks)

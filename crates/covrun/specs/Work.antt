@@ -1,6 +1,6 @@
 -- What a subcommand has to do, and which of its words are refused before any file is read.
 use Rattle.std.specs.List.{AllByRecursion}
-use Rattle.std.specs.Prelude.{◌≡◌, ◌⊎◌, ◌<◌, ◌≤◌, ℕ, List, [], ◌∷◌, Option, None, Some, length, take, drop}
+use Rattle.std.specs.Prelude.{◌≡◌, ◌⊎◌, ◌<◌, ◌≤◌, ℕ, List, [], Option, None, Some, length, take, drop}
 use Rattle.covline.specs.Lawful.{IsGoodTest}
 use Rattle.covreport.specs.Choice.{ChoiceData, Filtered, max_patterns, max_pattern_bytes}
 use Rattle.covbook.specs.Op.{OpData, ReportOp, SummaryOp, ExtractOp, RemoveOp}
@@ -38,12 +38,12 @@ pub record WorkData : Type 0 where
   pub asks : QuestionData
 
 -- the source files that the patterns choose; `None` if there are no patterns
-abbrev pub choice_of : SourceFilter → Option ChoiceData
-choice_of filter = choice_by filter.includes filter.excludes
-
 abbrev pub choice_by : (includes excludes : List (List ℕ)) → Option ChoiceData
 choice_by [] [] = None
 choice_by includes excludes = Some (Filtered includes excludes)
+
+abbrev pub choice_of : SourceFilter → Option ChoiceData
+choice_of filter = choice_by filter.includes filter.excludes
 
 -- what is asked: the answer to the operation `all` if there is no choice, otherwise what `chosen` asks of the chosen source files
 abbrev pub asked_of : OpData → (ChoiceData → QuestionData) → Option ChoiceData → QuestionData

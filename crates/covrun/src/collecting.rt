@@ -36,32 +36,26 @@ pub(crate) fn do_work<R: Threads + Wait + Sync, F: Folder<File: Send> + Sync, O:
     rt: &R,
     folder: &F,
     alloc: Global,
-    work: Work,
+    work: &Work,
     output: &mut O,
     faults: &mut E,
 ) -> u8
-    requires text { IsText (last_of (question_data work.asks)) }
+    requires text { IsText (last_of (question_data work.now.asks)) }
     requires output { O.failed_writes output.old < 2 ^ 62 }
     requires faults { E.failed_writes faults.old < 2 ^ 62 }
     ensures { (ending : EndingData)
-        × WorkEnds (folder_data (F.holds folder.now) (F.may_refuse folder.now) (F.may_open folder.now) F.File.left F.File.failed_reads) (work_data work) ending
+        × WorkEnds (folder_data (F.holds folder.now) (F.may_refuse folder.now) (F.may_open folder.now) F.File.left F.File.failed_reads) (work_data work.now) ending
         × IsEndingPrinted ending result
         (sinks (O.written output.old) (O.failed_writes output.old) (E.written faults.old) (E.failed_writes faults.old))
         (sinks (O.written output.new) (O.failed_writes output.new) (E.written faults.new) (E.failed_writes faults.new)) }
 {
-    let Work {
-        files,
-        format,
-        jobs,
-        asks,
-    } = work;
-    let files = files.get();
-    let Ok(inputs) = file_inputs(folder, alloc, &format, files) else {
+    let files = work.files.get();
+    let Ok(inputs) = file_inputs(folder, alloc, &work.format, files) else {
         return report_ending(Ending::Stopped(SessionFault::Memory), output, faults);
     };
-    match collect_into_book(rt, alloc, inputs, jobs, &NoGate) {
+    match collect_into_book(rt, alloc, inputs, work.jobs, &NoGate) {
         Ok(collected) => report_ending(
-            ending_of_collected(alloc, files, asks, &collected),
+            ending_of_collected(alloc, files, &work.asks, &collected),
             output,
             faults,
         ),
@@ -80,12 +74,12 @@ pub(crate) fn do_work<R: Threads + Wait + Sync, F: Folder<File: Send> + Sync, O:
 fn ending_of_collected<'a>(
     alloc: Global,
     files: &[String],
-    asks: Question,
+    asks: &Question,
     collected: &'a CollectedBook,
 ) -> Ending<'a>
-    requires { IsText (last_of (question_data asks)) }
-    ensures { (ending_data result ≡ Stopped session_faults.Memory) ⊎ (ending_data result ≡ of_collected (map string_bytes files.now) (question_data asks)
-        (collected.now.book.entries ++ next_entry collected.now.book.entries 0 (last_of (question_data asks)) ∷ []) collected.now.refused) }
+    requires { IsText (last_of (question_data asks.now)) }
+    ensures { (ending_data result ≡ Stopped session_faults.Memory) ⊎ (ending_data result ≡ of_collected (map string_bytes files.now) (question_data asks.now)
+        (collected.now.book.entries ++ next_entry collected.now.book.entries 0 (last_of (question_data asks.now)) ∷ []) collected.now.refused) }
 {
     match ending_with_room(alloc, files, asks, collected) {
         Ok(ending) => ending,
@@ -98,12 +92,12 @@ fn ending_of_collected<'a>(
 fn ending_with_room<'a>(
     alloc: Global,
     files: &[String],
-    asks: Question,
+    asks: &Question,
     collected: &'a CollectedBook,
 ) -> Result<Ending<'a>, SessionFault>
-    requires { IsText (last_of (question_data asks)) }
-    ensures ending { IfOk result (λ ending. ending_data ending ≡ of_collected (map string_bytes files.now) (question_data asks)
-        (collected.now.book.entries ++ next_entry collected.now.book.entries 0 (last_of (question_data asks)) ∷ []) collected.now.refused) }
+    requires { IsText (last_of (question_data asks.now)) }
+    ensures ending { IfOk result (λ ending. ending_data ending ≡ of_collected (map string_bytes files.now) (question_data asks.now)
+        (collected.now.book.entries ++ next_entry collected.now.book.entries 0 (last_of (question_data asks.now)) ∷ []) collected.now.refused) }
     ensures fault { IfErr result (λ fault. fault ≡ session_faults.Memory) }
 {
     if has_run_out(collected.refused.get()) {

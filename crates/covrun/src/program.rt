@@ -79,7 +79,7 @@ fn run_command<R: Threads + Wait + Sync, F: Folder<File: Send> + Sync, I: Source
 {
     match task_for(alloc, asked) {
         Ok(Task::Session) => run_session(alloc, input, output, faults),
-        Ok(Task::Collect(work)) => do_work(rt, folder, alloc, work, output, faults),
+        Ok(Task::Collect(work)) => do_work(rt, folder, alloc, &work, output, faults),
         Ok(Task::Check { format, files }) => {
             check_files(folder, alloc, format, files.get(), output, faults)
         }

@@ -1,5 +1,8 @@
 //! What is asked after all files of a call are collected.
 
+ghost use Rattle.std.specs.Prelude.{◌≡◌, IfOk};
+ghost use Rattle.covreport.specs.ChoiceView.{choice_data};
+
 use covbook::Op;
 use covjobs::CollectedBook;
 use covline::Memory;
@@ -22,7 +25,6 @@ impl Question {
     ghost use Rattle.covbook.specs.Op.{ReportOp, SummaryOp};
     ghost use Rattle.covbook.specs.Step.{next_entry};
     ghost use Rattle.covbook.specs.Texts.{IsText};
-    ghost use Rattle.covreport.specs.ChoiceView.{choice_data};
     ghost use Rattle.covrun.specs.Ending.{asked_text};
     ghost use Rattle.covrun.specs.View.{question_data};
     ghost use Rattle.covrun.specs.Work.{ChosenReport, ChosenSummary, asked_of, last_of};
@@ -48,25 +50,40 @@ impl Question {
     }
 
     /// The text that is asked for, ready to be printed. The operation of an `Answer` has to ask for a text.
-    pub(crate) fn printing(
-        self,
+    pub(crate) fn printing<'b>(
+        &self,
         alloc: Global,
-        collected: &CollectedBook,
-    ) -> Result<Printing<'_>, Memory>
-        requires { IsText (last_of (question_data self)) }
-        ensures { IfOk result (λ text. text ≡ asked_text (question_data self)
-            (collected.now.book.entries ++ next_entry collected.now.book.entries 0 (last_of (question_data self)) ∷ [])) }
+        collected: &'b CollectedBook,
+    ) -> Result<Printing<'b>, Memory>
+        requires { IsText (last_of (question_data self.now)) }
+        ensures { IfOk result (λ text. text ≡ asked_text (question_data self.now)
+            (collected.now.book.entries ++ next_entry collected.now.book.entries 0 (last_of (question_data self.now)) ∷ [])) }
     {
         match self {
-            Question::Answer(op) => collected.book.printing(alloc, &op),
+            Question::Answer(op) => collected.book.printing(alloc, op),
             Question::ChosenReport(choice) => {
-                Printing::of_store(alloc, collected.book.store(), choice)
+                Printing::of_store(alloc, collected.book.store(), copy_of(alloc, choice)?)
             }
             Question::ChosenSummary(choice) => {
-                let totals = chosen_totals(collected.book.store(), &choice);
+                let totals = chosen_totals(collected.book.store(), choice);
                 let text = summary_text(alloc, &totals)?;
                 Ok(Printing::of_text(text))
             }
         }
+    }
+}
+
+/// An equal choice, in memory of its own.
+fn copy_of(alloc: Global, choice: &Choice) -> Result<Choice, Memory>
+    ensures { IfOk result (λ copy. choice_data copy ≡ choice_data choice.now) }
+{
+    match choice {
+        Choice::All => Ok(Choice::All),
+        Choice::Extract(patterns) => Ok(Choice::Extract(patterns.copy(alloc)?)),
+        Choice::Remove(patterns) => Ok(Choice::Remove(patterns.copy(alloc)?)),
+        Choice::Filter { includes, excludes } => Ok(Choice::Filter {
+            includes: includes.copy(alloc)?,
+            excludes: excludes.copy(alloc)?,
+        }),
     }
 }

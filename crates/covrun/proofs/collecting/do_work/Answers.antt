@@ -17,8 +17,8 @@ returns-in-Ok-collect_into_book g c =
     let read = c.in-Ok-collect_into_book.ensures.collected in (
       ending_data c.ending_of_collected.result,
       ends_collected (folder_data (g.F.Folder.holds c.args.folder.now) (g.F.Folder.may_refuse c.args.folder.now) (g.F.Folder.may_open c.args.folder.now) g.F.File.Source.left g.F.File.Source.failed_reads)
-          (work_data c.args.work) _ c.get-files.ensures read.0 _ _ _
-          (texts_read c.in-Ok.inputs.items c.args.folder.now c.args.work.format
+          (work_data c.args.work.now) _ c.get-files.ensures read.0 _ _ _
+          (texts_read c.in-Ok.inputs.items c.args.folder.now c.args.work.now.format
           (λ folder. folder_data (g.F.Folder.holds folder) (g.F.Folder.may_refuse folder) (g.F.Folder.may_open folder) g.F.File.Source.left g.F.File.Source.failed_reads)
           (λ one. one.folder.now) (λ one. one.name.now) (λ one. one.format.now) _ _ c.in-Ok.ensures.names c.in-Ok.ensures.own read.1)
           c.requires.text read.2 c.ending_of_collected.ensures,
@@ -29,8 +29,8 @@ pub returns-in-Err-Unread : goal.returns-in-Err-Unread
 returns-in-Err-Unread g c = (
   Unreadable c.file_name.result.now,
   ends_unreadable (folder_data (g.F.Folder.holds c.args.folder.now) (g.F.Folder.may_refuse c.args.folder.now) (g.F.Folder.may_open c.args.folder.now) g.F.File.Source.left g.F.File.Source.failed_reads)
-      (work_data c.args.work) _ c.get-files.ensures _ _
-      (unreadable_read c.in-Ok.inputs.items c.args.folder.now c.args.work.format
+      (work_data c.args.work.now) _ c.get-files.ensures _ _
+      (unreadable_read c.in-Ok.inputs.items c.args.folder.now c.args.work.now.format
       (λ folder. folder_data (g.F.Folder.holds folder) (g.F.Folder.may_refuse folder) (g.F.Folder.may_open folder) g.F.File.Source.left g.F.File.Source.failed_reads)
       (λ one. one.folder.now) (λ one. one.name.now) (λ one. one.format.now)
       (map string_bytes c.get-files.result.now) c.in-Err-Unread.index _ c.in-Ok.ensures.names c.in-Ok.ensures.own c.in-Err-Unread.field-0-is c.in-Err-Unread.ensures.unread)
@@ -42,7 +42,7 @@ pub returns-in-Err-Collect : goal.returns-in-Err-Collect
 returns-in-Err-Collect g c = (
   ending_data c.ending_of_collect.result,
   ends_uncollected (folder_data (g.F.Folder.holds c.args.folder.now) (g.F.Folder.may_refuse c.args.folder.now) (g.F.Folder.may_open c.args.folder.now) g.F.File.Source.left g.F.File.Source.failed_reads)
-      (work_data c.args.work) _ _ (λ is. (c.in-Err-Collect.ensures.bad).0 (ap (λ fault. Err fault) (c.in-Err-Collect.field-0-is ∙ ap (λ fault. into_book.Collect fault) is)))
+      (work_data c.args.work.now) _ _ (λ is. (c.in-Err-Collect.ensures.bad).0 (ap (λ fault. Err fault) (c.in-Err-Collect.field-0-is ∙ ap (λ fault. into_book.Collect fault) is)))
       (may_come c.in-Ok.inputs.items (λ one. one.name.now) _ _ _ _ c.in-Err-Collect.fault (c.in-Ok.ensures.names ∙ c.get-files.ensures) c.in-Err-Collect.field-0-is c.in-Err-Collect.ensures.unread)
       (c.ending_of_collect.ensures ∙ ap of_collect c.in-Err-Collect.fault-is),
   c.report_ending-in-Err-Collect.ensures,

@@ -1,0 +1,25 @@
+use Rattle.std.proofs.Common.{ap, ◌∙◌}
+use Rattle.covstore.specs.Store.{StoreData}
+use Rattle.covreport.specs.Choice.{ChoiceData}
+use Rattle.covreport.specs.ChoiceView.{choice_data}
+use Rattle.covreport.specs.Report.{report_text}
+use Rattle.covreport.specs.Summary.{summary_of}
+use Rattle.covrun.proofs.Endings.{report_is_asked, summary_is_asked, text_then}
+use Rattle.covrun.proofs.question.Question.printing.Goals as goal
+
+pub returns-in_ok-copy_of-in-ChosenReport : goal.returns-in_ok-copy_of-in-ChosenReport
+returns-in_ok-copy_of-in-ChosenReport c =
+    let entries = c.args.collected.now.book.entries in
+    let held = c.store.ensures in
+    rw c.in-ChosenReport.is
+    (text_then c.of_store.result (report_text (choice_data c.in_ok-copy_of-in-ChosenReport.field-0) c.store.result.now.sections) _ c.of_store.ensures
+    (ap (λ (choice : ChoiceData). report_text choice c.store.result.now.sections) c.in_ok-copy_of-in-ChosenReport.ensures
+    ∙ report_is_asked entries (choice_data c.in-ChosenReport.choice) _ (ap (λ (s : StoreData). s.sections) held.store ∙ held.stands.content)))
+
+pub returns-in_ok-text-in-ChosenSummary : goal.returns-in_ok-text-in-ChosenSummary
+returns-in_ok-text-in-ChosenSummary c =
+    let entries = c.args.collected.now.book.entries in
+    let held = c.store-in-ChosenSummary.ensures in
+    rw c.in-ChosenSummary.is
+    (c.of_text.ensures ∙ c.in_ok-text-in-ChosenSummary.ensures ∙ ap summary_of c.chosen_totals-totals.ensures.value
+    ∙ summary_is_asked entries (choice_data c.in-ChosenSummary.choice) _ (ap (λ (s : StoreData). s.sections) held.store ∙ held.stands.content))
