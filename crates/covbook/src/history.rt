@@ -87,7 +87,7 @@ impl<A: Allocator + Copy, K: Keep<Of = Entry<A>>> History<A, K> {
     ghost use Rattle.covbook.specs.EntryView.{entry_data, receipt_data};
     ghost use Rattle.covbook.specs.Step.{receipt_of};
 
-    /// The receipt of this entry, as the next one of the history.
+    /// The receipt that this entry gets if it is the next one of the history.
     pub(crate) fn receipt(&self, alloc: A, entry: &Entry<A>) -> Result<Receipt<A>, Memory>
         ensures { IfOk result (λ r. receipt_data r ≡ receipt_of (length self.now.entries) (entry_data entry.now)) }
     {

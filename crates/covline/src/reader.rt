@@ -549,7 +549,7 @@ fn split_count_end(text: &[u8]) -> Option<(Option<&[u8]>, &[u8])>
 /// Reads the first line of the text in one pass, if it is `DA:<line>,<count>` or `DA:<line>,<count>,<checksum>` and ends in a
 /// line feed, and if both numbers are digits alone and below 2^64. Most lines of a tracefile are such lines. For any other first
 /// line it returns `None`. Then the caller cuts the line and reads it.
-#[inline]
+#[inline(always)]
 pub fn try_line_count(text: &[u8]) -> Option<LineCount<'_>>
     ensures says { IfSome result (λ f. BeginsWithLine text.now (Line f.line f.count (option_map (λ c. c.now) f.checksum)) f.rest.now) }
     ensures form { IfSome result (λ f. BeginsWithCountedLine text.now f.line f.count (option_map (λ c. c.now) f.checksum) f.rest.now) }
@@ -559,7 +559,7 @@ pub fn try_line_count(text: &[u8]) -> Option<LineCount<'_>>
 }
 
 /// Reads the first line for `try_line_count`, from left to right.
-#[inline]
+#[inline(always)]
 fn front_counted(text: &[u8]) -> Option<LineCount<'_>>
     ensures { option_map (λ f. ((f.line, f.count), (option_map (λ c. c.now) f.checksum, f.rest.now))) result ≡ counted_front text.now }
 {
@@ -603,6 +603,7 @@ pub fn small_number(text: &[u8]) -> Option<(u64, &[u8])>
 
 /// The field at the front of the text that says how often a branch was taken, and what follows it. The field is `-`, which
 /// gives `None`, or a number below 2^64.
+#[inline(always)]
 pub fn front_taken(text: &[u8]) -> Option<(Option<u64>, &[u8])>
     ensures { option_map (λ front. (front.0, front.1.now)) result ≡ taken_front text.now }
 {
@@ -616,7 +617,7 @@ pub fn front_taken(text: &[u8]) -> Option<(Option<u64>, &[u8])>
 /// Reads the first line of the text in one pass, as `try_line_count` does, if it is `BRDA:<line>,<block>,<branch>,<taken>` and
 /// ends in a line feed. All four fields have to be digits, with numbers below 2^64; the last one may also be `-`. For any other
 /// first line it returns `None`. Then the caller cuts the line and reads it.
-#[inline]
+#[inline(always)]
 pub fn try_branch_line(text: &[u8]) -> Option<BranchLine<'_>>
     ensures says { IfSome result (λ f. BeginsWithLine text.now (Branch f.point.line f.point.block f.point.branch f.taken) f.rest.now) }
     ensures form { IfSome result (λ f. BeginsWithBranchLine text.now (branch_point_data f.point) f.taken f.rest.now) }
@@ -626,7 +627,7 @@ pub fn try_branch_line(text: &[u8]) -> Option<BranchLine<'_>>
 }
 
 /// Reads the first line for `try_branch_line`, from left to right.
-#[inline]
+#[inline(always)]
 fn front_branch(text: &[u8]) -> Option<BranchLine<'_>>
     ensures { option_map (λ f. ((branch_point_data f.point, f.taken), f.rest.now)) result ≡ branch_front text.now }
 {

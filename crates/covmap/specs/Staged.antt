@@ -82,7 +82,7 @@ pub record IsAmong {V : Type 0} (page : ℕ) (columns front : List (ℕ × List 
   pub below : AllByRecursion (λ other. other.0 < page) front
   pub above : AllByRecursion (λ other. page < other.0) back
 
--- the columns after an empty value is inserted into the page's column, if it has one
+-- the columns after an empty value is inserted at this index of the page's column, if the page has a column
 pub record IsWidened {V : Type 0} (page index : ℕ) (old new : List (ℕ × List (Option V))) : Type 0 where
   pub front : List (ℕ × List (Option V))
   pub here : Option (List (Option V))

@@ -1,4 +1,4 @@
--- Which files a printed text includes, by patterns (lcov(1), --extract and --remove; of LCOV 2.x, --include and --exclude).
+-- Which files a printed text includes, by patterns (lcov(1): --extract and --remove, in LCOV 2.x also --include and --exclude).
 use Rattle.std.specs.Prelude.{ℕ, Bool, true, not, ◌&&◌, List, [], ◌∷◌}
 use Rattle.std.specs.List.{list_any}
 use Rattle.covreport.specs.Pattern.{matches}
@@ -13,13 +13,13 @@ pub data ChoiceData : Type 0 where
 abbrev pub any_matches : List (List ℕ) → List ℕ → Bool
 any_matches patterns path = list_any (λ pattern. matches pattern path) patterns
 
--- at least one of the includes matches the path, or there are none
+-- at least one of the includes matches the path, or there are no includes
 abbrev pub is_included : (includes : List (List ℕ)) → List ℕ → Bool
 is_included [] path = true
 is_included (pattern ∷ patterns) path = any_matches (pattern ∷ patterns) path
 
--- the file is chosen: any file is; or only a file that a pattern matches; or only a file that no pattern matches; or only an
--- included file that no exclude matches
+-- the file is chosen. `AllFiles` chooses every file; `Extracted`, those that a pattern matches; `Removed`, those that no
+-- pattern matches; and `Filtered`, included files that no exclude matches
 abbrev pub is_chosen : ChoiceData → List ℕ → Bool
 is_chosen AllFiles file = true
 is_chosen (Extracted patterns) file = any_matches patterns file

@@ -3,7 +3,7 @@
 use crate::patterns::Patterns;
 use std::alloc::{Allocator, Global};
 
-/// The files of a tracefile that are kept (lcov(1), `--extract` and `--remove`).
+/// Which source files are chosen (lcov(1), `--extract` and `--remove`).
 #[derive(Drop)]
 pub enum Choice<A: Allocator = Global> {
     /// Every file.
@@ -12,8 +12,8 @@ pub enum Choice<A: Allocator = Global> {
     Extract(Patterns<A>),
     /// The files that match none of the patterns; every file if there are no patterns.
     Remove(Patterns<A>),
-    /// The files that match at least one of the includes, or any files if there are no includes, and that match none of the
-    /// excludes (lcov(1) of LCOV 2.x, `--include` and `--exclude`).
+    /// The files that match at least one of the includes and none of the excludes. Without includes, all files that match none
+    /// of the excludes (lcov(1) of LCOV 2.x, `--include` and `--exclude`).
     Filter {
         includes: Patterns<A>,
         excludes: Patterns<A>,

@@ -5,7 +5,7 @@ ghost use Rattle.std.specs.Borrow.{ftrue};
 
 use std::marker::Model;
 
-/// Bytes that exist only in proofs. They take no memory and no time: a printer can keep all that was put to it in them.
+/// Bytes that exist only in proofs. They take no memory and no time. A printer can keep in them all bytes that it was given.
 #[derive(Drop)]
 pub struct Noted {
     pub ghost bytes: { List ℕ },

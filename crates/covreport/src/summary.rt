@@ -141,7 +141,7 @@ fn put_value<A: Allocator>(
     put_parts(words, hit, found, text)
 }
 
-/// Appends the number of points hit and the number found.
+/// Appends the numbers of points hit and found, then the noun and the closing parenthesis.
 fn put_parts<A: Allocator>(
     words: &Words<'_>,
     hit: u64,
@@ -166,7 +166,7 @@ fn noun<'a>(words: &Words<'a>, found: u64) -> &'a [u8]
     if found == 1 { words.one } else { words.many }
 }
 
-/// Appends tenths of a percent as a number of percent with one place after the point.
+/// Appends a rate in tenths of a percent, as a percentage with one decimal place.
 fn put_tenths<A: Allocator>(tenths: u32, text: &mut Bytes<A>) -> Result<(), Memory>
     ensures { OnOk result (text.new ≡ text.old ++ (decimal (tenths / 10) ++ (codes "." ++ decimal (tenths % 10)))) }
 {

@@ -38,8 +38,8 @@ pub record KeepsTexts (holders : List (ℕ × ℕ)) (texts : List (ℕ × List �
   pub committed : (line : ℕ) → is_some (value_of nat_cmp line holders) ≡ true → is_some (value_of nat_cmp line more_holders) ≡ true
   pub texts_stay : (line : ℕ) → is_some (value_of nat_cmp line holders) ≡ true → value_of nat_cmp line more_texts ≡ value_of nat_cmp line texts
 
--- `one_more` is the number of tests after one more is counted. `held_more` are the numbers after a test holds the line's
--- checksum. A test that held it before isn't counted again
+-- `one_more` is the number of tests after one more is counted. `held_more` is `holders` after a test holds a checksum of the
+-- line. If the test held it before (`true`), it isn't counted again
 abbrev pub one_more : Option ℕ → ℕ
 one_more None = 1
 one_more (Some tests) = tests + 1

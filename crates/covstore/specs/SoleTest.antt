@@ -13,7 +13,7 @@ count_of_one is_above value = record { tests = 1; hit = one_if (is_above value) 
 abbrev pub counts_of : {K V : Type 0} → (V → Bool) → List (K × V) → List (K × TestCounts)
 counts_of is_above points = map (λ pair. (pair.0, count_of_one is_above pair.1)) points
 
--- the points of a test without points
+-- no points, neither committed nor staged ones
 abbrev pub no_points : {K V : Type 0} → MapData K V
 no_points = record { committed = []; staged = [] }
 

@@ -48,7 +48,7 @@ is_hit_in hits items point = list_any (hits point) items
 abbrev pub found_in : {X : Type 0} → (X → X → Ordering) → (ItemData → List X) → List ItemData → ℕ
 found_in cmp point items = length (ascending cmp (flat_map point items))
 
--- how many different points of a kind some item hits
+-- how many different points of a kind are hit by at least one item
 abbrev pub hit_in : {X : Type 0} → (X → X → Ordering) → (ItemData → List X) → (X → ItemData → Bool) → List ItemData → ℕ
 hit_in cmp point hits items = count_by (is_hit_in hits items) (ascending cmp (flat_map point items))
 

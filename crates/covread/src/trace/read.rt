@@ -55,7 +55,7 @@ fn read_lines<'a, A: Allocator + Copy>(alloc: A, text: &'a [u8]) -> Result<Reade
 
 /// Takes the first line of `text`, which is the rest of a text, and returns what follows the line. `at` is the line's number.
 /// Most lines are counts of a source line or of a branch. These two are tried first, before the line is cut from the text.
-#[inline]
+#[inline(always)]
 fn take_first<'a, A: Allocator + Copy>(
     reader: &mut Reader<'a, A>,
     alloc: A,
@@ -81,7 +81,7 @@ fn take_first<'a, A: Allocator + Copy>(
 }
 
 /// Takes the count of a source line. `at` is the number of the tracefile's line that says it.
-#[inline]
+#[inline(always)]
 pub fn take_line_count<A: Allocator + Copy>(
     reader: &mut Reader<'_, A>,
     alloc: A,
@@ -100,7 +100,7 @@ pub fn take_line_count<A: Allocator + Copy>(
 }
 
 /// Takes how often a branch was taken. `at` is the number of the tracefile's line that says it.
-#[inline]
+#[inline(always)]
 pub fn take_branch<A: Allocator + Copy>(
     reader: &mut Reader<'_, A>,
     at: u64,

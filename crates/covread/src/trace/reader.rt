@@ -106,7 +106,7 @@ impl<'a, A: Allocator + Copy> Reader<'a, A> {
     }
 
     /// Adds the count of a source line to the open section.
-    #[inline]
+    #[inline(always)]
     pub fn keep_count(
         &mut self,
         alloc: A,
@@ -128,7 +128,7 @@ impl<'a, A: Allocator + Copy> Reader<'a, A> {
 
     /// Adds the count of a branch to the open section. `taken` is how often the branch was taken, or `None` if its block was
     /// never executed.
-    #[inline]
+    #[inline(always)]
     pub fn keep_branch(
         &mut self,
         point: BranchPoint,

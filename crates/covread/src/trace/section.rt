@@ -118,7 +118,7 @@ impl<'a, A: Allocator + Copy> SectionBuilder<'a, A> {
     }
 
     /// Takes how often a branch was taken. Only the list of items may allocate.
-    #[inline]
+    #[inline(always)]
     pub fn take_branch(&mut self, branch: BranchPoint, taken: Option<u128>) -> Result<(), Memory>
         requires { (inside : List LineData) × IsBuiltOf self.old inside × length inside + 1 < 2 ^ 64 }
         ensures { OnOk result ((inside : List LineData) → IsBuiltOf self.old inside → IsBuiltOf self.new (inside ++ Branch branch.line branch.block branch.branch taken ∷ [])) }
@@ -135,7 +135,7 @@ impl<'a, A: Allocator + Copy> SectionBuilder<'a, A> {
     }
 
     /// Takes the execution count of a line that has no checksum. Only the list of items may allocate.
-    #[inline]
+    #[inline(always)]
     fn take_plain(&mut self, line: u64, count: u128) -> Result<(), Memory>
         requires { (inside : List LineData) × IsBuiltOf self.old inside × length inside + 1 < 2 ^ 64 }
         ensures { OnOk result ((inside : List LineData) → IsBuiltOf self.old inside → IsBuiltOf self.new (inside ++ Line line count None ∷ [])) }
@@ -151,7 +151,7 @@ impl<'a, A: Allocator + Copy> SectionBuilder<'a, A> {
     }
 
     /// Takes the execution count of a line.
-    #[inline]
+    #[inline(always)]
     pub fn take_line(
         &mut self,
         alloc: A,

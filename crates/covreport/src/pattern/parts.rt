@@ -106,7 +106,8 @@ fn read_set(rest: &[u8]) -> Option<Head<'_>>
     Some(one_byte(ByteSet::OneOf(body), behind))
 }
 
-/// The part of a `\` right before these bytes: it takes the first of them as itself, or `\` itself if there is none.
+/// The part that begins with `\`, if the bytes `rest` follow it in the pattern: it takes only the byte after the `\`, or only
+/// `\` if the pattern ends there.
 fn read_quoted(rest: &[u8]) -> Head<'_>
     ensures { head_data result ≡ after_head rest.now (quoted rest.now) }
 {
