@@ -3,7 +3,7 @@ use Rattle.std.specs.Prelude.{ℕ, Option, List}
 use Rattle.covmap.specs.Staged.{staged_of}
 use Rattle.covmap.specs.Slots.{filled, slots_of}
 
--- the entries, ascending by their keys: the committed ones, and the staged ones, which would be committed by a commit
+-- the committed and the staged entries, ascending by their keys. A commit replaces the committed entries with the staged ones
 pub record MapData (K V : Type 0) : Type 0 where
   pub committed : List (K × V)
   pub staged : List (K × V)

@@ -31,7 +31,8 @@ abbrev pub column_summed : {V Q M : Type 0} → (M → Option V → V) → List 
 column_summed sum [] column = column
 column_summed sum (here ∷ placed) column = column_summed sum placed (value_summed sum here.slot here.item column)
 
--- up to the first key without a slot, each addend fits the value in its key's slot, after the addends before it are added
+-- each addend fits the value that its key's slot has after the addends before it are added. From the first key without a slot
+-- on, nothing is required
 abbrev pub FitHere : {K V Q M : Type 0} → (K → K → Ordering) → (Q → K) → (M → Option V → Type 0) → (M → Option V → V) → List (K × Option V) → List (Q × M) → List (Option V) → Type 0
 FitHere cmp named fits sum page [] column = Unit {0}
 FitHere cmp named fits sum page (item ∷ run) column =
@@ -46,8 +47,8 @@ reports_here sum reports (here ∷ placed) column =
     reports_one here.item.0 (reports here.item.1 (value_in (slice_get column here.slot)) (sum here.item.1 (value_in (slice_get column here.slot))))
     ++ reports_here sum reports placed (value_summed sum here.slot here.item column)
 
--- this number of items at the front of a run have slots on a page. Their addends are added to a column of the page, and their
--- reports are appended
+-- the first `count` items of a run have slots on the page. `new` is the column `old` with the addends of these items added, and
+-- `after` is `before` with their reports appended
 pub record IsAlong {K V Q M N : Type 0} (cmp : K → K → Ordering) (named : Q → K) (sum : M → Option V → V) (reports : M → Option V → V → Option N) (page : List (K × Option V)) (run : List (Q × M)) (count : ℕ)
     (old new : List (Option V)) (before after : List (Q × N)) : Type 0 where
   pub placed : List (Placed Q M)
@@ -71,7 +72,7 @@ pub record IsNewPage {K V Q M : Type 0} (cmp : K → K → Ordering) (named : Q 
   pub none : filled page ≡ []
   pub first : FirstHere cmp named page 0 run
 
--- the pages with such a page appended
+-- `new` is `old` with one more page at the end: a page of empty slots, which begins with the first key of the run
 pub record IsGrown {K V Q M : Type 0} (cmp : K → K → Ordering) (named : Q → K) (run : List (Q × M)) (old new : List (List (K × Option V))) : Type 0 where
   pub page : List (K × Option V)
   pub is_new : IsNewPage cmp named run page

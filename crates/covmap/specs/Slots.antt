@@ -1,4 +1,4 @@
--- Slots: ascending keys, each with a value or with none. How they are split into pages, and the places of slots.
+-- Slots: ascending keys, each with a value or with none. The slots are split into pages, and each slot has a place.
 use Rattle.std.specs.Prelude.{◌≡◌, ℕ, zero, suc, ◌≤◌, ◌<◌, nat_lt, Bool, true, false, if◌then◌else◌, Option, Some, None, option_map, List, [], ◌∷◌, ◌++◌, length, take, drop, flat_map, slice_get, slice_index_or, slice_set}
 use Rattle.std.specs.declared.cmp.Ordering.{Ordering}
 use Rattle.std.specs.declared.cmp.Ordering.TheVariants.{Less, Equal, Greater}
@@ -16,7 +16,7 @@ slot_value order slots = lookup (λ key. is_eq (order key)) slots
 abbrev pub has_slot : {K : Type 0} → (K → Ordering) → List K → Bool
 has_slot order keys = list_any (λ key. is_eq (order key)) keys
 
--- the slots of keys. The first slots get these values, one after another, and the slots that are left are empty
+-- one slot for each key. The first slots have these values, one after another, and the remaining slots are empty
 abbrev pub beside : {K V : Type 0} → List K → List (Option V) → List (K × Option V)
 beside [] values = []
 beside (key ∷ keys) [] = (key, None) ∷ beside keys []
@@ -44,7 +44,7 @@ filled ((key, Some value) ∷ slots) = (key, value) ∷ filled slots
 abbrev pub slots_of : {K V : Type 0} → List (List (K × Option V)) → List (K × Option V)
 slots_of pages = flat_map (λ page. page) pages
 
--- a page has at least one slot, and at most as many as fit on one
+-- a page has at least one slot, and at most 256 slots
 abbrev pub IsPage : {K V : Type 0} → List (K × Option V) → Type 0
 IsPage page = (0 < length page) × (length page ≤ 256)
 
@@ -111,7 +111,8 @@ pub record IsCut {K V : Type 0} (order : K → Ordering) (pages : List (List (K 
   pub page_there : at.0 ≤ length pages
   pub on_page : at.1 ≤ length (page_at pages at.0)
 
--- where the queried key would be inserted: the keys before the place are less, the others greater
+-- the queried key would be inserted at this place: the keys before the place are less than it, and those from the place on are
+-- greater
 pub record IsGap {K V : Type 0} (order : K → Ordering) (pages : List (List (K × Option V))) (at : At) : Type 0 where
   pub front : AllByRecursion (λ slot. order slot.0 ≡ Less) (before pages at)
   pub back : AllByRecursion (λ slot. order slot.0 ≡ Greater) (from pages at)

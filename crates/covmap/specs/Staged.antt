@@ -7,7 +7,7 @@ use Rattle.covmap.specs.Slots.{page_at, At}
 abbrev pub column_of : {K V : Type 0} → List (K × Option V) → List (Option V)
 column_of page = map (λ slot. slot.1) page
 
--- the page with these values; its keys stay
+-- the page after its first slots get these values, one after another. The keys stay, and so do the other slots
 abbrev pub with_column : {K V : Type 0} → List (K × Option V) → List (Option V) → List (K × Option V)
 with_column [] column = []
 with_column (slot ∷ page) [] = slot ∷ page
@@ -40,7 +40,7 @@ staged_of pages columns = staged_from 0 pages columns
 abbrev pub with_value_at : {K V : Type 0} → At → V → List (List (K × Option V)) → List (List (K × Option V))
 with_value_at at value pages = slice_set pages at.0 (with_column (page_at pages at.0) (slice_set (column_of (page_at pages at.0)) at.1 (Some value)))
 
--- the columns are of pages after the page of this number
+-- each column is of a page that comes after the page of this number
 abbrev pub AreAfter : {V : Type 0} → ℕ → List (ℕ × List (Option V)) → Type 0
 AreAfter number columns = AllByRecursion (λ column. number < column.0) columns
 
@@ -49,7 +49,7 @@ abbrev pub AreAscending : {V : Type 0} → List (ℕ × List (Option V)) → Typ
 AreAscending [] = Unit {0}
 AreAscending (column ∷ columns) = AreAfter column.0 columns × AreAscending columns
 
--- the column is of one of these pages, and has a value for each of its slots
+-- the column is of one of these pages, and has a value for each slot of that page
 abbrev pub IsColumnOf : {K V : Type 0} → List (List (K × Option V)) → ℕ × List (Option V) → Type 0
 IsColumnOf pages column = (column.0 < length pages) × (length column.1 ≡ length (page_at pages column.0))
 
@@ -57,7 +57,7 @@ IsColumnOf pages column = (column.0 < length pages) × (length column.1 ≡ leng
 abbrev pub AreColumnsOf : {K V : Type 0} → List (List (K × Option V)) → List (ℕ × List (Option V)) → Type 0
 AreColumnsOf pages columns = AllByRecursion (IsColumnOf pages) columns
 
--- a page has a column at this index, and what is staged is as before
+-- in `new`, the page has a column, which is at this index. The staged values are the same as in `old`
 pub record IsTouched {K V : Type 0} (pages : List (List (K × Option V))) (old new : List (ℕ × List (Option V))) (page index : ℕ) : Type 0 where
   pub front : List (ℕ × List (Option V))
   pub column : List (Option V)
@@ -71,7 +71,7 @@ pub record IsTouched {K V : Type 0} (pages : List (List (K × Option V))) (old n
 
 -- ---- one more slot
 
--- the column that a page has, if any
+-- a list of one column, with the number of its page, or an empty list if the page has no column
 abbrev pub own_of : {V : Type 0} → ℕ → Option (List (Option V)) → List (ℕ × List (Option V))
 own_of page None = []
 own_of page (Some column) = (page, column) ∷ []
@@ -100,12 +100,13 @@ number_after page number = if nat_lt page number then suc number else number
 abbrev pub moved : {V : Type 0} → ℕ → ℕ × List (Option V) → ℕ × List (Option V)
 moved page column = (number_after page column.0, column.1)
 
--- the columns of the two halves
+-- the columns of the two pages that a page is split into, or no columns if that page had none
 abbrev pub halves_of : {V : Type 0} → ℕ → Option (List (Option V)) → List (ℕ × List (Option V))
 halves_of page None = []
 halves_of page (Some column) = (page, take 128 column) ∷ (suc page, drop 128 column) ∷ []
 
--- the columns of later pages have the next number, and the page's own column, if any, is split in two
+-- the columns after a page is split in two: each column of a later page gets the next number, and the page's own column, if it
+-- has one, is split in two
 pub record IsSplit {V : Type 0} (page : ℕ) (old new : List (ℕ × List (Option V))) : Type 0 where
   pub front : List (ℕ × List (Option V))
   pub here : Option (List (Option V))

@@ -13,10 +13,11 @@ use std::marker::Model;
 
 /// A finite map with committed and staged values. If nothing is staged for a key, its staged value is the committed one.
 ///
-/// Contracts see two lists of entries, ascending by their keys: the committed ones, and the staged ones, which are the committed
-/// ones after a commit.
+/// Contracts see two lists of entries, ascending by their keys: the committed entries and the staged entries. A commit replaces
+/// the committed entries with the staged ones.
 ///
-/// A look-up costs no search for the key that was looked up last, and for the one right after it.
+/// A look-up costs no search for the key right after the one that was looked up last. It costs none for that key itself either,
+/// unless a run was staged since.
 #[derive(Drop)]
 pub struct StagedMap<K: Key, V, A: Allocator> {
     slots: Slots<K, V, A>,
@@ -88,7 +89,7 @@ impl<K: Key, V, A: Allocator> StagedMap<K, V, A> {
         entries.next().is_none()
     }
 
-    /// The place of the key that was looked up last.
+    /// The guess for the next look-up: the place of the key that was looked up last, or the place right after it.
     pub fn cursor(&self) -> SlotIndex {
         self.cursor
     }
@@ -206,8 +207,8 @@ impl<K: Key + Drop, V: Value, A: Allocator + Copy> StagedMap<K, V, A> {
         self.staged.put(alloc, &self.slots, place, value)
     }
 
-    /// Stages the sum of a key's staged value and an addend. Looks the key up once. The look-up searches nothing if `guess` is
-    /// the key's place, or the place just before it.
+    /// Stages the sum of a key's staged value and an addend. Looks up the key only once. The look-up costs no search if `guess`
+    /// is the key's place, or the place right before it.
     ///
     /// # Errors
     ///

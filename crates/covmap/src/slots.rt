@@ -106,9 +106,9 @@ impl<K: Key, V, A: Allocator> Slots<K, V, A> {
         SlotIndex { page, index }
     }
 
-    /// The place of the queried key; as an error, the place where it would be inserted. Costs no search if the key is at the
-    /// guess, or if it is right after the guess or would be inserted there. If it would be inserted right before the guess, only
-    /// a guess at the first slot of a page costs a search.
+    /// The place of the queried key, or as an error, the place where the key would be inserted. Costs no search if the key is
+    /// at the guess or right after it, or would be inserted right after it. A key that would be inserted right before the guess
+    /// costs a search only if the guess is the first slot of a page.
     pub(crate) fn find<Q: Query<K, A>>(
         &self,
         query: Q,
@@ -125,8 +125,8 @@ impl<K: Key, V, A: Allocator> Slots<K, V, A> {
         }
     }
 
-    /// The same as `find`. Costs no search if the guess isn't the first slot of its page, and the key is, or would be inserted,
-    /// right after the slot before the guess.
+    /// The same as `find`. Looks right after the slot before the guess first. Costs a search if the key isn't there and
+    /// wouldn't be inserted there, or if the guess is the first slot of its page.
     fn find_before<Q: Query<K, A>>(
         &self,
         query: Q,
@@ -215,7 +215,7 @@ impl<K: Key, V, A: Allocator> Slots<K, V, A> {
         }
     }
 
-    /// States, for proofs only, that no page is empty, and that all keys ascend.
+    /// States, for proofs only, that each page has from 1 to 256 slots, and that all keys ascend.
     pub(crate) fn are_whole(&self)
         ensures { AreSlots K.cmp self.now }
     {
@@ -283,7 +283,7 @@ impl<K: Key, V: Value, A: Allocator> Slots<K, V, A> {
         }
     }
 
-    /// Replaces the values of a page by these.
+    /// Replaces the values of a page with the values of `column`.
     pub(crate) fn fill(&mut self, number: usize, column: Vec<Option<V>, A>)
         requires there { number < length self.old }
         requires fits { length column.items ≡ length (page_at self.old number) }

@@ -12,9 +12,9 @@ impl<K: Key + Drop, V: Value, A: Allocator + Copy> StagedMap<K, V, A> {
     /// Stages, for each item in turn, the sum of its key's staged value and its addend. Appends what the addends report to the
     /// list `reports`. Keys may come in any order, and more than once.
     ///
-    /// Ascending keys that have slots are looked up once for each page that they are on. New keys that are greater than all
-    /// others get a page at once, unless fewer than 32 items are left and the last page has room. Any other new key is inserted
-    /// by itself.
+    /// Ascending keys that have slots cost one look-up for each page that they are on. New keys that are greater than all
+    /// others are put on a new page together, unless fewer than 32 items are left and the last page has room. Any other new key
+    /// is inserted by itself.
     ///
     /// # Errors
     ///

@@ -14,7 +14,7 @@ use crate::slots::staged::StagedColumns;
 use crate::slots::{HALF, PAGE_SLOTS, SlotIndex, Slots};
 use std::alloc::{AllocError, Allocator};
 
-/// Returns the place of the queried key, and inserts an empty slot if it has none.
+/// Returns the place of the queried key. If the key has no slot, inserts an empty one first.
 pub(crate) fn make_slot<K: Key + Drop, V: Value, A: Allocator + Copy, Q: Query<K, A>>(
     slots: &mut Slots<K, V, A>,
     staged: &mut StagedColumns<V, A>,

@@ -166,7 +166,7 @@ impl<K, V: Value, A: Allocator> Page<K, V, A> {
         Ok(column)
     }
 
-    /// Replaces the values of the page by these.
+    /// Replaces the values of the page with the values of `column`.
     pub(crate) fn fill(&mut self, column: Vec<Option<V>, A>)
         requires { length column.items ≡ length self.old }
         ensures { self.new ≡ with_column self.old column.items }

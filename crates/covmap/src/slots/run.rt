@@ -12,8 +12,8 @@ use crate::slots::staged::StagedColumns;
 use crate::slots::{PAGE_SLOTS, SlotIndex, Slots, push};
 use std::alloc::{AllocError, Allocator};
 
-/// A new key that is greater than all others goes to the last page, if that page has room and fewer items than this are left of
-/// the run. Otherwise the key begins a page of its own.
+/// A run is short if fewer items than this are left of it. A new key that is greater than all others goes to the last page if
+/// the run is short and that page has room. Otherwise the key begins a new page.
 const SHORT_RUN: usize = 32;
 
 impl SlotIndex {
@@ -110,9 +110,9 @@ pub(crate) fn make_slots<
     }
 }
 
-/// Inserts empty slots for the keys at the front of a run. Stops when the page is full, or after the first key that isn't greater
-/// than the key before it or belongs to another page. A page without staged values gets all these slots before it gets a column.
-/// Once it has a column, each slot has to be inserted into the column too.
+/// Inserts empty slots for the keys at the front of a run. Stops when the page is full, or after the first key that belongs to
+/// another page or isn't greater than the key before it. If the page has no column of staged values, it gets all these slots
+/// before it gets a column. Later, each new slot would have to be inserted into the column too.
 fn make_ahead<K: Key + Drop, V: Value, A: Allocator + Copy, Q: Query<K, A>, M: Addend<V>>(
     slots: &mut Slots<K, V, A>,
     staged: &mut StagedColumns<V, A>,

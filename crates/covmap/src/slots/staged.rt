@@ -208,7 +208,8 @@ impl<V: Value, A: Allocator> StagedColumns<V, A> {
 }
 
 impl<V: Value, A: Allocator + Copy> StagedColumns<V, A> {
-    /// Follows the insertion of an empty slot at a place: if its page has a column, inserts an empty value there.
+    /// Updates the columns for an empty slot that was inserted at a place. If the page has a column, inserts an empty value at
+    /// the index of the slot.
     pub(crate) fn insert_empty(&mut self, place: SlotIndex) -> Result<(), AllocError>
         requires { AllByRecursion (λ column. column.0 ≡ place.page → place.index ≤ length column.1) self.old }
         ensures ok { OnOk result (IsWidened place.page place.index self.old self.new) }
@@ -221,8 +222,8 @@ impl<V: Value, A: Allocator + Copy> StagedColumns<V, A> {
         Ok(())
     }
 
-    /// Follows the split of a page in two. The columns of later pages get the next number, and the page's own column, if it has
-    /// one, is split in two.
+    /// Updates the columns for a page that was split in two. Each column of a later page gets the next number, and the page's
+    /// own column, if it has one, is split in two.
     pub(crate) fn split(&mut self, page: usize) -> Result<(), AllocError>
         requires numbers { AllByRecursion (λ column. column.0 + 1 < 2 ^ 64) self.old }
         requires full { AllByRecursion (λ column. column.0 ≡ page → length column.1 ≡ 256) self.old }
@@ -240,7 +241,7 @@ impl<V: Value, A: Allocator + Copy> StagedColumns<V, A> {
         Ok(())
     }
 
-    /// Adds 1 to the numbers of the columns of later pages.
+    /// Adds 1 to the page number of each column of a later page.
     fn renumber(&mut self, page: usize)
         requires { AllByRecursion (λ column. column.0 + 1 < 2 ^ 64) self.old }
         ensures { self.new ≡ map (moved page) self.old }
@@ -296,7 +297,7 @@ fn insert_empty<V: Drop, A: Allocator>(
     Ok(())
 }
 
-/// Adds 1 to the numbers of the columns of later pages.
+/// Adds 1 to the page number of each column of a later page.
 fn renumber<V, A: Allocator>(columns: &mut [(usize, Vec<Option<V>, A>)], page: usize)
     requires { AllByRecursion (λ column. column.0 + 1 < 2 ^ 64) columns.old }
     ensures { columns.new ≡ map (λ column. (number_after page column.0, column.1)) columns.old }

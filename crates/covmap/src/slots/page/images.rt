@@ -19,7 +19,7 @@ impl<K: CopyKey<A> + Drop, V, A: Allocator + Copy> Page<K, V, A> {
     }
 }
 
-/// Copies of keys. Reserves room for exactly that many.
+/// Copies of the keys. Reserves room for exactly `keys.len()` keys.
 fn copy_keys<K: CopyKey<A> + Drop, A: Allocator + Copy>(
     keys: &[K],
     alloc: A,
@@ -33,7 +33,7 @@ fn copy_keys<K: CopyKey<A> + Drop, A: Allocator + Copy>(
     Ok(copies)
 }
 
-/// The images of values. A missing value has no image. Reserves room for exactly that many.
+/// The images of the values. An empty value stays empty. Reserves room for exactly `values.len()` images.
 pub(crate) fn value_images<V, W: Image<V>, A: Allocator>(
     values: &[Option<V>],
     alloc: A,

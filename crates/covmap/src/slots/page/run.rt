@@ -25,8 +25,9 @@ pub(crate) struct Along {
 }
 
 impl<K: Key, V: Value, A: Allocator> Page<K, V, A> {
-    /// Adds items at the front of a run to the values of a column. The first key is that of the slot `start`. Ends at the first
-    /// key that isn't further along on this page. Slots of keys that aren't in the run are skipped.
+    /// Adds items at the front of a run to the values of a column. The slot `start` must have the first key of the run. Stops
+    /// at the first key that has no slot on this page after the slot of the key before it. Skips the slots of keys that aren't
+    /// in the run.
     pub(crate) fn add_along<Q: Query<K, A>, N: Drop, M: ReportingAddend<V, N>>(
         &self,
         column: &mut [Option<V>],

@@ -13,8 +13,8 @@ use crate::slots::{SlotIndex, Slots};
 use std::alloc::{AllocError, Allocator};
 
 impl<V: Value, A: Allocator> StagedColumns<V, A> {
-    /// Adds the front of a run to the staged values, from the place of its first key on. Ends at the first key that isn't further
-    /// along on the same page.
+    /// Adds items at the front of a run to the staged values. The slot at `place` must have the first key of the run. Stops at
+    /// the first key that has no slot on the same page after the slot of the key before it.
     pub(crate) fn add_run<K: Key, Q: Query<K, A>, N: Drop, M: ReportingAddend<V, N>>(
         &mut self,
         alloc: A,
