@@ -12,22 +12,22 @@ pub record IsRightLog (entries : List EntryData) (log : LogData) : Type 0 where
   pub receipts : IsLogOf entries log
   pub readings : AreReadingsOf entries log
 
--- the log with only this number of its receipts, the first ones
+-- the log with only its first `count` receipts
 abbrev pub first_receipts : ℕ → LogData → LogData
 first_receipts count log = record log { receipts = take count log.receipts }
 
--- `SameJob`: the log's job is that of an earlier log, and no earlier log repeats a job
+-- `SameJob`: an earlier log has the job of this log, and no two earlier logs are of the same job
 pub record IsSameJob (logs : List LogData) (number : ℕ) : Type 0 where
   pub before : Differ (jobs_of (take number logs))
   pub wrong : IsSomeAnd (slice_get logs number) (λ (log : LogData). Contains (jobs_of (take number logs)) log.job)
 
--- no two logs are of the same job, the logs before this number are right, and the one with this number is wrong in this way
+-- no two logs are of the same job, all logs before log `number` are right, and log `number` is wrong as `IsWrong` says
 pub record IsFirstWrongLog (entries : List EntryData) (logs : List LogData) (number : ℕ) (IsWrong : LogData → Type 0) : Type 0 where
   pub differ : Differ (jobs_of logs)
   pub before : AllByRecursion (IsRightLog entries) (take number logs)
   pub wrong : IsSomeAnd (slice_get logs number) IsWrong
 
--- the receipts of a log before this index are right, and the one with this index is wrong in this way
+-- the receipts of a log before receipt `index` are right, and receipt `index` is wrong as `IsWrong` says
 pub record IsFirstWrongReceipt (entries : List EntryData) (index : ℕ) (IsWrong : LogData → ReceiptData → Type 0) (log : LogData) : Type 0 where
   pub before : IsLogOf entries (first_receipts index log)
   pub wrong : IsSomeAnd (slice_get log.receipts index) (IsWrong log)
@@ -42,32 +42,33 @@ abbrev pub IsDiffering : List EntryData → List LogData → (log index : ℕ) �
 IsDiffering entries logs number index =
     IsFirstWrongLog entries logs number (IsFirstWrongReceipt entries index (λ (log : LogData) (r : ReceiptData). IsOfJob entries log.job r × ¬ IsReceiptOf entries r))
 
--- a receipt's place isn't above that of the receipt before the one with this index
+-- the place of receipt `index` isn't above the place of the receipt right before it in the log
 abbrev pub IsNotAbove : ℕ → LogData → ReceiptData → Type 0
 IsNotAbove index log r = (0 < index) × IsSomeAnd (slice_get log.receipts (index - 1)) (λ (before : ReceiptData). r.place ≤ before.place)
 
--- `Backwards`: the receipt is that of an entry of the log's job, and its place isn't above that of the receipt before
+-- `Backwards`: the receipt is that of an entry of the log's job, and its place isn't above the place of the receipt right
+-- before it in the log
 abbrev pub IsBackwards : List EntryData → List LogData → (log index : ℕ) → Type 0
 IsBackwards entries logs number index =
     IsFirstWrongLog entries logs number
     (IsFirstWrongReceipt entries index (λ (log : LogData) (r : ReceiptData). IsOfJob entries log.job r × IsReceiptOf entries r × IsNotAbove index log r))
 
--- a reading's number of entries is past the end, or its totals aren't those after that number of entries
+-- a reading counts more entries than there are, or its totals aren't those after its number of entries
 abbrev pub IsNoReadingOf : List EntryData → Reading → Type 0
 IsNoReadingOf entries r = (length entries < r.upto) ⊎ (r.totals ≢ last_totals (take r.upto entries))
 
--- the receipts of a log are right, and so are its readings before this index; the one with this index isn't
+-- the receipts of a log are right, and so are its readings before reading `index`. Reading `index` is wrong
 pub record IsFirstWrongReading (entries : List EntryData) (index : ℕ) (log : LogData) : Type 0 where
   pub receipts : IsLogOf entries log
   pub before : AllByRecursion (IsReadingOf entries) (take index log.readings)
   pub wrong : IsSomeAnd (slice_get log.readings index) (IsNoReadingOf entries)
 
--- `BadReading`: the reading's number of entries is past the end, or its totals are others
+-- `BadReading`: the reading counts more entries than there are, or its totals aren't those after its number of entries
 abbrev pub IsBadReading : List EntryData → List LogData → (log index : ℕ) → Type 0
 IsBadReading entries logs number index = IsFirstWrongLog entries logs number (IsFirstWrongReading entries index)
 
--- `Missing`: no two logs are of the same job and all logs are right; no log has the entry at this place, and each lower place
--- is in one
+-- `Missing`: no two logs are of the same job, and all logs are right. The entry at this place is in no log, and the entry at
+-- each lower place is in a log
 pub record IsMissing (entries : List EntryData) (logs : List LogData) (place : ℕ) : Type 0 where
   pub differ : Differ (jobs_of logs)
   pub right : AllByRecursion (IsRightLog entries) logs

@@ -49,15 +49,15 @@ pub record IsLogOf (entries : List EntryData) (log : LogData) : Type 0 where
   pub own : AllByRecursion (IsOfJob entries log.job) log.receipts
   pub same : AllByRecursion (IsReceiptOf entries) log.receipts
 
--- entries are a merge of logs: no two logs are of the same job, each is of the history, and each entry is in one of them. It
--- is in no other, since the entries of others are of other jobs
+-- entries are a merge of logs: no two logs are of the same job, each log is of the history, and each entry is in a log. No
+-- entry is in two logs, since each log has only entries of its own job
 pub record IsMerge (entries : List EntryData) (logs : List LogData) : Type 0 where
   pub differ : Differ (jobs_of logs)
   pub kept : AllByRecursion (IsLogOf entries) logs
   pub whole : (place : ℕ) → place < length entries → Contains (places_in logs) place
 
--- a reading is of a history: the history has at least the reading's number of entries, and the reading's totals are those
--- after this number of entries, which are zeros after no entries
+-- a reading is of a history: the history has at least as many entries as the reading counts, and the reading's totals are those
+-- after this number of entries. The totals after no entries are zeros
 pub record IsReadingOf (entries : List EntryData) (r : Reading) : Type 0 where
   pub within : r.upto ≤ length entries
   pub totals : r.totals ≡ last_totals (take r.upto entries)
@@ -70,7 +70,7 @@ pub record IsGathered (entries : List EntryData) (logs : List LogData) : Type 0 
   pub merge : IsMerge entries logs
   pub readings : AllByRecursion (AreReadingsOf entries) logs
 
--- what has to hold, and the fault if it doesn't
+-- a claim: what has to hold, and the fault if it doesn't hold
 pub record Claim : Type 1 where
   pub holds : Type 0
   pub fault : GatherFault
@@ -95,7 +95,8 @@ job_claims number before (log ∷ logs) =
     claim (AllByRecursion (λ (job : ℕ). job ≢ log.job) before) (SameJob number) ∷ job_claims (number + 1) (before ++ log.job ∷ []) logs
 
 -- the claims on a receipt of a log: an entry of the job is at the receipt's place, this entry has the receipt's operation and
--- answer, and the place is above that of the receipt before (`least` is the least such place)
+-- answer, and the place is at least `least`. `least` is 0 for the first receipt, and 1 above the place of the receipt before
+-- for each later one
 abbrev pub claims_of : List EntryData → (job log index least : ℕ) → ReceiptData → List {1} Claim
 claims_of entries job log index least r =
     claim (IsOfJob entries job r) (Stranger log index) ∷ claim (IsReceiptOf entries r) (Differs log index) ∷ claim (least ≤ r.place) (Backwards log index) ∷ []
@@ -124,10 +125,10 @@ abbrev pub entry_claims : List LogData → (place : ℕ) → List EntryData → 
 entry_claims logs place [] = []
 entry_claims logs place (e ∷ entries) = claim (Contains (places_in logs) place) (Missing place) ∷ entry_claims logs (place + 1) entries
 
--- all that makes a history gathered from logs, in the order in which faults are tested
+-- the claims that make a history gathered from logs if all of them hold, in the order in which they are tested
 abbrev pub gather_claims : List EntryData → List LogData → List {1} Claim
 gather_claims entries logs = job_claims 0 [] logs ++ log_claims entries 0 logs ++ entry_claims logs 0 entries
 
--- the first fault of entries and logs
+-- the fault is that of the first claim on the entries and logs that doesn't hold
 abbrev pub IsGatherFault : List EntryData → List LogData → GatherFault → Type 0
 IsGatherFault entries logs fault = FirstFails (gather_claims entries logs) fault

@@ -4,24 +4,26 @@ use Rattle.covstore.specs.Store.{StoreData, StandsFor, SameContent}
 use Rattle.covbook.specs.Op.{EntryData, AreLawfulOps}
 use Rattle.covbook.specs.Step.{IsLegal, table_of, ops_in, max_entries}
 
--- entries, and for how many of them there is room without a growth
+-- the entries of a history, and how many entries there is room for in all without a growth
 pub record HistoryData : Type 0 where
   pub entries : List EntryData
   pub room : ℕ
 
--- the history, and what a step that was made ready relies on: for how many entries there is room, and what the store shows
+-- a book: the entries of its history, how many entries there is room for in all, and what its store shows. A step that was made
+-- ready relies on all three
 pub record BookData : Type 0 where
   pub entries : List EntryData
   pub room : ℕ
   pub store : StoreData
 
--- the same history, and the same content of the store; the room and what else the store shows may differ
+-- both books have the same history, and their stores have the same content. The room and the rest of what the stores show may
+-- differ
 pub record SameBook (before after : BookData) : Type 0 where
   pub entries : after.entries ≡ before.entries
   pub content : SameContent before.store after.store
 
--- the history is legal and its operations are lawful, the store represents the last table of its run, and this is the number
--- of accepted submissions
+-- the history is legal, and its operations are lawful. The store represents the last table of the history's run. `accepted` is
+-- the number of accepted submissions, which is the length of that table
 pub record IsBook (store : StoreData) (accepted : ℕ) (entries : List EntryData) : Type 0 where
   pub legal : IsLegal entries
   pub lawful : AreLawfulOps (ops_in entries)

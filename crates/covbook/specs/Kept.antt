@@ -1,6 +1,7 @@
--- What a job knows of its calls, whatever is kept of the history in memory: its log is of the history of its latest news. If the
--- latest news of each job are of a beginning of the last history, and all calls are as many as this history is long, the logs of the
--- jobs have gathered it.
+-- What a job knows of its calls, whatever the book keeps of its history: the job's log is of the history of the job's latest
+-- news. Suppose that a history has as many entries as all jobs together have successful calls, that the history of each job's
+-- latest news is a beginning of this history, and that the readings in the jobs' logs are of this history. Then this history is
+-- gathered from these logs.
 use Rattle.std.specs.Prelude.{◌≡◌, ℕ, ◌+◌, List, [], ◌∷◌, ◌++◌, length, map}
 use Rattle.std.specs.List.{AllByRecursion, sum_by, range_with_len}
 use Rattle.covbook.specs.Op.{EntryData, ReceiptData}
@@ -8,8 +9,8 @@ use Rattle.covbook.specs.Step.{receipt_of}
 use Rattle.covbook.specs.Gather.{LogData, IsLogOf, AreReadingsOf, jobs_of}
 pub use mathlib.Core.List.{IsPrefix}
 
--- a job's log is of the history of its latest news, and has a receipt for each of its calls. This history has the entries before the
--- place that the job has seen
+-- a job's log is of the history of the job's latest news, and has a receipt for each of the job's calls. This history has
+-- `seen` entries
 pub record IsKept (log : LogData) (calls seen : ℕ) (latest : List EntryData) : Type 0 where
   pub log_of : IsLogOf latest log
   pub counted : length log.receipts ≡ calls
@@ -19,7 +20,8 @@ pub record IsKept (log : LogData) (calls seen : ℕ) (latest : List EntryData) :
 abbrev pub with_receipt : LogData → ReceiptData → LogData
 with_receipt log receipt = record { job = log.job; receipts = log.receipts ++ receipt ∷ []; readings = log.readings }
 
--- a job's log, how many of its calls succeeded, the place that it has seen, and the history of its latest news
+-- a job's log, how many of the job's calls succeeded, how many entries the job has seen, and the history of the job's latest
+-- news
 pub record KeptData : Type 0 where
   pub log : LogData
   pub calls : ℕ

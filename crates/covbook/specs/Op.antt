@@ -15,7 +15,8 @@ pub data OpData : Type 0 where
   RemoveOp : (patterns : List (List ℕ)) → OpData
   SummaryOp : OpData
 
--- if the operation adds a submission, this is lawful. Other operations always are: a rename may have any new name
+-- the operation is lawful: if it adds a submission, the submission is lawful. Every other operation is lawful: a rename may
+-- have any new name
 abbrev pub IsLawfulOp : OpData → Type 0
 IsLawfulOp (SubmitOp submission) = IsLawful submission
 IsLawfulOp (DropTestOp test) = Unit {0}
@@ -28,7 +29,8 @@ IsLawfulOp SummaryOp = Unit {0}
 abbrev pub AreLawfulOps : List OpData → Type 0
 AreLawfulOps ops = AllByRecursion IsLawfulOp ops
 
--- if the operation is a rename, a tracefile can have the new name, so what is renamed can be printed and read back
+-- if the operation is a rename, the new name is one that a tracefile can have, so the renamed counts can be printed and read
+-- back
 abbrev pub HasGoodName : OpData → Type 0
 HasGoodName (RenameOp old new) = IsGoodTest new
 HasGoodName (SubmitOp submission) = Unit {0}
@@ -49,7 +51,7 @@ pub data AnswerData : Type 0 where
   NoSuchTestAnswer : AnswerData
   TextAnswer : (text : List ℕ) → AnswerData
 
--- one operation of a job, what it was answered, and the totals after it
+-- one operation of a job, the answer to it, and the totals after it
 pub record EntryData : Type 0 where
   pub job : ℕ
   pub op : OpData

@@ -1,4 +1,4 @@
--- A step in two halves: what the first one leaves for the second, and when the second may come.
+-- A step in two halves: what the first half leaves for the second half, and when the second half may be taken.
 use Rattle.std.specs.Prelude.{◌≡◌, ℕ, ◌<◌, List, [], ◌∷◌, ◌++◌, length}
 use Rattle.covline.specs.Row.{SubmissionData, rows_of}
 use Rattle.covstore.specs.declared.totals.Totals.{Totals}
@@ -11,14 +11,14 @@ use Rattle.covbook.specs.Held.{BookData}
 use Rattle.covbook.specs.Op.{OpData, EntryData}
 use Rattle.covbook.specs.Step.{table_after, table_of, totals_at, ops_in, ComesNext, max_entries}
 
--- what a step does to the store: nothing, or it holds what is planned, or drops a test, or renames one
+-- what a step does to the store: it does nothing, holds the submission of a plan, drops a test, or renames a test
 pub data ChangeData : Type 0 where
   NoChange : ChangeData
   HoldChange : (plan : PlanData) → ChangeData
   DropChange : (test : List ℕ) → ChangeData
   RenameChange : (renaming : RenamingData) → ChangeData
 
--- a step made ready: the entry that comes, and its place; what it does to the store; the totals after it
+-- a step that was made ready: the place of its entry, the entry, what the step does to the store, and the totals after the step
 pub record ReadyData : Type 0 where
   pub place : ℕ
   pub entry : EntryData
@@ -34,10 +34,10 @@ pub record HasRoom (book : BookData) : Type 0 where
 abbrev pub IsNextOf : BookData → EntryData → Type 0
 IsNextOf book entry = ComesNext book.entries entry
 
--- the change does to the store what the operation does to the table. There is no change if the operation leaves the table as it
--- is. A plan is a plan of this store for a submission whose rows the operation adds to the table. A test is dropped if the
--- operation takes the test's rows out of the table. A renaming is one of this store from an old name to a new one if the operation
--- gives the rows of the old name the new one
+-- the change does to the store what the operation does to the table. For `NoChange`, the operation leaves the table as it is.
+-- For `HoldChange`, the plan is one of this store for a submission, and the operation adds the rows of this submission to the
+-- table. For `DropChange`, the operation takes the test's rows out of the table. For `RenameChange`, the renaming is one of
+-- this store from an old name to a new name, and the operation gives the rows of the old name the new name
 abbrev pub IsPlanned : StoreData → Table → OpData → ChangeData → Type 0
 IsPlanned store table op NoChange = table_after table op ≡ table
 IsPlanned store table op (HoldChange plan) = (s : SubmissionData) × IsPlanOf store s plan × (table_after table op ≡ table ++ rows_of s ∷ [])
@@ -56,7 +56,7 @@ pub record IsReadyOf (book : BookData) (ready : ReadyData) : Type 0 where
   pub planned : IsPlanned book.store (table_of (ops_in book.entries)) ready.entry.op ready.change
   pub after : IsAfter book ready.entry.op ready.after
 
--- the same, and the step is of this job and this operation
+-- the book is as `IsReadyOf` says, and the step is of the job `asker` and the operation `asked`
 pub record IsReadyFor (book : BookData) (asker : ℕ) (asked : OpData) (made : ReadyData) : Type 0 where
   pub ready : IsReadyOf book made
   pub job : made.entry.job ≡ asker

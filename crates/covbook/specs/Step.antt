@@ -27,8 +27,8 @@ table_after_submit table submission None = table ++ rows_of submission ∷ []
 abbrev pub has_test : Table → List ℕ → Bool
 has_test table test = list_any (is_of_test test) (all_rows table)
 
--- a test without a row can't be dropped: there is no such test. Else its rows are removed from the members of the table, which
--- all stay
+-- a test without a row isn't dropped: there is no such test. Otherwise the test's rows are removed from the members of the
+-- table. All members stay, even those without a row
 abbrev pub answer_to_drop : Table → List ℕ → Bool → AnswerData
 answer_to_drop table test true = DroppedAnswer (sections_of_test test table)
 answer_to_drop table test false = NoSuchTestAnswer
@@ -37,8 +37,8 @@ abbrev pub table_after_drop : Table → List ℕ → Bool → Table
 table_after_drop table test true = without_test test table
 table_after_drop table test false = table
 
--- a test without a row can't be renamed: there is no such test. Else its rows get the new name, which other rows may have
--- already
+-- a test without a row isn't renamed: there is no such test. Otherwise the test's rows get the new name, even if other rows
+-- have this name already
 abbrev pub answer_to_rename : Table → List ℕ → Bool → AnswerData
 answer_to_rename table old true = RenamedAnswer (sections_of_test old table)
 answer_to_rename table old false = NoSuchTestAnswer
@@ -86,7 +86,7 @@ abbrev pub table_from : Table → List OpData → Table
 table_from table [] = table
 table_from table (op ∷ ops) = table_from (table_after table op) ops
 
--- the answers, the totals and the last table of a run, which begins with the empty table
+-- a run begins with the empty table. These are its answers, the totals after each of its operations, and its last table
 abbrev pub answers_to : List OpData → List AnswerData
 answers_to ops = answers_from [] ops
 
@@ -106,12 +106,12 @@ answers_in entries = map (λ e. e.answer) entries
 abbrev pub totals_in : List EntryData → List Totals
 totals_in entries = map (λ e. e.after) entries
 
--- a history is legal: its answers, and the totals after them, are those of the run over its operations
+-- a history is legal: the answers and the totals of its entries are those of the run over its operations
 pub record IsLegal (entries : List EntryData) : Type 0 where
   pub answers : answers_in entries ≡ answers_to (ops_in entries)
   pub totals : totals_in entries ≡ totals_to (ops_in entries)
 
--- nothing is found, and nothing hit
+-- the totals if nothing is found and nothing is hit: all are zero
 abbrev pub no_totals : Totals
 no_totals = record { lf = 0; lh = 0; ff = 0; fh = 0; bf = 0; bh = 0 }
 
@@ -125,7 +125,7 @@ last_totals (e ∷ next ∷ entries) = last_totals (next ∷ entries)
 abbrev pub next_entry : List EntryData → ℕ → OpData → EntryData
 next_entry history job op = record { job = job; op = op; answer = answer_of (table_of (ops_in history)) op; after = totals_at (table_after (table_of (ops_in history)) op) }
 
--- the entry can come next in the history: it is the entry that the history gets when the entry's job asks for its operation
+-- the entry can come next in the history: it is the one that `next_entry` gives for the entry's own job and operation
 abbrev pub ComesNext : List EntryData → EntryData → Type 0
 ComesNext history entry = entry ≡ next_entry history entry.job entry.op
 

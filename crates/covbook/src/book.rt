@@ -155,7 +155,8 @@ impl<A: Allocator + Copy, K: Keep<Of = Entry<A>>> Book<A, K> {
         self.store.totals()
     }
 
-    /// The store, which represents the table after the last entry: for texts that no operation asks for. Takes no memory.
+    /// The store. It represents the table after the last entry. A caller can make texts from it that no operation asks for.
+    /// Takes no memory.
     pub fn store(&self) -> &Store<A>
         ensures store { result.now ≡ self.now.store }
         ensures stands { StandsFor self.now.store (table_of (ops_in self.now.entries)) }

@@ -51,8 +51,9 @@ pub fn order_does_not_matter()
     order_of_submissions_does_not_matter();
 }
 
-/// The claims on entries and logs all hold exactly if the history is gathered from the logs. At most one fault is the first. If
-/// there is one, the history isn't gathered; unless it is `BadReading`, the entries aren't a merge of the logs either.
+/// The claims on entries and logs all hold exactly if the history is gathered from the logs. There is at most one first fault.
+/// If there is one, the history isn't gathered from the logs. If this fault isn't `BadReading`, the entries aren't a merge of
+/// the logs either.
 pub fn claims_make_a_gathering()
     ensures gathered { (entries : List EntryData) (logs : List LogData) → AllHold (gather_claims entries logs) ↔ IsGathered entries logs }
     ensures fault { (entries : List EntryData) (logs : List LogData) (some other : GatherFault) → IsGatherFault entries logs some → IsGatherFault entries logs other → some ≡ other }
@@ -60,8 +61,8 @@ pub fn claims_make_a_gathering()
     ensures merge { (entries : List EntryData) (logs : List LogData) (fault : GatherFault) → IsGatherFault entries logs fault → ((log index : ℕ) → fault ≢ BadReading log index) → ¬ IsMerge entries logs }
 {}
 
-/// A fault is returned exactly if it has its cause: what is wrong at the log, receipt, reading or place that it names, while
-/// all that comes before it is right.
+/// A fault is the first one exactly if it has its cause: something is wrong at the log, receipt, reading or place that the
+/// fault names, and all that is tested before is right.
 pub fn each_fault_has_its_cause()
     ensures stranger { (entries : List EntryData) (logs : List LogData) (log index : ℕ) → IsGatherFault entries logs (Stranger log index) ↔ IsStranger entries logs log index }
     ensures differs { (entries : List EntryData) (logs : List LogData) (log index : ℕ) → IsGatherFault entries logs (Differs log index) ↔ IsDiffering entries logs log index }
@@ -71,9 +72,10 @@ pub fn each_fault_has_its_cause()
     ensures same_job { (entries : List EntryData) (logs : List LogData) (log : ℕ) → IsGatherFault entries logs (SameJob log) ↔ IsSameJob logs log }
 {}
 
-/// A job that keeps no history still has a log of the history of its latest news, after one more call too. If the jobs have as
-/// many calls together as a history has entries, and each job's latest news are of a beginning of it, the history is gathered from
-/// their logs: no two receipts have the same place, so there is one for each entry.
+/// If a job's log is of the history of its latest news, this stays so after one more call, even if the job keeps no history.
+/// Suppose that a history has as many entries as all jobs together have successful calls, that the history of each job's latest
+/// news is a beginning of this history, and that the readings in the jobs' logs are of this history. Then this history is
+/// gathered from these logs: no two receipts have the same place, so there is one for each entry.
 pub fn calls_count_a_history()
     ensures one_more { (log : LogData) (calls seen : ℕ) (latest before : List EntryData) (entry : EntryData) (told : ReceiptData) → IsKept log calls seen latest → entry.job ≡ log.job → receipt_of told.place entry ≡ told → length before ≡ told.place → seen ≤ told.place → IsPrefix latest (before ++ entry ∷ []) → IsKept (with_receipt log told) (calls + 1) (told.place + 1) (before ++ entry ∷ []) }
     ensures gathered { (entries : List EntryData) (jobs : ℕ) (kept : List KeptData) → jobs_of (logs_kept kept) ≡ range_with_len 0 jobs → AllByRecursion IsKeptWell kept → AllByRecursion (AreReadingsOf entries) (logs_kept kept) → AreBefore entries kept → length entries ≡ calls_kept kept → IsGathered entries (logs_kept kept) }

@@ -30,7 +30,7 @@ impl<A: Allocator + Copy> Op<A> {
     ghost use Rattle.std.specs.Prelude.{◌≡◌, IfOk};
     ghost use Rattle.covbook.specs.View.{op_data};
 
-    /// An equal operation, which shares the submission; the names of tests and patterns are copied.
+    /// An equal operation. A submission is shared with it. Names of tests are copied, and so are patterns.
     pub fn copy(&self, alloc: A) -> Result<Op<A>, Memory>
         ensures { IfOk result (λ o. op_data o ≡ op_data self.now) }
     {
@@ -159,7 +159,7 @@ impl<A: Allocator + Copy> Answer<A> {
     ghost use Rattle.std.specs.Prelude.{◌≡◌, IfOk};
     ghost use Rattle.covbook.specs.View.{answer_data};
 
-    /// An equal answer, which shares the text; the file's name and the checksums of a clash are copied.
+    /// An equal answer. A text is shared with it. The file's name and the checksums of a clash are copied.
     pub fn copy(&self, alloc: A) -> Result<Answer<A>, Memory>
         ensures { IfOk result (λ a. answer_data a ≡ answer_data self.now) }
     {

@@ -2,7 +2,8 @@
 use Rattle.std.specs.Prelude.{ℕ, ◌+◌, List, map}
 use Rattle.std.specs.List.{range_with_len, sum_by}
 
--- the job, how many of its calls succeeded, and the place after that of the last of these calls (0 before the first)
+-- the job, how many of its calls succeeded, and the place right after the entry of the last of these calls, or 0 if there is
+-- none
 pub record SeatData : Type 0 where
   pub job : ℕ
   pub calls : ℕ

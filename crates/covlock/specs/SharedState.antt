@@ -3,9 +3,9 @@ use Rattle.std.specs.Prelude.{◌≡◌, ℕ, List, length}
 use Rattle.covbook.specs.Op.{EntryData}
 use Rattle.covbook.specs.Step.{IsLegal}
 
--- the history is legal. All of it is noted, and all of it is published. The count of the calls is the number of its entries. The
--- share that is kept with the book has no part of this count, since the seats have them all. The book's own invariant says that
--- the store represents the table after the history's run
+-- the history is legal. All of it is noted, and all of it is published. The count of the calls is the number of the history's
+-- entries. The share that is kept with the book has no part of this count, since the seats have all parts. The book's own
+-- invariant says that the store represents the last table of the history's run
 pub record IsAtRest (entries noted published : List EntryData) (total parts amount : ℕ) : Type 0 where
   pub legal : IsLegal entries
   pub all_noted : noted ≡ entries

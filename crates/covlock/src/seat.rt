@@ -4,8 +4,8 @@ use covnews::Name;
 use std::marker::Model;
 use std::sync::ledger::{Book, Share};
 
-/// The seat of one job at a shared book. Contracts see the job, how many of its calls succeeded, and the place after the last
-/// of them.
+/// The seat of one job at a shared book. Contracts see the job, how many of its calls succeeded, and the place right after the
+/// entry of the last of these calls, or 0 if there is none.
 #[derive(Drop)]
 pub struct Seat<L: Name> {
     job: u32,
@@ -65,7 +65,7 @@ impl<L: Name> Seat<L> {
         self.seen
     }
 
-    /// Counts a call whose entry is at this place, in the seat and in the book's count.
+    /// Counts a call in the seat and in the book's count. The call's entry is at `place`.
     pub(crate) fn count_call(&mut self, count: &mut Book<L>, place: u64)
         requires few { count.old.total < max_entries }
         requires place { place < max_entries }

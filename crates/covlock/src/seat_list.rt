@@ -73,7 +73,7 @@ impl<L: Name, A: Allocator> Seats<L, A> {
         self.get().iter().any(|seat| job == seat.job())
     }
 
-    /// The least job below `jobs` whose seat isn't in the list; `None` if all are.
+    /// The least job below `jobs` whose seat isn't in the list. `None` if the list has the seats of all these jobs.
     pub(crate) fn missing(&self, jobs: u32) -> Option<u32>
         ensures { MatchOption result (AllAreSeated jobs self.now) (λ job. IsLeastMissing jobs self.now job) }
     {

@@ -80,7 +80,7 @@ pub fn open_book<L: Name, A: Allocator + Copy>(
     open_book_keeping(alloc, start)
 }
 
-/// As `open_book`, for a book that keeps of each entry what `K` is. Contracts see whole entries, whatever is kept.
+/// Like `open_book`, but opens a book that keeps of each entry what `K` keeps. Contracts see whole entries, whatever is kept.
 pub fn open_book_keeping<L: Name, A: Allocator + Copy, K: Keep<Of = Entry<A>>>(
     alloc: A,
     start: Start<A>,
@@ -106,12 +106,12 @@ impl<L: Name, A: Allocator + Copy, K: Keep<Of = Entry<A>>> Shared<L, A, K> {
     ghost use Rattle.covlock.specs.Call.{IsReceiptFor, IsNewsOf};
     ghost use Rattle.covlock.specs.Seat.{after_call};
 
-    /// Takes one step of the book for the seat's job. The answer is that of a run over the operations before this step, which are
-    /// a legal history. The news are of the history up to this step's entry, and readers are shown this entry from then on. Waits
-    /// for the lock, and holds it only for the step. Also waits for readers that still read what was shown two steps ago. `Full`
-    /// if the history is full. It would also be returned if the history had fewer entries than the seat has seen, but this
-    /// doesn't happen to a seat of this book. After a refusal, the book's history and content, what readers are shown, and the
-    /// seat are unchanged.
+    /// Takes one step of the book for the seat's job. The answer is the one that follows from the table after the steps before
+    /// this one, which form a legal history. The news are of the history up to this step's entry, and readers are shown this
+    /// entry from then on. Waits for the lock, and holds it only for the step. Also waits for readers that still read what was
+    /// shown two steps ago. Returns `Full` if the history is full. It would also return `Full` if the history had fewer entries
+    /// than the seat has seen, but this doesn't happen to a seat of this book. After a refusal, the book's history and content,
+    /// what readers are shown, and the seat are unchanged.
     pub fn perform<R: Wait>(
         &self,
         rt: &R,
@@ -149,7 +149,8 @@ impl<L: Name, A: Allocator, K: Keep<Of = Entry<A>>> Shared<L, A, K> {
         self.shared_state.lock(rt).reader()
     }
 
-    /// As `close`, but returns the book itself. It has the whole history, whatever it keeps of it, and the table of its counts.
+    /// Like `close`, but returns the book itself. Contracts see its whole history, whatever the book keeps of it. The book also
+    /// has the table of its counts.
     pub fn close_book<R: Wait>(
         self,
         rt: &R,

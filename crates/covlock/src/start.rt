@@ -69,8 +69,8 @@ impl<A: Allocator + Copy> Start<A> {
     ghost use Rattle.covlock.specs.declared.start.OpenFault.TheVariants as faults;
     ghost use Rattle.covlock.specs.Start.{AreJobs};
 
-    /// What a book for `jobs` jobs in this allocator is made of. `BadJobs` if `jobs` isn't from 1 to 64. Takes no memory, so `Memory` isn't
-    /// returned.
+    /// The start of a book for `jobs` jobs. `_alloc` only sets the type of the book's allocator. Returns `BadJobs` if `jobs`
+    /// isn't from 1 to 64. Takes no memory, so `Memory` isn't returned.
     pub fn new(_alloc: A, jobs: u32) -> Result<Start<A>, OpenFault>
         ensures jobs { IfOk result (λ s. s.jobs ≡ jobs) }
         ensures bad { (result ≡ Err faults.BadJobs) ↔ (AreJobs jobs → ⊥) }

@@ -14,7 +14,7 @@ pub record IsNoted (words : List Cell) (history : List EntryData) : Type 0 where
 abbrev pub length_of : Book → Named
 length_of book = record { tracked = true; key = 0; book = book }
 
--- if the step found the length that it expected, it has appended the entry to the history that was seen before it. If it found
--- another length, this says nothing
+-- if the step found the length that it expected, it has appended its entry to the history that was seen before the step. If the
+-- step found another length, this says nothing
 abbrev pub Appends : Step EntryData → View EntryData ℕ → ℕ → View EntryData ℕ → Type 0
 Appends step before found after = MatchBool (found == step.old) (after.0 ≡ before.0 ++ step.ask ∷ []) (Unit {0})

@@ -4,7 +4,8 @@
 //! it shows readers how many entries there are and the totals after them (`Publisher::publish`). A reader (`Live`) asks for these
 //! totals at any time, without a lock or a wait: `left_right` keeps two copies of what is shown.
 //!
-//! `News` have the length of a published history and the totals after it. `publish` returns them. A reader that learns news never again reports fewer entries than they have, even if it wasn't shown these entries, and even
+//! `News` have the length of a published history and the totals after it. `publish` returns them. A reader that learns news
+//! never again reports fewer entries than the news have. This is so even if the reader wasn't shown these entries, and even
 //! after the book is closed.
 //!
 //! What is published is a legal history (covbook's `IsLegal`) that only grows at its end. So of any two histories that were

@@ -54,7 +54,7 @@ impl<L: Name, A: Allocator> Live<L, A> {
         }
     }
 
-    /// Learns the news: later readings have at least their entries. Takes no memory, and waits for nobody.
+    /// Learns the news: later readings count at least the entries that the news have. Takes no memory, and waits for nobody.
     pub fn learn(&mut self, news: &News<L>)
         ensures one { (self.new ≡ self.old) ⊎ (self.new ≡ news.now) }
         ensures own { IsPrefix self.old self.new }
@@ -64,8 +64,8 @@ impl<L: Name, A: Allocator> Live<L, A> {
     }
 
     /// The totals of the published history, or of the longest history that this reader saw or learned, whichever is longer. If
-    /// the reader is given no view, the totals are those of the longest history that it saw or learned. This is so after the
-    /// publisher was closed. Takes no memory, and waits for nobody.
+    /// the reader is given no view, the totals are those of the longest history that it saw or learned. A reader is given no
+    /// view after the publisher was closed. Takes no memory, and waits for nobody.
     pub fn totals(&mut self) -> Reading
         ensures own { IsPrefix self.old self.new }
         ensures legal { IsLegal self.new }

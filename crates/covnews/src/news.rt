@@ -111,8 +111,9 @@ impl<L: Name> News<L> {
         }
     }
 
-    /// Appends the next entry to the noted history, and returns news of the history with this entry. `None` if the noted history
-    /// has more entries than these news; nothing is appended then. It isn't returned if nobody else has the history's word.
+    /// Appends the next entry to the noted history, and returns news of the history with this entry. If the noted history has
+    /// more entries than these news, appends nothing and returns `None`. This doesn't happen if nobody else has the history's
+    /// word.
     pub(crate) fn appended<A: Allocator>(
         &self,
         history: &Length,

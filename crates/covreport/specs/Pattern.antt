@@ -2,7 +2,8 @@
 use Rattle.std.specs.Prelude.{ℕ, ◌+◌, zero, suc, Bool, true, false, ◌==◌, ◌&&◌, ◌||◌, not, nat_le, List, [], ◌∷◌, length, Option, Some, None, option_map, unwrap_or, if◌then◌else◌}
 use Rattle.std.specs.List.{list_any}
 
--- the bytes of which a part takes one: any byte, this one, one that is in a set's body, one that isn't
+-- the bytes of which a part takes one: every byte, this byte, the bytes that a set's body has, or the bytes that it doesn't
+-- have
 pub data ByteSet : Type 0 where
   Any : ByteSet
   Exactly : (byte : ℕ) → ByteSet
@@ -14,7 +15,7 @@ pub data Part : Type 0 where
   AnyRun : Part
   OneByte : (set : ByteSet) → Part
 
--- a part, and how many bytes of the pattern after its first one belong to it too
+-- a part, and how many more bytes of the pattern belong to it after its first byte
 pub record Head : Type 0 where
   pub part : Part
   pub more : ℕ
@@ -29,7 +30,8 @@ abbrev pub body_of : List ℕ → Option (List ℕ)
 body_of [] = None
 body_of (first ∷ rest) = option_map (λ body. first ∷ body) (before_close rest)
 
--- the set whose [ comes right before these bytes, if a ] closes it. If they begin with !, it has the bytes that its body hasn't
+-- the set whose [ comes right before these bytes, if a ] closes it. If the bytes begin with !, the set has each byte that isn't
+-- in its body
 abbrev pub opened_set : List ℕ → Option Head
 opened_set [] = None
 opened_set (b ∷ rest) =
@@ -37,7 +39,8 @@ opened_set (b ∷ rest) =
     then option_map (λ body. record { part = OneByte (NoneOf body); more = length body + 2 }) (body_of rest)
     else option_map (λ body. record { part = OneByte (OneOf body); more = length body + 1 }) (body_of (b ∷ rest))
 
--- \ takes the next byte as itself; at the end it takes itself
+-- the part that begins with a \ right before these bytes. It takes the byte after the \, or the \ itself at the end of the
+-- pattern
 abbrev pub quoted : List ℕ → Head
 quoted [] = record { part = OneByte (Exactly 92); more = 0 }
 quoted (b ∷ rest) = record { part = OneByte (Exactly b); more = 1 }
@@ -65,7 +68,7 @@ parts_after zero (b ∷ rest) = (head_of b rest).part ∷ parts_after (head_of b
 abbrev pub parts_of : List ℕ → List Part
 parts_of pattern = parts_after 0 pattern
 
--- a set's body has this byte: three bytes a - b are the range from a to b, each other byte is itself
+-- a set's body has this byte. Three bytes a - b of the body stand for the range from a to b. Each other byte stands for itself
 abbrev pub in_body : ℕ → List ℕ → Bool
 in_body byte [] = false
 in_body byte (a ∷ []) = byte == a
@@ -81,7 +84,7 @@ takes (Exactly other) byte = byte == other
 takes (OneOf body) byte = in_body byte body
 takes (NoneOf body) byte = not (in_body byte body)
 
--- what is left of a path after each of the runs that it begins with, the empty one first
+-- what is left of a path after each run of bytes at its front. The empty run comes first
 abbrev pub ends_of : List ℕ → List (List ℕ)
 ends_of [] = [] ∷ []
 ends_of (b ∷ path) = (b ∷ path) ∷ ends_of path

@@ -32,6 +32,6 @@ head_data head = (part_data head.part, head.rest.now)
 abbrev pub after_body : List ℕ → List ℕ → List ℕ × List ℕ
 after_body text body = (body, drop (length body + 1) text)
 
--- a part whose first byte comes right before these, and what follows it
+-- a part whose first byte comes right before the bytes `rest`, and what follows the part
 abbrev pub after_head : List ℕ → pattern.Head → pattern.Part × List ℕ
 after_head rest head = (head.part, drop head.more rest)

@@ -13,7 +13,8 @@ abbrev pub fits_later : List Part → List ℕ → Bool
 fits_later parts [] = false
 fits_later parts (b ∷ path) = fits (AnyRun ∷ parts) path
 
--- the parts after the last star fit if its run ends later than where it was last taken to end
+-- there is a last star, and the parts after it fit what is left of the path if the star's run ends later than where it was last
+-- taken to end
 abbrev pub fits_following : Option Position → Bool
 fits_following None = false
 fits_following (Some star) = fits_later (parts_of star.pattern.now) star.path.now
@@ -30,8 +31,9 @@ steps_from here (Some star) = length here.pattern.now + 1 + (length star.pattern
 abbrev pub steps_left : Matcher → ℕ
 steps_left matcher = steps_from matcher.here matcher.star
 
--- what is left here comes from what was left after the star: if the star's parts fit some end of its path, the parts
--- that are left here fit some end of the path that is left here
+-- `here` comes from `star`: no more of the pattern and of the path is left here than was left after the star. If the parts that
+-- were left after the star fit some end of the path that was left there, the parts that are left here fit some end of the path
+-- that is left here
 pub record ComesFrom (star here : Position) : Type 0 where
   pub pattern : length here.pattern.now ≤ length star.pattern.now
   pub path : length here.path.now ≤ length star.path.now

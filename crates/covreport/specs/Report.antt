@@ -25,7 +25,7 @@ sorted cmp (x ∷ xs) = put_in cmp x (sorted cmp xs)
 abbrev pub totals : TotalKind → TotalKind → ℕ → ℕ → List LineData
 totals found_kind hit_kind found hit = Total found_kind found ∷ Total hit_kind hit ∷ []
 
--- the same, but nothing if there are no points
+-- the same two records, or no record if there are no points
 abbrev pub totals_if_any : TotalKind → TotalKind → ℕ → ℕ → List LineData
 totals_if_any found_kind hit_kind found hit = if found == 0 then [] else totals found_kind hit_kind found hit
 

@@ -1,4 +1,4 @@
--- How much room printing takes: that for the functions of one section at a time.
+-- How much room printing takes: room for the functions of one section at a time.
 use Rattle.std.specs.Prelude.{ℕ, List, [], ◌∷◌, length, max, if◌then◌else◌}
 use Rattle.covstore.specs.Content.{SectionData}
 use Rattle.covreport.specs.Choice.{ChoiceData, is_chosen}

@@ -1,8 +1,8 @@
 //! Prints what a store holds: the merged tracefile (geninfo(1), FILES), of all files or of those that patterns choose
 //! (lcov(1), `--extract` and `--remove`), and the summary of totals (lcov(1), `--summary`).
 //!
-//! `trace_text` makes the whole text of a tracefile. A `Printing` doesn't: once it is there, it prints the text piece by piece to
-//! a `Printer` of the caller's own, and takes no more memory.
+//! `trace_text` makes the whole text of a tracefile. A `Printing` of a store doesn't: it prints the text piece by piece to a
+//! `Printer` of the caller's own. Once the `Printing` is made, printing takes no more memory.
 //!
 //! `chosen_totals` gives the totals of chosen files, for a summary of these alone.
 //!

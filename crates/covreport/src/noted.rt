@@ -37,7 +37,7 @@ impl Noted {
         Noted::with(self, &Piece { bytes: piece })
     }
 
-    /// The bytes of the first, and then those of the second.
+    /// The bytes of `_before`, and then those of `_piece`.
     #[inline]
     fn with(_before: &Noted, _piece: &Piece<'_>) -> Noted
         ensures { result.bytes ≡ _before.now.bytes ++ _piece.now.bytes.now }

@@ -1,6 +1,6 @@
 //! What texts are printed to.
 
-/// What a text is printed to, piece by piece. A printer that can't take a piece notes that, and says so when it is asked.
+/// What a text is printed to, piece by piece. If a printer can't take a piece, its `is_open` returns `false` from then on.
 pub trait Printer {
     ghost use Rattle.std.specs.Prelude.{◌≡◌, ◌++◌, ℕ, Bool, List};
 

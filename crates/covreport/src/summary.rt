@@ -69,7 +69,7 @@ fn rounded(hit: u64, found: u64) -> u32
     ((2000 * hit + found) / (2 * found)) as u32
 }
 
-/// The summary: a heading, and a line each for lines, functions and branches.
+/// The summary: a heading, and one line of text for each kind of points, which are lines, functions and branches.
 pub fn summary_text<A: Allocator>(alloc: A, totals: &Totals) -> Result<Bytes<A>, Memory>
     requires { AreTotals totals.now }
     ensures { IfOk result (λ t. t ≡ summary_of totals.now) }

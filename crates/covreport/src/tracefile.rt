@@ -114,7 +114,7 @@ fn put_chosen<'s, A: Allocator + Copy, P: Printer>(
     }
 }
 
-/// Puts a section if its file is chosen, unless the printer wants no more. Whether the printer wanted more.
+/// Puts a section if its file is chosen, unless the printer wants no more. Returns whether the printer wanted more.
 fn put_if_wanted<'s, A: Allocator, P: Printer>(
     section: &Section<'s, A>,
     choice: &Choice<A>,

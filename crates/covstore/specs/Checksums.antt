@@ -8,7 +8,7 @@ use Rattle.covmap.specs.MapData.{MapData}
 use Rattle.covmap.specs.Puts.{put, value_of}
 use Rattle.covstore.specs.KeptTexts.{KeptTextsData}
 
--- for each line, how many tests hold a checksum of it, committed and staged; and the checksums' texts
+-- `committed` and `staged` have for each line how many tests hold a checksum of it. `texts` has the texts of the checksums
 pub record ChecksumsData : Type 0 where
   pub committed : List (ℕ × ℕ)
   pub staged : List (ℕ × ℕ)
@@ -22,7 +22,8 @@ HaveTexts holders texts = (line : ℕ) → is_some (value_of nat_cmp line holder
 abbrev pub AreAmong : List (ℕ × ℕ) → List (ℕ × ℕ) → Type 0
 AreAmong committed staged = (line : ℕ) → is_some (value_of nat_cmp line committed) ≡ true → is_some (value_of nat_cmp line staged) ≡ true
 
--- each held checksum has a text. A committed one also has a committed text. Each line with a committed checksum has a staged one
+-- each line with a checksum, committed or staged, has a staged text. Each line with a committed checksum also has a committed
+-- text and a staged checksum
 pub record AreTexts (holders : MapData ℕ ℕ) (texts : KeptTextsData) : Type 0 where
   pub committed : HaveTexts holders.committed texts.committed
   pub staged : HaveTexts holders.staged texts.staged
@@ -48,19 +49,20 @@ abbrev pub held_more : ℕ → Bool → List (ℕ × ℕ) → List (ℕ × ℕ)
 held_more line true holders = holders
 held_more line false holders = put nat_cmp line (one_more (value_of nat_cmp line holders)) holders
 
--- the line's checksum is held, and is this text. If one was held before, it was this text
+-- afterwards, some test holds a checksum of the line, and the checksum is `text`. If a test held a checksum of the line before,
+-- it was `text` too
 pub record IsHeldToo (line : ℕ) (text : List ℕ) (before after : ChecksumsData) : Type 0 where
   pub is_held : is_some (value_of nat_cmp line after.staged) ≡ true
   pub is_kept : value_of nat_cmp line after.texts ≡ Some text
   pub agrees : is_some (value_of nat_cmp line before.staged) ≡ true → value_of nat_cmp line before.texts ≡ Some text
 
--- the line holds another checksum than the given one
+-- some test holds a checksum of the line: it is `held`, and it differs from `given`
 pub record IsOther (before : ChecksumsData) (line : ℕ) (held given : List ℕ) : Type 0 where
   pub is_held : is_some (value_of nat_cmp line before.staged) ≡ true
   pub is_kept : value_of nat_cmp line before.texts ≡ Some held
   pub other : held ≡ given → ⊥
 
--- a clash is reported only if the line holds another checksum, and then that one is reported
+-- if the fault is a clash, it reports the line, its held checksum, and the given checksum, which differs from the held one
 abbrev pub IsReportedClash : {A : Type 0} → ChecksumsData → ℕ → List ℕ → StageFault A → Type 0
 IsReportedClash before line text Memory = Unit {0}
 IsReportedClash before line text (Clash told held given) = (told ≡ line) × (given ≡ text) × IsOther before line held text

@@ -1,5 +1,6 @@
--- When a submission clashes: it gives a line of a file a checksum that differs from a held one, or from an earlier one that it
--- gives. The tests of the rows don't matter. Rows without a checksum aren't compared, so they never clash.
+-- When a submission clashes: one of its checksums differs from a held checksum of the same line of the same file, or from an
+-- earlier checksum that the submission gives for this line. The tests of the rows don't matter. Rows without a checksum aren't
+-- compared, so they never clash.
 use Rattle.std.specs.Prelude.{◌≡◌, ℕ, Bool, true, false, ◌==◌, ◌&&◌, not, List, [], ◌∷◌, ◌++◌, Option, Some, None, Contains}
 use Rattle.std.specs.Str.{bytes_eq}
 use Rattle.std.specs.List.{flat_map, find}
@@ -40,8 +41,8 @@ pub record ClashData : Type 0 where
 abbrev pub clash_with : Checksum → Checksum → ClashData
 clash_with given held = record { file = given.file; line = given.line; held = held.checksum; given = given.checksum }
 
--- the clash of `given` with the held checksum that differs from it. If there is no such checksum, the clash of the later given
--- ones
+-- the clash of `given` with the held checksum that differs from it. If there is no such checksum, the clash of the checksums
+-- that are given later
 abbrev pub or_later : Checksum → Option Checksum → Option ClashData → Option ClashData
 or_later given (Some held) later = Some (clash_with given held)
 or_later given None later = later

@@ -1,5 +1,5 @@
--- What the totals count, in lcov's words. Found: the different points of a kind, in all files. Hit: those of them that some test
--- has with a value above 0.
+-- What the totals count, in lcov's words. The points found are the different points of a kind, in all files. The points hit are
+-- those that some test has with a value above 0.
 use Rattle.std.specs.Prelude.{ℕ, Bool, nat_lt, ◌==◌, ◌&&◌, List, map, filter}
 use Rattle.std.specs.List.{flat_map, list_any}
 use Rattle.std.specs.Set.{distinct_count}

@@ -21,7 +21,7 @@ file_staged file = file_with (map (λ pair. (pair.0.items, test_staged pair.1)) 
 abbrev pub no_file : FileData
 no_file = file_with [] empty_index
 
--- the tests as they are, if this one is among them. If it isn't, the tests with this one added, without points
+-- the tests, with this test added if it isn't among them. A test that is added has no points
 abbrev pub tests_with : List ℕ → List (List ℕ × TestData) → List (List ℕ × TestData)
 tests_with test tests = if is_some (value_of (slice_cmp nat_cmp) test tests) then tests else put (slice_cmp nat_cmp) test (test_of []) tests
 

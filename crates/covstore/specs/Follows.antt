@@ -4,7 +4,7 @@ use Rattle.covstore.specs.declared.index.FileIndex.{FileIndex}
 use Rattle.covstore.specs.declared.test.Test.{Test}
 use Rattle.covstore.specs.SoleTest.{after_commit, after_rollback, no_points}
 
--- if the index follows a test, the points that it saw last are those of `test`
+-- if the index follows a test, the points that the index saw last are those of `test`
 pub record Follows {A : Type 0} (test : Test A) (index : FileIndex A) : Type 0 where
   pub lines : IfSome index.lines.follows (λ seen. seen ≡ test.lines)
   pub functions : IfSome index.functions.follows (λ seen. seen ≡ test.functions)
@@ -28,7 +28,7 @@ pub record CountsAll {A : Type 0} (index : FileIndex A) : Type 0 where
   pub functions : index.functions.follows ≡ None
   pub branches : index.branches.follows ≡ None
 
--- if the index follows a test, it is this one. If all points were counted before, they still are
+-- if the index follows a test, it follows `test`. If the index followed no test before, it still follows none
 pub record StillFollows {A : Type 0} (before : FileIndex A) (test : Test A) (after : FileIndex A) : Type 0 where
   pub follows : Follows test after
   pub counts : CountsAll before → CountsAll after
@@ -49,7 +49,8 @@ pub record FollowsSettled {A : Type 0} (index : FileIndex A) : Type 0 where
 abbrev pub no_test : {A : Type 0} → Test A
 no_test = record { lines = no_points; functions = no_points; branches = no_points }
 
--- if the index follows a test, it is the only one of these. If there are more, the index follows none
+-- if the index follows a test, it follows the only one of these, or a test without points if there is none. If there are two or
+-- more tests, the index follows no test
 abbrev pub FollowsSole : {K A : Type 0} → List (K × Test A) → FileIndex A → Type 0
 FollowsSole [] index = Follows no_test index
 FollowsSole (pair ∷ []) index = Follows pair.1 index

@@ -41,8 +41,8 @@ holders_with (LineItem line count None) test holders = holders
 holders_with (FuncItem name line count) test holders = holders
 holders_with (BranchItem line block branch taken) test holders = holders
 
--- for an item with a checksum: if the test already holds one of the item's line, the index counts a test that holds it. There is
--- room to count one more test
+-- for an item with a checksum: if the test already holds a checksum of the item's line, the index counts some test for this
+-- line. The number of tests that the index counts for this line has room for one more
 abbrev pub HasRoomToHold : ItemData → TestData → FileIndexData → Type 0
 HasRoomToHold (LineItem line count (Some checksum)) test index =
     (is_above_at has_checksum (value_of nat_cmp line test.lines) ≡ true → is_some (value_of nat_cmp line index.holders) ≡ true)

@@ -64,21 +64,21 @@ pub record IsTextAt (line : ℕ) (text : List ℕ) (index : FileIndexData) : Typ
   pub is_held : is_some (value_of nat_cmp line index.holders) ≡ true
   pub is_kept : value_of nat_cmp line index.texts ≡ Some text
 
--- if the item has a checksum, it is the one that is held of its line
+-- if the item has a checksum, some test holds a checksum of the item's line, and it is the item's checksum
 abbrev pub IsTextOf : ItemData → FileIndexData → Type 0
 IsTextOf (LineItem line count (Some checksum)) index = IsTextAt line checksum index
 IsTextOf (LineItem line count None) index = Unit {0}
 IsTextOf (FuncItem name line count) index = Unit {0}
 IsTextOf (BranchItem line block branch taken) index = Unit {0}
 
--- the checksum that is held of the line is `held`, and it differs from `given`
+-- some test holds a checksum of the line: it is `held`, and it differs from `given`
 pub record IsOtherText (index : FileIndexData) (line : ℕ) (held given : List ℕ) : Type 0 where
   pub is_held : is_some (value_of nat_cmp line index.holders) ≡ true
   pub is_kept : value_of nat_cmp line index.texts ≡ Some held
   pub other : held ≡ given → ⊥
 
--- a clash of this item is reported rightly: `told` is the item's line, `given` is the item's checksum, and `held` is another
--- checksum, which is held of the line
+-- a clash of this item is reported rightly: `told` is the item's line, `given` is the item's checksum, and `held` is the held
+-- checksum of the line, which differs from the item's
 abbrev pub IsClashAt : ItemData → FileIndexData → ℕ → List ℕ → List ℕ → Type 0
 IsClashAt (LineItem line count (Some checksum)) index told held given = (told ≡ line) × (given ≡ checksum) × IsOtherText index line held checksum
 IsClashAt (LineItem line count None) index told held given = ⊥

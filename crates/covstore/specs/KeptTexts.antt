@@ -6,7 +6,7 @@ use Rattle.std.specs.Ordering.{nat_cmp}
 use Rattle.covmap.specs.MapData.{MapData}
 use Rattle.covmap.specs.Puts.{value_of}
 
--- the texts by line, ascending: the texts that are kept after a refusal, and all texts
+-- the texts by line, ascending. `committed` has the texts that are kept after a refusal, and `staged` has all texts
 pub record KeptTextsData : Type 0 where
   pub committed : List (ℕ × List ℕ)
   pub staged : List (ℕ × List ℕ)
@@ -42,7 +42,7 @@ pub record ArePlaced (places : MapData ℕ ℕ) (texts : List (List ℕ)) (commi
   pub stay : StayAt places.committed places.staged
   pub apart : AreApart places.staged
 
--- each line with a committed text still has one
+-- each line with a text in `texts` has a text in `more`
 abbrev pub StillHave : List (ℕ × List ℕ) → List (ℕ × List ℕ) → Type 0
 StillHave texts more = (line : ℕ) → is_some (value_of nat_cmp line texts) ≡ true → is_some (value_of nat_cmp line more) ≡ true
 

@@ -1,4 +1,4 @@
--- What a file keeps of a kind of points: their counts, and the points of the test that these follow.
+-- What a file keeps for a kind of points: the counts, and the points of the test that the counts follow.
 use Rattle.std.specs.Prelude.{Option, Some, List, []}
 use Rattle.covmap.specs.MapData.{MapData}
 use Rattle.covstore.specs.declared.sums.TestCounts.{TestCounts}

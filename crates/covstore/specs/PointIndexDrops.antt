@@ -27,8 +27,8 @@ fewer_of was_above (Some numbers) = fewer_tests was_above numbers
 abbrev pub counts_without : {K : Type 0} → (K → K → Ordering) → K → Bool → List (K × TestCounts) → List (K × TestCounts)
 counts_without cmp key was_above counts = assigned cmp key (fewer_of was_above (value_of cmp key counts)) counts
 
--- the numbers count a test that has the point above 0 if `was_above`, else one that has it, but not above 0. No more tests have
--- the point above 0 than have it
+-- the numbers count at least one test that has the point above 0 if `was_above` is true, or that has it, but not above 0, if
+-- `was_above` is false. The number of tests that have the point above 0 is at most the number of tests that have it
 abbrev pub HaveOne : Bool → TestCounts → Type 0
 HaveOne was_above numbers = (one_if was_above ≤ numbers.hit) × (numbers.hit < numbers.tests + one_if was_above)
 
@@ -65,8 +65,8 @@ totals_by lines functions branches = record { lf = lines.found; lh = lines.hit; 
 abbrev pub is_hit : Option TestCounts → Bool
 is_hit numbers = is_above_at (λ tests. nat_lt 0 tests.hit) numbers
 
--- `less` is the tally after a point's numbers fall from `before` to `after`. One point less is found if no test has the point any
--- more. One less is hit if the point was hit and isn't any more
+-- `less` is the tally after a point's numbers fall from `before` to `after`. One point fewer is found if no test has the point
+-- any more. One point fewer is hit if the point was hit and isn't any more
 pub record IsLess (tally : KindTally) (before : TestCounts) (after : Option TestCounts) (less : KindTally) : Type 0 where
   pub found : less.found + 1 ≡ tally.found + one_if (is_some after)
   pub hit : less.hit + one_if (is_hit (Some before)) ≡ tally.hit + one_if (is_hit after)

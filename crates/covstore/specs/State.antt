@@ -1,5 +1,5 @@
--- What a store keeps: for each file its tests, for each test its points, and for each point how many tests have it; and which
--- rows these files are the state of.
+-- What a store keeps: for each file its tests, for each test its points, and for each point how many tests have it. Also when
+-- these files are the state of given rows.
 use Rattle.std.specs.Prelude.{◌≡◌, ℕ, Bool, true, false, nat_lt, ◌&&◌, not, if◌then◌else◌, Option, Some, None, List, [], ◌∷◌, map, count_by, Contains}
 use Rattle.std.specs.Cmp.Lexicographic.{slice_cmp}
 use Rattle.std.specs.List.{flat_map, sum_by, AllByRecursion}

@@ -86,7 +86,7 @@ pub record AddsRows (added : List Row) (before after : StoreData) : Type 0 where
   pub adds : AddsTo added before.staged after.staged
   pub totals : before.after ≡ totals_in before.staged → after.after ≡ totals_in after.staged
 
--- if the refusal is a clash, it is the first clash of the added rows with any rows whose state the files are
+-- if the refusal is a clash: whatever rows the files are the state of, it is the first clash of the added rows with those rows
 abbrev pub ClashesAmong : List Row → List (List ℕ × FileData) → RefuseData → Type 0
 ClashesAmong added files MemoryRefuse = Unit {0}
 ClashesAmong added files (ClashRefuse clash) = (rows : List Row) → IsStateOf rows files → Agree (checksums_in rows) → clash_of rows added ≡ Some clash

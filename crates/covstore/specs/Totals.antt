@@ -1,4 +1,4 @@
--- The totals of sections. A point is found once for each file, over all tests, and hit if some test has it above 0.
+-- The totals of sections. Each point of a file counts once, however many tests have it. It is hit if some test has it above 0.
 use Rattle.std.specs.Prelude.{ℕ, ◌≤◌, Bool, ◌==◌, ◌&&◌, nat_lt, List, length, map, filter, count_by}
 use Rattle.std.specs.Ordering.{nat_cmp}
 use Rattle.std.specs.Cmp.Lexicographic.{slice_cmp}

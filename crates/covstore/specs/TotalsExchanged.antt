@@ -2,7 +2,7 @@
 use Rattle.std.specs.Prelude.{◌≡◌, ◌+◌, ◌-◌, ◌≤◌, ◌<◌, ◌^◌}
 use Rattle.covstore.specs.declared.totals.Totals.{Totals}
 
--- no number of the part is larger than that of the whole
+-- no number of the part is larger than the same number of the whole
 pub record IsAmong (part whole : Totals) : Type 0 where
   pub lf : part.lf ≤ whole.lf
   pub lh : part.lh ≤ whole.lh
@@ -11,7 +11,7 @@ pub record IsAmong (part whole : Totals) : Type 0 where
   pub bf : part.bf ≤ whole.bf
   pub bh : part.bh ≤ whole.bh
 
--- each number of `a` and that of `b` have a sum that fits in 64 bits
+-- the sum of each number of `a` and the same number of `b` fits in 64 bits
 pub record FitTogether (a b : Totals) : Type 0 where
   pub lf : b.lf + a.lf < 2 ^ 64
   pub lh : b.lh + a.lh < 2 ^ 64
@@ -39,7 +39,7 @@ pub record IsExchange (before after whole later : Totals) : Type 0 where
 abbrev pub no_totals : Totals
 no_totals = record { lf = 0; lh = 0; ff = 0; fh = 0; bf = 0; bh = 0 }
 
--- each number of `a` added to that of `b`
+-- the totals whose numbers are each the sum of the same number of `a` and of `b`
 abbrev pub together : Totals → Totals → Totals
 together a b = record { lf = a.lf + b.lf; lh = a.lh + b.lh; ff = a.ff + b.ff; fh = a.fh + b.fh; bf = a.bf + b.bf; bh = a.bh + b.bh }
 

@@ -1,4 +1,4 @@
--- The totals, counted from rows: for each file from the items of all its tests.
+-- The totals, counted from rows. The totals of a file are counted from the items of all its tests.
 use Rattle.std.specs.Prelude.{ℕ, Bool, false, nat_lt, ◌==◌, ◌&&◌, List, length, map, filter, count_by}
 use Rattle.std.specs.declared.cmp.Ordering.{Ordering}
 use Rattle.std.specs.Ordering.{nat_cmp}

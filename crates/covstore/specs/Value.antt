@@ -48,7 +48,7 @@ abbrev pub line_added : ℕ → ItemData → ℕ
 line_added line (LineItem at count checksum) = if at == line then count else 0
 line_added line item = 0
 
--- the value of a line: the sum of its counts
+-- the value of a line: the sum of the execution counts that the items give for it
 abbrev pub line_value : ℕ → List ItemData → ℕ
 line_value line items = bounded (sum_by (line_added line) items)
 
@@ -61,7 +61,7 @@ abbrev pub first_of : {X : Type 0} → List X → Option X
 first_of [] = None
 first_of (x ∷ xs) = Some x
 
--- the line's checksum, if an item gives one. The items of a table give no two different ones
+-- the line's checksum, if an item gives one. In a table, the items of a file give no two different checksums for a line
 abbrev pub line_checksum : ℕ → List ItemData → Option (List ℕ)
 line_checksum line items = first_of (flat_map (checksum_said line) items)
 
@@ -84,7 +84,7 @@ abbrev pub function_added : List ℕ → ItemData → ℕ
 function_added name (FuncItem other line count) = if bytes_eq other name then count else 0
 function_added name item = 0
 
--- the count of a function: the sum of its counts
+-- the execution count of a function: the sum of the counts that the items give for it
 abbrev pub function_count : List ℕ → List ItemData → ℕ
 function_count name items = bounded (sum_by (function_added name) items)
 

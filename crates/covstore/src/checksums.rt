@@ -14,9 +14,9 @@ use covmap::{SlotIndex, StagedMap};
 use std::alloc::Allocator;
 use std::marker::Model;
 
-/// For each line, how many tests hold a checksum of it, committed and staged; and the checksums. A checksum may be kept after the
-/// last test that held it is gone. After that, another checksum may replace it. Contracts see the numbers of tests, and the
-/// checksums.
+/// For each line, the number of tests that hold the line's checksum, committed and staged, and the checksum itself. A checksum
+/// may be kept after the last test that held it is gone. From then on, another checksum may replace it. Contracts see the
+/// numbers of tests, and the checksums.
 #[derive(Drop)]
 pub(crate) struct Checksums<A: Allocator> {
     holders: StagedMap<u64, u64, A>,
@@ -46,8 +46,8 @@ impl<A: Allocator + Copy> Checksums<A> {
         }
     }
 
-    /// Stages one more test that holds this checksum of a line. If `is_held` is true, the test already holds it, and isn't
-    /// counted again. A checksum that differs from the one that is held is a clash.
+    /// Stages that a test holds this checksum of a line. If `is_held` is true, the test already holds the line's checksum, and
+    /// isn't counted again. A checksum that differs from the held one is a clash.
     pub(crate) fn hold(
         &mut self,
         alloc: A,
@@ -74,7 +74,7 @@ impl<A: Allocator + Copy> Checksums<A> {
         self.set_holders(alloc, line, tests + 1)
     }
 
-    /// Stages the first test that holds a checksum of a line. The line's checksum is `text` from then on. If memory is refused,
+    /// Stages that a first test holds a checksum of a line. From then on, the line's checksum is `text`. If memory is refused,
     /// what is staged may be lost.
     fn hold_first(&mut self, alloc: A, line: u64, text: &[u8]) -> Result<(), StageFault<A>>
         requires { value_of nat_cmp line self.old.staged ≡ None }
@@ -108,7 +108,7 @@ impl<A: Allocator + Copy> Checksums<A> {
         Ok(())
     }
 
-    /// Compares a checksum with the checksum that is held of the line. The two clash if they differ.
+    /// Compares the checksum `text` with the held checksum of the line. Returns a clash if they differ.
     fn refuse_clash(&self, alloc: A, line: u64, text: &[u8]) -> Result<(), StageFault<A>>
         requires held { is_some (value_of nat_cmp line self.now.staged) ≡ true }
         requires kept { is_some (value_of nat_cmp line self.now.texts) ≡ true }
@@ -165,13 +165,13 @@ impl<A: Allocator> Checksums<A> {
     pub(crate) fn text(&self, line: u64) -> Option<&[u8]>
         ensures { option_map (λ text. text.now) result ≡ value_of nat_cmp line self.now.texts }
     {
-        // A line is added to both maps together, so it usually has the same slot in both. The slot that was looked up last among
-        // the holders is a good guess here.
+        // A line is added to `holders` and to `texts` together, and usually has the same slot in both. So the slot that was
+        // looked up last in `holders` is a good guess for the slot in `texts`.
         self.text_at(line, self.holders.cursor()).0
     }
 
-    /// The checksum that is kept for a line, or `None` if none is kept; and the slot to look at first for the next line's
-    /// checksum.
+    /// The checksum that is kept for a line, or `None` if none is kept, and the slot to look at first for the next line's
+    /// checksum. `guess` is the slot to look at first for this line's checksum.
     pub(crate) fn text_at(&self, line: u64, guess: SlotIndex) -> (Option<&[u8]>, SlotIndex)
         ensures { option_map (λ text. text.now) result.0 ≡ value_of nat_cmp line self.now.texts }
     {

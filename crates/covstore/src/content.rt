@@ -100,7 +100,7 @@ impl<'a, A: Allocator> Section<'a, A> {
         self.test
     }
 
-    /// The functions, ascending by the bytes of their names. There are fewer than 2^64 functions, branches and lines each.
+    /// The functions, ascending by the bytes of their names. There are fewer than 2^64 functions.
     pub fn functions(&self) -> Functions<'a, A>
         ensures value { result ≡ self.now.functions }
         ensures few { length result < 2 ^ 64 }
@@ -108,7 +108,7 @@ impl<'a, A: Allocator> Section<'a, A> {
         Functions::of(self.points.functions.entries())
     }
 
-    /// The branches, ascending by line, block and number.
+    /// The branches, ascending by line, block and number. There are fewer than 2^64 branches.
     pub fn branches(&self) -> Branches<'a, A>
         ensures value { result ≡ self.now.branches }
         ensures few { length result < 2 ^ 64 }
@@ -116,7 +116,7 @@ impl<'a, A: Allocator> Section<'a, A> {
         Branches::of(self.points.branches.entries())
     }
 
-    /// The lines, ascending by number.
+    /// The lines, ascending by number. There are fewer than 2^64 lines.
     pub fn lines(&self) -> Lines<'a, A>
         ensures value { result ≡ self.now.lines }
         ensures few { length result < 2 ^ 64 }
@@ -130,7 +130,7 @@ impl<'a, A: Allocator> FileSections<'a, A> {
     ghost use Rattle.std.specs.List.{AllByRecursion};
     ghost use Rattle.covstore.specs.ContentView.{IsFewOf, tests_seen};
 
-    /// An iterator over the sections of these tests, which are those of the file.
+    /// An iterator over the sections of a file. `file` is the file's name, `index` its index, and `tests` are its tests.
     pub(crate) fn of(
         file: &'a [u8],
         index: &'a FileIndex<A>,
@@ -182,7 +182,7 @@ impl<'a, A: Allocator> Sections<'a, A> {
     }
 }
 
-/// The next section of the current file, or `None` if no section of it is left or there is no current file.
+/// The next section of the current file. `None` if the current file has no section left, or if there is no current file.
 fn next_of_file<'a, A: Allocator>(
     current: &mut Option<FileSections<'a, A>>,
 ) -> Option<Section<'a, A>>

@@ -17,8 +17,9 @@ use std::collections::BTreeMap;
 use std::marker::Model;
 use std::mem;
 
-/// The tests of a file, each with its points, and the file's index. The index follows the file's only test until a second test is
-/// added. From then on, the index counts the points, even if only one test is left. Contracts see the tests and the index.
+/// The tests of a file, each with its points, and the file's index. Until a second test is added, the index follows the file's
+/// only test and doesn't count points. From then on, the index counts the points of all tests, even if only one test is left.
+/// Contracts see the tests and the index.
 #[derive(Drop)]
 pub(crate) struct File<A: Allocator> {
     tests: BTreeMap<Vec<u8, A>, Boxed<Test<A>, A>, A>,
@@ -155,7 +156,7 @@ impl<A: Allocator + Copy> File<A> {
     }
 
     /// Adds an empty test of this name. If the file already has the test, nothing changes. If memory is refused, contracts see
-    /// the file as it was. The index counts the points before a second test is added, since it can't follow two tests.
+    /// the file as it was. The index can't follow two tests, so it starts to count the points before a second test is added.
     fn open(&mut self, alloc: A, test: &[u8]) -> Result<(), Memory>
         ensures committed { OnOk result (file_committed self.new ≡ with_test test.now (file_committed self.old)) }
         ensures staged { OnOk result (file_staged self.new ≡ with_test test.now (file_staged self.old)) }
@@ -203,7 +204,7 @@ impl<A: Allocator + Copy> File<A> {
         let Some(place) = self.tests.get_mut(new) else {
             unreachable!();
         };
-        // The new test is taken out of the map, since the old test is borrowed from the map below.
+        // The new test is taken out of the map, since the old test stays borrowed from the map while the new test is changed.
         let mut points = mem::replace(place, empty);
         let Some(source) = self.tests.get(old) else {
             unreachable!();

@@ -26,7 +26,8 @@ pub(crate) fn drop_from_files<K: Ord + Drop, A: Allocator + Copy>(
     ensures committed { (name : K → List ℕ) → AreWithoutTest test.now (files_committed name files.old.entries) (files_committed name files.new.entries) }
     ensures settled { (name : K → List ℕ) (touched : List (List ℕ × List ℕ)) → AreSettledBut name touched files.old.entries → AreSettledBut name touched files.new.entries }
 {
-    // Every file is kept. `retain` is used because its contract says what becomes of the files. The contract of a walk doesn't.
+    // The closure keeps every file. `retain` is used because its contract says how each file is changed. The contract of a walk
+    // over the files doesn't say that.
     files.retain(
         |_, file|
             requires { IsConsistentFile (file_committed file.old) }
@@ -40,7 +41,7 @@ pub(crate) fn drop_from_files<K: Ord + Drop, A: Allocator + Copy>(
     );
 }
 
-/// In how many files the test has points, and the totals of all files without the test. Takes no memory.
+/// The number of files in which the test has points, and the totals of all files without the test. Takes no memory.
 pub(crate) fn count_without<A: Allocator + Copy>(
     files: &BTreeMap<Path<A>, Boxed<File<A>, A>, A>,
     test: &[u8],
@@ -60,7 +61,7 @@ pub(crate) fn count_without<A: Allocator + Copy>(
     (sections, totals)
 }
 
-/// In how many files the test has points. Takes no memory.
+/// The number of files in which the test has points. Takes no memory.
 pub(crate) fn count_sections<A: Allocator + Copy>(
     files: &BTreeMap<Path<A>, Boxed<File<A>, A>, A>,
     test: &[u8],
@@ -74,7 +75,7 @@ pub(crate) fn count_sections<A: Allocator + Copy>(
     sections
 }
 
-/// The totals of all files: the sum of those that each file keeps. Takes no memory.
+/// The totals of all files: the sum of the committed totals of each file. Takes no memory.
 pub(crate) fn add_up<A: Allocator + Copy>(files: &BTreeMap<Path<A>, Boxed<File<A>, A>, A>) -> Totals
     requires { FitTotals (totals_in (files_committed (λ name. name.items) files.now.entries)) }
     ensures { result ≡ totals_in (files_committed (λ name. name.items) files.now.entries) }

@@ -39,7 +39,7 @@ impl<'a, A: Allocator> Files<'a, A> {
     ghost use Rattle.covstore.specs.FilesView.{files_with_points};
     ghost use Rattle.covstore.specs.StoreView.{files_committed};
 
-    /// An iterator over those of these files that have points.
+    /// An iterator over the files in `files` that have points.
     pub(crate) fn of(files: Iter<'a, Path<A>, Boxed<File<A>, A>>) -> Files<'a, A>
         ensures { result ≡ files_with_points (files_committed (λ name. name.items) files.entry) }
     {

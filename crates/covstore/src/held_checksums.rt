@@ -57,8 +57,9 @@ fn line_after(line: u64, least: u64) -> Option<u64>
     Some(line + 1)
 }
 
-/// Stages that the test holds the checksums of the items, up to the first that clashes. The lines of the items with a
-/// checksum ascend, so whether the test holds the checksum of an item's line doesn't depend on the items before it.
+/// Stages that the test holds the checksums of the items, up to the first item that clashes. The lines of the items with a
+/// checksum strictly ascend, so no two of these items have the same line. This is why the items before an item don't change
+/// whether the test holds the checksum of its line.
 pub(crate) fn hold_checksums<A: Allocator + Copy>(
     test: &mut Test<A>,
     index: &mut FileIndex<A>,

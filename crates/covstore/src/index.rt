@@ -15,8 +15,9 @@ use crate::test::Test;
 use crate::totals::Totals;
 use std::alloc::{AllocError, Allocator};
 
-/// For each point of a file, how many tests have it, and how many have it above 0; and the checksums of the file's lines. The
-/// index follows the file's only test until a second test is added.
+/// For each point of a file, the number of tests that have the point, and the number of tests that have it with a value
+/// above 0. The index also has the checksums of the file's lines. Until a second test is added, the index follows the file's
+/// only test and doesn't count points.
 #[derive(Drop)]
 pub(crate) struct FileIndex<A: Allocator> {
     pub lines: KindIndex<u64, LineSum, A>,
@@ -91,7 +92,7 @@ impl<A: Allocator + Copy> FileIndex<A> {
         self.checksums.rollback();
     }
 
-    /// Commits what is staged. Kinds of points in which the index follows a test stay as they are.
+    /// Commits what is staged. A kind of points doesn't change if its counts follow a test.
     pub(crate) fn commit_counts(&mut self)
         ensures staged { index_staged self.new ≡ index_staged self.old }
         ensures same { FollowsTheSame self.old self.new }
@@ -103,7 +104,7 @@ impl<A: Allocator + Copy> FileIndex<A> {
         self.checksums.commit();
     }
 
-    /// Forgets what is staged. Kinds of points in which the index follows a test stay as they are.
+    /// Forgets what is staged. A kind of points doesn't change if its counts follow a test.
     pub(crate) fn rollback_counts(&mut self)
         ensures committed { index_committed self.new ≡ index_committed self.old }
         ensures same { FollowsTheSame self.old self.new }

@@ -10,9 +10,9 @@ use covmap::{SlotIndex, StagedMap};
 use std::alloc::{AllocError, Allocator};
 use std::marker::Model;
 
-/// The texts of lines, in a list. Each line with a text has an index of its own in the list. Indexes are staged: if memory is
-/// refused, indexes that weren't committed are lost, with their texts. Contracts see two lists of texts by line, ascending: the
-/// texts that are kept after a refusal, and all texts.
+/// The texts of the checksums of a file's lines, in a list. Each line with a text has an index of its own in the list. Indexes
+/// are staged. If memory is refused, the indexes that weren't committed are lost, and so are their texts. Contracts see two
+/// lists of lines with their texts, each ascending by line: the texts that would be left if memory is refused, and all texts.
 #[derive(Drop)]
 pub(crate) struct KeptTexts<A: Allocator> {
     places: StagedMap<u64, u64, A>,
@@ -72,7 +72,8 @@ impl<A: Allocator + Copy> KeptTexts<A> {
         ensures err { OnErr result (self.new.staged ≡ self.old.committed) }
     {
         if let Err(refused) = push(&mut self.places, &mut self.texts, alloc, line, text) {
-            // The indexes of new texts are lost, so no line would find these texts again. Repeated refusals would pile them up.
+            // The indexes of new texts are lost, so no line would find these texts again. If the texts stayed in the list, they
+            // would pile up whenever memory is refused.
             self.places.rollback();
             self.texts.truncate(self.committed);
             return Err(refused);
@@ -91,7 +92,8 @@ impl<A: Allocator + Copy> KeptTexts<A> {
 }
 
 impl<A: Allocator> KeptTexts<A> {
-    /// The text of a line, or `None` if it has none; and the slot to look at first for the next line's text.
+    /// The text of a line, or `None` if the line has no text, and the slot to look at first for the next line's text. `guess`
+    /// is the slot to look at first for this line's text.
     pub(crate) fn text_at(&self, line: u64, guess: SlotIndex) -> (Option<&[u8]>, SlotIndex)
         ensures { option_map (λ text. text.now) result.0 ≡ value_of nat_cmp line self.now.staged }
     {

@@ -1,4 +1,5 @@
-//! What a file keeps of a kind of points: how many tests have each point, or only tallies as long as the counts follow a test.
+//! The index of a file's points of one kind. It counts how many tests have each point. As long as the counts follow the file's
+//! only test, the index keeps only tallies.
 
 ghost use Rattle.std.specs.Prelude.{◌≡◌, None, IfSome, OnOk};
 ghost use Rattle.covstore.specs.KindData.{empty_kind};
@@ -15,15 +16,16 @@ use std::marker::Model;
 /// The counts of a kind of points, in one of two forms.
 #[derive(Drop)]
 pub(crate) enum Counts<K: Key, S: PointSum, A: Allocator> {
-    /// The file has at most one test. The counts follow it: each of its points counts once.
+    /// The file has at most one test, and the counts follow that test. Each point of the test counts once.
     OfOneTest(SoleTest<K, S, A>),
     /// The points of all tests are counted.
     OfTests(PointIndex<K, A>),
 }
 
-/// For each point of a kind, how many tests of a file have it, and how many have it above 0. Most files have one test, whose own
-/// points tell this. So the points are counted only when the file gets a second test. Contracts see the counts, and the points
-/// of the only test, as long as the counts follow it.
+/// For each point of a kind, the number of tests of a file that have the point, and the number of tests that have it with a
+/// value above 0. Most files have only one test, and the points of that test tell both numbers. So points aren't counted until
+/// the file gets a second test. Contracts see the counts. As long as the counts follow the only test, contracts also see the
+/// points of that test.
 #[derive(Drop)]
 pub(crate) struct KindIndex<K: Key, S: PointSum, A: Allocator> {
     pub counts: Counts<K, S, A>,

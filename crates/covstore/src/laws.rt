@@ -22,16 +22,16 @@ pub fn keys_stand_in_order()
     ensures { (rows : List Row) → IsAscendingOf key_cmp (map key_of_row rows) (keys_of rows) }
 {}
 
-/// The functions, branches and lines of a section are in strictly ascending order, each point of its items once: functions by the
-/// bytes of their names, branches by line, block and number, lines by number.
+/// The functions, branches and lines of a section are each in strictly ascending order. Functions ascend by the bytes of their
+/// names, branches by line, block and number, and lines by number. Each point of the section's items is there once.
 pub fn points_stand_in_order()
     ensures functions { (items : List ItemData) → IsAscendingOf (slice_cmp nat_cmp) (func_points items) (names_in items) }
     ensures branches { (items : List ItemData) → IsAscendingOf branch_cmp (branch_points items) (branches_in items) }
     ensures lines { (items : List ItemData) → IsAscendingOf nat_cmp (line_points items) (lines_in items) }
 {}
 
-/// There is at most one strictly ascending list of given elements: of keys of sections, of functions by the bytes of their names,
-/// of branches, or of lines.
+/// There is at most one strictly ascending list of given elements. The elements are keys of sections, functions ordered by the
+/// bytes of their names, branches, or lines.
 pub fn order_is_unique()
     ensures keys { (all some others : List Key) → IsAscendingOf key_cmp all some → IsAscendingOf key_cmp all others → some ≡ others }
     ensures functions { (all some others : List (List ℕ)) → IsAscendingOf (slice_cmp nat_cmp) all some → IsAscendingOf (slice_cmp nat_cmp) all others → some ≡ others }
@@ -39,38 +39,41 @@ pub fn order_is_unique()
     ensures lines { (all some others : List ℕ) → IsAscendingOf nat_cmp all some → IsAscendingOf nat_cmp all others → some ≡ others }
 {}
 
-/// Let the held checksums agree with each other. Then `first_clash` gives a clash exactly if it is the first clash. This is the
-/// clash of the first given checksum that differs from a held one or from an earlier given one. The checksums before it, held
-/// and given, agree with each other. `first_clash` gives `None` exactly if all checksums, held and given, agree.
+/// Suppose that the held checksums agree with each other. Then `first_clash` gives a clash exactly if that clash is the first
+/// one. The first clash is that of the first given checksum that differs from a held checksum or from an earlier given one. The
+/// held checksums and the given checksums before that one all agree with each other. `first_clash` gives `None` exactly if all
+/// held and given checksums agree with each other.
 pub fn the_first_clash_is_told()
     ensures first { (held given : List Checksum) (clash : ClashData) → Agree held → first_clash held given ≡ Some clash ↔ IsFirstClash held given clash }
     ensures none { (held given : List Checksum) → Agree held → first_clash held given ≡ None ↔ Agree (held ++ given) }
 {}
 
-/// A table never gets two different checksums of one line of a file. The empty table has none; a submission that doesn't clash
-/// adds none; and dropping a test adds none. Nor does a rename: see `renaming_keeps_totals`.
+/// A table never gets two different checksums of one line of a file. The checksums of the empty table agree. If the checksums
+/// of a table agree, they still agree after a submission that doesn't clash is added, and after a test is dropped.
+/// `renaming_keeps_totals` says the same of a rename.
 pub fn accepted_rows_agree()
     ensures empty { Agree (checksums_in (all_rows [])) }
     ensures accepted { (table : Table) (s : SubmissionData) → clash_at table s ≡ None → Agree (checksums_in (all_rows table)) → Agree (checksums_in (all_rows (table ++ rows_of s ∷ []))) }
     ensures dropped { (table : Table) (test : List ℕ) → Agree (checksums_in (all_rows table)) → Agree (checksums_in (all_rows (without_test test table))) }
 {}
 
-/// The totals are what their names say. Found is how many different points of a kind all rows have, each in its file. Hit is how
-/// many of them some test has with a value above 0.
+/// For each kind of points, the totals have two numbers. The points found are the different points of that kind in all rows.
+/// Points of different files are different. The points hit are those of them that some test has with a value above 0.
 pub fn totals_count_different_points()
     ensures lines { (rows : List Row) → ((totals_of (content_of rows)).lf ≡ found lines rows) × ((totals_of (content_of rows)).lh ≡ hit lines rows) }
     ensures functions { (rows : List Row) → ((totals_of (content_of rows)).ff ≡ found functions rows) × ((totals_of (content_of rows)).fh ≡ hit functions rows) }
     ensures branches { (rows : List Row) → ((totals_of (content_of rows)).bf ≡ found branches rows) × ((totals_of (content_of rows)).bh ≡ hit branches rows) }
 {}
 
-/// For each kind, no more points are hit than found: in any sections, and so in what any rows add up to.
+/// For each kind of points, no more points are hit than found. This holds for any sections, and so for the sections that any
+/// rows add up to.
 pub fn no_more_are_hit_than_found()
     ensures sections { (sections : List SectionData) → AreTotals (totals_of sections) }
     ensures rows { (rows : List Row) → AreTotals (totals_of (content_of rows)) }
 {}
 
-/// The totals of what rows add up to can be counted from the rows: for each file its different points, over all tests, and those
-/// of them that some row counts above 0.
+/// The totals of the sections that rows add up to can be counted from the rows themselves. For each file, the points found are
+/// its different points, over all tests. The points hit are those of them that some row has with a count above 0.
 pub fn totals_count_the_rows()
     ensures { (rows : List Row) → totals_of (content_of rows) ≡ totals_over rows }
 {}
@@ -87,8 +90,8 @@ pub fn order_of_submissions_does_not_matter()
     ensures agree { (table others : Table) → IsPermutation table others → Agree (checksums_in (all_rows table)) → Agree (checksums_in (all_rows others)) }
 {}
 
-/// A rename doesn't change the totals, since points are counted once for all tests of their file. If checksums agree before it,
-/// they agree after it. A rename to the same name leaves the table as it is.
+/// A rename doesn't change the totals, since a point of a file is counted once, however many tests have it. If the checksums of
+/// a table agree before a rename, they agree after the rename. A rename to the same name leaves the table as it is.
 pub fn renaming_keeps_totals()
     ensures totals { (old new : List ℕ) (table : Table) → totals_of (content_at (renamed old new table)) ≡ totals_of (content_at table) }
     ensures agree { (old new : List ℕ) (table : Table) → Agree (checksums_in (all_rows table)) → Agree (checksums_in (all_rows (renamed old new table))) }

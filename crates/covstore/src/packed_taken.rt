@@ -49,7 +49,7 @@ impl PackedTaken {
         }
     }
 
-    /// The sum of this number and another, each of which may be missing. It stops at the largest number of 128 bits.
+    /// The sum of this number and `times`. If one of them is `None`, the sum is the other one. The sum stops at 2^128 - 1.
     pub(crate) fn plus(&self, times: Option<u128>) -> PackedTaken
         ensures { result ≡ sum_taken self.now times }
     {

@@ -1,4 +1,5 @@
-//! A number of 128 bits in four words of 32 bits. A struct has no gaps around these words. Around a `u128` it would have some.
+//! A number of 128 bits in four words of 32 bits. A struct of these words is aligned to 4 bytes, so it needs little padding. A
+//! struct with a `u128` would need more.
 
 ghost use Rattle.std.specs.Prelude.{◌≡◌, ◌+◌, nat_lt};
 ghost use Rattle.covstore.specs.Value.{bounded};

@@ -1,5 +1,5 @@
-//! A number of 64 bits in two words of 32. A struct of these words is aligned to 4 bytes, so an option of it takes 4 bytes more.
-//! With a word of 64 bits, it would take 8 bytes more.
+//! A number of 64 bits in two words of 32 bits. A struct of these words is aligned to 4 bytes, so an option of the struct takes
+//! 4 bytes more than the struct. With a word of 64 bits, the option would take 8 bytes more.
 
 ghost use Rattle.std.specs.Prelude.{◌≡◌};
 

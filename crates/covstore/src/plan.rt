@@ -3,7 +3,8 @@
 use crate::totals::Totals;
 use std::marker::Model;
 
-/// The totals after a commit that a store has prepared. The values are staged in the store itself. Contracts see the totals.
+/// The totals that a store will have after the commit that it has prepared. The values to commit are staged in the store
+/// itself. Contracts see the totals.
 #[derive(Drop)]
 pub struct Plan {
     after: Totals,
@@ -24,7 +25,7 @@ impl Plan {
     ghost use Rattle.std.specs.Prelude.{◌≡◌};
     ghost use Rattle.covstore.specs.Totals.{AreTotals};
 
-    /// A plan with these totals after its commit.
+    /// A plan whose commit gives the store the totals `after`.
     pub(crate) fn new(after: Totals) -> Plan
         requires { AreTotals after }
         ensures { result.after ≡ after }

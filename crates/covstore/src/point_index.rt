@@ -1,4 +1,5 @@
-//! For each point of a kind, how many tests of a file have it, and how many have it above 0; and the tally of all these points.
+//! For each point of a kind, the number of tests of a file that have the point, and the number of tests that have it with a
+//! value above 0. The tally of all these points is kept too.
 
 ghost use Rattle.std.specs.Prelude.{◌≡◌, ◌+◌, ◌<◌, ◌≤◌, ◌^◌, IfSome, OnOk, length};
 ghost use Rattle.covstore.specs.PointIndex.{changed};
@@ -72,13 +73,14 @@ impl KindTally {
         tally
     }
 
-    /// The tally after a point's numbers fall. One point less is found if no test has the point any more. One less is hit if the
-    /// point was hit and isn't any more.
+    /// The tally after a point's numbers fall. If no test has the point any more, one point fewer is found. If the point was
+    /// hit and isn't hit any more, one point fewer is hit.
     fn less(self, before: &TestCounts, after: &Option<TestCounts>) -> KindTally
         requires { CanBeLess self before.now after.now }
         ensures { IsLess self before.now after.now result }
     {
-        // A point never becomes hit when its numbers fall. So if `stays_hit` is false, it was hit and isn't any more.
+        // A point never becomes hit when its numbers fall. So if `stays_hit` is false, the point was hit before and isn't hit
+        // any more.
         let stays = after.is_some();
         let stays_hit = (before.hit.get() > 0) == TestCounts::is_hit(after);
         KindTally {
@@ -88,16 +90,16 @@ impl KindTally {
     }
 }
 
-/// A walk over the points of a test. It has the tally as if the test didn't have the points passed so far, and the slot to look
-/// at first for the next point.
+/// A walk over the points of a test. `tally` is the tally as if the test didn't have the points that the walk has passed.
+/// `place` is the slot to look at first for the next point.
 #[derive(Clone, Copy)]
 pub(crate) struct TallyWalk {
     pub tally: KindTally,
     place: SlotIndex,
 }
 
-/// For each point of a kind, how many tests of a file have it, and how many have it above 0, committed and staged. Contracts see
-/// the points with these numbers.
+/// For each point of a kind, the number of tests of a file that have the point, and the number of tests that have it with a
+/// value above 0. Both numbers are kept as committed and as staged. Contracts see the points with these numbers.
 #[derive(Drop)]
 pub(crate) struct PointIndex<K: Key, A: Allocator> {
     counts: StagedMap<K, TestCounts, A>,
@@ -258,8 +260,8 @@ impl<K: Key, A: Allocator> PointIndex<K, A> {
         }
     }
 
-    /// Passes a point: takes one test that has the point off the walk's tally. The index stays as it is: its committed numbers of
-    /// the point still count the test.
+    /// Passes a point. The returned walk's tally no longer counts one test that has the point. The index doesn't change: its
+    /// committed numbers of the point still count that test.
     pub(crate) fn walk_without<Q: Query<K, A>>(
         &self,
         walk: TallyWalk,

@@ -6,8 +6,8 @@ use std::alloc::{AllocError, AllocFailed, Allocator, Global};
 /// Why a store refuses a submission.
 #[derive(Drop)]
 pub enum Refuse<A: Allocator = Global> {
-    /// Refusal 1: for this line of this file, the submission gives a checksum that differs from the held one, or from an earlier
-    /// one of the submission. So the two checksums come from two versions of the source.
+    /// Refusal 1: the submission gives this line of this file a checksum that differs from the held one, or from an earlier one
+    /// of the submission. So the two checksums come from two versions of the source file.
     Clash {
         file: Bytes<A>,
         line: u64,

@@ -3,8 +3,8 @@
 use std::alloc::{Allocator, Global};
 use std::marker::Model;
 
-/// In how many sections the old test is, and the old test's name if the commit drops that test. The test's values are staged in
-/// the store, under the new name. Contracts see the number and the name.
+/// The number of sections of the old test, and the old test's name if the commit drops that test. The old test's values are
+/// staged in the store, under the new name. Contracts see the number and the name.
 #[derive(Drop)]
 pub struct Renaming<A: Allocator = Global> {
     sections: u64,
@@ -23,7 +23,7 @@ impl<A: Allocator> Model for Renaming<A> {
 impl<A: Allocator> Renaming<A> {
     ghost use Rattle.std.specs.Prelude.{◌≡◌, Some, None, option_map};
 
-    /// A rename that leaves the table as it is, since no row is of the old test, or both names are the same.
+    /// A rename that changes nothing, since the old test has no row, or both names are the same.
     pub(crate) fn none(sections: u64) -> Renaming<A>
         ensures sections { result.sections ≡ sections }
         ensures leaves { result.leaves ≡ None }
@@ -34,7 +34,8 @@ impl<A: Allocator> Renaming<A> {
         }
     }
 
-    /// A rename whose commit drops the old test, `leaves`. The test's values are then under the new name.
+    /// A rename whose commit drops the old test. `leaves` is the old test's name. After the commit, the test's values are under
+    /// the new name.
     pub(crate) fn of(sections: u64, leaves: Vec<u8, A>) -> Renaming<A>
         ensures sections { result.sections ≡ sections }
         ensures leaves { result.leaves ≡ Some leaves.items }
@@ -45,7 +46,7 @@ impl<A: Allocator> Renaming<A> {
         }
     }
 
-    /// In how many sections the old test is. Takes no memory.
+    /// The number of sections of the old test. Takes no memory.
     pub fn sections(&self) -> u64
         ensures { result ≡ self.now.sections }
     {

@@ -1,4 +1,5 @@
-//! Splits the items of a section by kind into runs, and stages these. Runs of lines and of branches are staged at once.
+//! Splits the items of a section by kind into runs, and stages the runs. A run of lines or of branches is staged at once. The
+//! items of a run of functions are staged one by one.
 
 ghost use Rattle.std.specs.Prelude.{◌≡◌, [], map, IfOk, OnOk};
 ghost use Rattle.std.specs.List.{All};
@@ -18,7 +19,8 @@ use crate::test::Test;
 use covline::{BranchPoint, Item};
 use std::alloc::{AllocError, Allocator};
 
-/// The largest number of items that are staged at once. Their runs take memory, and should fit in the processor's caches.
+/// The largest number of items that are staged at once. The runs of these items are kept in memory, and should fit in the
+/// processor's caches.
 pub(crate) const MAX_STAGED_AT_ONCE: usize = 1024;
 
 /// Items of a section, split by kind into runs.
@@ -30,7 +32,7 @@ pub(crate) struct Runs<'a, A: Allocator> {
 }
 
 impl<'a, A: Allocator + Copy> Runs<'a, A> {
-    /// Empty runs, with room for this many items of lines, since most items are of lines.
+    /// Empty runs. The run of lines has room for `lines` items, since most items are of lines.
     pub(crate) fn with_room(alloc: A, lines: usize) -> Result<Runs<'a, A>, AllocError>
         ensures { IfOk result (λ runs. runs_seen runs ≡ runs_of []) }
     {
@@ -113,7 +115,8 @@ pub(crate) fn stage_runs<'a, A: Allocator + Copy>(
     ensures held { OnOk result (KeepsHeld (index_staged index.old) (index_staged index.new)) }
 {
     stage_whole_run(&mut test.lines, &mut index.lines, alloc, &runs.lines)?;
-    // A tracefile usually has functions in the order of their lines, but the map has them in the order of their names.
+    // A tracefile usually has functions in the order of their lines, but the map has functions in the order of their names. So
+    // it is faster to stage functions one by one.
     stage_one_by_one(
         &mut test.functions,
         &mut index.functions,

@@ -1,5 +1,6 @@
-//! Stages items without checksums, in the order of their lines if these often fall. In this order, points are found without a
-//! search, and a new point that comes after all others moves none of them.
+//! Stages items without checksums. If the lines often fall from one item to the next, the items are staged in the order of
+//! their lines. In that order, points are found without a search, and a new point that comes after all other points moves none
+//! of them.
 
 ghost use Rattle.std.specs.Prelude.{◌≡◌, ◌↔◌, map, IfOk, IsTrue, OnOk};
 ghost use Rattle.std.specs.List.{All};
@@ -18,24 +19,24 @@ use crate::test::Test;
 use covline::Item;
 use std::alloc::{AllocError, Allocator};
 
-/// The smallest number of items for which a section is sorted.
+/// A section with fewer items than this isn't sorted.
 const MIN_SORTED: usize = 1024;
 
-/// One of this many items is sampled, to see whether the lines of the items ascend.
+/// One in this many items is sampled, to see whether the lines of the items often fall.
 const SAMPLE_STRIDE: usize = 16;
 
 /// Items are sorted if more than one in this many samples has a lower line than the sample before it.
 const SAMPLES_PER_FALL: usize = 4;
 
-/// The line of an item, and the item's index in its section. Spots ascend by line, and on one line by index.
+/// The line of an item, and the item's index in its section. Spots ascend by line, and spots of the same line ascend by index.
 #[derive(PartialEq, Eq, PartialOrd, Ord, Drop)]
 struct Spot {
     line: u64,
     index: usize,
 }
 
-/// Stages the items, none of which has a checksum. They are staged in the order of their lines if there are many items and their
-/// lines often fall, else in the section's order.
+/// Stages the items, none of which has a checksum. If there are at least `MIN_SORTED` items and their lines often fall, the
+/// items are staged in the order of their lines. Otherwise, they are staged in the section's order.
 pub(crate) fn stage_without_checksums<A: Allocator + Copy>(
     test: &mut Test<A>,
     index: &mut FileIndex<A>,
@@ -56,7 +57,8 @@ pub(crate) fn stage_without_checksums<A: Allocator + Copy>(
     stage_as_they_are(test, index, alloc, items)
 }
 
-/// Whether the lines of the items often fall: whether many of the sampled items have a lower line than the sample before.
+/// Whether the lines of the items often fall. This is so if more than one in `SAMPLES_PER_FALL` samples has a lower line than
+/// the sample before it.
 fn falls_often<A: Allocator>(items: &[Item<A>]) -> bool {
     let most = items.len() / SAMPLE_STRIDE / SAMPLES_PER_FALL;
     let mut falls = 0;

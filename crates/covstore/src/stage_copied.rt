@@ -63,8 +63,8 @@ fn add_lines<A: Allocator + Copy>(
     Ok(())
 }
 
-/// Stages the value of a line. Copies the line's checksum into `text` first, since it can't be borrowed from the index while the
-/// index is changed.
+/// Stages the value of a line. Copies the line's checksum into `text` first, since the checksum can't be borrowed from the
+/// index while the index is changed.
 fn add_line_value<A: Allocator + Copy>(
     test: &mut Test<A>,
     index: &mut FileIndex<A>,

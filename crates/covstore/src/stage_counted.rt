@@ -1,4 +1,5 @@
-//! Stages items of one kind at points that are counted: in their test and in the counts of the file's points.
+//! Stages items of one kind in their test and in the counts of the file's points. The index counts these points and doesn't
+//! follow a test.
 
 ghost use Rattle.std.specs.Prelude.{◌≡◌, ◌+◌, ◌≤◌, length, IfOk, OnOk};
 ghost use Rattle.covmap.specs.Puts.{put, value_of};
@@ -10,7 +11,8 @@ use crate::sums::{PointAddend, PointSum};
 use covmap::{Key, Query, StagedMap};
 use std::alloc::{AllocError, Allocator};
 
-/// Stages what an item adds to a point of a kind. Returns the test's sum before.
+/// Stages what an item adds to a point of a kind. Returns the sum that the test had at the point before, or `None` if the test
+/// didn't have the point.
 pub(crate) fn stage_counted_addend<
     K: Key + Drop,
     S: PointSum,

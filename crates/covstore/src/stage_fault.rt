@@ -6,7 +6,7 @@ use std::alloc::{AllocError, AllocFailed, Allocator};
 /// Why the items of a section can't be staged.
 #[derive(Drop)]
 pub(crate) enum StageFault<A: Allocator> {
-    /// The checksum that an item gives for this line differs from the one that is held, or from an earlier one of the submission.
+    /// An item gives this line a checksum that differs from the held one, or from an earlier one of the submission.
     Clash {
         line: u64,
         held: Bytes<A>,

@@ -43,7 +43,8 @@ pub(crate) fn stage_whole_run<
     }
 }
 
-/// Stages a run of items of one kind, one by one. This is faster if the items aren't in the order of their points.
+/// Stages a run of items of one kind, one by one. This is faster than `stage_whole_run` if the items aren't in the order of
+/// their points.
 pub(crate) fn stage_one_by_one<
     K: Key + Drop,
     S: PointSum,

@@ -20,8 +20,9 @@ use crate::test::Test;
 use covline::Item;
 use std::alloc::Allocator;
 
-/// Stages the items of a section, and ends at the first that clashes. Items are staged some at a time. If no item has a checksum
-/// and the lines often fall, the items are staged in the order of their lines.
+/// Stages the items of a section, and stops at the first item that clashes. At most `MAX_STAGED_AT_ONCE` items are staged at a
+/// time. If there are many items, no item has a checksum and the lines often fall, the items are staged in the order of their
+/// lines.
 pub(crate) fn stage_items<A: Allocator + Copy>(
     test: &mut Test<A>,
     index: &mut FileIndex<A>,
@@ -46,8 +47,9 @@ pub(crate) fn stage_items<A: Allocator + Copy>(
     Ok(())
 }
 
-/// Stages some of a section's items, and ends at the first that clashes. The items are staged at once if their lines with a
-/// checksum ascend, as they do in what geninfo writes, else one by one.
+/// Stages some of a section's items, and stops at the first item that clashes. If the lines of the items with a checksum
+/// ascend, the items are staged at once. These lines ascend in the tracefiles that geninfo writes. Otherwise, the items are
+/// staged one by one.
 fn stage_some<A: Allocator + Copy>(
     test: &mut Test<A>,
     index: &mut FileIndex<A>,

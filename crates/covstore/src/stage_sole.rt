@@ -11,8 +11,8 @@ use crate::sums::{PointAddend, PointSum};
 use covmap::{Key, Query, StagedMap};
 use std::alloc::{AllocError, Allocator};
 
-/// Stages what an item adds to a point of a kind. Returns the test's sum before. If memory is refused, the committed points stay,
-/// but staged ones may be lost.
+/// Stages what an item adds to a point of a kind. Returns the sum that the test had at the point before, or `None` if the test
+/// didn't have the point. If memory is refused, the committed points stay, but staged points may be lost.
 pub(crate) fn stage_sole_addend<
     K: Key + Drop,
     S: PointSum,

@@ -87,8 +87,8 @@ fn commit_staged<A: Allocator + Copy>(
     }
 }
 
-/// Stages the items of a test of a file, and returns the file's staged totals before and after. Looks the file up once, and adds
-/// it if it isn't there.
+/// Stages the items of a test of a file, and returns the file's staged totals before and after. Looks the file up once, and
+/// adds the file if the store doesn't have it.
 fn stage_in_files<A: Allocator + Copy>(
     files: &mut BTreeMap<Path<A>, Boxed<File<A>, A>, A>,
     alloc: A,
@@ -133,10 +133,10 @@ fn stage_in_new_file<A: Allocator + Copy>(
     Ok(totals)
 }
 
-/// The merged counts of all its submissions: for each file and each test in it, the value of every line, function and branch.
-/// There are at most 1,048,576 submissions. Dropping or renaming a test drops or renames its rows in all of them. Contracts see
-/// the values as sections, the number of submissions, and the files: as they are committed, and as they will be after the next
-/// commit.
+/// A store of submissions, with their merged counts. For each file and each test of the file, the store has the value of every
+/// line, function and branch. A store has at most 1,048,576 submissions. Dropping or renaming a test drops or renames its rows
+/// in all submissions. Contracts see the committed values as sections, and the number of submissions. They also see the files
+/// as they are committed, the files as they will be after the next commit, and the totals after that commit.
 #[derive(Drop)]
 pub struct Store<A: Allocator = Global> {
     files: BTreeMap<Path<A>, Boxed<File<A>, A>, A>,
@@ -190,15 +190,16 @@ impl<A: Allocator + Copy> Store<A> {
         }
     }
 
-    /// Prepares to add the submission. The content stays as it is. What a plan consists of is private. Callers know three things
-    /// if they get one: the submission doesn't clash with a table that the store represents; the plan has the totals after the
-    /// submission; and it is a plan of the store as this call leaves it, which `commit` requires.
+    /// Prepares to add the submission. The content of the store doesn't change. The parts of a plan are private. A caller that
+    /// gets a plan knows three things. The submission doesn't clash with any table that the store represents. The plan has the
+    /// totals after the submission is added. The plan is made for the store as this call leaves it, which `commit` requires.
     ///
     /// # Errors
     ///
-    /// `Clash` with the first checksum that differs from a held one, or from an earlier one of the submission. `Memory` if memory
-    /// was refused: no contract can promise that memory suffices, so a submission that clashes may get `Memory` too. A submission
-    /// without a row is never refused, since it allocates nothing.
+    /// `Clash` if the submission gives a line a checksum that differs from the held one, or from an earlier one of the
+    /// submission. The error has the first such checksum. `Memory` if memory was refused. No contract can promise that memory
+    /// suffices, so a submission that clashes may be refused with `Memory` too. A submission without a row is never refused,
+    /// since it allocates nothing.
     pub fn prepare(&mut self, alloc: A, submission: &Submission<A>) -> Result<Plan, Refuse<A>>
         requires { self.old.members < max_members }
         ensures content { SameContent self.old self.new }
@@ -210,7 +211,7 @@ impl<A: Allocator + Copy> Store<A> {
     {
         // Proof only: the contract of `kept` bounds the number of committed rows.
         self.kept();
-        // A plan that was dropped may have left something staged.
+        // A plan or a renaming that was dropped may have left something staged.
         self.rollback();
         let added = self.add_all(alloc, submission.sects());
         match added {
@@ -233,10 +234,11 @@ impl<A: Allocator + Copy> Store<A> {
         self.members += 1;
     }
 
-    /// Prepares to give the rows of one test another name, which may be that of another test. The content stays as it is. What a
-    /// renaming consists of is private. Callers know two things of it: in how many sections the old test is; and that it is a
-    /// renaming of the store as this call leaves it, which `commit_rename` requires. If no row is of the old test, or both names
-    /// are the same, the rename does nothing. The call looks the old test up in each file, and stages each of the test's points.
+    /// Prepares to give the rows of the test `old` the name `new`, which may be the name of another test. The content of the
+    /// store doesn't change. The parts of a renaming are private. A caller that gets a renaming knows two things. The renaming
+    /// has the number of sections of the old test. The renaming is made for the store as this call leaves it, which
+    /// `commit_rename` requires. If the old test has no row, or both names are the same, the rename does nothing. The call
+    /// looks the old test up in each file. Unless the rename does nothing, the call stages each of the old test's points.
     ///
     /// # Errors
     ///
@@ -253,7 +255,7 @@ impl<A: Allocator + Copy> Store<A> {
         ensures apart { OnErr result (old.now ≢ new.now) }
         ensures some { OnErr result ((table : Table) → StandsFor self.old table → sections_of_test old.now table ≢ 0) }
     {
-        // A plan that was dropped may have left something staged.
+        // A plan or a renaming that was dropped may have left something staged.
         self.rollback();
         if old == new {
             return Ok(Renaming::none(count_sections(&self.files, old)));
@@ -272,8 +274,8 @@ impl<A: Allocator + Copy> Store<A> {
         }
     }
 
-    /// Gives the rows of the old test their new name. The store must be as `prepare_rename` left it. If a point has rows of both
-    /// names, its value is that of all these rows together. The totals stay. Takes no memory.
+    /// Gives the rows of the old test their new name. The store must be as `prepare_rename` left it. If a point has rows of
+    /// both names, its value is what all these rows add up to. The totals don't change. Takes no memory.
     pub fn commit_rename(&mut self, renaming: Renaming<A>)
         requires { (old new : List ℕ) × IsRenamingOf self.old old new renaming }
         ensures stands { (old new : List ℕ) (table : Table) → IsRenamingOf self.old old new renaming → StandsFor self.old table → StandsFor self.new (renamed old new table) }
@@ -402,8 +404,8 @@ impl<A: Allocator + Copy> Store<A> {
         opened.get_mut().copy_test(alloc, old, new)
     }
 
-    /// Whether some section, and so some row, is of this test. Looks the test up in one file after another, up to the first that
-    /// has it. Takes no memory.
+    /// Whether the store has a section of this test, which means that it has a row of the test. Looks the test up in one file
+    /// after another, and stops at the first file in which the test has points. Takes no memory.
     pub fn has_test(&self, test: &[u8]) -> bool
         ensures value { result ≡ list_any (λ s. bytes_eq s.key.test test.now) self.now.sections }
         ensures rows { (table : Table) → StandsFor self.now table → result ≡ list_any (λ row. bytes_eq row.test test.now) (all_rows table) }
@@ -411,7 +413,7 @@ impl<A: Allocator + Copy> Store<A> {
         self.files.values().any(|file| file.get().has_test(test))
     }
 
-    /// In how many sections the test is, and the totals that `drop_test` would leave. Takes no memory.
+    /// The number of sections of the test, and the totals that the store would have after `drop_test`. Takes no memory.
     pub fn after_drop(&self, test: &[u8]) -> (u64, Totals)
         ensures sections { (table : Table) → StandsFor self.now table → result.0 ≡ sections_of_test test.now table }
         ensures totals { (table : Table) → StandsFor self.now table → result.1 ≡ totals_of (content_at (without_test test.now table)) }
@@ -420,12 +422,13 @@ impl<A: Allocator + Copy> Store<A> {
         count_without(&self.files, test)
     }
 
-    /// Drops all rows of a test. The points of other tests stay. Returns in how many sections the test was. Takes no memory.
+    /// Drops all rows of a test. The points of other tests stay. Returns the number of sections that the test had. Takes no
+    /// memory.
     pub fn drop_test(&mut self, test: &[u8]) -> u64
         ensures sections { (table : Table) → StandsFor self.old table → result ≡ sections_of_test test.now table }
         ensures stands { (table : Table) → StandsFor self.old table → StandsFor self.new (without_test test.now table) }
     {
-        // A plan that was dropped may have left something staged.
+        // A plan or a renaming that was dropped may have left something staged.
         self.rollback();
         let sections = count_sections(&self.files, test);
         drop_from_files(&mut self.files, test);

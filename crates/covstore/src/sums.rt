@@ -1,4 +1,5 @@
-//! What the items of a file and a test add up to at a point, and how many tests of a file have a point. A sum stops at 2^128 - 1.
+//! What the items of a test add up to at a point of a file, and how many tests of the file have the point. A sum stops at
+//! 2^128 - 1.
 
 ghost use Rattle.std.specs.Prelude.{◌≡◌, Bool, true, Option};
 ghost use Rattle.std.proofs.Common.{refl};
@@ -14,7 +15,8 @@ use crate::packed_u64::PackedU64;
 use crate::packed_u128::PackedU128;
 use covmap::{Addend, Image, ReportingAddend, Value};
 
-/// A value of a point that may be above 0: what the items of a test add up to there, or how many tests have the point (`TestCounts`).
+/// A value of a point. It is either what the items of a test add up to at the point, or how many tests have the point
+/// (`TestCounts`).
 pub(crate) trait PointSum: Value {
     ghost above: { Self → Bool };
 
@@ -43,7 +45,7 @@ fn is_hit<S: PointSum>(value: &Option<S>) -> bool
     }
 }
 
-/// A line: the sum of its execution counts, and whether an item has a checksum of it (geninfo(1): `DA:`).
+/// A line: the sum of its execution counts, and whether some item has a checksum of the line (geninfo(1): `DA:`).
 #[derive(Drop)]
 pub(crate) struct LineSum {
     pub count: PackedU128,
@@ -63,7 +65,7 @@ pub(crate) struct BranchSum {
     pub times: PackedTaken,
 }
 
-// A map keeps an option of one of these for each point, so their size matters.
+// A map keeps an `Option` of one of these types for each point, so the size of each `Option` matters.
 const _: () = prove!(size_of::<Option<LineSum>>() <= 24);
 
 const _: () = prove!(size_of::<Option<FunctionSum>>() <= 28);
@@ -196,8 +198,8 @@ impl PointAddend<BranchSum> for BranchAddend {
     ghost tells = { λ more before after. refl };
 }
 
-/// What one test changes in a point's numbers of tests: whether it is one more test that has the point, and whether it is one
-/// more test that has the point above 0.
+/// What one test changes in a point's numbers of tests. `is_new` tells whether one more test has the point. `is_hit` tells
+/// whether one more test has the point with a value above 0.
 #[derive(Clone, Copy)]
 pub(crate) struct TestsAddend {
     pub is_new: bool,
@@ -205,8 +207,8 @@ pub(crate) struct TestsAddend {
 }
 
 impl TestsAddend {
-    /// What a test adds when its sum at a point changes. `None` if the test already had the point, and doesn't have it above 0
-    /// for the first time.
+    /// What a test adds to a point's numbers when the test's sum at the point changes from `before` to `after`. `None` if
+    /// neither number changes.
     pub(crate) fn of<S: PointSum>(before: &Option<S>, after: &S) -> Option<TestsAddend>
         ensures { result ≡ change_of S.above before.now after.now }
     {
@@ -269,7 +271,8 @@ impl TestCounts {
         }
     }
 
-    /// The numbers without one test, or `None` if it was the only one. `was_above` tells whether the test had the point above 0.
+    /// The numbers without one test, or `None` if that test was the only one. `was_above` tells whether that test had the point
+    /// with a value above 0.
     pub(crate) fn fewer(&self, was_above: bool) -> Option<TestCounts>
         requires { HaveOne was_above self.now }
         ensures { result ≡ fewer_tests was_above self.now }

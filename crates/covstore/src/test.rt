@@ -1,4 +1,4 @@
-//! A test of a file: its points of each kind, each with what the test's items add up to there.
+//! A test of a file: its points of each kind. Each point has the value that the test's items add up to at the point.
 
 ghost use Rattle.std.specs.Prelude.{◌≡◌, []};
 
@@ -56,7 +56,7 @@ impl<A: Allocator> Test<A> {
     ghost use Rattle.covstore.specs.TestView.{test_committed};
     ghost use Rattle.covstore.specs.State.{has_no_points};
 
-    /// Whether there are no committed points.
+    /// Whether the test has no committed points.
     pub(crate) fn is_empty(&self) -> bool
         ensures { result ≡ has_no_points (test_committed self.now) }
     {

@@ -4,8 +4,8 @@ ghost use Rattle.std.specs.Prelude.{◌≡◌};
 ghost use Rattle.covstore.specs.FilesView.{finds_nothing};
 ghost use Rattle.covstore.specs.TotalsExchanged.{FitTogether, IsAmong, exchanged, no_totals, together};
 
-/// The totals of a store (geninfo(1): `LF:`, `LH:`, `FNF:`, `FNH:`, `BRF:`, `BRH:`). A point
-/// is found once for each file, over all tests, and hit if some test has it above 0.
+/// The totals of a store (geninfo(1): `LF:`, `LH:`, `FNF:`, `FNH:`, `BRF:`, `BRH:`). A point of a file is counted once, however
+/// many tests have it. The point is hit if some test has it with a value above 0.
 #[derive(Clone, Copy, Debug, Default, PartialEq, Eq)]
 pub struct Totals {
     /// Lines found.

@@ -6,7 +6,7 @@ ghost use Rattle.covreport.specs.PatternParts.{set_data, BeginsWithRange, head_d
 
 use memchr::memchr;
 
-/// The bytes of which a part takes one. Of a `[...]`, its body is kept.
+/// The bytes of which a part takes one. A set `[...]` is kept as its body.
 #[derive(Clone, Copy)]
 pub(crate) enum ByteSet<'a> {
     /// Each byte.
@@ -94,7 +94,7 @@ fn read_body(text: &[u8]) -> Option<(&[u8], &[u8])>
     Some((&text[..close + 1], &behind[close + 1..]))
 }
 
-/// The part of a `[` right before these bytes, if it opens a set; `None` if no `]` closes it.
+/// The part that begins with a `[` right before these bytes, if the `[` opens a set. `None` if no `]` closes the set.
 fn read_set(rest: &[u8]) -> Option<Head<'_>>
     ensures { option_map head_data result ≡ option_map (after_head rest.now) (opened_set rest.now) }
 {

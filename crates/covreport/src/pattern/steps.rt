@@ -88,8 +88,8 @@ impl<'a> Matcher<'a> {
         }
     }
 
-    /// Lets the last star take one more byte, and goes on after it. Without a star, or without a byte, there is no
-    /// match.
+    /// Lets the last star take one more byte of the path, and goes on after this byte. There is no match if there is no star,
+    /// or no byte that it could take.
     fn go_back(&mut self) -> Option<bool>
         requires { fits_at self.old.here ≡ false }
         ensures { MatchOption result (Proceeds self.old self.new) (λ answer. answer ≡ answer_of self.old) }

@@ -6,11 +6,12 @@ ghost use Rattle.covline.specs.Spells.{comma};
 use itoa::{Buffer, write_digits};
 use std::marker::Model;
 
-/// How many bytes there is room for. A record has at most a key of 5 bytes, three numbers of 64 bits and one of 128, and a byte
-/// after each.
+/// How many bytes there is room for. A record has at most a key of 5 bytes, three numbers of 64 bits, one number of 128 bits,
+/// and a byte after each number.
 const ROOM: usize = 112;
 
-/// Bytes that come before others, put together from the last to the first. Contracts see the bytes.
+/// The bytes at the front of a record, or the whole record. They are put together from the last to the first. Contracts see the
+/// bytes.
 #[derive(Drop)]
 pub(super) struct Front {
     bytes: [u8; ROOM],

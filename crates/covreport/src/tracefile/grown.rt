@@ -62,7 +62,7 @@ impl<A: Allocator> Printer for Grown<A> {
     }
 }
 
-/// Appends the piece, if the text is whole. Whether the text is whole then.
+/// Appends the piece, if the text is whole. Returns whether the text is whole afterwards.
 #[inline]
 fn grow<A: Allocator>(text: &mut Bytes<A>, is_whole: bool, piece: &[u8]) -> bool
     ensures whole { result ≡ true → text.new ≡ text.old ++ piece.now }

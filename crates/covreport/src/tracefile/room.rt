@@ -10,7 +10,7 @@ use covline::Memory;
 use covstore::{Section, Store};
 use std::alloc::Allocator;
 
-/// Room for the functions of any one section of the chosen files. If these have no functions, it allocates nothing.
+/// Room for the functions of any one section of the chosen files. If these files have no functions, the call allocates nothing.
 pub(super) fn room_for_functions<'s, A: Allocator + Copy>(
     alloc: A,
     store: &'s Store<A>,
@@ -33,7 +33,7 @@ fn most_functions<A: Allocator + Copy>(store: &Store<A>, choice: &Choice<A>) -> 
     most
 }
 
-/// How many functions of a section are printed: all if its file is chosen, and else none.
+/// How many functions of a section are printed: all of them if its file is chosen, otherwise none.
 fn functions_to_print<A: Allocator>(section: &Section<'_, A>, choice: &Choice<A>) -> usize
     ensures { result ≡ most_functions_of (choice_data choice.now) (section.now ∷ []) }
 {
