@@ -1,5 +1,5 @@
 -- How a call that collects files ends, from the results of its steps.
-use Rattle.std.proofs.Common.{◌≡◌, ◌⊎◌, inl, inr, ℕ, ◌-◌, Bool, false, if◌then◌else◌, List, [], ◌∷◌, ◌++◌, length, slice_get, Option, Some, None, Result, Ok, Err, IfOk, filter, flat_map, codes, refl, sym, subst, ap, ◌∙◌, append-nil, length-append, arith}
+use Rattle.std.proofs.Common.{◌≡◌, ◌⊎◌, inl, inr, ℕ, ◌-◌, Bool, true, false, if◌then◌else◌, List, [], ◌∷◌, ◌++◌, length, slice_get, Option, Some, None, Result, Ok, Err, IfOk, flat_map, codes, refl, sym, subst, ap, ◌∙◌, append-nil, length-append, arith}
 use Rattle.std.proofs.lemmas.List.{flat_map_more, map-append}
 use Rattle.std.specs.Io.KnownBytes.{Appends}
 use Rattle.covsession.specs.Session.{said, clash_text}
@@ -7,10 +7,10 @@ use Rattle.covsession.specs.declared.session.fault.SessionFault.TheVariants as f
 use Rattle.covbook.specs.Op.{OpData, SubmitOp, DropTestOp, RenameOp, ReportOp, ExtractOp, RemoveOp, SummaryOp, TextAnswer, EntryData}
 use Rattle.covstore.specs.Content.{SectionData, content_at}
 use Rattle.covstore.specs.Table.{Table}
-use Rattle.covstore.specs.Totals.{totals_of}
-use Rattle.covreport.specs.Choice.{ChoiceData, is_chosen}
+use Rattle.covlimit.specs.Limits.{LimitsData}
+use Rattle.covlist.specs.Chosen.{chosen_files, totals_of_chosen}
+use Rattle.covreport.specs.Choice.{ChoiceData}
 use Rattle.covreport.specs.Report.{report_text}
-use Rattle.covreport.specs.Summary.{summary_of}
 use Rattle.covbook.specs.Step.{answer_of, next_entry, ops_in, table_after, table_from, table_of}
 use Rattle.covbook.specs.Texts.{IsText}
 use Rattle.covjobs.specs.Collect.{InputData, IsCollected}
@@ -21,6 +21,8 @@ use Rattle.covjobs.specs.declared.collect_fault.CollectFault.TheVariants as coll
 use Rattle.covjobs.specs.declared.refused.RefusedInput.{RefusedInput}
 use Rattle.covcommand.specs.declared.asked.Command.{Command}
 use Rattle.covcommand.specs.declared.asked.Command.TheVariants as commands
+use Rattle.covcommand.specs.declared.asked.TotalsForm.{TotalsForm}
+use Rattle.covcommand.specs.declared.asked.TotalsForm.TheVariants as forms
 use Rattle.covrun.specs.WorkFault.{IsRefusal, of_work}
 use Rattle.covrun.specs.declared.work.WorkFault.{WorkFault}
 use Rattle.covrun.specs.declared.work.WorkFault.TheVariants.{Words, Memory}
@@ -29,8 +31,8 @@ use Rattle.covrun.specs.Call.{StopsEarly, AreTexts, IsUnreadable, WorkEnds, IsTa
 use Rattle.covrun.specs.Check.{IsCheck}
 use Rattle.covrun.specs.Folder.{FolderData}
 use Rattle.covrun.specs.Streams.{SourceData, SinksData, sinks}
-use Rattle.covrun.specs.Ending.{EndingData, Prints, Unreadable, Stopped, of_collect, of_collected, complaints, refusal_line, ran_out, text_in, text_at, last_text, asked_text, unless_any}
-use Rattle.covrun.specs.Work.{QuestionData, Answer, ChosenReport, ChosenSummary, last_of, choice_of, asked_of, WorkData, TaskData, Serves, Collects, Checks, task_of}
+use Rattle.covrun.specs.Ending.{EndingData, Prints, FallsShort, Unreadable, Stopped, of_collect, of_collected, complaints, refusal_line, ran_out, text_in, text_at, last_text, asked_shortfalls, asked_text, list_text, unless_any, with_shortfalls}
+use Rattle.covrun.specs.Work.{QuestionData, Answer, ChosenReport, ChosenSummary, LimitedTotals, ChosenList, last_of, choice_of, chosen_or_all, asked_of, has_limit, limits_of, summary_asked, WorkData, TaskData, Serves, Collects, Checks, task_of}
 use Rattle.covcommand.specs.declared.asked.TextFormat.{TextFormat}
 use Rattle.covrun.proofs.Reading.{ReadTexts, texts_held}
 
@@ -118,32 +120,54 @@ table_stays : (entries : List EntryData) (op : OpData) → IsText op → table_o
 table_stays entries op asks =
     ap table_of (map-append (λ (e : EntryData). e.op) entries (next_entry entries 0 op ∷ [])) ∙ tables_append [] (ops_in entries) op ∙ text_leaves (table_of (ops_in entries)) op asks
 
+-- the sections of the table are the same after the last operation
+sections_stay : (entries : List EntryData) (op : OpData) → IsText op → (sections : List SectionData) → sections ≡ content_at (table_of (ops_in entries))
+    → sections ≡ content_at (table_of (ops_in (entries ++ next_entry entries 0 op ∷ [])))
+sections_stay entries op asks sections are = are ∙ ap content_at (sym (table_stays entries op asks))
+
 -- the sections of chosen files are the text that is asked for
 pub report_is_asked : (entries : List EntryData) (choice : ChoiceData) (sections : List SectionData) → sections ≡ content_at (table_of (ops_in entries))
     → report_text choice sections ≡ asked_text (ChosenReport choice) (entries ++ next_entry entries 0 ReportOp ∷ [])
-report_is_asked entries choice sections are =
-    ap (report_text choice) (are ∙ ap content_at (sym (table_stays entries ReportOp tt)))
+report_is_asked entries choice sections are = ap (report_text choice) (sections_stay entries ReportOp tt sections are)
 
--- and their summary
-pub summary_is_asked : (entries : List EntryData) (choice : ChoiceData) (sections : List SectionData) → sections ≡ content_at (table_of (ops_in entries))
-    → summary_of (totals_of (filter (λ s. is_chosen choice s.key.file) sections)) ≡ asked_text (ChosenSummary choice) (entries ++ next_entry entries 0 SummaryOp ∷ [])
-summary_is_asked entries choice sections are =
-    ap (λ (s : List SectionData). summary_of (totals_of (filter (λ (s : SectionData). is_chosen choice s.key.file) s))) (are ∙ ap content_at (sym (table_stays entries SummaryOp tt)))
+-- and their totals are those that are asked for
+pub totals_are_asked : (entries : List EntryData) (choice : ChoiceData) (sections : List SectionData) → sections ≡ content_at (table_of (ops_in entries))
+    → totals_of_chosen choice sections ≡ totals_of_chosen choice (content_at (table_of (ops_in (entries ++ next_entry entries 0 SummaryOp ∷ []))))
+totals_are_asked entries choice sections are = ap (totals_of_chosen choice) (sections_stay entries SummaryOp tt sections are)
+
+-- and their list
+pub list_is_asked : (entries : List EntryData) (form : TotalsForm) (choice : ChoiceData) (sections : List SectionData) → sections ≡ content_at (table_of (ops_in entries))
+    → list_text form (chosen_files choice sections) (totals_of_chosen choice sections) ≡ asked_text (ChosenList form choice) (entries ++ next_entry entries 0 SummaryOp ∷ [])
+list_is_asked entries form choice sections are =
+    ap (λ (s : List SectionData). list_text form (chosen_files choice s) (totals_of_chosen choice s)) (sections_stay entries SummaryOp tt sections are)
 
 -- a text that is this one is the other that equals it
 pub text_then : {E : Type 0} (result : Result (List ℕ) E) (text other : List ℕ) → IfOk result (λ t. t ≡ text) → text ≡ other → IfOk result (λ t. t ≡ other)
 text_then (Ok t) text other is same = is ∙ same
 text_then (Err e) text other is same = tt
 
--- no input was refused and nothing clashed, so the text that is asked for is printed
-pub ends_with_text : (files : List (List ℕ)) (entries : List EntryData) (refused : List RefusedInput) (asks : QuestionData) (lines text : List ℕ) → IsText (last_of asks)
-    → ran_out refused ≡ false → lines ≡ complaints files refused entries → lines ≡ [] → text ≡ asked_text asks (entries ++ next_entry entries 0 (last_of asks) ∷ [])
-    → Prints text ≡ of_collected files asks (entries ++ next_entry entries 0 (last_of asks) ∷ []) refused
-ends_with_text files entries refused asks lines text is_text ran are none is =
+-- the answer to what is asked, with the lines on rates that are below their limits
+abbrev answered : QuestionData → List EntryData → EndingData
+answered asks entries = with_shortfalls (asked_shortfalls asks entries) (asked_text asks entries)
+
+-- no rate is below its limit, so the text is printed alone
+pub prints_alone : (lines text told asked : List ℕ) → told ≡ [] → told ≡ lines → text ≡ asked → Prints text ≡ with_shortfalls lines asked
+prints_alone lines text told asked none are is = (λ k. with_shortfalls ((sym none ∙ are) k) (is k))
+
+-- there are lines, so they are told beside the text
+pub prints_with_lines : (lines text told asked : List ℕ) → (told ≡ [] → ⊥) → told ≡ lines → text ≡ asked → FallsShort text told ≡ with_shortfalls lines asked
+prints_with_lines lines text [] asked some are is = absurd (some refl)
+prints_with_lines lines text (b ∷ told) asked some are is = (λ k. with_shortfalls (are k) (is k))
+
+-- no input was refused and nothing clashed, so what is asked is answered
+pub ends_with_answer : (files : List (List ℕ)) (entries : List EntryData) (refused : List RefusedInput) (asks : QuestionData) (lines : List ℕ) (ending : EndingData) → IsText (last_of asks)
+    → ran_out refused ≡ false → lines ≡ complaints files refused entries → lines ≡ [] → ending ≡ answered asks (entries ++ next_entry entries 0 (last_of asks) ∷ [])
+    → ending ≡ of_collected files asks (entries ++ next_entry entries 0 (last_of asks) ∷ []) refused
+ends_with_answer files entries refused asks lines ending is_text ran are none is =
     let all = entries ++ next_entry entries 0 (last_of asks) ∷ [] in
     let unrefused : [] ≡ complaints files refused all = sym none ∙ are ∙ sym (complaints_same files refused entries (last_of asks) is_text) in
     (λ k. unless_any (unrefused k) (is k))
-    ∙ ap (λ (b : Bool). if b then Stopped faults.Memory else unless_any (complaints files refused all) (asked_text asks all)) (sym ran)
+    ∙ ap (λ (b : Bool). if b then Stopped faults.Memory else unless_any (complaints files refused all) (answered asks all)) (sym ran)
 
 -- ---- what the subcommands ask
 
@@ -161,10 +185,20 @@ summary_or_chosen : (choice : Option ChoiceData) → IsText (last_of (asked_of S
 summary_or_chosen None = tt
 summary_or_chosen (Some choice) = tt
 
+words_are_text : (limits : LimitsData) (choice : Option ChoiceData) → (has : Bool)
+    → IsText (last_of (if has then LimitedTotals forms.Words (chosen_or_all choice) limits else asked_of SummaryOp ChosenSummary choice))
+words_are_text limits choice true = tt
+words_are_text limits choice false = summary_or_chosen choice
+
+totals_are_text : (form : TotalsForm) (limits : LimitsData) (choice : Option ChoiceData) → IsText (last_of (summary_asked form limits choice))
+totals_are_text forms.Words limits choice = words_are_text limits choice (has_limit limits)
+totals_are_text forms.Json limits choice = tt
+
 asks_text_of : (command : Command) → AsksText (task_of command)
 asks_text_of commands.Session = tt
 asks_text_of (commands.Merge version jobs filter names) = report_or_chosen (choice_of filter)
-asks_text_of (commands.Summary version jobs filter names) = summary_or_chosen (choice_of filter)
+asks_text_of (commands.Summary version jobs filter form limits names) = totals_are_text form (limits_of limits) (choice_of filter)
+asks_text_of (commands.List version jobs filter form names) = tt
 asks_text_of (commands.Extract version names) = tt
 asks_text_of (commands.Remove version names) = tt
 asks_text_of (commands.Gcov test names) = tt

@@ -23,11 +23,11 @@ use Rattle.covsession.specs.Program.{fault_status, words_of_fault, TellsSession}
 use Rattle.covsession.specs.Session.{said}
 use Rattle.covsession.specs.declared.session.fault.SessionFault.TheVariants as faults
 use Rattle.covrun.specs.declared.argument_fault.ArgumentFault.{ArgumentFault}
-use Rattle.covrun.specs.Ending.{EndingData, Prints, BadLine, BadWords, Unreadable, Stopped, status_of, complaint, of_collect, of_collected}
+use Rattle.covrun.specs.Ending.{EndingData, Prints, FallsShort, BadLine, BadWords, Unreadable, Stopped, status_of, complaint, of_collect, of_collected}
 use Rattle.covrun.specs.Work.{WorkData, TaskData, Serves, Collects, Checks, last_of, task_of, input_of, AreTaken, AreRefused}
 use Rattle.covrun.specs.Check.{IsCheck}
 use Rattle.covrun.specs.Folder.{FolderData, AreTextsOf}
-use Rattle.covrun.specs.Streams.{SourceData, SinksData, Complains, Withholds, Delivers}
+use Rattle.covrun.specs.Streams.{SourceData, SinksData, Complains, Withholds, Delivers, DeliversAndComplains}
 
 -- there is one text for each file. A text has at most one byte more than the limit. If the folder knows a file's bytes, the
 -- file's text is those bytes, up to that length
@@ -67,7 +67,7 @@ WorkEnds folder work ending =
     ⊎ ((texts : List (List ℕ)) × (answer : Result CollectedData CollectFault)
     × AreTexts folder work.files texts × IsAnswer work texts answer × (ending ≡ ending_of work answer)))
 
--- how a call ends before its work begins: memory ran out, or a pattern or the test's name is refused
+-- how a call ends before its work begins: memory ran out, or a pattern, a limit or the test's name is refused
 abbrev pub StopsEarly : Command → EndingData → Type 0
 StopsEarly command ending =
     (ending ≡ Stopped faults.Memory) ⊎ ((fault : ArgumentFault) × (ending ≡ BadWords fault) × AreRefused command fault)
@@ -79,13 +79,19 @@ of_line (line.Version text) = Prints (string_bytes text)
 of_line (line.Line text) = BadLine (string_bytes text)
 of_line line.Memory = Stopped faults.Memory
 
--- how an ending is reported. A text is written to the output; if a write of it failed, the output has a beginning of it, and the
--- failure is reported. For any other ending nothing goes to the output, and the ending's status and words are reported
+-- a write of the text failed. The output has a beginning of the text, and the failure is reported
+abbrev pub IsCutShort : (text : List ℕ) → (status : ℕ) → SinksData → SinksData → Type 0
+IsCutShort text status old new =
+    (status ≡ fault_status faults.Write) × (new.failed_output ≡ suc old.failed_output) × HasBegun old.output new.output text
+    × Complains (said (words_of_fault faults.Write)) old new
+
+-- how an ending is reported. A text is written to the output, and then the lines on rates that are below their limits, to the
+-- stream for faults. For any other ending nothing goes to the output, and the ending's status and words are reported
 abbrev pub IsEndingPrinted : EndingData → (status : ℕ) → SinksData → SinksData → Type 0
 IsEndingPrinted (Prints text) status old new =
-    ((status ≡ status_of (Prints text)) × Delivers text old new)
-    ⊎ ((status ≡ fault_status faults.Write) × (new.failed_output ≡ suc old.failed_output) × HasBegun old.output new.output text
-    × Complains (said (words_of_fault faults.Write)) old new)
+    ((status ≡ status_of (Prints text)) × Delivers text old new) ⊎ IsCutShort text status old new
+IsEndingPrinted (FallsShort text lines) status old new =
+    ((status ≡ status_of (FallsShort text lines)) × DeliversAndComplains text lines old new) ⊎ IsCutShort text status old new
 IsEndingPrinted ending status old new = (status ≡ status_of ending) × Withholds old new × Complains (complaint ending) old new
 
 -- what covcommand makes of the words: this command, or this fault

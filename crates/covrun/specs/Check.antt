@@ -10,6 +10,7 @@ use Rattle.covcommand.specs.declared.asked.LcovVersion.TheVariants as versions
 use Rattle.covcommand.specs.declared.asked.TextFormat.{TextFormat}
 use Rattle.covcommand.specs.declared.asked.TextFormat.TheVariants.{Tracefile, Gcov}
 use Rattle.covline.specs.Row.{SubmissionData}
+use Rattle.covlist.specs.Shown.{shown_name}
 use Rattle.covlcov2.specs.Outcome as lcov2
 use Rattle.covread.specs.GcovOutcome as gcov
 use Rattle.covread.specs.Outcome.{max_bytes, IsOutcome as IsTraceOutcome}
@@ -53,29 +54,29 @@ abbrev pub AreOutcomes : FolderData → TextFormat → (files : List (List ℕ))
 AreOutcomes folder format files outcomes =
     AllByRecursion (λ (f : List ℕ × OutcomeData). IsOutcome folder format f.0 f.1) (zip files outcomes)
 
--- the line that reports a file: none if it can't be read
-abbrev pub outcome_line : List ℕ → OutcomeData → List ℕ
-outcome_line file Unread = []
-outcome_line file (Refused fault) = file ++ codes ": " ++ refused_text fault
-outcome_line file (Held summary) = file ++ codes ": " ++ summary_text summary
+-- the line that reports a file of this shown name: none if the file can't be read
+abbrev pub outcome_line : (shown : List ℕ) → OutcomeData → List ℕ
+outcome_line shown Unread = []
+outcome_line shown (Refused fault) = shown ++ codes ": " ++ refused_text fault
+outcome_line shown (Held summary) = shown ++ codes ": " ++ summary_text summary
 
 -- the text has at least one item
 abbrev pub has_item : TextSummary → Bool
 has_item summary = nat_lt 0 summary.items
 
--- the complaint about a file: it can't be read, or it has no items
-abbrev pub outcome_complaint : List ℕ → OutcomeData → List ℕ
-outcome_complaint file Unread = file ++ said (codes ": can't read")
-outcome_complaint file (Refused fault) = []
-outcome_complaint file (Held summary) = if has_item summary then [] else file ++ said (codes ": no items")
+-- the complaint about a file of this shown name: it can't be read, or it has no items
+abbrev pub outcome_complaint : (shown : List ℕ) → OutcomeData → List ℕ
+outcome_complaint shown Unread = shown ++ said (codes ": can't read")
+outcome_complaint shown (Refused fault) = []
+outcome_complaint shown (Held summary) = if has_item summary then [] else shown ++ said (codes ": no items")
 
--- the lines that report the files, in the files' order
+-- the lines that report the files, in the files' order. The control bytes of their names are shown in hexadecimal digits
 abbrev pub check_lines : List (List ℕ) → List OutcomeData → List ℕ
-check_lines files outcomes = flat_map (λ (f : List ℕ × OutcomeData). outcome_line f.0 f.1) (zip files outcomes)
+check_lines files outcomes = flat_map (λ (f : List ℕ × OutcomeData). outcome_line (shown_name f.0) f.1) (zip files outcomes)
 
 -- the complaints about the files, in the files' order
 abbrev pub check_complaints : List (List ℕ) → List OutcomeData → List ℕ
-check_complaints files outcomes = flat_map (λ (f : List ℕ × OutcomeData). outcome_complaint f.0 f.1) (zip files outcomes)
+check_complaints files outcomes = flat_map (λ (f : List ℕ × OutcomeData). outcome_complaint (shown_name f.0) f.1) (zip files outcomes)
 
 abbrev pub is_unread : OutcomeData → Bool
 is_unread Unread = true
@@ -130,7 +131,7 @@ pub record EndsWithin (files : List (List ℕ)) (outcomes : List OutcomeData) (o
   pub each : length before ≡ length earlier
   pub between : Option (List ℕ)
   pub whole : Appends old.output between (check_lines earlier before)
-  pub part : HasBegun between new.output (outcome_line file last)
+  pub part : HasBegun between new.output (outcome_line (shown_name file) last)
 
 -- a write of a file's line failed. No later file was checked, and the failure is reported last
 pub record IsCheckCutShort (files : List (List ℕ)) (outcomes : List OutcomeData) (status : ℕ) (old new : SinksData) : Type 0 where

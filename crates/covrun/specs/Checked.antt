@@ -4,6 +4,7 @@ use Rattle.std.specs.List.{list_any}
 use Rattle.std.specs.Prelude.{◌≡◌, ◌⊎◌, ◌<◌, ◌≤◌, ◌+◌, ℕ, suc, List, length, if◌then◌else◌, Result, Ok, Err}
 use Rattle.covcheck.specs.declared.text_summary.TextSummary.{TextSummary}
 use Rattle.covcommand.specs.declared.asked.TextFormat.{TextFormat}
+use Rattle.covlist.specs.Shown.{shown_name}
 use Rattle.covread.specs.declared.fault.ReadFault.{ReadFault}
 use Rattle.covread.specs.declared.fault.ReadFault.TheVariants as reads
 use Rattle.covsession.specs.Fault.{HasBegun}
@@ -58,17 +59,17 @@ abbrev pub Says : (most : ℕ) → List ℕ → SinksData → SinksData → Type
 Says most words old new =
     Complains words old new × (old.failed_faults ≤ new.failed_faults) × (new.failed_faults ≤ old.failed_faults + most)
 
--- how a file's outcome is reported. If memory ran out, nothing was written
-abbrev pub ReportsFile : (file : List ℕ) → OutcomeData → Result CheckVerdict SessionFault → SinksData → SinksData → Type 0
-ReportsFile file outcome (Ok verdict) old new =
-    (verdict ≡ verdict_of outcome) × Appends old.output new.output (outcome_line file outcome)
-    × (new.failed_output ≡ old.failed_output) × Says 1 (outcome_complaint file outcome) old new
-ReportsFile file outcome (Err faults.Write) old new =
-    HasBegun old.output new.output (outcome_line file outcome)
-    × (new.failed_output ≡ suc old.failed_output) × Says 1 (outcome_complaint file outcome) old new
-ReportsFile file outcome (Err faults.Memory) old new = new ≡ old
-ReportsFile file outcome (Err faults.Read) old new = ⊥
-ReportsFile file outcome (Err faults.Full) old new = ⊥
+-- how the outcome of a file with this shown name is reported. If memory ran out, nothing was written
+abbrev pub ReportsFile : (shown : List ℕ) → OutcomeData → Result CheckVerdict SessionFault → SinksData → SinksData → Type 0
+ReportsFile shown outcome (Ok verdict) old new =
+    (verdict ≡ verdict_of outcome) × Appends old.output new.output (outcome_line shown outcome)
+    × (new.failed_output ≡ old.failed_output) × Says 1 (outcome_complaint shown outcome) old new
+ReportsFile shown outcome (Err faults.Write) old new =
+    HasBegun old.output new.output (outcome_line shown outcome)
+    × (new.failed_output ≡ suc old.failed_output) × Says 1 (outcome_complaint shown outcome) old new
+ReportsFile shown outcome (Err faults.Memory) old new = new ≡ old
+ReportsFile shown outcome (Err faults.Read) old new = ⊥
+ReportsFile shown outcome (Err faults.Full) old new = ⊥
 
 -- the outcome of a file that has this text
 abbrev pub IsOutcomeOfText : TextFormat → (text : List ℕ) → OutcomeData → Type 0
@@ -76,17 +77,17 @@ IsOutcomeOfText format text Unread = ⊥
 IsOutcomeOfText format text (Refused fault) = IsTextOutcome format text (Err fault)
 IsOutcomeOfText format text (Held summary) = IsTextOutcome format text (Ok summary)
 
--- how a file with this text is reported. If memory ran out, nothing was written
-abbrev pub TellsText : TextFormat → (file text : List ℕ) → Result CheckVerdict SessionFault → SinksData → SinksData → Type 0
-TellsText format file text answer old new =
+-- how a file with this shown name and this text is reported. If memory ran out, nothing was written
+abbrev pub TellsText : TextFormat → (shown text : List ℕ) → Result CheckVerdict SessionFault → SinksData → SinksData → Type 0
+TellsText format shown text answer old new =
     ((answer ≡ Err faults.Memory) × (new ≡ old))
-    ⊎ ((outcome : OutcomeData) × IsOutcomeOfText format text outcome × ReportsFile file outcome answer old new)
+    ⊎ ((outcome : OutcomeData) × IsOutcomeOfText format text outcome × ReportsFile shown outcome answer old new)
 
 -- how one file is reported. If memory ran out, nothing was written
 abbrev pub TellsOne : FolderData → TextFormat → (file : List ℕ) → Result CheckVerdict SessionFault → SinksData → SinksData → Type 0
 TellsOne folder format file answer old new =
     ((answer ≡ Err faults.Memory) × (new ≡ old))
-    ⊎ ((outcome : OutcomeData) × IsOutcome folder format file outcome × ReportsFile file outcome answer old new)
+    ⊎ ((outcome : OutcomeData) × IsOutcome folder format file outcome × ReportsFile (shown_name file) outcome answer old new)
 
 -- how files with these outcomes are reported. If memory ran out, the last files weren't checked and have no outcome
 abbrev pub TellsAll : TextFormat → (files : List (List ℕ)) → List OutcomeData → Result CheckVerdict SessionFault → SinksData → SinksData → Type 0

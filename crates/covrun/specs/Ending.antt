@@ -1,10 +1,16 @@
 -- How a call with a subcommand ends: this decides its exit status and what it writes.
 use Rattle.std.specs.List.{flat_map}
-use Rattle.std.specs.Prelude.{ℕ, ◌-◌, length, filter, List, [], ◌∷◌, ◌++◌, Bool, true, false, if◌then◌else◌, Option, Some, None, codes, slice_get}
+use Rattle.std.specs.Prelude.{ℕ, ◌-◌, length, List, [], ◌∷◌, ◌++◌, Bool, true, false, if◌then◌else◌, Option, Some, None, codes, slice_get}
 use Rattle.covread.specs.Fault.{is_memory}
 use Rattle.covstore.specs.Content.{content_at}
-use Rattle.covstore.specs.Totals.{totals_of}
-use Rattle.covreport.specs.Choice.{is_chosen}
+use Rattle.covstore.specs.Files.{FileTotalsData}
+use Rattle.covstore.specs.declared.totals.Totals.{Totals}
+use Rattle.covcommand.specs.declared.asked.TotalsForm.{TotalsForm}
+use Rattle.covcommand.specs.declared.asked.TotalsForm.TheVariants as forms
+use Rattle.covlimit.specs.Limits.{shortfalls}
+use Rattle.covlist.specs.Chosen.{chosen_files, totals_of_chosen}
+use Rattle.covlist.specs.Json.{list_json_of, summary_json_of}
+use Rattle.covlist.specs.Table.{list_table_of}
 use Rattle.covreport.specs.Report.{report_text}
 use Rattle.covreport.specs.Summary.{summary_of}
 use Rattle.covbook.specs.Step.{ops_in, table_of}
@@ -18,14 +24,16 @@ use Rattle.covsession.specs.declared.session.fault.SessionFault.{SessionFault}
 use Rattle.covsession.specs.declared.session.fault.SessionFault.TheVariants as faults
 use Rattle.covrun.specs.declared.argument_fault.ArgumentFault.{ArgumentFault}
 use Rattle.covrun.specs.declared.argument_fault.ArgumentFault.TheVariants as arguments
-use Rattle.covrun.specs.Work.{QuestionData, Answer, ChosenReport, ChosenSummary}
+use Rattle.covrun.specs.Work.{QuestionData, Answer, ChosenReport, ChosenSummary, LimitedTotals, ChosenList}
 
--- how a call ends. `Prints`: it prints the text that was asked for, help or the version. `BadLine`: the words don't fit the
--- command line. `BadWords`: the patterns, the test's name or the number of jobs are refused. `Unreadable`: this file can't be
--- read. `Stopped`: memory ran out, or the history was full. `Ungathered`: collecting ended in `Gather` or `NotLast`, which no run
--- meets. `Refuses`: texts were refused or clashed, and these lines report them
+-- how a call ends. `Prints`: it prints the text that was asked for, help or the version. `FallsShort`: it prints the text that
+-- was asked for, and these lines say which rates are below their limits. `BadLine`: the words don't fit the command line.
+-- `BadWords`: the patterns, the limits, the test's name or the number of jobs are refused. `Unreadable`: this file can't be read.
+-- `Stopped`: memory ran out, or the history was full. `Ungathered`: collecting ended in `Gather` or `NotLast`, which no run meets.
+-- `Refuses`: texts were refused or clashed, and these lines report them
 pub data EndingData : Type 0 where
   Prints : (text : List ℕ) → EndingData
+  FallsShort : (text : List ℕ) → (lines : List ℕ) → EndingData
   BadLine : (text : List ℕ) → EndingData
   BadWords : (fault : ArgumentFault) → EndingData
   Unreadable : (name : List ℕ) → EndingData
@@ -35,6 +43,7 @@ pub data EndingData : Type 0 where
 
 abbrev pub status_of : EndingData → ℕ
 status_of (Prints text) = 0
+status_of (FallsShort text lines) = 6
 status_of (Unreadable name) = 1
 status_of (BadLine text) = 2
 status_of (BadWords fault) = 2
@@ -46,11 +55,13 @@ abbrev pub argument_fault_name : ArgumentFault → List ℕ
 argument_fault_name arguments.TooMany = codes "TooMany"
 argument_fault_name arguments.TooLong = codes "TooLong"
 argument_fault_name arguments.BadTest = codes "BadTest"
+argument_fault_name arguments.BadRate = codes "BadRate"
 argument_fault_name arguments.BadJobs = codes "BadJobs"
 
 -- what is written to the stream for faults
 abbrev pub complaint : EndingData → List ℕ
 complaint (Prints text) = []
+complaint (FallsShort text lines) = lines
 complaint (BadLine text) = text
 complaint (BadWords fault) = said (argument_fault_name fault)
 complaint (Unreadable name) = name ++ said (codes ": can't read")
@@ -101,19 +112,47 @@ text_at None = []
 abbrev pub last_text : List EntryData → List ℕ
 last_text entries = text_at (slice_get entries (length entries - 1))
 
--- the text that is asked for: the answer of the last entry; or the report, or the summary, of the chosen files' sections in the
--- table after the entries
+-- totals, printed in one of two forms
+abbrev pub totals_text : TotalsForm → Totals → List ℕ
+totals_text forms.Words totals = summary_of totals
+totals_text forms.Json totals = summary_json_of totals
+
+-- a list of files, printed in one of two forms
+abbrev pub list_text : TotalsForm → List FileTotalsData → Totals → List ℕ
+list_text forms.Words files totals = list_table_of files totals
+list_text forms.Json files totals = list_json_of files totals
+
+-- the text that is asked for: the answer of the last entry; or the report, the summary, the totals or the list of the chosen files
+-- in the table after the entries
 abbrev pub asked_text : QuestionData → List EntryData → List ℕ
 asked_text (Answer op) entries = last_text entries
 asked_text (ChosenReport choice) entries = report_text choice (content_at (table_of (ops_in entries)))
-asked_text (ChosenSummary choice) entries = summary_of (totals_of (filter (λ s. is_chosen choice s.key.file) (content_at (table_of (ops_in entries)))))
+asked_text (ChosenSummary choice) entries = summary_of (totals_of_chosen choice (content_at (table_of (ops_in entries))))
+asked_text (LimitedTotals form choice limits) entries = totals_text form (totals_of_chosen choice (content_at (table_of (ops_in entries))))
+asked_text (ChosenList form choice) entries =
+    list_text form (chosen_files choice (content_at (table_of (ops_in entries)))) (totals_of_chosen choice (content_at (table_of (ops_in entries))))
 
--- if there are no lines, the text is printed. Otherwise the lines are the complaint
-abbrev pub unless_any : (lines : List ℕ) → (text : List ℕ) → EndingData
-unless_any [] text = Prints text
-unless_any (b ∷ bs) text = Refuses (b ∷ bs)
+-- the lines that say which rates of the chosen files, in the table after the entries, are below their limits. There are none if
+-- no limits are asked for
+abbrev pub asked_shortfalls : QuestionData → List EntryData → List ℕ
+asked_shortfalls (Answer op) entries = []
+asked_shortfalls (ChosenReport choice) entries = []
+asked_shortfalls (ChosenSummary choice) entries = []
+asked_shortfalls (LimitedTotals form choice limits) entries = shortfalls limits (totals_of_chosen choice (content_at (table_of (ops_in entries))))
+asked_shortfalls (ChosenList form choice) entries = []
+
+-- the text is printed. If there are lines, they say which rates are below their limits
+abbrev pub with_shortfalls : (lines : List ℕ) → (text : List ℕ) → EndingData
+with_shortfalls [] text = Prints text
+with_shortfalls (b ∷ bs) text = FallsShort text (b ∷ bs)
+
+-- if there are no lines, the call ends like this. Otherwise the lines are the complaint
+abbrev pub unless_any : (lines : List ℕ) → EndingData → EndingData
+unless_any [] ending = ending
+unless_any (b ∷ bs) ending = Refuses (b ∷ bs)
 
 -- how a call ends after collecting its files. If an input was refused because memory ran out, only that is reported
 abbrev pub of_collected : List (List ℕ) → QuestionData → List EntryData → List RefusedInput → EndingData
 of_collected files asks entries refused =
-    if ran_out refused then Stopped faults.Memory else unless_any (complaints files refused entries) (asked_text asks entries)
+    if ran_out refused then Stopped faults.Memory
+    else unless_any (complaints files refused entries) (with_shortfalls (asked_shortfalls asks entries) (asked_text asks entries))

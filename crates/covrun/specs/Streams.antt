@@ -39,3 +39,8 @@ abbrev pub Delivers : List ℕ → SinksData → SinksData → Type 0
 Delivers text old new =
     Appends old.output new.output text × (new.failed_output ≡ old.failed_output)
     × (new.faults ≡ old.faults) × (new.failed_faults ≡ old.failed_faults)
+
+-- the whole text went to the output, and these words to the stream for faults
+abbrev pub DeliversAndComplains : (text words : List ℕ) → SinksData → SinksData → Type 0
+DeliversAndComplains text words old new =
+    Appends old.output new.output text × (new.failed_output ≡ old.failed_output) × Complains words old new

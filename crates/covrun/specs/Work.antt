@@ -1,12 +1,17 @@
 -- What a subcommand has to do, and which of its words are refused before any file is read.
 use Rattle.std.specs.List.{AllByRecursion}
-use Rattle.std.specs.Prelude.{◌≡◌, ◌⊎◌, ◌<◌, ◌≤◌, ℕ, List, [], Option, None, Some, length, take, drop}
+use Rattle.std.specs.Prelude.{◌≡◌, ◌⊎◌, ◌<◌, ◌≤◌, ℕ, Bool, true, ◌||◌, if◌then◌else◌, List, [], Option, None, Some, is_some, length, take, drop}
 use Rattle.covline.specs.Lawful.{IsGoodTest}
-use Rattle.covreport.specs.Choice.{ChoiceData, Filtered, max_patterns, max_pattern_bytes}
+use Rattle.covlimit.specs.Limits.{LimitsData}
+use Rattle.covlimit.specs.Rate.{IsRate}
+use Rattle.covreport.specs.Choice.{ChoiceData, AllFiles, Filtered, max_patterns, max_pattern_bytes}
 use Rattle.covbook.specs.Op.{OpData, ReportOp, SummaryOp, ExtractOp, RemoveOp}
 use Rattle.covjobs.specs.Collect.{InputData, TraceInput, Lcov2Input, GcovInput}
 use Rattle.covcommand.specs.declared.asked.Command.{Command}
-use Rattle.covcommand.specs.declared.asked.Command.TheVariants.{Session, Merge, Summary, Extract, Remove, Gcov, Check}
+use Rattle.covcommand.specs.declared.asked.Command.TheVariants.{Session, Merge, Summary, List as ListFiles, Extract, Remove, Gcov, Check}
+use Rattle.covcommand.specs.declared.asked.Limits.{Limits}
+use Rattle.covcommand.specs.declared.asked.TotalsForm.{TotalsForm}
+use Rattle.covcommand.specs.declared.asked.TotalsForm.TheVariants as forms
 use Rattle.covcommand.specs.declared.asked.SourceFilter.{SourceFilter}
 use Rattle.covcommand.specs.declared.asked.LcovVersion.{LcovVersion}
 use Rattle.covcommand.specs.declared.asked.LcovVersion.TheVariants as versions
@@ -17,17 +22,22 @@ use Rattle.covrun.specs.declared.work.FileFormat.{FileFormat}
 use Rattle.covrun.specs.declared.work.FileFormat.TheVariants.{Tracefile, GcovOutput}
 
 -- what is asked after all files are collected: the answer to an operation; or the report, or the summary, of only the chosen
--- source files
+-- source files; or the totals of these, in one of two forms, which are then compared with limits; or the list of these, in one of
+-- two forms
 pub data QuestionData : Type 0 where
   Answer : (op : OpData) → QuestionData
   ChosenReport : (choice : ChoiceData) → QuestionData
   ChosenSummary : (choice : ChoiceData) → QuestionData
+  LimitedTotals : (form : TotalsForm) → (choice : ChoiceData) → (limits : LimitsData) → QuestionData
+  ChosenList : (form : TotalsForm) → (choice : ChoiceData) → QuestionData
 
 -- the last operation of the history. The choice is no part of the history: only what is printed depends on it
 abbrev pub last_of : QuestionData → OpData
 last_of (Answer op) = op
 last_of (ChosenReport choice) = ReportOp
 last_of (ChosenSummary choice) = SummaryOp
+last_of (LimitedTotals form choice limits) = SummaryOp
+last_of (ChosenList form choice) = SummaryOp
 
 -- what a subcommand that collects files has to do. `files`: the files to read. `format`: what they are. `jobs`: the number of
 -- jobs. `asks`: what is asked after all files are collected
@@ -50,6 +60,29 @@ abbrev pub asked_of : OpData → (ChoiceData → QuestionData) → Option Choice
 asked_of all chosen None = Answer all
 asked_of all chosen (Some choice) = chosen choice
 
+-- the chosen source files; all source files if there is no choice
+abbrev pub chosen_or_all : Option ChoiceData → ChoiceData
+chosen_or_all None = AllFiles
+chosen_or_all (Some choice) = choice
+
+-- the words of the limits, as covlimit has them
+abbrev pub limits_of : Limits → LimitsData
+limits_of limits = record { lines = limits.lines; functions = limits.functions; branches = limits.branches }
+
+-- at least one limit is given
+abbrev pub has_limit : LimitsData → Bool
+has_limit limits = is_some limits.lines || is_some limits.functions || is_some limits.branches
+
+-- what `summary` asks in words: the summary, or if there is a limit, the totals that are compared with it
+abbrev pub words_asked : LimitsData → Option ChoiceData → QuestionData
+words_asked limits choice =
+    if has_limit limits then LimitedTotals forms.Words (chosen_or_all choice) limits else asked_of SummaryOp ChosenSummary choice
+
+-- what `summary` asks
+abbrev pub summary_asked : TotalsForm → LimitsData → Option ChoiceData → QuestionData
+summary_asked forms.Words limits choice = words_asked limits choice
+summary_asked forms.Json limits choice = LimitedTotals forms.Json (chosen_or_all choice) limits
+
 -- the work of `extract` and `remove`: the first name is the tracefile's, and the other names are patterns
 abbrev pub filtering : LcovVersion → (List (List ℕ) → OpData) → List (List ℕ) → WorkData
 filtering version op names = record { files = take 1 names; format = Tracefile version; jobs = 1; asks = Answer (op (drop 1 names)) }
@@ -65,8 +98,10 @@ abbrev pub task_of : Command → TaskData
 task_of Session = Serves
 task_of (Merge version jobs filter names) =
     Collects (record { files = names; format = Tracefile version; jobs = jobs; asks = asked_of ReportOp ChosenReport (choice_of filter) })
-task_of (Summary version jobs filter names) =
-    Collects (record { files = names; format = Tracefile version; jobs = jobs; asks = asked_of SummaryOp ChosenSummary (choice_of filter) })
+task_of (Summary version jobs filter form limits names) =
+    Collects (record { files = names; format = Tracefile version; jobs = jobs; asks = summary_asked form (limits_of limits) (choice_of filter) })
+task_of (ListFiles version jobs filter form names) =
+    Collects (record { files = names; format = Tracefile version; jobs = jobs; asks = ChosenList form (chosen_or_all (choice_of filter)) })
 task_of (Extract version names) = Collects (filtering version ExtractOp names)
 task_of (Remove version names) = Collects (filtering version RemoveOp names)
 task_of (Gcov test names) = Collects (record { files = names; format = GcovOutput test; jobs = 1; asks = Answer ReportOp })
@@ -89,6 +124,7 @@ abbrev pub IsPatternFault : List (List ℕ) → ArgumentFault → Type 0
 IsPatternFault patterns arguments.TooMany = (max_patterns < length patterns) × AllByRecursion IsShort (take max_patterns patterns)
 IsPatternFault patterns arguments.TooLong = AllByRecursion IsShort (take max_patterns patterns) → ⊥
 IsPatternFault patterns arguments.BadTest = ⊥
+IsPatternFault patterns arguments.BadRate = ⊥
 IsPatternFault patterns arguments.BadJobs = ⊥
 
 -- the patterns of both options are accepted
@@ -102,21 +138,39 @@ IsFilterFault filter fault = IsPatternFault filter.includes fault ⊎ (ArePatter
 abbrev pub IsTestFault : List ℕ → ArgumentFault → Type 0
 IsTestFault test fault = (fault ≡ arguments.BadTest) × (IsGoodTest test → ⊥)
 
--- the patterns and the test's name are accepted
+-- the word of a limit is a rate, if the limit is given
+abbrev pub IsRateIfAny : Option (List ℕ) → Type 0
+IsRateIfAny None = Unit {0}
+IsRateIfAny (Some word) = IsRate word
+
+-- the word of each limit that is given is a rate
+abbrev pub AreRates : LimitsData → Type 0
+AreRates limits = IsRateIfAny limits.lines × IsRateIfAny limits.functions × IsRateIfAny limits.branches
+
+abbrev pub IsLimitFault : LimitsData → ArgumentFault → Type 0
+IsLimitFault limits fault = (fault ≡ arguments.BadRate) × (AreRates limits → ⊥)
+
+-- the patterns are looked at before the limits
+abbrev pub IsSummaryFault : SourceFilter → LimitsData → ArgumentFault → Type 0
+IsSummaryFault filter limits fault = IsFilterFault filter fault ⊎ (IsFilter filter × IsLimitFault limits fault)
+
+-- the patterns, the limits and the test's name are accepted
 abbrev pub AreTaken : Command → Type 0
 AreTaken Session = Unit {0}
 AreTaken (Merge version jobs filter names) = IsFilter filter
-AreTaken (Summary version jobs filter names) = IsFilter filter
+AreTaken (Summary version jobs filter form limits names) = IsFilter filter × AreRates (limits_of limits)
+AreTaken (ListFiles version jobs filter form names) = IsFilter filter
 AreTaken (Extract version names) = ArePatterns (drop 1 names)
 AreTaken (Remove version names) = ArePatterns (drop 1 names)
 AreTaken (Gcov test names) = IsGoodTest test
 AreTaken (Check format names) = Unit {0}
 
--- a pattern or the test's name is refused for this reason
+-- a pattern, a limit or the test's name is refused for this reason
 abbrev pub AreRefused : Command → ArgumentFault → Type 0
 AreRefused Session fault = ⊥
 AreRefused (Merge version jobs filter names) fault = IsFilterFault filter fault
-AreRefused (Summary version jobs filter names) fault = IsFilterFault filter fault
+AreRefused (Summary version jobs filter form limits names) fault = IsSummaryFault filter (limits_of limits) fault
+AreRefused (ListFiles version jobs filter form names) fault = IsFilterFault filter fault
 AreRefused (Extract version names) fault = IsPatternFault (drop 1 names) fault
 AreRefused (Remove version names) fault = IsPatternFault (drop 1 names) fault
 AreRefused (Gcov test names) fault = IsTestFault test fault

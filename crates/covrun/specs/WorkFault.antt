@@ -9,7 +9,8 @@ use Rattle.covrun.specs.declared.work.WorkFault.TheVariants.{Words, Memory}
 use Rattle.covsession.specs.declared.session.fault.SessionFault.TheVariants as faults
 use Rattle.covrun.specs.Ending.{EndingData, BadWords, Stopped}
 use Rattle.covcommand.specs.declared.asked.SourceFilter.{SourceFilter}
-use Rattle.covrun.specs.Work.{AreRefused, IsFilterFault, IsPatternFault, IsTestFault}
+use Rattle.covrun.specs.Work.{AreRefused, IsFilterFault, IsLimitFault, IsPatternFault, IsTestFault}
+use Rattle.covlimit.specs.Limits.{LimitsData}
 
 abbrev pub of_pattern : PatternFault → WorkFault
 of_pattern patterns.TooMany = Words arguments.TooMany
@@ -27,6 +28,10 @@ IsPatternRefusal patterns Memory = Unit {0}
 abbrev pub IsFilterRefusal : SourceFilter → WorkFault → Type 0
 IsFilterRefusal filter (Words fault) = IsFilterFault filter fault
 IsFilterRefusal filter Memory = Unit {0}
+
+abbrev pub IsLimitRefusal : LimitsData → WorkFault → Type 0
+IsLimitRefusal limits (Words fault) = IsLimitFault limits fault
+IsLimitRefusal limits Memory = ⊥
 
 abbrev pub IsTestRefusal : List ℕ → WorkFault → Type 0
 IsTestRefusal test (Words fault) = IsTestFault test fault

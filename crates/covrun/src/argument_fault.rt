@@ -15,6 +15,9 @@ pub enum ArgumentFault {
     /// A tracefile can't hold the test's name.
     #[error("BadTest")]
     BadTest,
+    /// A limit isn't a rate: a decimal number of percent from 0 to 100, with at most six digits after the point.
+    #[error("BadRate")]
+    BadRate,
     /// There are no jobs, or more than 64. The command line admits no such number.
     #[error("BadJobs")]
     BadJobs,
@@ -33,6 +36,7 @@ impl ArgumentFault {
             ArgumentFault::TooMany => b"TooMany\n",
             ArgumentFault::TooLong => b"TooLong\n",
             ArgumentFault::BadTest => b"BadTest\n",
+            ArgumentFault::BadRate => b"BadRate\n",
             ArgumentFault::BadJobs => b"BadJobs\n",
         }
     }

@@ -10,7 +10,7 @@ ghost use Rattle.covbook.specs.View.{answer_data};
 ghost use Rattle.covsession.specs.Session.{clash_text};
 ghost use Rattle.covsession.specs.declared.session.fault.SessionFault.TheVariants as session_faults;
 ghost use Rattle.covrun.specs.Call.{IsEndingPrinted, WorkEnds};
-ghost use Rattle.covrun.specs.Ending.{EndingData, Stopped, of_collected, complaints, refusal_line, ran_out, name_at};
+ghost use Rattle.covrun.specs.Ending.{EndingData, Stopped, of_collected, asked_shortfalls, asked_text, complaints, refusal_line, ran_out, name_at, with_shortfalls};
 ghost use Rattle.covrun.specs.Folder.{folder_data};
 ghost use Rattle.covrun.specs.Streams.{sinks};
 ghost use Rattle.covrun.specs.View.{ending_data, question_data, work_data};
@@ -105,11 +105,29 @@ fn ending_with_room<'a>(
     }
     let lines = complaint_lines(alloc, files, collected)?;
     if lines.is_empty() {
-        let text = asks.printing(alloc, collected)?;
-        let ready = ReadyText::of(alloc, text)?;
-        return Ok(Ending::Done(ready));
+        return answered(alloc, asks, collected);
     }
     Ok(Ending::Refused(lines))
+}
+
+/// The ending of a call whose files are all accepted: what is asked is printed.
+fn answered<'a>(
+    alloc: Global,
+    asks: &Question,
+    collected: &'a CollectedBook,
+) -> Result<Ending<'a>, SessionFault>
+    requires { IsText (last_of (question_data asks.now)) }
+    ensures ending { IfOk result (λ ending. ending_data ending ≡ with_shortfalls
+        (asked_shortfalls (question_data asks.now) (collected.now.book.entries ++ next_entry collected.now.book.entries 0 (last_of (question_data asks.now)) ∷ []))
+        (asked_text (question_data asks.now) (collected.now.book.entries ++ next_entry collected.now.book.entries 0 (last_of (question_data asks.now)) ∷ []))) }
+    ensures fault { IfErr result (λ fault. fault ≡ session_faults.Memory) }
+{
+    let lines = asks.shortfalls(alloc, collected)?;
+    let text = ReadyText::of(alloc, asks.printing(alloc, collected)?)?;
+    if lines.get().is_empty() {
+        return Ok(Ending::Done(text));
+    }
+    Ok(Ending::Short { text, lines })
 }
 
 /// The lines of the refused inputs, and then of the clashes.

@@ -11,6 +11,7 @@ use crate::ready_text::ReadyText;
 use crate::work::WorkFault;
 use covcommand::CommandFault;
 use covjobs::CollectFault;
+use covline::Bytes;
 use covsession::SessionFault;
 
 /// How a call with a subcommand ends: this decides its exit status and what it writes.
@@ -18,11 +19,13 @@ use covsession::SessionFault;
 pub(crate) enum Ending<'a> {
     /// This text, which was asked for, is printed.
     Done(ReadyText<'a>),
+    /// This text, which was asked for, is printed. These lines say which rates are below their limits.
+    Short { text: ReadyText<'a>, lines: Bytes },
     /// Help, or the version, is printed.
     Help(String),
     /// The words don't fit the command line.
     Line(String),
-    /// The patterns, the test's name or the number of jobs are refused.
+    /// The patterns, the limits, the test's name or the number of jobs are refused.
     Words(ArgumentFault),
     /// This file can't be read.
     Unreadable(&'a str),

@@ -4,7 +4,7 @@ ghost use Rattle.std.specs.Prelude.{◌≡◌, ◌<◌, ◌≤◌, ◌^◌, ◌+
 ghost use Rattle.std.specs.Io.KnownBytes.{Appends};
 ghost use Rattle.covsession.specs.Fault.{HasBegun};
 ghost use Rattle.covrun.specs.Call.{IsEndingPrinted};
-ghost use Rattle.covrun.specs.Ending.{Prints};
+ghost use Rattle.covrun.specs.Ending.{Prints, FallsShort};
 ghost use Rattle.covrun.specs.Streams.{sinks};
 ghost use Rattle.covrun.specs.View.{ending_data};
 ghost use Rattle.covsession.specs.declared.session.fault.SessionFault.TheVariants as session_faults;
@@ -27,6 +27,7 @@ pub(crate) fn report_ending<O: Sink, E: Sink>(
 {
     match ending {
         Ending::Done(text) => print_ready(text, output, faults),
+        Ending::Short { text, lines } => print_short(text, lines.get(), output, faults),
         Ending::Help(text) => print(text.as_bytes(), output, faults),
         Ending::Line(text) => complain(b"", text.as_bytes(), 2, faults),
         Ending::Words(fault) => complain(b"", fault.line(), 2, faults),
@@ -47,6 +48,26 @@ fn print_ready<O: Sink, E: Sink>(text: ReadyText<'_>, output: &mut O, faults: &m
 {
     match text.print(output) {
         Ok(()) => 0,
+        Err(failed) => complain(b"", line_of(failed), status_of(failed), faults),
+    }
+}
+
+/// Prints a text as `print_ready` does, and then writes the lines to the stream for faults. Returns the exit status, which is 6
+/// if the text is printed.
+fn print_short<O: Sink, E: Sink>(
+    text: ReadyText<'_>,
+    lines: &[u8],
+    output: &mut O,
+    faults: &mut E,
+) -> u8
+    requires output { O.failed_writes output.old < 2 ^ 62 }
+    requires faults { E.failed_writes faults.old < 2 ^ 62 }
+    ensures { IsEndingPrinted (FallsShort text.entry lines.now) result
+        (sinks (O.written output.old) (O.failed_writes output.old) (E.written faults.old) (E.failed_writes faults.old))
+        (sinks (O.written output.new) (O.failed_writes output.new) (E.written faults.new) (E.failed_writes faults.new)) }
+{
+    match text.print(output) {
+        Ok(()) => complain(b"", lines, 6, faults),
         Err(failed) => complain(b"", line_of(failed), status_of(failed), faults),
     }
 }

@@ -2,11 +2,19 @@
 
 ghost use Rattle.std.specs.Prelude.{◌≡◌, IfOk};
 ghost use Rattle.covreport.specs.ChoiceView.{choice_data};
+ghost use Rattle.covstore.specs.Totals.{AreTotals};
+ghost use Rattle.covlimit.specs.LimitsView.{limits_data};
+ghost use Rattle.covrun.specs.Ending.{totals_text as totals_text_of};
+ghost use Rattle.covrun.specs.Work.{has_limit as has_limit_of};
 
 use covbook::Op;
+use covcommand::TotalsForm;
 use covjobs::CollectedBook;
-use covline::Memory;
+use covlimit::{Limits, shortfall_lines};
+use covline::{Bytes, Memory};
+use covlist::{list_json, list_table, summary_json};
 use covreport::{Choice, Printing, chosen_totals, summary_text};
+use covstore::Totals;
 use std::alloc::Global;
 
 /// What is asked, and printed, after all files are collected.
@@ -18,6 +26,14 @@ pub(crate) enum Question {
     ChosenReport(Choice),
     /// The summary of the chosen source files.
     ChosenSummary(Choice),
+    /// The totals of the chosen source files, in this form. They are then compared with the limits.
+    LimitedTotals {
+        form: TotalsForm,
+        choice: Choice,
+        limits: Limits,
+    },
+    /// The list of the chosen source files, in this form.
+    ChosenList { form: TotalsForm, choice: Choice },
 }
 
 impl Question {
@@ -25,9 +41,10 @@ impl Question {
     ghost use Rattle.covbook.specs.Op.{ReportOp, SummaryOp};
     ghost use Rattle.covbook.specs.Step.{next_entry};
     ghost use Rattle.covbook.specs.Texts.{IsText};
-    ghost use Rattle.covrun.specs.Ending.{asked_text};
+    ghost use Rattle.covlimit.specs.LimitsView.{limits_data};
+    ghost use Rattle.covrun.specs.Ending.{asked_shortfalls, asked_text};
     ghost use Rattle.covrun.specs.View.{question_data};
-    ghost use Rattle.covrun.specs.Work.{ChosenReport, ChosenSummary, asked_of, last_of};
+    ghost use Rattle.covrun.specs.Work.{ChosenList, ChosenReport, ChosenSummary, asked_of, chosen_or_all, last_of, summary_asked, words_asked};
 
     /// Asks for the tracefile of the chosen source files, or of all source files if there is no choice.
     pub(crate) fn report(choice: Option<Choice>) -> Question
@@ -39,13 +56,44 @@ impl Question {
         }
     }
 
-    /// Asks for the summary of the chosen source files, or of all source files if there is no choice.
-    pub(crate) fn summary(choice: Option<Choice>) -> Question
-        ensures { question_data result ≡ asked_of SummaryOp ChosenSummary (option_map choice_data choice) }
+    /// Asks for the totals of the chosen source files, or of all source files if there is no choice.
+    pub(crate) fn summary(form: TotalsForm, limits: Limits, choice: Option<Choice>) -> Question
+        ensures { question_data result ≡ summary_asked form (limits_data limits) (option_map choice_data choice) }
     {
+        match form {
+            TotalsForm::Words => Question::words(limits, choice),
+            TotalsForm::Json => Question::LimitedTotals {
+                form: TotalsForm::Json,
+                choice: choice.unwrap_or(Choice::All),
+                limits,
+            },
+        }
+    }
+
+    /// Asks for the summary of the chosen source files, or for their totals if there is a limit to compare these with.
+    fn words(limits: Limits, choice: Option<Choice>) -> Question
+        ensures { question_data result ≡ words_asked (limits_data limits) (option_map choice_data choice) }
+    {
+        if has_limit(&limits) {
+            return Question::LimitedTotals {
+                form: TotalsForm::Words,
+                choice: choice.unwrap_or(Choice::All),
+                limits,
+            };
+        }
         match choice {
             Some(choice) => Question::ChosenSummary(choice),
             None => Question::Answer(Op::Summary),
+        }
+    }
+
+    /// Asks for the list of the chosen source files, or of all source files if there is no choice.
+    pub(crate) fn list(form: TotalsForm, choice: Option<Choice>) -> Question
+        ensures { question_data result ≡ ChosenList form (chosen_or_all (option_map choice_data choice)) }
+    {
+        Question::ChosenList {
+            form,
+            choice: choice.unwrap_or(Choice::All),
         }
     }
 
@@ -69,7 +117,69 @@ impl Question {
                 let text = summary_text(alloc, &totals)?;
                 Ok(Printing::of_text(text))
             }
+            Question::LimitedTotals { form, choice, .. } => {
+                let totals = chosen_totals(collected.book.store(), choice);
+                let text = totals_text(alloc, *form, &totals)?;
+                Ok(Printing::of_text(text))
+            }
+            Question::ChosenList { form, choice } => {
+                let text = list_text(alloc, *form, choice, collected)?;
+                Ok(Printing::of_text(text))
+            }
         }
+    }
+
+    /// The lines that say which rates are below their limits. Empty if there are no limits.
+    pub(crate) fn shortfalls(
+        &self,
+        alloc: Global,
+        collected: &CollectedBook,
+    ) -> Result<Bytes, Memory>
+        ensures { IfOk result (λ lines. lines ≡ asked_shortfalls (question_data self.now)
+            (collected.now.book.entries ++ next_entry collected.now.book.entries 0 (last_of (question_data self.now)) ∷ [])) }
+    {
+        match self {
+            Question::LimitedTotals { choice, limits, .. } => {
+                let totals = chosen_totals(collected.book.store(), choice);
+                shortfall_lines(alloc, limits, &totals)
+            }
+            _ => Ok(Bytes::new(alloc)),
+        }
+    }
+}
+
+/// Whether there is a limit.
+fn has_limit(limits: &Limits) -> bool
+    ensures { result ≡ has_limit_of (limits_data limits.now) }
+{
+    limits.lines.is_some() || limits.functions.is_some() || limits.branches.is_some()
+}
+
+/// The totals in this form.
+fn totals_text(alloc: Global, form: TotalsForm, totals: &Totals) -> Result<Bytes, Memory>
+    requires { AreTotals totals.now }
+    ensures { IfOk result (λ text. text ≡ totals_text_of form totals.now) }
+{
+    match form {
+        TotalsForm::Words => summary_text(alloc, totals),
+        TotalsForm::Json => summary_json(alloc, totals),
+    }
+}
+
+/// The list of the chosen source files in this form.
+fn list_text(
+    alloc: Global,
+    form: TotalsForm,
+    choice: &Choice,
+    collected: &CollectedBook,
+) -> Result<Bytes, Memory>
+    ensures { IfOk result (λ text. text ≡ asked_text (ChosenList form (choice_data choice.now))
+        (collected.now.book.entries ++ next_entry collected.now.book.entries 0 SummaryOp ∷ [])) }
+{
+    let store = collected.book.store();
+    match form {
+        TotalsForm::Words => list_table(alloc, store, choice),
+        TotalsForm::Json => list_json(alloc, store, choice),
     }
 }
 

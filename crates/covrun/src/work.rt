@@ -3,7 +3,8 @@
 use crate::argument_fault::ArgumentFault;
 use crate::question::Question;
 use covbook::Op;
-use covcommand::{Command, LcovVersion, Names, SourceFilter, TextFormat};
+use covcommand::{Command, LcovVersion, Limits as LimitWords, Names, SourceFilter, TextFormat};
+use covlimit::{Limits, Rate};
 use covline::{Bytes, Memory, good_test};
 use covreport::{Choice, PatternFault, Patterns};
 use std::alloc::{AllocError, Global};
@@ -94,11 +95,12 @@ ghost use Rattle.std.specs.String.{string_bytes};
 ghost use Rattle.covline.specs.Lawful.{IsGoodTest};
 ghost use Rattle.covreport.specs.ChoiceView.{choice_data};
 ghost use Rattle.covrun.specs.View.{question_data, task_data};
-ghost use Rattle.covrun.specs.Work.{choice_of, task_of, ArePatterns, AreTaken, Collects, IsFilter};
-ghost use Rattle.covrun.specs.WorkFault.{IsRefusal, IsFilterRefusal, IsPatternRefusal, IsTestRefusal};
+ghost use Rattle.covlimit.specs.LimitsView.{limits_data};
+ghost use Rattle.covrun.specs.Work.{choice_of, limits_of, task_of, ArePatterns, AreRates, AreTaken, Collects, IsFilter, IsRateIfAny};
+ghost use Rattle.covrun.specs.WorkFault.{IsRefusal, IsFilterRefusal, IsLimitRefusal, IsPatternRefusal, IsTestRefusal};
 ghost use Rattle.covrun.specs.declared.work.FileFormat.TheVariants.{Tracefile};
 
-/// Checks the command's patterns and test name, and returns what the command has to do.
+/// Checks the command's patterns, limits and test name, and returns what the command has to do.
 pub(crate) fn task_for(alloc: Global, command: Command) -> Result<Task, WorkFault>
     ensures task { IfOk result (λ task. task_data task ≡ task_of command) }
     ensures taken { IfOk result (λ _. AreTaken command) }
@@ -119,10 +121,23 @@ pub(crate) fn task_for(alloc: Global, command: Command) -> Result<Task, WorkFaul
             version,
             jobs,
             filter,
+            form,
+            limits,
             names,
         } => {
-            let summary = Question::summary(chosen_files(alloc, &filter)?);
+            let choice = chosen_files(alloc, &filter)?;
+            let summary = Question::summary(form, rates(limits)?, choice);
             Ok(over_tracefiles(names, version, jobs, summary))
+        }
+        Command::List {
+            version,
+            jobs,
+            filter,
+            form,
+            names,
+        } => {
+            let list = Question::list(form, chosen_files(alloc, &filter)?);
+            Ok(over_tracefiles(names, version, jobs, list))
         }
         Command::Extract { version, names } => {
             let (files, patterns) = split(alloc, &names)?;
@@ -174,6 +189,35 @@ fn chosen_files(alloc: Global, filter: &SourceFilter) -> Result<Option<Choice>, 
         return Ok(None);
     }
     Ok(Some(Choice::Filter { includes, excludes }))
+}
+
+/// The rates that the words of the limits ask for.
+fn rates(words: LimitWords) -> Result<Limits, WorkFault>
+    ensures rates { IfOk result (λ limits. limits_data limits ≡ limits_of words) }
+    ensures taken { IfOk result (λ _. AreRates (limits_of words)) }
+    ensures refused { IfErr result (IsLimitRefusal (limits_of words)) }
+{
+    Ok(Limits {
+        lines: rate(words.lines)?,
+        functions: rate(words.functions)?,
+        branches: rate(words.branches)?,
+    })
+}
+
+/// The rate that this word asks for. `None` if there is no word.
+fn rate(word: Option<Bytes>) -> Result<Option<Rate>, WorkFault>
+    ensures rate { IfOk result (λ rate. rate ≡ word) }
+    ensures taken { IfOk result (λ _. IsRateIfAny word) }
+    ensures fault { IfErr result (λ fault. fault ≡ work_faults.Words arguments.BadRate) }
+    ensures refused { IfErr result (λ _. IsRateIfAny word → ⊥) }
+{
+    let Some(word) = word else {
+        return Ok(None);
+    };
+    match Rate::of(word) {
+        Some(rate) => Ok(Some(rate)),
+        None => Err(WorkFault::Words(ArgumentFault::BadRate)),
+    }
 }
 
 /// Checks the name of a test.
