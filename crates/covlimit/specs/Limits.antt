@@ -1,0 +1,17 @@
+-- The least rates of points hit that a call asks for, as plain data, and which of them totals fall short of.
+use Rattle.std.specs.Prelude.{ℕ, List, ◌++◌, Option, codes}
+use Rattle.covstore.specs.declared.totals.Totals.{Totals}
+use Rattle.covlimit.specs.Shortfalls.{shortfall}
+
+-- the words of the rates: `None` for a kind of points for which no rate is asked for
+pub record LimitsData : Type 0 where
+  pub lines : Option (List ℕ)
+  pub functions : Option (List ℕ)
+  pub branches : Option (List ℕ)
+
+-- a line for each kind of points that are below the rate that is asked for
+abbrev pub shortfalls : LimitsData → Totals → List ℕ
+shortfalls limits totals =
+    shortfall (codes "lines") limits.lines totals.lh totals.lf
+    ++ (shortfall (codes "functions") limits.functions totals.fh totals.ff
+    ++ shortfall (codes "branches") limits.branches totals.bh totals.bf)

@@ -1,0 +1,58 @@
+//! A rate that a call asks for.
+
+use crate::digits::{HUNDRED_PERCENT, read_millionths};
+use covline::Bytes;
+use std::alloc::{Allocator, Global};
+use std::marker::Model;
+
+/// A rate of points hit, as a call asks for it: a decimal number of percent, from 0 to 100. It keeps the word that it was made
+/// of, and contracts see this word.
+#[derive(Drop)]
+pub struct Rate<A: Allocator = Global> {
+    word: Bytes<A>,
+    millionths: u64,
+}
+
+impl<A: Allocator> Model for Rate<A> {
+    ghost use Rattle.std.specs.Prelude.{List, ℕ, ◌≡◌};
+    ghost use Rattle.covlimit.specs.Rates.{IsRate, millionths as millionths_of};
+
+    ghost Value = { List ℕ };
+
+    ghost view = { λ r. r.word };
+
+    ghost invariant = { λ r. IsRate r.word × (r.millionths ≡ millionths_of r.word) };
+}
+
+impl<A: Allocator> Rate<A> {
+    ghost use Rattle.std.specs.Prelude.{◌≡◌, ◌↔◌, IsSome, IfSome};
+    ghost use Rattle.covlimit.specs.Rates.{IsRate};
+    ghost use Rattle.covlimit.specs.Shortfalls.{is_below};
+
+    /// The rate that the word says (gcovr(1), `--fail-under-line`): at most three digits, then nothing, or a point and at most
+    /// six digits. There is at least one digit, and the rate is at most 100. So `80`, `79.5`, `.5` and `80.` are rates. `None`
+    /// for any other word. Takes no memory.
+    pub fn of(word: Bytes<A>) -> Option<Rate<A>>
+        ensures rate { IsSome result ↔ IsRate word }
+        ensures kept { IfSome result (λ r. r ≡ word) }
+    {
+        let millionths = read_millionths(word.get())?;
+        Some(Rate { word, millionths })
+    }
+
+    /// The word that the rate was made of.
+    pub fn word(&self) -> &[u8]
+        ensures { result.now ≡ self.now }
+    {
+        self.word.get()
+    }
+
+    /// Whether `hit` of `found` points are below the rate. This is exact, and true if no point is found. Takes no memory.
+    pub fn is_missed_by(&self, hit: u64, found: u64) -> bool
+        ensures { result ≡ is_below self.now hit found }
+    {
+        found == 0
+            || u128::from(hit) * u128::from(HUNDRED_PERCENT)
+                < u128::from(self.millionths) * u128::from(found)
+    }
+}

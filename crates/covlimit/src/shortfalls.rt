@@ -1,0 +1,70 @@
+//! The lines that say which rates aren't reached.
+
+ghost use Rattle.std.specs.Prelude.{◌≡◌, ◌++◌, [], OnOk, IsOk, decimal};
+ghost use Rattle.covlimit.specs.Shortfalls.{numbers_text, shortfall, shortfall_line};
+
+use crate::rate::Rate;
+use covline::{Bytes, Memory};
+use itoa::Buffer;
+use std::alloc::Allocator;
+
+/// Appends the line of a kind of points, if a rate is asked for and these points are below it. Otherwise appends nothing, and takes
+/// no memory.
+pub(crate) fn put_shortfall<A: Allocator>(
+    kind: &[u8],
+    limit: &Option<Rate<A>>,
+    hit: u64,
+    found: u64,
+    text: &mut Bytes<A>,
+) -> Result<(), Memory>
+    ensures ok { OnOk result (text.new ≡ text.old ++ shortfall kind.now limit.now hit found) }
+    ensures nothing { shortfall kind.now limit.now hit found ≡ [] → IsOk result }
+{
+    let Some(rate) = limit else {
+        return Ok(());
+    };
+    if !rate.is_missed_by(hit, found) {
+        return Ok(());
+    }
+    put_line(kind, rate.word(), hit, found, text)
+}
+
+/// Appends the line that says that the points of a kind are below the rate of this word.
+fn put_line<A: Allocator>(
+    kind: &[u8],
+    word: &[u8],
+    hit: u64,
+    found: u64,
+    text: &mut Bytes<A>,
+) -> Result<(), Memory>
+    ensures { OnOk result (text.new ≡ text.old ++ shortfall_line kind.now word.now hit found) }
+{
+    put_numbers(kind, hit, found, text)?;
+    text.append(b" is below ")?;
+    text.append(word)?;
+    text.append(b"%\n")
+}
+
+/// Appends the kind, and how many of its points are hit and found.
+fn put_numbers<A: Allocator>(
+    kind: &[u8],
+    hit: u64,
+    found: u64,
+    text: &mut Bytes<A>,
+) -> Result<(), Memory>
+    ensures { OnOk result (text.new ≡ text.old ++ numbers_text kind.now hit found) }
+{
+    text.append(kind)?;
+    text.append(b": ")?;
+    put_number(hit, text)?;
+    text.append(b" of ")?;
+    put_number(found, text)
+}
+
+/// Appends a number in decimal.
+fn put_number<A: Allocator>(number: u64, text: &mut Bytes<A>) -> Result<(), Memory>
+    ensures { OnOk result (text.new ≡ text.old ++ decimal number) }
+{
+    let mut digits = Buffer::new();
+    text.append(digits.format(number).as_bytes())
+}
