@@ -1,0 +1,4 @@
+pub mod Chosen
+pub mod Shown
+pub mod Table
+pub mod Json

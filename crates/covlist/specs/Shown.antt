@@ -1,0 +1,14 @@
+-- A file's name as it is shown in a line of text.
+use Rattle.std.specs.Prelude.{ℕ, Bool, ◌||◌, ◌==◌, nat_lt, if◌then◌else◌, List, [], ◌∷◌, ◌++◌, codes, flat_map}
+use Rattle.hex.specs.Hex.{encode_lower}
+
+-- a control byte of ASCII
+abbrev pub is_control : ℕ → Bool
+is_control b = nat_lt b 32 || b == 127
+
+-- a control byte as `\x` and two hexadecimal digits, any other byte as it is
+abbrev pub shown_byte : ℕ → List ℕ
+shown_byte b = if is_control b then codes "\\x" ++ encode_lower (b ∷ []) else b ∷ []
+
+abbrev pub shown_name : List ℕ → List ℕ
+shown_name name = flat_map shown_byte name

@@ -1,0 +1,162 @@
+//! The files with their totals, and totals alone, as JSON.
+
+ghost use Rattle.std.specs.Prelude.{◌≡◌, ◌++◌, IfOk, OnOk, codes, if◌then◌else◌};
+ghost use Rattle.hex.specs.Hex.{encode_lower};
+ghost use Rattle.json.specs.Print.{quoted};
+ghost use Rattle.covstore.specs.FilesView.{file_totals_data};
+ghost use Rattle.covreport.specs.ChoiceView.{choice_data};
+ghost use Rattle.covlist.specs.Chosen.{chosen_files, totals_of_chosen};
+ghost use Rattle.covlist.specs.Json.{file_object, hexadecimal_name, list_json_of, members, name_member, objects, points, string_name, summary_json_of};
+
+use crate::numbers::put_number;
+use covline::{Bytes, Memory};
+use covreport::{Choice, chosen_totals};
+use covstore::{FileTotals, Store, Totals};
+use json::Writer;
+use std::alloc::Allocator;
+
+/// The chosen files with their totals, as one JSON object (RFC 8259): `{"files":[..],"total":{..}}`. `files` has an object for each
+/// chosen file, ascending by path, each on a line of its own. `total` has the totals of the chosen files. Totals are those of
+/// lines, functions and branches, each `{"found":7,"hit":6}`. A file has its path under `file`, or under `file_hex` in lower-case
+/// hexadecimal if the path isn't UTF-8.
+///
+/// # Errors
+///
+/// `Memory` if memory was refused.
+pub fn list_json<A: Allocator + Copy>(
+    alloc: A,
+    store: &Store<A>,
+    choice: &Choice<A>,
+) -> Result<Bytes<A>, Memory>
+    ensures { IfOk result (λ t. t ≡ list_json_of (chosen_files (choice_data choice.now) store.now.sections) (totals_of_chosen (choice_data choice.now) store.now.sections)) }
+{
+    let mut text = Bytes::new(alloc);
+    text.append(b"{\"files\":[")?;
+    put_objects(alloc, store, choice, &mut text)?;
+    text.append(b"\n],\"total\":{")?;
+    put_members(&chosen_totals(store, choice), &mut text)?;
+    text.append(b"}}\n")?;
+    Ok(text)
+}
+
+/// The totals as one line of JSON (RFC 8259): how many lines, functions and branches are found, and how many of them are hit.
+///
+/// # Errors
+///
+/// `Memory` if memory was refused.
+pub fn summary_json<A: Allocator>(alloc: A, totals: &Totals) -> Result<Bytes<A>, Memory>
+    ensures { IfOk result (λ t. t ≡ summary_json_of totals.now) }
+{
+    let mut text = Bytes::new(alloc);
+    text.append(b"{")?;
+    put_members(totals, &mut text)?;
+    text.append(b"}\n")?;
+    Ok(text)
+}
+
+/// Appends the objects of the chosen files.
+fn put_objects<A: Allocator + Copy>(
+    alloc: A,
+    store: &Store<A>,
+    choice: &Choice<A>,
+    text: &mut Bytes<A>,
+) -> Result<(), Memory>
+    ensures { OnOk result (text.new ≡ text.old ++ objects (chosen_files (choice_data choice.now) store.now.sections)) }
+{
+    let mut is_first = true;
+    for file in store.files() {
+        if choice.takes(file.path) {
+            put_object(alloc, file, is_first, text)?;
+            is_first = false;
+        }
+    }
+    Ok(())
+}
+
+/// Appends the object of a file on a new line, after a comma unless the file is the first.
+fn put_object<A: Allocator>(
+    alloc: A,
+    file: FileTotals<'_>,
+    is_first: bool,
+    text: &mut Bytes<A>,
+) -> Result<(), Memory>
+    ensures { OnOk result (text.new ≡ text.old ++ ((if is_first then codes "\n" else codes ",\n") ++ file_object (file_totals_data file.entry))) }
+{
+    text.append(if is_first { b"\n" } else { b",\n" })?;
+    text.append(b"{")?;
+    put_name(alloc, file.path, text)?;
+    text.append(b",")?;
+    put_members(&file.totals, text)?;
+    text.append(b"}")
+}
+
+/// Appends the member that names a file.
+fn put_name<A: Allocator>(alloc: A, path: &[u8], text: &mut Bytes<A>) -> Result<(), Memory>
+    ensures { OnOk result (text.new ≡ text.old ++ name_member path.now) }
+{
+    match std::str::from_utf8(path) {
+        Ok(name) => put_string_name(alloc, name, text),
+        Err(_not_text) => put_hexadecimal_name(alloc, path, text),
+    }
+}
+
+/// Appends the member that names a file by a string.
+fn put_string_name<A: Allocator>(alloc: A, name: &str, text: &mut Bytes<A>) -> Result<(), Memory>
+    ensures { OnOk result (text.new ≡ text.old ++ string_name name.now) }
+{
+    text.append(b"\"file\":")?;
+    put_string(alloc, name, text)
+}
+
+/// Appends a string.
+fn put_string<A: Allocator>(alloc: A, name: &str, text: &mut Bytes<A>) -> Result<(), Memory>
+    ensures { OnOk result (text.new ≡ text.old ++ quoted name.now) }
+{
+    let mut writer = Writer::new(Vec::new(alloc));
+    writer.string(name)?;
+    text.append(writer.into_inner().as_slice())
+}
+
+/// Appends the member that names a file by its bytes in hexadecimal.
+fn put_hexadecimal_name<A: Allocator>(
+    alloc: A,
+    path: &[u8],
+    text: &mut Bytes<A>,
+) -> Result<(), Memory>
+    ensures { OnOk result (text.new ≡ text.old ++ hexadecimal_name path.now) }
+{
+    text.append(b"\"file_hex\":\"")?;
+    put_hexadecimal(alloc, path, text)?;
+    text.append(b"\"")
+}
+
+/// Appends bytes in hexadecimal.
+fn put_hexadecimal<A: Allocator>(alloc: A, bytes: &[u8], text: &mut Bytes<A>) -> Result<(), Memory>
+    ensures { OnOk result (text.new ≡ text.old ++ encode_lower bytes.now) }
+{
+    let digits = hex::encode(alloc, bytes)?;
+    text.append(digits.as_bytes())
+}
+
+/// Appends the members that say the totals.
+fn put_members<A: Allocator>(totals: &Totals, text: &mut Bytes<A>) -> Result<(), Memory>
+    ensures { OnOk result (text.new ≡ text.old ++ members totals.now) }
+{
+    text.append(b"\"lines\":")?;
+    put_points(totals.lh, totals.lf, text)?;
+    text.append(b",\"functions\":")?;
+    put_points(totals.fh, totals.ff, text)?;
+    text.append(b",\"branches\":")?;
+    put_points(totals.bh, totals.bf, text)
+}
+
+/// Appends the numbers of points found and hit.
+fn put_points<A: Allocator>(hit: u64, found: u64, text: &mut Bytes<A>) -> Result<(), Memory>
+    ensures { OnOk result (text.new ≡ text.old ++ points hit found) }
+{
+    text.append(b"{\"found\":")?;
+    put_number(found, text)?;
+    text.append(b",\"hit\":")?;
+    put_number(hit, text)?;
+    text.append(b"}")
+}

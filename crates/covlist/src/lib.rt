@@ -1,0 +1,26 @@
+//! Lists the source files of a store with their totals: as a table (lcov(1), `--list`) and as JSON (RFC 8259). Gives totals alone as
+//! JSON, too.
+//!
+//! `list_table` is for people. A control byte in a file's name is shown as `\x` and two digits, so each file has one line.
+//! `list_json` is for programs. A name that is UTF-8 is a string under `file`. Any other name stands under `file_hex`, in
+//! hexadecimal.
+//!
+//! An example: the table of all files, and the totals as JSON.
+//!
+//! ```text
+//! pub fn lists(alloc: Global, store: &Store) -> Result<(Bytes, Bytes), Memory> {
+//!     let table = list_table(alloc, store, &Choice::All)?;
+//!     let totals = summary_json(alloc, &store.totals())?;
+//!     Ok((table, totals))
+//! }
+//! ```
+#![tactic(auto)]
+
+mod json;
+mod numbers;
+mod shown;
+mod table;
+
+pub use json::{list_json, summary_json};
+pub use shown::put_shown_name;
+pub use table::list_table;

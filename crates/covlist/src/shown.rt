@@ -1,0 +1,52 @@
+//! The name of a file, as it is shown in a line of text.
+
+ghost use Rattle.std.specs.Prelude.{◌≡◌, ◌++◌, ◌∷◌, [], OnOk};
+ghost use Rattle.hex.specs.Hex.{encode_lower};
+ghost use Rattle.covlist.specs.Shown.{is_control as is_control_byte, shown_byte, shown_name};
+
+use covline::{Bytes, Memory};
+use std::alloc::Allocator;
+
+/// Appends a file's name. A control byte (below 32, or 127) is shown as `\x` and two lower-case hexadecimal digits, any other byte
+/// as it is. So a name has no line feed, and no byte that steers a terminal.
+///
+/// # Errors
+///
+/// `Memory` if memory was refused. The text then has a part of the name.
+pub fn put_shown_name<A: Allocator>(name: &[u8], text: &mut Bytes<A>) -> Result<(), Memory>
+    ensures { OnOk result (text.new ≡ text.old ++ shown_name name.now) }
+{
+    for byte in name {
+        put_shown_byte(*byte, text)?;
+    }
+    Ok(())
+}
+
+/// Appends a byte as it is shown.
+fn put_shown_byte<A: Allocator>(byte: u8, text: &mut Bytes<A>) -> Result<(), Memory>
+    ensures { OnOk result (text.new ≡ text.old ++ shown_byte byte) }
+{
+    if is_control(byte) {
+        text.append(b"\\x")?;
+        return put_hexadecimal(byte, text);
+    }
+    text.append(&[byte])
+}
+
+/// Whether the byte is a control byte of ASCII.
+fn is_control(byte: u8) -> bool
+    ensures { result ≡ is_control_byte byte }
+{
+    byte < 32 || byte == 127
+}
+
+/// Appends a byte as two hexadecimal digits.
+fn put_hexadecimal<A: Allocator>(byte: u8, text: &mut Bytes<A>) -> Result<(), Memory>
+    ensures { OnOk result (text.new ≡ text.old ++ encode_lower (byte ∷ [])) }
+{
+    let mut digits = [0; 2];
+    if hex::encode_to_slice([byte], &mut digits).is_err() {
+        unreachable!();
+    }
+    text.append(&digits)
+}

@@ -1,0 +1,175 @@
+//! The table of files with their totals.
+
+ghost use Rattle.std.specs.Prelude.{◌≡◌, ◌≤◌, ◌++◌, ◌∷◌, [], IfOk, OnOk, flat_map};
+ghost use Rattle.covstore.specs.FilesView.{file_totals_data};
+ghost use Rattle.covstore.specs.Totals.{AreTotals};
+ghost use Rattle.covreport.specs.ChoiceView.{choice_data};
+ghost use Rattle.covlist.specs.Chosen.{chosen_among, chosen_files, totals_of_chosen};
+ghost use Rattle.covlist.specs.Shown.{shown_name};
+ghost use Rattle.covlist.specs.Table.{cell, file_row, heading, headings, list_table_of, numbers as numbers_of, numbers_width as width_of_numbers, percentage, rate, right_aligned, row};
+
+use crate::numbers::{digits, put_number, put_spaces};
+use crate::shown::put_shown_name;
+use covline::{Bytes, Memory};
+use covreport::{Choice, chosen_totals, tenths};
+use covstore::{FileTotals, Store, Totals};
+use std::alloc::Allocator;
+
+/// The table of the chosen files (lcov(1), `--list`): a line of headings, a row for each file, ascending by path, and a row `Total`
+/// with the totals of the chosen files. A row has for lines, functions and branches the rate of points hit, and how many are hit
+/// of how many that are found; the rate is `-` if none is found. The name of a file stands last, as `put_shown_name` shows it. If no
+/// file is chosen, the row `Total` is the only one.
+///
+/// # Errors
+///
+/// `Memory` if memory was refused.
+pub fn list_table<A: Allocator + Copy>(
+    alloc: A,
+    store: &Store<A>,
+    choice: &Choice<A>,
+) -> Result<Bytes<A>, Memory>
+    ensures { IfOk result (λ t. t ≡ list_table_of (chosen_files (choice_data choice.now) store.now.sections) (totals_of_chosen (choice_data choice.now) store.now.sections)) }
+{
+    let all = chosen_totals(store, choice);
+    let mut text = Bytes::new(alloc);
+    put_headings(&all, &mut text)?;
+    put_rows(store, choice, &all, &mut text)?;
+    put_row(&all, b"Total", &all, &mut text)?;
+    Ok(text)
+}
+
+/// Appends the rows of the chosen files.
+fn put_rows<A: Allocator + Copy>(
+    store: &Store<A>,
+    choice: &Choice<A>,
+    all: &Totals,
+    text: &mut Bytes<A>,
+) -> Result<(), Memory>
+    ensures { OnOk result (text.new ≡ text.old ++ flat_map (file_row all.now) (chosen_files (choice_data choice.now) store.now.sections)) }
+{
+    for file in store.files() {
+        put_if_chosen(choice, all, file, text)?;
+    }
+    Ok(())
+}
+
+/// Appends the row of a file if it is chosen.
+fn put_if_chosen<A: Allocator>(
+    choice: &Choice<A>,
+    all: &Totals,
+    file: FileTotals<'_>,
+    text: &mut Bytes<A>,
+) -> Result<(), Memory>
+    requires { AreTotals file.totals }
+    ensures { OnOk result (text.new ≡ text.old ++ flat_map (file_row all.now) (chosen_among (choice_data choice.now) (file_totals_data file.entry ∷ []))) }
+{
+    if !choice.takes(file.path) {
+        return Ok(());
+    }
+    put_row(all, file.path, &file.totals, text)
+}
+
+/// Appends the line of headings.
+fn put_headings<A: Allocator>(all: &Totals, text: &mut Bytes<A>) -> Result<(), Memory>
+    ensures { OnOk result (text.new ≡ text.old ++ headings all.now) }
+{
+    put_heading(all.lf, b"Lines", text)?;
+    text.append(b"  ")?;
+    put_heading(all.ff, b"Functions", text)?;
+    text.append(b"  ")?;
+    put_heading(all.bf, b"Branches", text)?;
+    text.append(b"  File\n")
+}
+
+/// Appends the heading of a column in whose files `most` points are found.
+fn put_heading<A: Allocator>(most: u64, label: &[u8], text: &mut Bytes<A>) -> Result<(), Memory>
+    ensures { OnOk result (text.new ≡ text.old ++ heading most label.now) }
+{
+    let width = 7 + numbers_width(most);
+    put_spaces(width.saturating_sub(label.len()), text)?;
+    text.append(label)
+}
+
+/// The width of the numbers in a column in whose files `most` points are found.
+fn numbers_width(most: u64) -> usize
+    ensures value { result ≡ width_of_numbers most }
+    ensures narrow { result ≤ 41 }
+{
+    2 * digits(most) + 1
+}
+
+/// Appends the row of a name with its own totals, in columns for the totals of all.
+fn put_row<A: Allocator>(
+    all: &Totals,
+    name: &[u8],
+    own: &Totals,
+    text: &mut Bytes<A>,
+) -> Result<(), Memory>
+    requires { AreTotals own.now }
+    ensures { OnOk result (text.new ≡ text.old ++ row all.now (shown_name name.now) own.now) }
+{
+    put_cell(all.lf, own.lh, own.lf, text)?;
+    text.append(b"  ")?;
+    put_cell(all.ff, own.fh, own.ff, text)?;
+    text.append(b"  ")?;
+    put_cell(all.bf, own.bh, own.bf, text)?;
+    text.append(b"  ")?;
+    put_shown_name(name, text)?;
+    text.append(b"\n")
+}
+
+/// Appends the rate of points hit, and the numbers of points hit and found.
+fn put_cell<A: Allocator>(
+    most: u64,
+    hit: u64,
+    found: u64,
+    text: &mut Bytes<A>,
+) -> Result<(), Memory>
+    requires { hit ≤ found }
+    ensures { OnOk result (text.new ≡ text.old ++ cell most hit found) }
+{
+    put_rate(hit, found, text)?;
+    text.append(b" ")?;
+    put_numbers(numbers_width(most), hit, found, text)
+}
+
+/// Appends the rate of points hit, in 6 places.
+fn put_rate<A: Allocator>(hit: u64, found: u64, text: &mut Bytes<A>) -> Result<(), Memory>
+    requires { hit ≤ found }
+    ensures { OnOk result (text.new ≡ text.old ++ right_aligned 6 (rate hit found)) }
+{
+    if found == 0 {
+        return text.append(b"     -");
+    }
+    put_percentage(tenths(hit, found), text)
+}
+
+/// Appends a rate in tenths of a percent as a percentage, in 6 places.
+fn put_percentage<A: Allocator>(tenths: u32, text: &mut Bytes<A>) -> Result<(), Memory>
+    ensures { OnOk result (text.new ≡ text.old ++ right_aligned 6 (percentage tenths)) }
+{
+    let whole = u64::from(tenths / 10);
+    let part = u64::from(tenths % 10);
+    let len = digits(whole) + 1 + digits(part) + 1;
+    put_spaces(6usize.saturating_sub(len), text)?;
+    put_number(whole, text)?;
+    text.append(b".")?;
+    put_number(part, text)?;
+    text.append(b"%")
+}
+
+/// Appends the numbers of points hit and found, in `width` places.
+fn put_numbers<A: Allocator>(
+    width: usize,
+    hit: u64,
+    found: u64,
+    text: &mut Bytes<A>,
+) -> Result<(), Memory>
+    ensures { OnOk result (text.new ≡ text.old ++ right_aligned width (numbers_of hit found)) }
+{
+    let len = digits(hit) + 1 + digits(found);
+    put_spaces(width.saturating_sub(len), text)?;
+    put_number(hit, text)?;
+    text.append(b"/")?;
+    put_number(found, text)
+}

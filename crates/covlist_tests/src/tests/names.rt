@@ -1,0 +1,27 @@
+//! Names as they are shown.
+
+use super::wrappers::put_name;
+use super::{check_bytes, made};
+use covline::Bytes;
+use std::process::Abort;
+use std::test::*;
+
+/// Checks how the name is shown after a text.
+fn check_name(rt: &(impl Abort + AllocGlobal), name: &[u8], wanted: &[u8]) {
+    let mut text = Bytes::new(rt.alloc());
+    made(rt, put_name(b"of ", &mut text));
+    made(rt, put_name(name, &mut text));
+    check_bytes(rt, text.get(), wanted);
+}
+
+#[test]
+fn shown_names(rt: HostRuntime) {
+    check_name(&rt, b"", b"of ");
+    check_name(&rt, b"/src/a b~.c", b"of /src/a b~.c");
+    check_name(&rt, b"\xc3\xa9\xff\x80", b"of \xc3\xa9\xff\x80");
+    check_name(
+        &rt,
+        b"a\n\x1b[1m\0\t\x1f\x7f\\.c",
+        b"of a\\x0a\\x1b[1m\\x00\\x09\\x1f\\x7f\\.c",
+    );
+}

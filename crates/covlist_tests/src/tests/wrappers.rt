@@ -1,0 +1,73 @@
+//! Calls of the crates below, in functions without contracts. A test looks only at values, and its proof is quicker without
+//! contracts.
+
+use super::made;
+use covline::{Bytes, Memory, Submission};
+use covread::{ReadFault, read_trace};
+use covreport::{Choice, PatternFault, Patterns};
+use covstore::{Store, Totals};
+use std::alloc::Allocator;
+use std::process::Abort;
+
+pub(super) fn table<A: Allocator + Copy>(
+    alloc: A,
+    store: &Store<A>,
+    choice: &Choice<A>,
+) -> Result<Bytes<A>, Memory> {
+    covlist::list_table(alloc, store, choice)
+}
+
+pub(super) fn json<A: Allocator + Copy>(
+    alloc: A,
+    store: &Store<A>,
+    choice: &Choice<A>,
+) -> Result<Bytes<A>, Memory> {
+    covlist::list_json(alloc, store, choice)
+}
+
+pub(super) fn summary<A: Allocator>(alloc: A, totals: &Totals) -> Result<Bytes<A>, Memory> {
+    covlist::summary_json(alloc, totals)
+}
+
+pub(super) fn put_name<A: Allocator>(name: &[u8], text: &mut Bytes<A>) -> Result<(), Memory> {
+    covlist::put_shown_name(name, text)
+}
+
+fn read<A: Allocator + Copy>(alloc: A, text: &[u8]) -> Result<Submission<A>, ReadFault> {
+    read_trace(alloc, text)
+}
+
+fn add<A: Allocator + Copy>(
+    alloc: A,
+    patterns: &mut Patterns<A>,
+    pattern: &[u8],
+) -> Result<(), PatternFault> {
+    patterns.add(alloc, pattern)
+}
+
+/// The choice of the files that match the pattern.
+pub(super) fn matching<A: Allocator + Copy>(
+    rt: &impl Abort,
+    alloc: A,
+    pattern: &[u8],
+) -> Choice<A> {
+    let mut patterns = Patterns::new(alloc);
+    made(rt, add(alloc, &mut patterns, pattern));
+    Choice::Extract(patterns)
+}
+
+/// A store that holds the submission alone.
+fn stored<A: Allocator + Copy>(rt: &impl Abort, alloc: A, given: &Submission<A>) -> Store<A> {
+    let mut store = Store::new(alloc);
+    match store.prepare(alloc, given) {
+        Ok(plan) => store.commit(plan),
+        Err(_refused) => panic!(rt; "refused with ample memory"),
+    }
+    store
+}
+
+/// A store that holds the text alone.
+pub(super) fn holding<A: Allocator + Copy>(rt: &impl Abort, alloc: A, text: &[u8]) -> Store<A> {
+    let given = made(rt, read(alloc, text));
+    stored(rt, alloc, &given)
+}
