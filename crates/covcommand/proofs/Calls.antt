@@ -1,5 +1,5 @@
 -- The laws of single calls in `src/laws.rt`. Each is proved by computing what clap's definitions give.
-use Rattle.std.proofs.Common.{◌≡◌, List, [], ◌∷◌, true, refl, codes}
+use Rattle.std.proofs.Common.{◌≡◌, List, [], ◌∷◌, Some, None, true, refl, codes}
 use Rattle.clap.proofs.OnLiterals.{clap_on_literals}
 use Rattle.std.specs.Option.{option_map_or}
 use Rattle.clap.specs.Walk.{Row, Text}
@@ -8,6 +8,8 @@ use Rattle.clap.specs.declared.error.kind.ErrorKind.TheVariants as kind
 use Rattle.covcommand.specs.Asked.{AsksFor}
 use Rattle.covcommand.specs.CommandLine.{covcollect}
 use Rattle.covcommand.specs.declared.asked.Command.TheVariants.{Check, Merge, Summary}
+use Rattle.covcommand.specs.declared.asked.Command.TheVariants as commands
+use Rattle.covcommand.specs.declared.asked.TextForm.TheVariants.{Words, Json}
 use Rattle.covcommand.specs.declared.asked.TextFormat.TheVariants as format
 use Rattle.covcommand.specs.declared.asked.LcovVersion.TheVariants.{One, Two}
 
@@ -75,6 +77,22 @@ pub summary_filters_taken : takes covcollect (codes "covcollect" ∷ codes "summ
 unfolding clap_on_literals
 summary_filters_taken = refl
 
+pub list_taken : takes covcollect (codes "covcollect" ∷ codes "list" ∷ codes "a.info" ∷ []) ≡ true
+unfolding clap_on_literals
+list_taken = refl
+
+pub list_options_taken : takes covcollect (codes "covcollect" ∷ codes "list" ∷ codes "--json" ∷ codes "--lcov2" ∷ codes "-j" ∷ codes "4" ∷ codes "--include" ∷ codes "*.c" ∷ codes "--exclude" ∷ codes "*.h" ∷ codes "a.info" ∷ codes "b.info" ∷ []) ≡ true
+unfolding clap_on_literals
+list_options_taken = refl
+
+pub summary_json_taken : takes covcollect (codes "covcollect" ∷ codes "summary" ∷ codes "--json" ∷ codes "a.info" ∷ []) ≡ true
+unfolding clap_on_literals
+summary_json_taken = refl
+
+pub summary_limits_taken : takes covcollect (codes "covcollect" ∷ codes "summary" ∷ codes "--fail-under-lines" ∷ codes "80" ∷ codes "--fail-under-functions=75" ∷ codes "a.info" ∷ codes "--fail-under-branches" ∷ codes "79.5" ∷ []) ≡ true
+unfolding clap_on_literals
+summary_limits_taken = refl
+
 -- the rows of the subcommand that the words name
 abbrev rows_met : List Text → List Row
 rows_met words = option_map_or (λ met. met.1) (subcommand_of covcollect words) []
@@ -109,9 +127,9 @@ unfolding clap_on_literals
 merge_filter_asked = (rows_met (codes "covcollect" ∷ codes "merge" ∷ codes "--include" ∷ codes "b" ∷ codes "--exclude" ∷ codes "x" ∷ codes "--include=a" ∷ codes "--exclude" ∷ codes "y" ∷ codes "f" ∷ []), refl, refl, (codes "1", refl, refl), (refl, refl), refl)
 
 pub summary_filter_asked : AsksFor (subcommand_of covcollect (codes "covcollect" ∷ codes "summary" ∷ codes "f" ∷ codes "--exclude=x" ∷ codes "--lcov2" ∷ []))
-    (Summary Two 1 (record { includes = []; excludes = codes "x" ∷ [] }) (codes "f" ∷ []))
+    (Summary Two 1 (record { includes = []; excludes = codes "x" ∷ [] }) Words (record { lines = None; functions = None; branches = None }) (codes "f" ∷ []))
 unfolding clap_on_literals
-summary_filter_asked = (rows_met (codes "covcollect" ∷ codes "summary" ∷ codes "f" ∷ codes "--exclude=x" ∷ codes "--lcov2" ∷ []), refl, refl, (codes "1", refl, refl), (refl, refl), refl)
+summary_filter_asked = (rows_met (codes "covcollect" ∷ codes "summary" ∷ codes "f" ∷ codes "--exclude=x" ∷ codes "--lcov2" ∷ []), refl, refl, (codes "1", refl, refl), (refl, refl), refl, (refl, refl, refl), refl)
 
 pub neither_filter_asked : AsksFor (subcommand_of covcollect (codes "covcollect" ∷ codes "merge" ∷ codes "f" ∷ []))
     (Merge One 1 (record { includes = []; excludes = [] }) (codes "f" ∷ []))
@@ -122,6 +140,26 @@ pub name_filter_asked : AsksFor (subcommand_of covcollect (codes "covcollect" �
     (Merge One 1 (record { includes = []; excludes = [] }) (codes "--include" ∷ codes "a" ∷ []))
 unfolding clap_on_literals
 name_filter_asked = (rows_met (codes "covcollect" ∷ codes "merge" ∷ codes "--" ∷ codes "--include" ∷ codes "a" ∷ []), refl, refl, (codes "1", refl, refl), (refl, refl), refl)
+
+pub summary_total_asked : AsksFor (subcommand_of covcollect (codes "covcollect" ∷ codes "summary" ∷ codes "--json" ∷ codes "--fail-under-lines" ∷ codes "80" ∷ codes "--fail-under-branches" ∷ codes "79.5" ∷ codes "a" ∷ []))
+    (Summary One 1 (record { includes = []; excludes = [] }) Json (record { lines = Some (codes "80"); functions = None; branches = Some (codes "79.5") }) (codes "a" ∷ []))
+unfolding clap_on_literals
+summary_total_asked = (rows_met (codes "covcollect" ∷ codes "summary" ∷ codes "--json" ∷ codes "--fail-under-lines" ∷ codes "80" ∷ codes "--fail-under-branches" ∷ codes "79.5" ∷ codes "a" ∷ []), refl, refl, (codes "1", refl, refl), (refl, refl), refl, (refl, refl, refl), refl)
+
+pub functions_total_asked : AsksFor (subcommand_of covcollect (codes "covcollect" ∷ codes "summary" ∷ codes "a" ∷ codes "--fail-under-functions=x" ∷ []))
+    (Summary One 1 (record { includes = []; excludes = [] }) Words (record { lines = None; functions = Some (codes "x"); branches = None }) (codes "a" ∷ []))
+unfolding clap_on_literals
+functions_total_asked = (rows_met (codes "covcollect" ∷ codes "summary" ∷ codes "a" ∷ codes "--fail-under-functions=x" ∷ []), refl, refl, (codes "1", refl, refl), (refl, refl), refl, (refl, refl, refl), refl)
+
+pub list_total_asked : AsksFor (subcommand_of covcollect (codes "covcollect" ∷ codes "list" ∷ codes "--lcov2" ∷ codes "--include" ∷ codes "b" ∷ codes "--exclude" ∷ codes "x" ∷ codes "--json" ∷ codes "a" ∷ []))
+    (commands.List Two 1 (record { includes = codes "b" ∷ []; excludes = codes "x" ∷ [] }) Json (codes "a" ∷ []))
+unfolding clap_on_literals
+list_total_asked = (rows_met (codes "covcollect" ∷ codes "list" ∷ codes "--lcov2" ∷ codes "--include" ∷ codes "b" ∷ codes "--exclude" ∷ codes "x" ∷ codes "--json" ∷ codes "a" ∷ []), refl, refl, (codes "1", refl, refl), (refl, refl), refl, refl)
+
+pub name_total_asked : AsksFor (subcommand_of covcollect (codes "covcollect" ∷ codes "list" ∷ codes "--" ∷ codes "--json" ∷ []))
+    (commands.List One 1 (record { includes = []; excludes = [] }) Words (codes "--json" ∷ []))
+unfolding clap_on_literals
+name_total_asked = (rows_met (codes "covcollect" ∷ codes "list" ∷ codes "--" ∷ codes "--json" ∷ []), refl, refl, (codes "1", refl, refl), (refl, refl), refl, refl)
 
 pub jobs_refused : fault_of covcollect (codes "covcollect" ∷ codes "merge" ∷ codes "--jobs" ∷ codes "65" ∷ codes "a.info" ∷ []) ≡ kind.ValueValidation ∷ []
 unfolding clap_on_literals
@@ -162,6 +200,30 @@ extract_include_refused = refl
 pub no_pattern_refused : fault_of covcollect (codes "covcollect" ∷ codes "merge" ∷ codes "a.info" ∷ codes "--exclude" ∷ []) ≡ kind.InvalidValue ∷ []
 unfolding clap_on_literals
 no_pattern_refused = refl
+
+pub merge_json_refused : fault_of covcollect (codes "covcollect" ∷ codes "merge" ∷ codes "--json" ∷ codes "a.info" ∷ []) ≡ kind.UnknownArgument ∷ []
+unfolding clap_on_literals
+merge_json_refused = refl
+
+pub list_limit_refused : fault_of covcollect (codes "covcollect" ∷ codes "list" ∷ codes "--fail-under-lines" ∷ codes "1" ∷ codes "a.info" ∷ []) ≡ kind.UnknownArgument ∷ []
+unfolding clap_on_literals
+list_limit_refused = refl
+
+pub list_files_refused : fault_of covcollect (codes "covcollect" ∷ codes "list" ∷ codes "--json" ∷ []) ≡ kind.MissingRequiredArgument ∷ []
+unfolding clap_on_literals
+list_files_refused = refl
+
+pub json_twice_refused : fault_of covcollect (codes "covcollect" ∷ codes "list" ∷ codes "--json" ∷ codes "--json" ∷ codes "a.info" ∷ []) ≡ kind.ArgumentConflict ∷ []
+unfolding clap_on_literals
+json_twice_refused = refl
+
+pub limit_twice_refused : fault_of covcollect (codes "covcollect" ∷ codes "summary" ∷ codes "--fail-under-lines" ∷ codes "1" ∷ codes "--fail-under-lines" ∷ codes "2" ∷ codes "a.info" ∷ []) ≡ kind.ArgumentConflict ∷ []
+unfolding clap_on_literals
+limit_twice_refused = refl
+
+pub no_limit_refused : fault_of covcollect (codes "covcollect" ∷ codes "summary" ∷ codes "a.info" ∷ codes "--fail-under-branches" ∷ []) ≡ kind.InvalidValue ∷ []
+unfolding clap_on_literals
+no_limit_refused = refl
 
 pub help_refused : fault_of covcollect (codes "covcollect" ∷ codes "merge" ∷ codes "--help" ∷ []) ≡ kind.DisplayHelp ∷ []
 unfolding clap_on_literals

@@ -13,8 +13,8 @@ use Rattle.clap.specs.Walk.{Row, Text, answers_to, has_row, nothing_held, rows_a
 use Rattle.clap.specs.Simple.{App, Shape, argument_words, built, entered, filled, help_rule, label_of, names_of, rows_at, subcommand_of, with_index, with_subcommand}
 use Rattle.clap.specs.Takes.{is_given}
 use Rattle.clap.specs.Faults.{built_fault, check_fault, entered_fault, fault_of, level_fault, repeat_fault, walk_fault}
-use Rattle.covcommand.specs.CommandLine.{check, covcollect, extract, filtering, flag, gcov, jobs, merge, merging, patterns, program, remove, several, single, summary, test}
-use Rattle.covcommand.specs.Found.{Fits, HasCheck, HasFiltering, HasFlag, HasMerging, HasSome, HasTest}
+use Rattle.covcommand.specs.CommandLine.{check, covcollect, extract, filtering, flag, gcov, jobs, limit, list, merge, patterns, program, remove, several, single, summary, test}
+use Rattle.covcommand.specs.Found.{Fits, HasCheck, HasFiltering, HasFlag, HasListing, HasMerging, HasSome, HasTest}
 use Rattle.covcommand.proofs.Walks.{EachKeeps, Keeps, level_keeps, no_faults, settled_after}
 use Rattle.covcommand.proofs.Rows.{EachDefaultFits, FitsValues, RowOf, RowsFit, append_fits, defaulted, defaults_fit, given_row, has_default, has_flag, has_jobs, has_some, has_test, held_row, is_flag, numbers, set_fits}
 
@@ -47,6 +47,11 @@ patterns_keeps id i free again (v ∷ vs) rows none fit =
 single_keeps : (id : Text) (i : ℕ) → IsFree id → Keeps RowsFit (with_index i (filled (single id)))
 single_keeps id i free again [] rows none fit = absurd cc
 single_keeps id i free again (v ∷ vs) rows none fit =
+    set_fits id AsWritten (v ∷ vs) rows (any_fit id v vs free) fit
+
+limit_keeps : (id : Text) (i : ℕ) → IsFree id → Keeps RowsFit (with_index i (filled (limit id)))
+limit_keeps id i free again [] rows none fit = absurd cc
+limit_keeps id i free again (v ∷ vs) rows none fit =
     set_fits id AsWritten (v ∷ vs) rows (any_fit id v vs free) fit
 
 test_keeps : (i : ℕ) → Keeps RowsFit (with_index i (filled test))
@@ -128,14 +133,19 @@ module _ {s : Shape} {rows : List Row} (left : Left s rows) where
   some_left : (id : Text) → is_given id rows ≡ true → HasSome id rows
   some_left id given = has_some id rows (given_row id rows left.fit given)
 
+  -- the options of `merge`, which has files too
+  merging_left : has_default (codes "lcov2") s.rules ≡ true → has_default (codes "jobs") s.rules ≡ true → is_given (codes "FILE") rows ≡ true
+      → HasMerging rows
+  merging_left lcov2 number given =
+      (flag_left (codes "lcov2") refl lcov2, has_jobs rows (row_left (codes "jobs") number), some_left (codes "FILE") given)
+
 -- words without a fault for the subcommand leave rows of this kind
 abbrev Leaves : Shape → (List Row → Type 0) → Type 0
 Leaves s P = (words : List Text) → level_fault s [] nothing_held words false [] ≡ [] → P (rows_after s.rules [] words)
 
--- `merge` and `summary`
-merging_leaves : (name : Text) → Leaves (built_below (merging name)) HasMerging
-merging_leaves name words none =
-    let each : EachKeeps RowsFit (built_below (merging name)).rules = (
+merge_leaves : Leaves (built_below merge) HasMerging
+merge_leaves words none =
+    let each : EachKeeps RowsFit (built_below merge).rules = (
       several_keeps (codes "FILE") 1 (refl, refl),
       (
         jobs_keeps 2,
@@ -145,15 +155,58 @@ merging_leaves name words none =
         ),
       ),
     ) in
-    let defaults : EachDefaultFits (built_below (merging name)).rules = (tt, (one_job_fits, (unset_fits (codes "lcov2") refl, (tt, (tt, (tt, tt)))))) in
-    of_left _ (left_after (built_below (merging name)) words each defaults none)
+    let defaults : EachDefaultFits (built_below merge).rules = (tt, (one_job_fits, (unset_fits (codes "lcov2") refl, (tt, (tt, (tt, tt)))))) in
+    of_left _ (left_after (built_below merge) words each defaults none)
   where
-    of_left : (rows : List Row) → Left (built_below (merging name)) rows → HasMerging rows
-    of_left rows left = (
-      flag_left left (codes "lcov2") refl refl,
-      has_jobs rows (row_left left (codes "jobs") refl),
-      some_left left (codes "FILE") (wanted _ _ _ left.none).0,
-    )
+    of_left : (rows : List Row) → Left (built_below merge) rows → HasMerging rows
+    of_left rows left = merging_left left refl refl (wanted _ _ _ left.none).0
+
+summary_leaves : Leaves (built_below summary) HasListing
+summary_leaves words none =
+    let limits : EachKeeps RowsFit (with_index 2 (filled (limit (codes "fail-under-lines")))
+    ∷ with_index 2 (filled (limit (codes "fail-under-functions"))) ∷ with_index 2 (filled (limit (codes "fail-under-branches")))
+    ∷ with_index 2 (filled help_rule) ∷ []) = (
+      limit_keeps (codes "fail-under-lines") 2 (refl, refl),
+      (limit_keeps (codes "fail-under-functions") 2 (refl, refl), (limit_keeps (codes "fail-under-branches") 2 (refl, refl), (help_keeps 2, tt))),
+    ) in
+    let each : EachKeeps RowsFit (built_below summary).rules = (
+      several_keeps (codes "FILE") 1 (refl, refl),
+      (
+        jobs_keeps 2,
+        (
+          flag_keeps (codes "lcov2") 2 refl,
+          (patterns_keeps (codes "include") 2 (refl, refl), (patterns_keeps (codes "exclude") 2 (refl, refl), (flag_keeps (codes "json") 2 refl, limits))),
+        ),
+      ),
+    ) in
+    let defaults : EachDefaultFits (built_below summary).rules =
+    (tt, (one_job_fits, (unset_fits (codes "lcov2") refl, (tt, (tt, (unset_fits (codes "json") refl, (tt, (tt, (tt, (tt, tt)))))))))) in
+    of_left _ (left_after (built_below summary) words each defaults none)
+  where
+    of_left : (rows : List Row) → Left (built_below summary) rows → HasListing rows
+    of_left rows left = (flag_left left (codes "json") refl refl, merging_left left refl refl (wanted _ _ _ left.none).0)
+
+list_leaves : Leaves (built_below list) HasListing
+list_leaves words none =
+    let each : EachKeeps RowsFit (built_below list).rules = (
+      several_keeps (codes "FILE") 1 (refl, refl),
+      (
+        jobs_keeps 2,
+        (
+          flag_keeps (codes "lcov2") 2 refl,
+          (
+            patterns_keeps (codes "include") 2 (refl, refl),
+            (patterns_keeps (codes "exclude") 2 (refl, refl), (flag_keeps (codes "json") 2 refl, (help_keeps 2, tt))),
+          ),
+        ),
+      ),
+    ) in
+    let defaults : EachDefaultFits (built_below list).rules =
+    (tt, (one_job_fits, (unset_fits (codes "lcov2") refl, (tt, (tt, (unset_fits (codes "json") refl, (tt, tt))))))) in
+    of_left _ (left_after (built_below list) words each defaults none)
+  where
+    of_left : (rows : List Row) → Left (built_below list) rows → HasListing rows
+    of_left rows left = (flag_left left (codes "json") refl refl, merging_left left refl refl (wanted _ _ _ left.none).0)
 
 -- `extract` and `remove`
 filtering_leaves : (name : Text) → Leaves (built_below (filtering name)) HasFiltering
@@ -202,62 +255,79 @@ SubFits s = Leaves s (Fits s.name)
 
 merge_fits : SubFits (built_below merge)
 merge_fits words none = record {
-  merge = λ e. merging_leaves (codes "merge") words none;
+  merge = λ e. merge_leaves words none;
   summary = λ e. no e;
+  list = λ e. no e;
   extract = λ e. no e;
   remove = λ e. no e;
   gcov = λ e. no e;
-  others = λ m s x r g. no (sym m);
+  others = λ m s l x r g. no (sym m);
 }
 
 summary_fits : SubFits (built_below summary)
 summary_fits words none = record {
   merge = λ e. no e;
-  summary = λ e. merging_leaves (codes "summary") words none;
+  summary = λ e. summary_leaves words none;
+  list = λ e. no e;
   extract = λ e. no e;
   remove = λ e. no e;
   gcov = λ e. no e;
-  others = λ m s x r g. no (sym s);
+  others = λ m s l x r g. no (sym s);
+}
+
+list_fits : SubFits (built_below list)
+list_fits words none = record {
+  merge = λ e. no e;
+  summary = λ e. no e;
+  list = λ e. list_leaves words none;
+  extract = λ e. no e;
+  remove = λ e. no e;
+  gcov = λ e. no e;
+  others = λ m s l x r g. no (sym l);
 }
 
 extract_fits : SubFits (built_below extract)
 extract_fits words none = record {
   merge = λ e. no e;
   summary = λ e. no e;
+  list = λ e. no e;
   extract = λ e. filtering_leaves (codes "extract") words none;
   remove = λ e. no e;
   gcov = λ e. no e;
-  others = λ m s x r g. no (sym x);
+  others = λ m s l x r g. no (sym x);
 }
 
 remove_fits : SubFits (built_below remove)
 remove_fits words none = record {
   merge = λ e. no e;
   summary = λ e. no e;
+  list = λ e. no e;
   extract = λ e. no e;
   remove = λ e. filtering_leaves (codes "remove") words none;
   gcov = λ e. no e;
-  others = λ m s x r g. no (sym r);
+  others = λ m s l x r g. no (sym r);
 }
 
 gcov_fits : SubFits (built_below gcov)
 gcov_fits words none = record {
   merge = λ e. no e;
   summary = λ e. no e;
+  list = λ e. no e;
   extract = λ e. no e;
   remove = λ e. no e;
   gcov = λ e. gcov_leaves words none;
-  others = λ m s x r g. no (sym g);
+  others = λ m s l x r g. no (sym g);
 }
 
 check_fits : SubFits (built_below check)
 check_fits words none = record {
   merge = λ e. no e;
   summary = λ e. no e;
+  list = λ e. no e;
   extract = λ e. no e;
   remove = λ e. no e;
   gcov = λ e. no e;
-  others = λ m s x r g. (refl, check_leaves words none);
+  others = λ m s l x r g. (refl, check_leaves words none);
 }
 
 -- ---- the subcommand that the words name
@@ -300,7 +370,7 @@ built_fits a words name rows each none met =
     entered_fits a stop name rows each below.0 met
 
 each_sub : EachSub (built covcollect).subs
-each_sub = (merge_fits, (summary_fits, (extract_fits, (remove_fits, (gcov_fits, (check_fits, tt))))))
+each_sub = (merge_fits, (summary_fits, (list_fits, (extract_fits, (remove_fits, (gcov_fits, (check_fits, tt)))))))
 
 pub fits : (words : List Text) (name : Text) (rows : List Row) → fault_of covcollect words ≡ [] → subcommand_of covcollect words ≡ Some (name, rows) → Fits name rows
 fits words name rows none met = built_fits (built covcollect) (argument_words covcollect words) name rows each_sub none met

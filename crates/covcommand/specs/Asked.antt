@@ -4,7 +4,11 @@ use Rattle.std.specs.Str.Parse.{digits_value, without_leading_plus}
 use Rattle.clap.specs.Walk.{Row, Text, all_of, first_of, one_of}
 use Rattle.covcommand.specs.declared.asked.Command.{Command}
 use Rattle.covcommand.specs.declared.asked.Command.TheVariants.{Session, Merge, Summary, Extract, Remove, Gcov, Check}
+use Rattle.covcommand.specs.declared.asked.Command.TheVariants as commands
 use Rattle.covcommand.specs.declared.asked.SourceFilter.{SourceFilter}
+use Rattle.covcommand.specs.declared.asked.TextForm.{TextForm}
+use Rattle.covcommand.specs.declared.asked.TextForm.TheVariants.{Words, Json}
+use Rattle.covcommand.specs.declared.asked.Limits.{Limits}
 use Rattle.covcommand.specs.declared.asked.TextFormat.{TextFormat}
 use Rattle.covcommand.specs.declared.asked.TextFormat.TheVariants as format
 use Rattle.covcommand.specs.declared.asked.LcovVersion.{LcovVersion}
@@ -37,14 +41,32 @@ IsFormatOf rows format.Gcov = one_of (codes "gcov") rows ≡ Some (codes "true")
 abbrev pub IsFilterOf : List Row → SourceFilter → Type 0
 IsFilterOf rows filter = (filter.includes ≡ values_of (codes "include") rows) × (filter.excludes ≡ values_of (codes "exclude") rows)
 
+-- totals are printed as JSON if clap sets the flag `--json`, and as lines of words if it doesn't
+abbrev pub IsFormOf : List Row → TextForm → Type 0
+IsFormOf rows Words = one_of (codes "json") rows ≡ Some (codes "false")
+IsFormOf rows Json = one_of (codes "json") rows ≡ Some (codes "true")
+
+-- the word that clap found for the option, as it is, and `None` if the option isn't given
+abbrev pub IsLimitOf : Text → List Row → Option Text → Type 0
+IsLimitOf id rows limit = first_of id rows ≡ limit
+
+-- the word of each option `--fail-under-..`
+abbrev pub AreLimitsOf : List Row → Limits → Type 0
+AreLimitsOf rows limits = IsLimitOf (codes "fail-under-lines") rows limits.lines
+    × IsLimitOf (codes "fail-under-functions") rows limits.functions × IsLimitOf (codes "fail-under-branches") rows limits.branches
+
 -- a call asks for this command: `met` is the subcommand that clap reads from its words (`None` for a session), with a row for
 -- each of the subcommand's arguments, and the command has what the rows say
 abbrev pub AsksFor : Option (Text × List Row) → Command → Type 0
 AsksFor met Session = met ≡ None
 AsksFor met (Merge version jobs filter names) = (rows : List Row) × (met ≡ Some (codes "merge", rows))
     × IsVersionOf rows version × IsNumberOf rows jobs × IsFilterOf rows filter × (names ≡ values_of (codes "FILE") rows)
-AsksFor met (Summary version jobs filter names) = (rows : List Row) × (met ≡ Some (codes "summary", rows))
-    × IsVersionOf rows version × IsNumberOf rows jobs × IsFilterOf rows filter × (names ≡ values_of (codes "FILE") rows)
+AsksFor met (Summary version jobs filter form limits names) = (rows : List Row) × (met ≡ Some (codes "summary", rows))
+    × IsVersionOf rows version × IsNumberOf rows jobs × IsFilterOf rows filter × IsFormOf rows form × AreLimitsOf rows limits
+    × (names ≡ values_of (codes "FILE") rows)
+AsksFor met (commands.List version jobs filter form names) = (rows : List Row) × (met ≡ Some (codes "list", rows))
+    × IsVersionOf rows version × IsNumberOf rows jobs × IsFilterOf rows filter × IsFormOf rows form
+    × (names ≡ values_of (codes "FILE") rows)
 AsksFor met (Extract version names) = (rows : List Row) × (met ≡ Some (codes "extract", rows))
     × IsVersionOf rows version × (names ≡ tracefile_and_patterns rows)
 AsksFor met (Remove version names) = (rows : List Row) × (met ≡ Some (codes "remove", rows))
@@ -55,11 +77,13 @@ AsksFor met (Gcov test names) = (rows : List Row) × (met ≡ Some (codes "gcov"
 AsksFor met (Check how names) = (rows : List Row) × (met ≡ Some (codes "check", rows))
     × IsFormatOf rows how × (names ≡ values_of (codes "FILE") rows)
 
--- `merge` and `summary` have 1 to 64 jobs. Each subcommand has at least one name, and `extract` and `remove` have at least two
+-- `merge`, `summary` and `list` have 1 to 64 jobs. Each subcommand has at least one name, and `extract` and `remove` have at
+-- least two
 abbrev pub IsInBounds : Command → Type 0
 IsInBounds Session = Unit {0}
 IsInBounds (Merge version jobs filter names) = (1 ≤ jobs) × (jobs ≤ 64) × (1 ≤ length names)
-IsInBounds (Summary version jobs filter names) = (1 ≤ jobs) × (jobs ≤ 64) × (1 ≤ length names)
+IsInBounds (Summary version jobs filter form limits names) = (1 ≤ jobs) × (jobs ≤ 64) × (1 ≤ length names)
+IsInBounds (commands.List version jobs filter form names) = (1 ≤ jobs) × (jobs ≤ 64) × (1 ≤ length names)
 IsInBounds (Extract version names) = 2 ≤ length names
 IsInBounds (Remove version names) = 2 ≤ length names
 IsInBounds (Gcov test names) = 1 ≤ length names

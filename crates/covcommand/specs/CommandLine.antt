@@ -51,6 +51,10 @@ annotated = flag (codes "gcov")
 abbrev pub lcov2 : Rule
 lcov2 = flag (codes "lcov2")
 
+-- `--json`
+abbrev pub json : Rule
+json = flag (codes "json")
+
 -- an option for a pattern, which may be given any number of times, also not at all: `--include PATTERN`, `--exclude PATTERN`
 abbrev pub patterns : Text → Rule
 patterns id = record (new_rule id) {
@@ -59,7 +63,16 @@ patterns id = record (new_rule id) {
   action = Some Append;
 }
 
--- a subcommand that takes tracefiles, a number of jobs, and patterns of source files: `merge` and `summary`
+-- an option for a limit, which is one word, and which may be given at most once, also not at all: `--fail-under-lines N`
+abbrev pub limit : Text → Rule
+limit id = record (new_rule id) {
+  long = Some id;
+  value_names = 1;
+  action = Some Set;
+}
+
+-- a subcommand that takes tracefiles, a number of jobs, and patterns of source files: `merge`, and with more options `summary`
+-- and `list`
 abbrev pub merging : Text → App
 merging name = with_rule (with_rule (with_rule (with_rule (with_rule (new_app name) (several (codes "FILE"))) jobs) lcov2)
     (patterns (codes "include"))) (patterns (codes "exclude"))
@@ -67,8 +80,16 @@ merging name = with_rule (with_rule (with_rule (with_rule (with_rule (new_app na
 abbrev pub merge : App
 merge = merging (codes "merge")
 
+-- a subcommand that prints totals, also as JSON: `list`, and with more options `summary`
+abbrev pub listing : Text → App
+listing name = with_rule (merging name) json
+
 abbrev pub summary : App
-summary = merging (codes "summary")
+summary = with_rule (with_rule (with_rule (listing (codes "summary")) (limit (codes "fail-under-lines")))
+    (limit (codes "fail-under-functions"))) (limit (codes "fail-under-branches"))
+
+abbrev pub list : App
+list = listing (codes "list")
 
 -- a subcommand that takes a tracefile and patterns: `extract` and `remove`
 abbrev pub filtering : Text → App
@@ -92,5 +113,5 @@ program = on_top (λ s. record s { disable_help_subcommand = true; has_version =
 
 -- the program with its subcommands
 abbrev pub covcollect : App
-covcollect = with_subcommand (with_subcommand (with_subcommand (with_subcommand (with_subcommand (with_subcommand program
-    merge.top) summary.top) extract.top) remove.top) gcov.top) check.top
+covcollect = with_subcommand (with_subcommand (with_subcommand (with_subcommand (with_subcommand (with_subcommand (with_subcommand program
+    merge.top) summary.top) list.top) extract.top) remove.top) gcov.top) check.top

@@ -22,9 +22,13 @@ HasJobs rows = (text : Text) × (one_of (codes "jobs") rows ≡ Some (without_mi
 abbrev pub HasFlag : Text → List Row → Type 0
 HasFlag id rows = (one_of id rows ≡ Some (codes "true")) ⊎ (one_of id rows ≡ Some (codes "false"))
 
--- clap found what `merge` and `summary` require. They require nothing of `--include` and `--exclude`, which may have no row
+-- clap found what `merge` requires. It requires nothing of `--include` and `--exclude`, which may have no row
 abbrev pub HasMerging : List Row → Type 0
 HasMerging rows = HasFlag (codes "lcov2") rows × HasJobs rows × HasSome (codes "FILE") rows
+
+-- clap found what `summary` and `list` require. They require nothing of `--fail-under-..`, which may have no row
+abbrev pub HasListing : List Row → Type 0
+HasListing rows = HasFlag (codes "json") rows × HasMerging rows
 
 -- clap found a tracefile and at least one pattern
 abbrev pub HasFilter : List Row → Type 0
@@ -41,11 +45,12 @@ HasCheck rows = HasFlag (codes "gcov") rows × HasFlag (codes "lcov2") rows × H
 -- clap found for the arguments of the subcommand of this name what the subcommand requires
 pub record Fits (name : Text) (rows : List Row) : Type 0 where
   pub merge : bytes_eq name (codes "merge") ≡ true → HasMerging rows
-  pub summary : bytes_eq name (codes "summary") ≡ true → HasMerging rows
+  pub summary : bytes_eq name (codes "summary") ≡ true → HasListing rows
+  pub list : bytes_eq name (codes "list") ≡ true → HasListing rows
   pub extract : bytes_eq name (codes "extract") ≡ true → HasFiltering rows
   pub remove : bytes_eq name (codes "remove") ≡ true → HasFiltering rows
   pub gcov : bytes_eq name (codes "gcov") ≡ true → HasTest rows × HasSome (codes "FILE") rows
   pub others : bytes_eq name (codes "merge") ≡ false → bytes_eq name (codes "summary") ≡ false
-      → bytes_eq name (codes "extract") ≡ false → bytes_eq name (codes "remove") ≡ false
-      → bytes_eq name (codes "gcov") ≡ false
+      → bytes_eq name (codes "list") ≡ false → bytes_eq name (codes "extract") ≡ false
+      → bytes_eq name (codes "remove") ≡ false → bytes_eq name (codes "gcov") ≡ false
       → (name ≡ codes "check") × HasCheck rows

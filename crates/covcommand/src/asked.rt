@@ -27,6 +27,23 @@ pub enum Command {
         jobs: u32,
         /// Which source files are counted.
         filter: SourceFilter,
+        /// How the totals are printed.
+        form: TextForm,
+        /// How much has to be hit.
+        limits: Limits,
+        /// The files' paths, at least one.
+        names: Names,
+    },
+    /// `list`: how many of the lines, functions and branches are hit, of each source file and of all (lcov(1), `--list`).
+    List {
+        /// Which tracefiles are read.
+        version: LcovVersion,
+        /// How many jobs read at once, from 1 to 64.
+        jobs: u32,
+        /// Which source files are listed.
+        filter: SourceFilter,
+        /// How the totals are printed.
+        form: TextForm,
         /// The files' paths, at least one.
         names: Names,
     },
@@ -68,6 +85,27 @@ pub struct SourceFilter {
     pub includes: Names,
     /// `--exclude`: a file has to match none of these.
     pub excludes: Names,
+}
+
+/// The form in which totals are printed.
+#[derive(Clone, Copy)]
+pub enum TextForm {
+    /// Lines of words.
+    Words,
+    /// JSON.
+    Json,
+}
+
+/// How much has to be hit (lcov(1) of LCOV 2.x, `--fail-under-lines`): the words that a call gives for `--fail-under-..`, as they
+/// are, or `None` for an option that it doesn't give. Whether such a word is a number isn't checked here.
+#[derive(Drop)]
+pub struct Limits {
+    /// `--fail-under-lines`: how many percent of the lines.
+    pub lines: Option<Bytes>,
+    /// `--fail-under-functions`: how many percent of the functions.
+    pub functions: Option<Bytes>,
+    /// `--fail-under-branches`: how many percent of the branches.
+    pub branches: Option<Bytes>,
 }
 
 /// How the text of a file is read.

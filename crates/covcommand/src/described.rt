@@ -16,6 +16,7 @@ pub(crate) fn described<'a>(alloc: Global) -> Result<Command<'a>, AllocError>
     program(alloc)
         .subcommand(merge(alloc)?)?
         .subcommand(summary(alloc)?)?
+        .subcommand(list(alloc)?)?
         .subcommand(extract(alloc)?)?
         .subcommand(remove(alloc)?)?
         .subcommand(gcov(alloc)?)?
@@ -43,8 +44,27 @@ fn merge<'a>(alloc: Global) -> Result<Command<'a>, AllocError>
 fn summary<'a>(alloc: Global) -> Result<Command<'a>, AllocError>
     ensures { IfOk result (HasNoGlobals line.summary) }
 {
-    let summary = merging(alloc, "summary")?;
-    Ok(summary.about(help::SUMMARY).after_help(help::SUMMARY_END))
+    let summary = listing(alloc, "summary")?
+        .about(help::SUMMARY)
+        .after_help(help::SUMMARY_END);
+    summary
+        .arg(limit(alloc, "fail-under-lines", help::FAIL_UNDER_LINES))?
+        .arg(limit(alloc, "fail-under-functions", help::FAIL_UNDER_FUNCTIONS))?
+        .arg(limit(alloc, "fail-under-branches", help::FAIL_UNDER_BRANCHES))
+}
+
+fn list<'a>(alloc: Global) -> Result<Command<'a>, AllocError>
+    ensures { IfOk result (HasNoGlobals line.list) }
+{
+    let list = listing(alloc, "list")?;
+    Ok(list.about(help::LIST).after_help(help::LIST_END))
+}
+
+/// A command that takes what `merging` takes, and prints totals, as JSON if that is asked for.
+fn listing<'a>(alloc: Global, name: &'a str) -> Result<Command<'a>, AllocError>
+    ensures { IfOk result (HasNoGlobals (line.listing name.entry.now)) }
+{
+    merging(alloc, name)?.arg(json(alloc))
 }
 
 /// A command that takes tracefiles, which jobs may read at once, and patterns of the source files to keep and to leave out.
@@ -165,6 +185,17 @@ fn patterns<'a>(alloc: Global, id: &'a str, help: &'a str) -> Arg<'a>
         .help(help)
 }
 
+/// An option for a limit, which a call may give at most once.
+fn limit<'a>(alloc: Global, id: &'a str, help: &'a str) -> Arg<'a>
+    ensures { IsRule (line.limit id.entry.now) result }
+{
+    Arg::new(alloc, id)
+        .long(id)
+        .value_name("N")
+        .action(ArgAction::Set)
+        .help(help)
+}
+
 /// The flag `--gcov`, which says that gcov wrote the files.
 fn annotated<'a>(alloc: Global) -> Arg<'a>
     ensures { IsRule line.annotated result }
@@ -177,6 +208,13 @@ fn lcov2<'a>(alloc: Global) -> Arg<'a>
     ensures { IsRule line.lcov2 result }
 {
     flag(alloc, "lcov2", help::LCOV2)
+}
+
+/// The flag `--json`, which says that totals are printed as JSON.
+fn json<'a>(alloc: Global) -> Arg<'a>
+    ensures { IsRule line.json result }
+{
+    flag(alloc, "json", help::JSON)
 }
 
 /// A flag, which a call has or hasn't.

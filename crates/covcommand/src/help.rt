@@ -17,6 +17,7 @@ In place of lcov's calls write (with the patterns in quotes):
   lcov -e A.info '*/src/*' -o OUT    covcollect extract A.info '*/src/*' > OUT
   lcov -r A.info '/usr/*' -o OUT     covcollect remove A.info '/usr/*' > OUT
   lcov --summary A.info              covcollect summary A.info
+  lcov --list A.info                 covcollect list A.info
 
 With --lcov2 tracefiles of LCOV 2 are read too. Without it their functions (FNL,
 FNA, and FN with an end line) are skipped or look uncalled: covcollect check
@@ -28,7 +29,8 @@ Exit status:
   2  the call is wrong: its words, a pattern or the name of a test
   3  memory ran out, or the history is full
   4  a file was refused, or checksums clash; nothing is printed, but by check
-  5  check found a file without items";
+  5  check found a file without items
+  6  summary found less hit than --fail-under-.. asks for";
 
 /// What `merge` does.
 pub(crate) const MERGE: &str = "Merges tracefiles: counts add up by test and file (lcov -a)";
@@ -57,7 +59,26 @@ their merge. In place of
 write
   covcollect summary A.info
 and of some source files alone (extract --help tells of patterns)
-  covcollect summary --include '*/src/*' A.info";
+  covcollect summary --include '*/src/*' A.info
+and as JSON
+  covcollect summary --json A.info
+and to end with status 6 where too little is hit
+  covcollect summary --fail-under-lines 80 A.info";
+
+/// What `list` does.
+pub(crate) const LIST: &str = "Tells how much of each source file is hit (lcov --list)";
+
+/// How to call `list`.
+pub(crate) const LIST_END: &str = "\
+Prints rate and numbers of lines, functions and branches of each source file and
+of all, of several files those of their merge. In place of
+  lcov --list A.info
+write
+  covcollect list A.info
+and of some source files alone (extract --help tells of patterns)
+  covcollect list --include '*/src/*' A.info
+and as JSON
+  covcollect list --json A.info";
 
 /// What `extract` does.
 pub(crate) const EXTRACT: &str = "Keeps the source files that match a pattern (lcov -e)";
@@ -129,7 +150,7 @@ pub(crate) const SOURCES: &str = "Files that gcov wrote, read in this order";
 pub(crate) const CHECKED: &str = "Tracefiles, looked at in this order";
 
 /// The help of `--jobs`.
-pub(crate) const JOBS: &str = "How many files are read at once, 1 to 64";
+pub(crate) const JOBS: &str = "Files read at once, from 1 to 64";
 
 /// The help of `--test`.
 pub(crate) const TEST: &str = "The test that the counts are of; --test= is the empty name";
@@ -138,10 +159,22 @@ pub(crate) const TEST: &str = "The test that the counts are of; --test= is the e
 pub(crate) const LCOV2: &str = "Tracefiles of LCOV 2 are read too";
 
 /// The help of `--include`.
-pub(crate) const INCLUDE: &str = "Only source files that match PATTERN; may be repeated";
+pub(crate) const INCLUDE: &str = "Only source files that match; may be repeated";
 
 /// The help of `--exclude`.
-pub(crate) const EXCLUDE: &str = "No source files that match PATTERN; may be repeated";
+pub(crate) const EXCLUDE: &str = "No source files that match; may be repeated";
+
+/// The help of `--json`.
+pub(crate) const JSON: &str = "Print JSON";
+
+/// The help of `--fail-under-lines`.
+pub(crate) const FAIL_UNDER_LINES: &str = "Status 6 if less than N% of lines are hit";
+
+/// The help of `--fail-under-functions`.
+pub(crate) const FAIL_UNDER_FUNCTIONS: &str = "Status 6 if less than N% of functions are hit";
+
+/// The help of `--fail-under-branches`.
+pub(crate) const FAIL_UNDER_BRANCHES: &str = "Status 6 if less than N% of branches are hit";
 
 /// The help of `--gcov`.
 pub(crate) const ANNOTATED: &str = "The files are what gcov wrote, and not tracefiles";

@@ -1,12 +1,14 @@
 //! Laws of single calls: what clap's definitions say of these words for this program's command line.
 
-ghost use Rattle.std.specs.Prelude.{◌≡◌, [], ◌∷◌, true, codes};
+ghost use Rattle.std.specs.Prelude.{◌≡◌, [], ◌∷◌, Some, None, true, codes};
 ghost use Rattle.clap.specs.Words.{takes, fault_of};
 ghost use Rattle.clap.specs.declared.error.kind.ErrorKind.TheVariants as kind;
 ghost use Rattle.clap.specs.Words.{subcommand_of};
 ghost use Rattle.covcommand.specs.Asked.{AsksFor};
 ghost use Rattle.covcommand.specs.CommandLine.{covcollect};
 ghost use Rattle.covcommand.specs.declared.asked.Command.TheVariants.{Check, Merge, Summary};
+ghost use Rattle.covcommand.specs.declared.asked.Command.TheVariants as commands;
+ghost use Rattle.covcommand.specs.declared.asked.TextForm.TheVariants.{Words, Json};
 ghost use Rattle.covcommand.specs.declared.asked.TextFormat.TheVariants as format;
 ghost use Rattle.covcommand.specs.declared.asked.LcovVersion.TheVariants.{One, Two};
 
@@ -28,6 +30,10 @@ pub fn calls_are_taken()
     ensures summary_jobs { takes covcollect (codes "covcollect" ∷ codes "summary" ∷ codes "--jobs" ∷ codes "4" ∷ codes "a.info" ∷ []) ≡ true }
     ensures merge_filters { takes covcollect (codes "covcollect" ∷ codes "merge" ∷ codes "--include" ∷ codes "*.c" ∷ codes "--include" ∷ codes "*.h" ∷ codes "--exclude" ∷ codes "*.t" ∷ codes "a.info" ∷ []) ≡ true }
     ensures summary_filters { takes covcollect (codes "covcollect" ∷ codes "summary" ∷ codes "a.info" ∷ codes "--exclude=*.t" ∷ codes "--exclude" ∷ codes "*.h" ∷ []) ≡ true }
+    ensures list { takes covcollect (codes "covcollect" ∷ codes "list" ∷ codes "a.info" ∷ []) ≡ true }
+    ensures list_options { takes covcollect (codes "covcollect" ∷ codes "list" ∷ codes "--json" ∷ codes "--lcov2" ∷ codes "-j" ∷ codes "4" ∷ codes "--include" ∷ codes "*.c" ∷ codes "--exclude" ∷ codes "*.h" ∷ codes "a.info" ∷ codes "b.info" ∷ []) ≡ true }
+    ensures summary_json { takes covcollect (codes "covcollect" ∷ codes "summary" ∷ codes "--json" ∷ codes "a.info" ∷ []) ≡ true }
+    ensures summary_limits { takes covcollect (codes "covcollect" ∷ codes "summary" ∷ codes "--fail-under-lines" ∷ codes "80" ∷ codes "--fail-under-functions=75" ∷ codes "a.info" ∷ codes "--fail-under-branches" ∷ codes "79.5" ∷ []) ≡ true }
 {}
 
 /// What calls of `check` ask for. With the flag `--gcov`, before or after the files, the files are gcov's, also beside `--lcov2`;
@@ -53,11 +59,24 @@ pub fn filters_by_their_words()
     ensures merge { AsksFor (subcommand_of covcollect (codes "covcollect" ∷ codes "merge" ∷ codes "--include" ∷ codes "b" ∷ codes "--exclude" ∷ codes "x" ∷ codes "--include=a" ∷ codes "--exclude" ∷ codes "y" ∷ codes "f" ∷ []))
         (Merge One 1 (record { includes = codes "b" ∷ codes "a" ∷ []; excludes = codes "x" ∷ codes "y" ∷ [] }) (codes "f" ∷ [])) }
     ensures summary { AsksFor (subcommand_of covcollect (codes "covcollect" ∷ codes "summary" ∷ codes "f" ∷ codes "--exclude=x" ∷ codes "--lcov2" ∷ []))
-        (Summary Two 1 (record { includes = []; excludes = codes "x" ∷ [] }) (codes "f" ∷ [])) }
+        (Summary Two 1 (record { includes = []; excludes = codes "x" ∷ [] }) Words (record { lines = None; functions = None; branches = None }) (codes "f" ∷ [])) }
     ensures neither { AsksFor (subcommand_of covcollect (codes "covcollect" ∷ codes "merge" ∷ codes "f" ∷ []))
         (Merge One 1 (record { includes = []; excludes = [] }) (codes "f" ∷ [])) }
     ensures name { AsksFor (subcommand_of covcollect (codes "covcollect" ∷ codes "merge" ∷ codes "--" ∷ codes "--include" ∷ codes "a" ∷ []))
         (Merge One 1 (record { includes = []; excludes = [] }) (codes "--include" ∷ codes "a" ∷ [])) }
+{}
+
+/// What calls of `summary` and `list` ask for: JSON with the flag `--json` and words without it, and for each option
+/// `--fail-under-..` its word, whatever it is, or none. After `--`, the word `--json` is the name of a file.
+pub fn totals_by_their_words()
+    ensures summary { AsksFor (subcommand_of covcollect (codes "covcollect" ∷ codes "summary" ∷ codes "--json" ∷ codes "--fail-under-lines" ∷ codes "80" ∷ codes "--fail-under-branches" ∷ codes "79.5" ∷ codes "a" ∷ []))
+        (Summary One 1 (record { includes = []; excludes = [] }) Json (record { lines = Some (codes "80"); functions = None; branches = Some (codes "79.5") }) (codes "a" ∷ [])) }
+    ensures functions { AsksFor (subcommand_of covcollect (codes "covcollect" ∷ codes "summary" ∷ codes "a" ∷ codes "--fail-under-functions=x" ∷ []))
+        (Summary One 1 (record { includes = []; excludes = [] }) Words (record { lines = None; functions = Some (codes "x"); branches = None }) (codes "a" ∷ [])) }
+    ensures list { AsksFor (subcommand_of covcollect (codes "covcollect" ∷ codes "list" ∷ codes "--lcov2" ∷ codes "--include" ∷ codes "b" ∷ codes "--exclude" ∷ codes "x" ∷ codes "--json" ∷ codes "a" ∷ []))
+        (commands.List Two 1 (record { includes = codes "b" ∷ []; excludes = codes "x" ∷ [] }) Json (codes "a" ∷ [])) }
+    ensures name { AsksFor (subcommand_of covcollect (codes "covcollect" ∷ codes "list" ∷ codes "--" ∷ codes "--json" ∷ []))
+        (commands.List One 1 (record { includes = []; excludes = [] }) Words (codes "--json" ∷ [])) }
 {}
 
 /// Calls that are refused, with clap's kind of error for each. The program takes `--version`, but its subcommands don't.
@@ -81,6 +100,18 @@ pub fn calls_are_refused()
     ensures extract_include { fault_of covcollect (codes "covcollect" ∷ codes "extract" ∷ codes "--include" ∷ codes "*.c" ∷ codes "a.info" ∷ codes "*.h" ∷ [])
         ≡ kind.UnknownArgument ∷ [] }
     ensures no_pattern { fault_of covcollect (codes "covcollect" ∷ codes "merge" ∷ codes "a.info" ∷ codes "--exclude" ∷ [])
+        ≡ kind.InvalidValue ∷ [] }
+    ensures merge_json { fault_of covcollect (codes "covcollect" ∷ codes "merge" ∷ codes "--json" ∷ codes "a.info" ∷ [])
+        ≡ kind.UnknownArgument ∷ [] }
+    ensures list_limit { fault_of covcollect (codes "covcollect" ∷ codes "list" ∷ codes "--fail-under-lines" ∷ codes "1" ∷ codes "a.info" ∷ [])
+        ≡ kind.UnknownArgument ∷ [] }
+    ensures list_files { fault_of covcollect (codes "covcollect" ∷ codes "list" ∷ codes "--json" ∷ [])
+        ≡ kind.MissingRequiredArgument ∷ [] }
+    ensures json_twice { fault_of covcollect (codes "covcollect" ∷ codes "list" ∷ codes "--json" ∷ codes "--json" ∷ codes "a.info" ∷ [])
+        ≡ kind.ArgumentConflict ∷ [] }
+    ensures limit_twice { fault_of covcollect (codes "covcollect" ∷ codes "summary" ∷ codes "--fail-under-lines" ∷ codes "1" ∷ codes "--fail-under-lines" ∷ codes "2" ∷ codes "a.info" ∷ [])
+        ≡ kind.ArgumentConflict ∷ [] }
+    ensures no_limit { fault_of covcollect (codes "covcollect" ∷ codes "summary" ∷ codes "a.info" ∷ codes "--fail-under-branches" ∷ [])
         ≡ kind.InvalidValue ∷ [] }
     ensures help { fault_of covcollect (codes "covcollect" ∷ codes "merge" ∷ codes "--help" ∷ [])
         ≡ kind.DisplayHelp ∷ [] }

@@ -25,10 +25,13 @@ mod names;
 mod parsing;
 mod word;
 
-pub use asked::{Command, LcovVersion, SourceFilter, TextFormat};
+pub use asked::{Command, LcovVersion, Limits, SourceFilter, TextForm, TextFormat};
 pub use fault::CommandFault;
 pub use help::VERSION;
-pub use laws::{calls_are_refused, calls_are_taken, checks_by_their_words, filters_by_their_words};
+pub use laws::{
+    calls_are_refused, calls_are_taken, checks_by_their_words, filters_by_their_words,
+    totals_by_their_words,
+};
 pub use names::Names;
 pub use parsing::command;
 pub use word::word_at;

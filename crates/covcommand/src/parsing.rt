@@ -4,12 +4,12 @@ ghost use Rattle.std.specs.Prelude.{◌≡◌, ◌≤◌, ◌++◌, [], IfOk, If
 ghost use Rattle.std.specs.String.{string_bytes};
 ghost use Rattle.clap.specs.Words.{rows_of, found_of, subcommand_of, takes, fault_of, first_of};
 ghost use Rattle.covcommand.specs.CommandLine.{covcollect};
-ghost use Rattle.covcommand.specs.Asked.{AsksFor, IsFilterOf, IsFormatOf, IsInBounds, IsNumberOf, IsVersionOf, tracefile_and_patterns, values_of};
+ghost use Rattle.covcommand.specs.Asked.{AreLimitsOf, AsksFor, IsFilterOf, IsFormOf, IsFormatOf, IsInBounds, IsLimitOf, IsNumberOf, IsVersionOf, tracefile_and_patterns, values_of};
 ghost use Rattle.covcommand.specs.Found.{Fits, HasFilter, HasFlag, HasJobs, HasSome, HasTest};
 ghost use Rattle.covcommand.specs.Fault.{IsFaultAmong};
 ghost use Rattle.covcommand.specs.declared.fault.CommandFault.TheVariants as faults;
 
-use crate::asked::{Command, LcovVersion, SourceFilter, TextFormat};
+use crate::asked::{Command, LcovVersion, Limits, SourceFilter, TextForm, TextFormat};
 use crate::described::described;
 use crate::fault::CommandFault;
 use crate::names::Names;
@@ -57,6 +57,15 @@ fn command_from(alloc: Global, name: &str, found: &ArgMatches<'_>) -> Result<Com
             version: version_of(found),
             jobs: jobs_of(found),
             filter: source_filter_of(alloc, found)?,
+            form: form_of(found),
+            limits: limits_of(alloc, found)?,
+            names: files_of(alloc, found)?,
+        }),
+        "list" => Ok(Command::List {
+            version: version_of(found),
+            jobs: jobs_of(found),
+            filter: source_filter_of(alloc, found)?,
+            form: form_of(found),
             names: files_of(alloc, found)?,
         }),
         "extract" => Ok(Command::Extract {
@@ -115,6 +124,39 @@ fn patterns_of(alloc: Global, found: &ArgMatches<'_>, id: &str) -> Result<Names,
     let mut patterns = Names::new(alloc);
     push_values(&mut patterns, alloc, found, id)?;
     Ok(patterns)
+}
+
+/// How totals are printed: as JSON if clap found the flag `--json`, else as lines of words.
+fn form_of(found: &ArgMatches<'_>) -> TextForm
+    requires { HasFlag (codes "json") (rows_of (found_of found.now)) }
+    ensures { IsFormOf (rows_of (found_of found.now)) result }
+{
+    if found.get_flag("json") {
+        TextForm::Json
+    } else {
+        TextForm::Words
+    }
+}
+
+/// How much has to be hit, by the words that clap found for `--fail-under-..`.
+fn limits_of(alloc: Global, found: &ArgMatches<'_>) -> Result<Limits, Memory>
+    ensures { IfOk result (AreLimitsOf (rows_of (found_of found.now))) }
+{
+    Ok(Limits {
+        lines: limit_of(alloc, found, "fail-under-lines")?,
+        functions: limit_of(alloc, found, "fail-under-functions")?,
+        branches: limit_of(alloc, found, "fail-under-branches")?,
+    })
+}
+
+/// The word that clap found for the option, or `None` if the option isn't given.
+fn limit_of(alloc: Global, found: &ArgMatches<'_>, id: &str) -> Result<Option<Bytes>, Memory>
+    ensures { IfOk result (IsLimitOf id.now (rows_of (found_of found.now))) }
+{
+    match found.get_str(id) {
+        Some(word) => Ok(Some(Bytes::of(alloc, word.as_bytes())?)),
+        None => Ok(None),
+    }
 }
 
 /// The names of the tracefile and the patterns.

@@ -3,7 +3,9 @@
 //!
 //! Examples are text, so that they cost the proof of these tests nothing: a line has a call and, after ` => `, its answer.
 
-use covcommand::{Command, CommandFault, LcovVersion, Names, SourceFilter, TextFormat, command};
+use covcommand::{
+    Command, CommandFault, LcovVersion, Limits, Names, SourceFilter, TextForm, TextFormat, command,
+};
 use std::alloc::Global;
 use std::process::Abort;
 use std::test::*;
@@ -43,8 +45,8 @@ fn refused(alloc: Global, fault: &CommandFault) -> Result<String, Fail> {
     Ok(format!(in alloc; "{} {} {first}", fault.number(), fault.status())?)
 }
 
-/// The command in words: its subcommand, its version of LCOV, its number of jobs, its test or its format, then its filter and its
-/// names.
+/// The command in words: its subcommand, its version of LCOV, its number of jobs, its test or its format, then its filter, its
+/// form, its limits and its names.
 fn told(alloc: Global, command: &Command) -> Result<String, Fail> {
     match command {
         Command::Session => Ok(String::from_str(alloc, "session")?),
@@ -61,10 +63,23 @@ fn told(alloc: Global, command: &Command) -> Result<String, Fail> {
             version,
             jobs,
             filter,
+            form,
+            limits,
             names,
         } => {
             let summary = format!(in alloc; "summary ({} {jobs})", number_of(version))?;
-            with_names(with_filter(summary, filter)?, names)
+            let summary = with_form(with_filter(summary, filter)?, form)?;
+            with_names(with_limits(alloc, summary, limits)?, names)
+        }
+        Command::List {
+            version,
+            jobs,
+            filter,
+            form,
+            names,
+        } => {
+            let list = format!(in alloc; "list ({} {jobs})", number_of(version))?;
+            with_names(with_form(with_filter(list, filter)?, form)?, names)
         }
         Command::Extract { version, names } => {
             with_names(
@@ -102,6 +117,34 @@ fn number_of(version: &LcovVersion) -> u8 {
 fn with_filter(text: String, filter: &SourceFilter) -> Result<String, Fail> {
     let text = with_marked(text, " +[", &filter.includes)?;
     with_marked(text, " -[", &filter.excludes)
+}
+
+/// The text with `json` after it if totals are printed as JSON.
+fn with_form(mut text: String, form: &TextForm) -> Result<String, Fail> {
+    if let TextForm::Json = form {
+        text.push_str(" json")?;
+    }
+    Ok(text)
+}
+
+/// The text with each limit after it, and what it is of before the limit.
+fn with_limits(alloc: Global, mut text: String, limits: &Limits) -> Result<String, Fail> {
+    if let Some(lines) = &limits.lines {
+        text = with_limit(alloc, text, "lines", lines.get())?;
+    }
+    if let Some(functions) = &limits.functions {
+        text = with_limit(alloc, text, "functions", functions.get())?;
+    }
+    if let Some(branches) = &limits.branches {
+        text = with_limit(alloc, text, "branches", branches.get())?;
+    }
+    Ok(text)
+}
+
+/// The text with this limit after it, in parentheses.
+fn with_limit(alloc: Global, text: String, of: &str, limit: &[u8]) -> Result<String, Fail> {
+    let limit: String = String::from_utf8_lossy(alloc, limit)?;
+    Ok(format!(in alloc; "{text} {of}({limit})")?)
 }
 
 /// The text with each name after it, in brackets.

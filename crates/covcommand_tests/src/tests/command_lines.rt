@@ -27,6 +27,9 @@ fn subcommands(rt: HostRuntime) -> Result<(), Fail> {
 covcollect merge a.info => merge (1 1) [a.info]
 covcollect merge b.info a.info b.info => merge (1 1) [b.info] [a.info] [b.info]
 covcollect summary b.info a.info => summary (1 1) [b.info] [a.info]
+covcollect list b.info a.info => list (1 1) [b.info] [a.info]
+covcollect list -- --json => list (1 1) [--json]
+covcollect list list => list (1 1) [list]
 covcollect extract a.info '*/src/*' '*.h' => extract (1) [a.info] [*/src/*] [*.h]
 covcollect remove a.info '/usr/*' => remove (1) [a.info] [/usr/*]
 covcollect gcov --test unit main.c.gcov util.c.gcov => gcov (unit) [main.c.gcov] [util.c.gcov]
@@ -71,6 +74,10 @@ covcollect summary --jobs 2 a.info => summary (1 2) [a.info]
 covcollect summary -j 64 b.info a.info => summary (1 64) [b.info] [a.info]
 covcollect summary --jobs 65 a.info => 2 2 error: invalid value '65' for '--jobs <N>': 65 is not in 1..=64
 covcollect summary -j 0 a.info => 2 2 error: invalid value '0' for '--jobs <N>': 0 is not in 1..=64
+covcollect list --jobs 2 a.info => list (1 2) [a.info]
+covcollect list -j 64 b.info a.info => list (1 64) [b.info] [a.info]
+covcollect list --jobs 65 a.info => 2 2 error: invalid value '65' for '--jobs <N>': 65 is not in 1..=64
+covcollect list -j 2 --jobs 3 a.info => 2 2 error: the argument '--jobs <N>' cannot be used multiple times
 covcollect extract -j 2 a.info '*.c' => 2 2 error: unexpected argument '-j' found
 ",
     )
@@ -89,6 +96,8 @@ covcollect merge -- --lcov2 => merge (1 1) [--lcov2]
 covcollect merge lcov2 => merge (1 1) [lcov2]
 covcollect summary --lcov2 a.info => summary (2 1) [a.info]
 covcollect summary a.info --jobs 4 --lcov2 => summary (2 4) [a.info]
+covcollect list --lcov2 a.info => list (2 1) [a.info]
+covcollect list --lcov2 a.info --lcov2 => 2 2 error: the argument '--lcov2' cannot be used multiple times
 covcollect extract --lcov2 a.info '*/src/*' => extract (2) [a.info] [*/src/*]
 covcollect extract a.info '*/src/*' '*.h' --lcov2 => extract (2) [a.info] [*/src/*] [*.h]
 covcollect remove --lcov2 a.info '/usr/*' => remove (2) [a.info] [/usr/*]
@@ -122,6 +131,8 @@ covcollect merge --lcov2 --include a -j 4 --exclude b a.info b.info => merge (2 
 covcollect merge a.info --exclude b --jobs=3 --include a --lcov2 => merge (2 3) +[a] -[b] [a.info]
 covcollect summary --include '*.c' a.info => summary (1 1) +[*.c] [a.info]
 covcollect summary a.info --exclude '*.h' --include '*.c' -j2 --exclude '*.t' => summary (1 2) +[*.c] -[*.h] -[*.t] [a.info]
+covcollect list --include '*.c' a.info => list (1 1) +[*.c] [a.info]
+covcollect list a.info --exclude '*.h' --include '*.c' -j2 --exclude '*.t' => list (1 2) +[*.c] -[*.h] -[*.t] [a.info]
 covcollect merge --include '*.c' '*.h' a.info => merge (1 1) +[*.c] [*.h] [a.info]
 covcollect merge --include= a.info => merge (1 1) +[] [a.info]
 covcollect merge --exclude=-j --include=--exclude a.info => merge (1 1) +[--exclude] -[-j] [a.info]
@@ -140,6 +151,7 @@ fn filters_that_are_refused(rt: HostRuntime) -> Result<(), Fail> {
         "\
 covcollect merge a.info --include => 2 2 error: a value is required for '--include <PATTERN>' but none was supplied
 covcollect summary a.info --exclude => 2 2 error: a value is required for '--exclude <PATTERN>' but none was supplied
+covcollect list a.info --include => 2 2 error: a value is required for '--include <PATTERN>' but none was supplied
 covcollect merge --include '*.c' => 2 2 error: the following required arguments were not provided:
 covcollect summary --exclude '*.c' => 2 2 error: the following required arguments were not provided:
 covcollect extract --include '*.c' a.info '*.h' => 2 2 error: unexpected argument '--include' found
@@ -149,6 +161,62 @@ covcollect check --exclude '*.c' a.info => 2 2 error: unexpected argument '--exc
 covcollect --include '*.c' merge a.info => 2 2 error: unexpected argument '--include' found
 covcollect merge --includes '*.c' a.info => 2 2 error: unexpected argument '--includes' found
 covcollect merge -i '*.c' a.info => 2 2 error: unexpected argument '-i' found
+",
+    )
+}
+
+/// The flag `--json` and the options `--fail-under-..`, alone, together, and mixed with other words. A limit is any word.
+#[test]
+fn totals(rt: HostRuntime) -> Result<(), Fail> {
+    check_all(
+        &rt,
+        "\
+covcollect summary --json a.info => summary (1 1) json [a.info]
+covcollect summary a.info --json b.info => summary (1 1) json [a.info] [b.info]
+covcollect summary --json --fail-under-lines 80 --fail-under-branches 79.5 a => summary (1 1) json lines(80) branches(79.5) [a]
+covcollect summary --fail-under-lines 80 a => summary (1 1) lines(80) [a]
+covcollect summary --fail-under-functions 75 a => summary (1 1) functions(75) [a]
+covcollect summary a --fail-under-branches=79.5 b => summary (1 1) branches(79.5) [a] [b]
+covcollect summary --fail-under-branches 3 --fail-under-functions 2 --fail-under-lines 1 a => summary (1 1) lines(1) functions(2) branches(3) [a]
+covcollect summary --fail-under-lines x --fail-under-functions= --fail-under-branches=-1 a => summary (1 1) lines(x) functions() branches(-1) [a]
+covcollect summary --lcov2 -j 4 --include b --fail-under-lines 80 --exclude x --json a => summary (2 4) +[b] -[x] json lines(80) [a]
+covcollect summary -- --json --fail-under-lines 80 => summary (1 1) [--json] [--fail-under-lines] [80]
+covcollect summary json fail-under-lines => summary (1 1) [json] [fail-under-lines]
+covcollect list --json a.info => list (1 1) json [a.info]
+covcollect list a.info b.info --json => list (1 1) json [a.info] [b.info]
+covcollect list --lcov2 --jobs 4 --include b --exclude x --include c --json f g => list (2 4) +[b] +[c] -[x] json [f] [g]
+",
+    )
+}
+
+/// A flag or a limit that comes twice, a limit without its word, no file, and other subcommands.
+#[test]
+fn totals_that_are_refused(rt: HostRuntime) -> Result<(), Fail> {
+    check_all(
+        &rt,
+        "\
+covcollect summary --json --json a => 2 2 error: the argument '--json' cannot be used multiple times
+covcollect list --json a --json => 2 2 error: the argument '--json' cannot be used multiple times
+covcollect summary --fail-under-lines 1 --fail-under-lines 1 a => 2 2 error: the argument '--fail-under-lines <N>' cannot be used multiple times
+covcollect summary --fail-under-functions 1 a --fail-under-functions=2 => 2 2 error: the argument '--fail-under-functions <N>' cannot be used multiple times
+covcollect summary --fail-under-branches 1 --fail-under-branches 2 a => 2 2 error: the argument '--fail-under-branches <N>' cannot be used multiple times
+covcollect summary a --fail-under-lines => 2 2 error: a value is required for '--fail-under-lines <N>' but none was supplied
+covcollect summary a --fail-under-functions => 2 2 error: a value is required for '--fail-under-functions <N>' but none was supplied
+covcollect summary a --fail-under-branches => 2 2 error: a value is required for '--fail-under-branches <N>' but none was supplied
+covcollect summary --fail-under-lines --json a => 2 2 error: a value is required for '--fail-under-lines <N>' but none was supplied
+covcollect summary --json=true a => 2 2 error: unexpected value 'true' for '--json' found; no more were expected
+covcollect summary --fail-under-lines 80 => 2 2 error: the following required arguments were not provided:
+covcollect list => 2 2 error: the following required arguments were not provided:
+covcollect list --json => 2 2 error: the following required arguments were not provided:
+covcollect list --fail-under-lines 1 a => 2 2 error: unexpected argument '--fail-under-lines' found
+covcollect list --gcov a => 2 2 error: unexpected argument '--gcov' found
+covcollect merge --json a => 2 2 error: unexpected argument '--json' found
+covcollect merge --fail-under-lines 1 a => 2 2 error: unexpected argument '--fail-under-lines' found
+covcollect extract --json a '*.c' => 2 2 error: unexpected argument '--json' found
+covcollect check --json a => 2 2 error: unexpected argument '--json' found
+covcollect gcov --test unit --json a => 2 2 error: unexpected argument '--json' found
+covcollect --json summary a => 2 2 error: unexpected argument '--json' found
+covcollect summary --fail-under 80 a => 2 2 error: unexpected argument '--fail-under' found
 ",
     )
 }

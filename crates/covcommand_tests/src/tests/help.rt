@@ -19,6 +19,8 @@ covcollect merge --help => 1 0 Merges tracefiles: counts add up by test and file
 covcollect merge -h => 1 0 Merges tracefiles: counts add up by test and file (lcov -a)
 covcollect merge --jobs 4 a.info --help => 1 0 Merges tracefiles: counts add up by test and file (lcov -a)
 covcollect summary --help => 1 0 Tells how much of the code is hit (lcov --summary)
+covcollect list --help => 1 0 Tells how much of each source file is hit (lcov --list)
+covcollect list --json -h => 1 0 Tells how much of each source file is hit (lcov --list)
 covcollect extract --help => 1 0 Keeps the source files that match a pattern (lcov -e)
 covcollect remove --help => 1 0 Leaves out the source files that match a pattern (lcov -r)
 covcollect gcov --help => 1 0 Makes a tracefile of what gcov wrote (geninfo)
@@ -78,6 +80,7 @@ Usage: covcollect [COMMAND]
 Commands:
   merge    Merges tracefiles: counts add up by test and file (lcov -a)
   summary  Tells how much of the code is hit (lcov --summary)
+  list     Tells how much of each source file is hit (lcov --list)
   extract  Keeps the source files that match a pattern (lcov -e)
   remove   Leaves out the source files that match a pattern (lcov -r)
   gcov     Makes a tracefile of what gcov wrote (geninfo)
@@ -95,6 +98,7 @@ In place of lcov's calls write (with the patterns in quotes):
   lcov -e A.info '*/src/*' -o OUT    covcollect extract A.info '*/src/*' > OUT
   lcov -r A.info '/usr/*' -o OUT     covcollect remove A.info '/usr/*' > OUT
   lcov --summary A.info              covcollect summary A.info
+  lcov --list A.info                 covcollect list A.info
 
 With --lcov2 tracefiles of LCOV 2 are read too. Without it their functions (FNL,
 FNA, and FN with an end line) are skipped or look uncalled: covcollect check
@@ -107,6 +111,7 @@ Exit status:
   3  memory ran out, or the history is full
   4  a file was refused, or checksums clash; nothing is printed, but by check
   5  check found a file without items
+  6  summary found less hit than --fail-under-.. asks for
 ",
     )
 }
@@ -154,11 +159,15 @@ Arguments:
   <FILE>...  Tracefiles, read in this order
 
 Options:
-  -j, --jobs <N>           How many files are read at once, 1 to 64 [default: 1]
-      --lcov2              Tracefiles of LCOV 2 are read too
-      --include <PATTERN>  Only source files that match PATTERN; may be repeated
-      --exclude <PATTERN>  No source files that match PATTERN; may be repeated
-  -h, --help               Print help
+  -j, --jobs <N>                  Files read at once, from 1 to 64 [default: 1]
+      --lcov2                     Tracefiles of LCOV 2 are read too
+      --include <PATTERN>         Only source files that match; may be repeated
+      --exclude <PATTERN>         No source files that match; may be repeated
+      --json                      Print JSON
+      --fail-under-lines <N>      Status 6 if less than N% of lines are hit
+      --fail-under-functions <N>  Status 6 if less than N% of functions are hit
+      --fail-under-branches <N>   Status 6 if less than N% of branches are hit
+  -h, --help                      Print help
 
 Prints how many lines, functions and branches are hit, of several files those of
 their merge. In place of
@@ -167,6 +176,46 @@ write
   covcollect summary A.info
 and of some source files alone (extract --help tells of patterns)
   covcollect summary --include '*/src/*' A.info
+and as JSON
+  covcollect summary --json A.info
+and to end with status 6 where too little is hit
+  covcollect summary --fail-under-lines 80 A.info
+",
+    )
+}
+
+/// The help of a subcommand with options of both kinds, but without limits, is exactly this.
+#[test]
+fn the_whole_help_of_list(rt: HostRuntime) -> Result<(), Fail> {
+    let help = help_of(rt.alloc(), "covcollect list --help")?;
+    check_text(
+        &rt,
+        help.as_str(),
+        "\
+Tells how much of each source file is hit (lcov --list)
+
+Usage: covcollect list [OPTIONS] <FILE>...
+
+Arguments:
+  <FILE>...  Tracefiles, read in this order
+
+Options:
+  -j, --jobs <N>           Files read at once, from 1 to 64 [default: 1]
+      --lcov2              Tracefiles of LCOV 2 are read too
+      --include <PATTERN>  Only source files that match; may be repeated
+      --exclude <PATTERN>  No source files that match; may be repeated
+      --json               Print JSON
+  -h, --help               Print help
+
+Prints rate and numbers of lines, functions and branches of each source file and
+of all, of several files those of their merge. In place of
+  lcov --list A.info
+write
+  covcollect list A.info
+and of some source files alone (extract --help tells of patterns)
+  covcollect list --include '*/src/*' A.info
+and as JSON
+  covcollect list --json A.info
 ",
     )
 }
@@ -214,9 +263,10 @@ fn check_text(rt: &impl Abort, given: &str, wanted: &str) -> Result<(), Fail> {
 /// there.
 #[test]
 fn examples_are_taken(rt: HostRuntime) -> Result<(), Fail> {
-    check_examples(&rt, "covcollect --help", 4)?;
+    check_examples(&rt, "covcollect --help", 5)?;
     check_examples(&rt, "covcollect merge --help", 4)?;
-    check_examples(&rt, "covcollect summary --help", 2)?;
+    check_examples(&rt, "covcollect summary --help", 4)?;
+    check_examples(&rt, "covcollect list --help", 3)?;
     check_examples(&rt, "covcollect extract --help", 2)?;
     check_examples(&rt, "covcollect remove --help", 2)?;
     check_examples(&rt, "covcollect gcov --help", 1)?;

@@ -10,12 +10,14 @@ returns c =
     ∙ ap₂ with_subcommand c.program.ensures (ap top c.in_ok-merge.ensures.0) in
     let with_summary = c.in_ok-subcommand-2.ensures.shape c.in_ok-summary.ensures.1
     ∙ ap₂ with_subcommand with_merge (ap top c.in_ok-summary.ensures.0) in
-    let with_extract = c.in_ok-subcommand-3.ensures.shape c.in_ok-extract.ensures.1
-    ∙ ap₂ with_subcommand with_summary (ap top c.in_ok-extract.ensures.0) in
-    let with_remove = c.in_ok-subcommand-4.ensures.shape c.in_ok-remove.ensures.1
+    let with_list = c.in_ok-subcommand-3.ensures.shape c.in_ok-list.ensures.1
+    ∙ ap₂ with_subcommand with_summary (ap top c.in_ok-list.ensures.0) in
+    let with_extract = c.in_ok-subcommand-4.ensures.shape c.in_ok-extract.ensures.1
+    ∙ ap₂ with_subcommand with_list (ap top c.in_ok-extract.ensures.0) in
+    let with_remove = c.in_ok-subcommand-5.ensures.shape c.in_ok-remove.ensures.1
     ∙ ap₂ with_subcommand with_extract (ap top c.in_ok-remove.ensures.0) in
-    let with_gcov = c.in_ok-subcommand-5.ensures.shape c.in_ok-gcov.ensures.1
+    let with_gcov = c.in_ok-subcommand-6.ensures.shape c.in_ok-gcov.ensures.1
     ∙ ap₂ with_subcommand with_remove (ap top c.in_ok-gcov.ensures.0) in
-    IfOk-weaker c.subcommand-6.result _ _
+    IfOk-weaker c.subcommand-7.result _ _
     (λ r h. h.shape c.in_ok-check.ensures.1 ∙ ap₂ with_subcommand with_gcov (ap top c.in_ok-check.ensures.0))
-    c.subcommand-6.ensures
+    c.subcommand-7.ensures

@@ -1,4 +1,4 @@
-use Rattle.covcommand.proofs.Calls.{jobs_refused, no_jobs_refused, extract_refused, gcov_refused, check_refused, twice_refused, gcov_lcov2_refused, lcov2_twice_refused, extract_include_refused, no_pattern_refused, help_refused, version_refused, version_of_one_refused}
+use Rattle.covcommand.proofs.Calls.{jobs_refused, no_jobs_refused, extract_refused, gcov_refused, check_refused, twice_refused, gcov_lcov2_refused, lcov2_twice_refused, extract_include_refused, no_pattern_refused, merge_json_refused, list_limit_refused, list_files_refused, json_twice_refused, limit_twice_refused, no_limit_refused, help_refused, version_refused, version_of_one_refused}
 use Rattle.covcommand.proofs.laws.calls_are_refused.Goals as goal
 
 pub returns : goal.returns
@@ -13,6 +13,12 @@ returns c = record {
   lcov2_twice = lcov2_twice_refused;
   extract_include = extract_include_refused;
   no_pattern = no_pattern_refused;
+  merge_json = merge_json_refused;
+  list_limit = list_limit_refused;
+  list_files = list_files_refused;
+  json_twice = json_twice_refused;
+  limit_twice = limit_twice_refused;
+  no_limit = no_limit_refused;
   help = help_refused;
   version = version_refused;
   version_of_one = version_of_one_refused;
