@@ -1,7 +1,8 @@
 //! What `check` reports of files.
 
+use super::files::check_told;
 use super::folders::{OneFile, call_over};
-use super::{check_text, play, words_of};
+use super::{play, words_of};
 use std::process::{self, Abort};
 use std::sync::Wait;
 use std::test::*;
@@ -258,10 +259,7 @@ fn check_names<R: AllocGlobal + Threads + Wait + Abort + Sync>(
     words.push(String::from_str(rt.alloc(), folder.name)?)?;
     words.push(String::from_str(rt.alloc(), "/tmp/covrun_tests-none/\t\r\x7f b.info")?)?;
     let told = call_over(rt, &folder, words.as_slice());
-    check_text(rt, "faults", told.faults.as_slice(), faults)?;
-    check_text(rt, "output", told.output.as_slice(), output)?;
-    assert!(rt; told.status == 1, "the status is {}", told.status);
-    Ok(())
+    check_told(rt, "check", &told, (1, output, faults))
 }
 
 /// Control bytes of a file's name are shown by their numbers, in its line and in what is complained of. So each line that a check

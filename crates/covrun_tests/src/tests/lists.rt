@@ -2,8 +2,9 @@
 //! from FORMATS.md and RFC 8259.
 
 use super::faults::check_closed;
+use super::files::check_told;
 use super::folders::{OneFile, call_over};
-use super::{check_text, play, words_of};
+use super::{call, check_text, play, words_of};
 use std::alloc::Global;
 use std::process;
 use std::test::*;
@@ -187,6 +188,48 @@ $ 0 covcollect summary --json --exclude *.h ~/a.info
 > {"lines":{"found":0,"hit":0},"functions":{"found":0,"hit":0},"branches":{"found":0,"hit":0}}
 $ 0 covcollect summary --json --include *.x ~/a.info
 "#,
+    )
+}
+
+/// Each kind has a column as wide as its own total needs. Here lines have one digit, functions and branches two.
+#[test]
+fn wide_columns(rt: HostRuntime) -> Result<(), Fail> {
+    play(
+        &rt,
+        process::id(rt.process()),
+        "\
+SF:/a.c
+FN:1,a
+FN:2,b
+FN:3,c
+FN:4,d
+FN:5,e
+FN:6,f
+FN:7,g
+FN:8,h
+FN:9,i
+FNDA:1,a
+end_of_record
+SF:/b.c
+FN:1,a
+BRDA:1,0,0,1
+BRDA:1,0,1,1
+BRDA:1,0,2,1
+BRDA:1,0,3,1
+BRDA:1,0,4,1
+BRDA:1,0,5,1
+BRDA:1,0,6,1
+BRDA:1,0,7,1
+BRDA:1,0,8,1
+BRDA:1,0,9,1
+end_of_record
+@ a.info
+>      Lines     Functions      Branches  File
+>      - 0/0   11.1%   1/9       -   0/0  /a.c
+>      - 0/0    0.0%   0/1  100.0% 10/10  /b.c
+>      - 0/0   10.0%  1/10  100.0% 10/10  Total
+$ 0 covcollect list ~/a.info
+",
     )
 }
 
@@ -428,22 +471,15 @@ fn rounded_rates(rt: HostRuntime) -> Result<(), Fail> {
     };
     let words = words_of(alloc, "covcollect list a.info", "")?;
     let told = call_over(&rt, &folder, words.as_slice());
-    check_text(&rt, "faults", told.faults.as_slice(), "")?;
-    check_text(
-        &rt,
-        "output",
-        told.output.as_slice(),
-        "           Lines   Functions    Branches  File
+    let wanted = "           Lines   Functions    Branches  File
  99.9% 1999/2000       - 0/0       - 0/0  /a.c
   0.1%    1/2001       - 0/0       - 0/0  /b.c
   6.3%      1/16       - 0/0       - 0/0  /c.c
  18.8%      3/16       - 0/0       - 0/0  /d.c
   3.1%      1/32       - 0/0       - 0/0  /e.c
  49.3% 2005/4065       - 0/0       - 0/0  Total
-",
-    )?;
-    assert!(&rt; told.status == 0, "the status is {}", told.status);
-    Ok(())
+";
+    check_told(&rt, "list", &told, (0, wanted, ""))
 }
 
 /// A byte above 127 is written to a table as it is, also in a path that isn't UTF-8.
@@ -465,5 +501,45 @@ fn bytes_above_127_in_a_table(rt: HostRuntime) -> Result<(), Fail> {
         "the output is another text"
     );
     assert!(&rt; told.status == 0, "the status is {}", told.status);
+    Ok(())
+}
+
+/// The words of a call that begins with these, and goes on with `patterns` excludes of `bytes` bytes.
+pub(super) fn words_with_excludes(
+    alloc: Global,
+    asked: &str,
+    patterns: usize,
+    bytes: usize,
+) -> Result<Vec<String>, Fail> {
+    let mut words = words_of(alloc, asked, "")?;
+    let mut pattern = String::new(alloc);
+    for _byte in 0..bytes {
+        pattern.push('x')?;
+    }
+    for _pattern in 0..patterns {
+        words.push(String::from_str(alloc, "--exclude")?)?;
+        words.push(pattern.clone()?)?;
+    }
+    Ok(words)
+}
+
+/// A list takes as many patterns as a merge does, and as long ones. They are checked before any file is opened.
+#[test]
+fn patterns_of_a_list(rt: HostRuntime) -> Result<(), Fail> {
+    let asked = "covcollect list /tmp/covrun_tests-none/none.info";
+    for (patterns, bytes, status, faults) in [
+        (
+            64,
+            1_024,
+            1,
+            "/tmp/covrun_tests-none/none.info: can't read\n",
+        ),
+        (65, 1, 2, "TooMany\n"),
+        (1, 1_025, 2, "TooLong\n"),
+    ] {
+        let words = words_with_excludes(rt.alloc(), asked, patterns, bytes)?;
+        let told = call(&rt, words.as_slice(), b"");
+        check_told(&rt, faults, &told, (status, "", faults))?;
+    }
     Ok(())
 }

@@ -2,10 +2,10 @@
 //! worked out by hand.
 
 use super::faults::check_closed;
+use super::files::check_told;
 use super::folders::{OneFile, call_over};
-use super::lists::section;
-use super::{Told, call, check_text, play, words_of};
-use std::alloc::Global;
+use super::lists::{section, words_with_excludes};
+use super::{call, play, words_of};
 use std::process::{self, Abort};
 use std::sync::Wait;
 use std::test::*;
@@ -411,24 +411,6 @@ fn a_closed_output_with_a_limit(rt: HostRuntime) -> Result<(), Fail> {
     Ok(())
 }
 
-/// Checks how a call ended: with this status, this output and these faults.
-fn check_told(
-    rt: &(impl Abort + AllocGlobal),
-    asked: &str,
-    told: &Told,
-    wanted: (u8, &str, &str),
-) -> Result<(), Fail> {
-    let (status, output, faults) = wanted;
-    check_text(rt, asked, told.faults.as_slice(), faults)?;
-    check_text(rt, asked, told.output.as_slice(), output)?;
-    assert!(rt;
-        told.status == status,
-        "{asked}: the status is {}",
-        told.status
-    );
-    Ok(())
-}
-
 /// Checks how a call with this limit ends if 3,999 of 5,000 lines are hit.
 fn check_limit<R: AllocGlobal + Threads + Wait + Abort + Sync>(
     rt: &R,
@@ -466,34 +448,16 @@ fn a_rounded_rate(rt: HostRuntime) -> Result<(), Fail> {
     Ok(())
 }
 
-/// The words of a summary of the missing file with a bad limit, and with `patterns` excludes of `bytes` bytes.
-fn limited_by(alloc: Global, patterns: usize, bytes: usize) -> Result<Vec<String>, Fail> {
-    let mut words = words_of(
-        alloc,
-        "covcollect summary --fail-under-lines 101 /tmp/covrun_tests-none/none.info",
-        "",
-    )?;
-    let mut pattern = String::new(alloc);
-    for _byte in 0..bytes {
-        pattern.push('x')?;
-    }
-    for _pattern in 0..patterns {
-        words.push(String::from_str(alloc, "--exclude")?)?;
-        words.push(pattern.clone()?)?;
-    }
-    Ok(words)
-}
-
 /// Patterns that are too many or too long are told before a bad limit.
 #[test]
 fn bad_patterns_and_rates(rt: HostRuntime) -> Result<(), Fail> {
-    let alloc = rt.alloc();
+    let asked = "covcollect summary --fail-under-lines 101 /tmp/covrun_tests-none/none.info";
     for (patterns, bytes, faults) in [
         (64, 1_024, "BadRate\n"),
         (65, 1, "TooMany\n"),
         (1, 1_025, "TooLong\n"),
     ] {
-        let words = limited_by(alloc, patterns, bytes)?;
+        let words = words_with_excludes(rt.alloc(), asked, patterns, bytes)?;
         let told = call(&rt, words.as_slice(), b"");
         check_told(&rt, faults, &told, (2, "", faults))?;
     }
