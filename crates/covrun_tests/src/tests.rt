@@ -23,7 +23,9 @@ mod filters;
 mod folders;
 mod lcov2;
 mod limits;
+mod lists;
 mod printing;
+mod rates;
 
 /// Makes a call, and returns its exit status. This function promises nothing: a test looks at what a call does, and is proved
 /// more quickly this way.

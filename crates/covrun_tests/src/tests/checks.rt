@@ -1,8 +1,12 @@
 //! What `check` reports of files.
 
-use super::play;
-use std::process;
+use super::files::check_told;
+use super::folders::{OneFile, call_over};
+use super::{play, words_of};
+use std::process::{self, Abort};
+use std::sync::Wait;
 use std::test::*;
+use std::thread::Threads;
 
 /// Tracefiles that all have items, so that the status is 0. Two of them have function records as LCOV 2 writes them.
 #[test]
@@ -236,5 +240,48 @@ $ 5 covcollect check ~/unit.info ~/empty
 > /dev/zero: refused TooLong
 $ 4 covcollect check /dev/zero
 ",
+    )
+}
+
+/// Checks what a check writes of a file of this text whose name has a line feed and an escape byte, and of one that isn't there
+/// and whose name has a tab, a carriage return and the byte 127.
+fn check_names<R: AllocGlobal + Threads + Wait + Abort + Sync>(
+    rt: &R,
+    text: &str,
+    output: &str,
+    faults: &str,
+) -> Result<(), Fail> {
+    let folder = OneFile {
+        name: "a\n\x1b[1m\\.info",
+        text: text.as_bytes(),
+    };
+    let mut words = words_of(rt.alloc(), "covcollect check", "")?;
+    words.push(String::from_str(rt.alloc(), folder.name)?)?;
+    words.push(String::from_str(rt.alloc(), "/tmp/covrun_tests-none/\t\r\x7f b.info")?)?;
+    let told = call_over(rt, &folder, words.as_slice());
+    check_told(rt, "check", &told, (1, output, faults))
+}
+
+/// Control bytes of a file's name are shown by their numbers, in its line and in what is complained of. So each line that a check
+/// writes tells of one file. A backslash is shown as it is.
+#[test]
+fn names_with_control_bytes(rt: HostRuntime) -> Result<(), Fail> {
+    check_names(
+        &rt,
+        "SF:/a.c\nDA:1,1\nend_of_record\n",
+        "a\\x0a\\x1b[1m\\.info: sections 1 items 1 odd 0 skipped 0\n",
+        "/tmp/covrun_tests-none/\\x09\\x0d\\x7f b.info: can't read\n",
+    )?;
+    check_names(
+        &rt,
+        "SF:/a.c\nDA:1,1\n",
+        "a\\x0a\\x1b[1m\\.info: refused OpenEnd\n",
+        "/tmp/covrun_tests-none/\\x09\\x0d\\x7f b.info: can't read\n",
+    )?;
+    check_names(
+        &rt,
+        "",
+        "a\\x0a\\x1b[1m\\.info: sections 0 items 0 odd 0 skipped 0\n",
+        "a\\x0a\\x1b[1m\\.info: no items\n/tmp/covrun_tests-none/\\x09\\x0d\\x7f b.info: can't read\n",
     )
 }

@@ -160,12 +160,9 @@ fn call_closed<R: Files<File: Send, Dir: Send> + AllocGlobal + Threads + Wait + 
 }
 
 /// Checks that a call with such an output ends with status 1, and writes `told` to the stream for faults.
-fn check_closed<R: Files<File: Send, Dir: Send> + AllocGlobal + Threads + Wait + Abort + Sync>(
-    rt: &R,
-    asked: &str,
-    takes: bool,
-    told: &str,
-) -> Result<(), Fail> {
+pub(super) fn check_closed<
+    R: Files<File: Send, Dir: Send> + AllocGlobal + Threads + Wait + Abort + Sync,
+>(rt: &R, asked: &str, takes: bool, told: &str) -> Result<(), Fail> {
     let (status, faults) = call_closed(rt, asked, takes)?;
     check_text(rt, asked, faults.as_slice(), told)?;
     assert!(rt; status == 1, "{asked}: the status is {status}");

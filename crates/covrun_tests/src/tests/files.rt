@@ -39,7 +39,7 @@ fn check<R: Files<File: Send, Dir: Send> + AllocGlobal + Threads + Wait + Abort 
 }
 
 /// Checks how a call ended: with this status, this output and these faults.
-fn check_told(
+pub(super) fn check_told(
     rt: &(impl Abort + AllocGlobal),
     asked: &str,
     told: &Told,

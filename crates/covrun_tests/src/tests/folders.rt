@@ -12,7 +12,7 @@ use std::test::*;
 use std::thread::Threads;
 
 /// Makes a call of these words, with this folder.
-fn call_over<R: AllocGlobal + Threads + Wait + Sync, F: Folder<File: Send> + Sync>(
+pub(super) fn call_over<R: AllocGlobal + Threads + Wait + Sync, F: Folder<File: Send> + Sync>(
     rt: &R,
     folder: &F,
     words: &[String],
