@@ -7,7 +7,10 @@ ghost use Rattle.std.specs.Str.Parse.{digits_value, digits_value_after};
 ghost use Rattle.covlimit.specs.Rates.{whole_of, part_of, millionths, IsRate};
 ghost use Rattle.covlimit.specs.Cuts.{from_point, are_lengths, is_well_formed, HasRoom};
 
-/// The most places that a rate may have after its point.
+/// The most digits that a rate may have before its point.
+const MOST_WHOLE_DIGITS: usize = 3;
+
+/// The most digits that a rate may have after its point.
 const MOST_PLACES: usize = 6;
 
 /// A hundred percent in millionths of a percent.
@@ -68,7 +71,7 @@ fn is_well_formed(whole: &[u8], part: &[u8]) -> bool
 fn are_lengths(whole: usize, part: usize) -> bool
     ensures { result ≡ are_lengths whole part }
 {
-    whole <= 3 && part <= MOST_PLACES && whole + part > 0
+    whole <= MOST_WHOLE_DIGITS && part <= MOST_PLACES && whole + part > 0
 }
 
 /// Whether all bytes are digits.
