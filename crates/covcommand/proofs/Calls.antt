@@ -9,7 +9,7 @@ use Rattle.covcommand.specs.Asked.{AsksFor}
 use Rattle.covcommand.specs.CommandLine.{covcollect}
 use Rattle.covcommand.specs.declared.asked.Command.TheVariants.{Check, Merge, Summary}
 use Rattle.covcommand.specs.declared.asked.Command.TheVariants as commands
-use Rattle.covcommand.specs.declared.asked.TextForm.TheVariants.{Words, Json}
+use Rattle.covcommand.specs.declared.asked.TotalsForm.TheVariants.{Words, Json}
 use Rattle.covcommand.specs.declared.asked.TextFormat.TheVariants as format
 use Rattle.covcommand.specs.declared.asked.LcovVersion.TheVariants.{One, Two}
 

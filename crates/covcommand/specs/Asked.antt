@@ -6,8 +6,8 @@ use Rattle.covcommand.specs.declared.asked.Command.{Command}
 use Rattle.covcommand.specs.declared.asked.Command.TheVariants.{Session, Merge, Summary, Extract, Remove, Gcov, Check}
 use Rattle.covcommand.specs.declared.asked.Command.TheVariants as commands
 use Rattle.covcommand.specs.declared.asked.SourceFilter.{SourceFilter}
-use Rattle.covcommand.specs.declared.asked.TextForm.{TextForm}
-use Rattle.covcommand.specs.declared.asked.TextForm.TheVariants.{Words, Json}
+use Rattle.covcommand.specs.declared.asked.TotalsForm.{TotalsForm}
+use Rattle.covcommand.specs.declared.asked.TotalsForm.TheVariants.{Words, Json}
 use Rattle.covcommand.specs.declared.asked.Limits.{Limits}
 use Rattle.covcommand.specs.declared.asked.TextFormat.{TextFormat}
 use Rattle.covcommand.specs.declared.asked.TextFormat.TheVariants as format
@@ -42,7 +42,7 @@ abbrev pub IsFilterOf : List Row → SourceFilter → Type 0
 IsFilterOf rows filter = (filter.includes ≡ values_of (codes "include") rows) × (filter.excludes ≡ values_of (codes "exclude") rows)
 
 -- totals are printed as JSON if clap sets the flag `--json`, and as lines of words if it doesn't
-abbrev pub IsFormOf : List Row → TextForm → Type 0
+abbrev pub IsFormOf : List Row → TotalsForm → Type 0
 IsFormOf rows Words = one_of (codes "json") rows ≡ Some (codes "false")
 IsFormOf rows Json = one_of (codes "json") rows ≡ Some (codes "true")
 

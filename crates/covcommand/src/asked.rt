@@ -28,7 +28,7 @@ pub enum Command {
         /// Which source files are counted.
         filter: SourceFilter,
         /// How the totals are printed.
-        form: TextForm,
+        form: TotalsForm,
         /// How much has to be hit.
         limits: Limits,
         /// The files' paths, at least one.
@@ -43,7 +43,7 @@ pub enum Command {
         /// Which source files are listed.
         filter: SourceFilter,
         /// How the totals are printed.
-        form: TextForm,
+        form: TotalsForm,
         /// The files' paths, at least one.
         names: Names,
     },
@@ -89,7 +89,7 @@ pub struct SourceFilter {
 
 /// The form in which totals are printed.
 #[derive(Clone, Copy)]
-pub enum TextForm {
+pub enum TotalsForm {
     /// Lines of words.
     Words,
     /// JSON.

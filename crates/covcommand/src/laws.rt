@@ -8,7 +8,7 @@ ghost use Rattle.covcommand.specs.Asked.{AsksFor};
 ghost use Rattle.covcommand.specs.CommandLine.{covcollect};
 ghost use Rattle.covcommand.specs.declared.asked.Command.TheVariants.{Check, Merge, Summary};
 ghost use Rattle.covcommand.specs.declared.asked.Command.TheVariants as commands;
-ghost use Rattle.covcommand.specs.declared.asked.TextForm.TheVariants.{Words, Json};
+ghost use Rattle.covcommand.specs.declared.asked.TotalsForm.TheVariants.{Words, Json};
 ghost use Rattle.covcommand.specs.declared.asked.TextFormat.TheVariants as format;
 ghost use Rattle.covcommand.specs.declared.asked.LcovVersion.TheVariants.{One, Two};
 

@@ -25,7 +25,7 @@ mod names;
 mod parsing;
 mod word;
 
-pub use asked::{Command, LcovVersion, Limits, SourceFilter, TextForm, TextFormat};
+pub use asked::{Command, LcovVersion, Limits, SourceFilter, TextFormat, TotalsForm};
 pub use fault::CommandFault;
 pub use help::VERSION;
 pub use laws::{

@@ -9,7 +9,7 @@ ghost use Rattle.covcommand.specs.Found.{Fits, HasFilter, HasFlag, HasJobs, HasS
 ghost use Rattle.covcommand.specs.Fault.{IsFaultAmong};
 ghost use Rattle.covcommand.specs.declared.fault.CommandFault.TheVariants as faults;
 
-use crate::asked::{Command, LcovVersion, Limits, SourceFilter, TextForm, TextFormat};
+use crate::asked::{Command, LcovVersion, Limits, SourceFilter, TextFormat, TotalsForm};
 use crate::described::described;
 use crate::fault::CommandFault;
 use crate::names::Names;
@@ -127,14 +127,14 @@ fn patterns_of(alloc: Global, found: &ArgMatches<'_>, id: &str) -> Result<Names,
 }
 
 /// How totals are printed: as JSON if clap found the flag `--json`, else as lines of words.
-fn form_of(found: &ArgMatches<'_>) -> TextForm
+fn form_of(found: &ArgMatches<'_>) -> TotalsForm
     requires { HasFlag (codes "json") (rows_of (found_of found.now)) }
     ensures { IsFormOf (rows_of (found_of found.now)) result }
 {
     if found.get_flag("json") {
-        TextForm::Json
+        TotalsForm::Json
     } else {
-        TextForm::Words
+        TotalsForm::Words
     }
 }
 

@@ -4,7 +4,7 @@
 //! Examples are text, so that they cost the proof of these tests nothing: a line has a call and, after ` => `, its answer.
 
 use covcommand::{
-    Command, CommandFault, LcovVersion, Limits, Names, SourceFilter, TextForm, TextFormat, command,
+    Command, CommandFault, LcovVersion, Limits, Names, SourceFilter, TotalsForm, TextFormat, command,
 };
 use std::alloc::Global;
 use std::process::Abort;
@@ -120,8 +120,8 @@ fn with_filter(text: String, filter: &SourceFilter) -> Result<String, Fail> {
 }
 
 /// The text with `json` after it if totals are printed as JSON.
-fn with_form(mut text: String, form: &TextForm) -> Result<String, Fail> {
-    if let TextForm::Json = form {
+fn with_form(mut text: String, form: &TotalsForm) -> Result<String, Fail> {
+    if let TotalsForm::Json = form {
         text.push_str(" json")?;
     }
     Ok(text)
