@@ -55,6 +55,7 @@ _covcollect() {
             # The value of an option is a word of its own, where it isn't part of the option's.
             case ${words[i]} in
                 -j | --jobs | --include | --exclude | --test) ((i++)) ;;
+                --fail-under-lines | --fail-under-functions | --fail-under-branches) ((i++)) ;;
             esac
             [[ $subcommand${words[i]} == check--gcov ]] && annotated=1
         elif [[ -z $subcommand ]]; then
@@ -66,14 +67,15 @@ _covcollect() {
 
     if [[ -z $ended ]]; then
         case $subcommand$prev in
-            merge--jobs | merge-j | summary--jobs | summary-j)
+            merge--jobs | merge-j | summary--jobs | summary-j | list--jobs | list-j)
                 # The number of processors, of which 64 can be used.
                 i=$(nproc 2>/dev/null)
                 mapfile -t COMPREPLY < <(compgen -W "$((i > 64 ? 64 : i))" -- "$cur")
                 return
                 ;;
-            # A pattern, and the name of a test.
-            merge--include | merge--exclude | summary--include | summary--exclude | gcov--test)
+            # A pattern, the name of a test, and a threshold.
+            merge--include | merge--exclude | summary--include | summary--exclude | list--include | list--exclude | gcov--test | \
+                summary--fail-under-*)
                 return
                 ;;
         esac
@@ -81,7 +83,9 @@ _covcollect() {
             local options='-h --help'
             case $subcommand in
                 '') options+=' -V --version' ;;
-                merge | summary) options+=' --lcov2 -j --jobs --include --exclude' ;;
+                merge | summary | list) options+=' --lcov2 -j --jobs --include --exclude' ;;&
+                summary | list) options+=' --json' ;;&
+                summary) options+=' --fail-under-lines --fail-under-functions --fail-under-branches' ;;
                 extract | remove) options+=' --lcov2' ;;
                 gcov) options+=' --test' ;;
                 check) options+=' --gcov --lcov2' ;;
@@ -92,8 +96,8 @@ _covcollect() {
     fi
 
     case $subcommand$annotated in
-        '') mapfile -t COMPREPLY < <(compgen -W 'merge summary extract remove gcov check' -- "$cur") ;;
-        merge | summary | check) _covcollect_files "$tracefiles" ;;
+        '') mapfile -t COMPREPLY < <(compgen -W 'merge summary list extract remove gcov check' -- "$cur") ;;
+        merge | summary | list | check) _covcollect_files "$tracefiles" ;;
         gcov | check1) _covcollect_files gcov ;;
         extract | remove)
             if ((others == 0)); then

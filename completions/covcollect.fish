@@ -12,7 +12,7 @@ function __covcollect_words
             echo -- $word
         else if test "$word" = --
             set ended yes
-        else if contains -- "$word" -j --jobs --include --exclude --test
+        else if contains -- "$word" -j --jobs --include --exclude --test --fail-under-{lines,functions,branches}
             set value yes
         else if not string match -q -- '-*' $word
             echo -- $word
@@ -88,17 +88,22 @@ complete -c covcollect -s h -l help -d 'Print help'
 complete -c covcollect -n __covcollect_begins -s V -l version -d 'Print name and version'
 complete -c covcollect -n __covcollect_begins -a merge -d 'Merge tracefiles, counts add up by test and file'
 complete -c covcollect -n __covcollect_begins -a summary -d 'Tell how much of the code is hit'
+complete -c covcollect -n __covcollect_begins -a list -d 'Tell how much of each source file is hit'
 complete -c covcollect -n __covcollect_begins -a extract -d 'Keep the source files that match a pattern'
 complete -c covcollect -n __covcollect_begins -a remove -d 'Leave out the source files that match a pattern'
 complete -c covcollect -n __covcollect_begins -a gcov -d 'Make a tracefile of what gcov wrote'
 complete -c covcollect -n __covcollect_begins -a check -d 'Tell what is read of each file, and add nothing up'
-complete -c covcollect -n '__covcollect_within merge summary extract remove check' -l lcov2 -d 'The tracefiles may be of LCOV 2'
-complete -c covcollect -n '__covcollect_within merge summary' -s j -l jobs -x -a '(__covcollect_processors)' -d 'How many files are read at once, 1 to 64'
-complete -c covcollect -n '__covcollect_within merge summary' -l include -x -d 'Only source files that match the pattern'
-complete -c covcollect -n '__covcollect_within merge summary' -l exclude -x -d 'No source files that match the pattern'
+complete -c covcollect -n '__covcollect_within merge summary list extract remove check' -l lcov2 -d 'The tracefiles may be of LCOV 2'
+complete -c covcollect -n '__covcollect_within merge summary list' -s j -l jobs -x -a '(__covcollect_processors)' -d 'How many files are read at once, 1 to 64'
+complete -c covcollect -n '__covcollect_within merge summary list' -l include -x -d 'Only source files that match the pattern'
+complete -c covcollect -n '__covcollect_within merge summary list' -l exclude -x -d 'No source files that match the pattern'
+complete -c covcollect -n '__covcollect_within summary list' -l json -d 'Print the numbers as JSON'
+complete -c covcollect -n '__covcollect_within summary' -l fail-under-lines -x -d 'Status 6 if fewer are hit, in percent'
+complete -c covcollect -n '__covcollect_within summary' -l fail-under-functions -x -d 'Status 6 if fewer are hit, in percent'
+complete -c covcollect -n '__covcollect_within summary' -l fail-under-branches -x -d 'Status 6 if fewer are hit, in percent'
 complete -c covcollect -n '__covcollect_within gcov' -l test -x -d 'The test that the counts are of'
 complete -c covcollect -n '__covcollect_within check' -l gcov -d 'The files are what gcov wrote'
-complete -c covcollect -n '__covcollect_within merge summary' -a '(__covcollect_tracefiles)'
+complete -c covcollect -n '__covcollect_within merge summary list' -a '(__covcollect_tracefiles)'
 complete -c covcollect -n '__covcollect_within gcov' -a '(__covcollect_files .gcov)'
 complete -c covcollect -n '__covcollect_within check; and __covcollect_has_gcov' -a '(__covcollect_files .gcov)'
 complete -c covcollect -n '__covcollect_within check; and not __covcollect_has_gcov' -a '(__covcollect_tracefiles)'

@@ -96,9 +96,11 @@ fi
 here=$(cd "$(dirname "${BASH_SOURCE[0]}")" && pwd)
 program=${COVCOLLECT-covcollect}
 command -v "$program" >/dev/null || wrong "$program isn't there"
-# Whether the program reads LCOV 2 itself. Otherwise lcov2.awk converts it.
-lcov2=()
-case $("$program" merge --help 2>/dev/null </dev/null || true) in
+# Whether the program compares with a threshold itself, and whether it reads LCOV 2. Otherwise lcov2.awk converts it.
+help=$("$program" summary --help 2>/dev/null </dev/null || true)
+compares=no lcov2=()
+[[ $help != *--fail-under-lines* ]] || compares=yes
+case $help in
     *--lcov2*) lcov2=(--lcov2) ;;
     *)
         command -v awk >/dev/null || wrong "awk isn't there"
@@ -213,18 +215,19 @@ fi
 mv "$next" "$output"
 cat "$output/summary.txt"
 
-# 6. Compare the counts with the threshold. The percentage in the summary is rounded, so it isn't used.
-if [ -n "$threshold" ]; then
+# 6. Compare with the threshold. For a covcollect that can't, the numbers are compared here: the summary's rate is rounded.
+if [ -n "$threshold" ] && [ $compares = yes ]; then
+    status=0
+    "$program" summary --fail-under-lines "$threshold" -- "$output/own.info" >/dev/null || status=$?
+    [ $status -ne 6 ] || status=5
+    exit $status
+elif [ -n "$threshold" ]; then
     hit=0 found=0
     if [[ $(<"$output/summary.txt") =~ lines\.+:\ [0-9.]+%\ \(([0-9]+)\ of\ ([0-9]+)\ lines? ]]; then
         hit=${BASH_REMATCH[1]} found=${BASH_REMATCH[2]}
     fi
-    if [ "$found" -eq 0 ]; then
-        say "no lines found, $threshold% needed"
-        exit 5
-    fi
-    if [ $((hit * 100 * scale)) -lt $((wanted * found)) ]; then
-        say "$hit of $found lines are hit, $threshold% needed"
+    if [ "$found" -eq 0 ] || [ $((hit * 100 * scale)) -lt $((wanted * found)) ]; then
+        echo "lines: $hit of $found is below $threshold%" >&2
         exit 5
     fi
 fi

@@ -22,7 +22,7 @@ load projects
     # 4 of 6 is 66.67%, which the summary rounds to 66.7%.
     call ci/ci.sh --lines 66.7
     ended 5 'ci.sh: 4 of 6 lines are not 66.7%, although the summary rounds to that'
-    says "$work/err" 'ci.sh: says which counts there are' 'ci.sh: 4 of 6 lines are hit, 66.7% needed'
+    says "$work/err" 'ci.sh: says which counts there are' 'lines: 4 of 6 is below 66.7%'
     same "$work/first.info" coverage/own.info 'ci.sh: a second run in the same folder counts nothing twice, and leaves its results'
     call env COVERAGE_LINES=100 ci/ci.sh --no-html
     ended 5 'ci.sh: takes the threshold from the environment'

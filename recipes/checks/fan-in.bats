@@ -142,7 +142,7 @@ load projects
         rm -rf project/coverage project/test project/src/*.o project/src/*.gc*
         job_runs $file "$([ $file = github.yml ] || echo coverage-)total" ''
         ended 5 "$file: the last job, with too few lines hit"
-        says "$work/out" "$file: the summary as worked out by hand" '  lines......: 50.0% (4 of 8 lines)' 'ci.sh: 4 of 8 lines are hit, 80% needed'
+        says "$work/out" "$file: the summary as worked out by hand" '  lines......: 50.0% (4 of 8 lines)' 'lines: 4 of 8 is below 80%'
         says project/coverage/own.info "$file: both jobs' counts are in it" TN:check TN:extra 'FNDA:1,twice' 'FNDA:2,twice'
     done
 }

@@ -29,7 +29,7 @@ messages() {
     # A tracefile without a record; the line of the other one is no message of this kind, and those below aren't either.
     call "$COVCOLLECT" check page.info s1.info
     cat "$work/out" summary >>messages
-    printf 'ci.sh: 4 of 6 lines are hit, 66.7%% needed\nsrc/a.c:3:1: error: expected expression\n' >>messages
+    printf 'lines: 4 of 6 is below 66.7%%\nsrc/a.c:3:1: error: expected expression\n' >>messages
     # As the collector tells it.
     printf 'job: 1.info: clash /s/a.c 1 abc abd\n' >>messages
 }

@@ -1,0 +1,125 @@
+#!/usr/bin/env bats
+# Thresholds, tables and JSON, as scripts use them.
+#
+# need jq jq
+
+load common
+load projects
+
+# One source file with so many lines, of which the first ones are hit.
+lines() { # HIT FOUND PATH
+    printf 'TN:t\nSF:%s\n' "$3"
+    awk -v hit="$1" -v found="$2" 'BEGIN { for (i = 1; i <= found; i++) print "DA:" i "," (i <= hit ? 7 : 0); print "end_of_record" }'
+}
+
+# 3999 of 5000 lines are 79.98%, which the summary rounds to 80.0%.
+@test "ci.sh asks the program, or compares by itself" {
+    local program words=(--merge-only --no-html)
+    lines 3999 5000 /src/a.c >a.info
+    lines 1 1 /usr/x.h >b.info
+    old_program old
+    printf '#!/bin/bash\necho "$*" >>"%s"\nexec "$COVCOLLECT_REAL" "$@"\n' "$PWD/asked" >new
+    chmod +x new
+    export COVCOLLECT_REAL=$COVCOLLECT
+    for program in new old; do
+        call env COVCOLLECT="$PWD/$program" "$recipes/ci.sh" "${words[@]}" --lines 79.98 a.info b.info
+        ended 0 "ci.sh: $program: 3999 of 5000 lines are 79.98%"
+        holds "ci.sh: $program: and nothing is told" [ ! -s "$work/err" ]
+        says "$work/out" "ci.sh: $program: the summary" '  lines......: 80.0% (3999 of 5000 lines)'
+        holds "ci.sh: $program: which stands there once" [ "$(grep -c 'Summary coverage rate' "$work/out")" -eq 1 ]
+        call env COVCOLLECT="$PWD/$program" "$recipes/ci.sh" "${words[@]}" --lines 79.980001 a.info b.info
+        ended 5 "ci.sh: $program: and less than 79.980001%"
+        says "$work/err" "ci.sh: $program: as it says" 'lines: 3999 of 5000 is below 79.980001%'
+        rm -r coverage
+        call env COVCOLLECT="$PWD/$program" COVERAGE_LINES=080 "$recipes/ci.sh" "${words[@]}" a.info b.info
+        ended 5 "ci.sh: $program: and less than 80%, although the rate is rounded to that"
+        says "$work/err" "ci.sh: $program: with the threshold as it was given" 'lines: 3999 of 5000 is below 080%'
+        only "ci.sh: $program: the results are written" coverage all.info own.info summary.txt
+        call env COVCOLLECT="$PWD/$program" "$recipes/ci.sh" "${words[@]}" --remove '*' --lines 0 a.info
+        ended 5 "ci.sh: $program: no lines at all are below 0% too"
+        says "$work/err" "ci.sh: $program: and it says so" 'lines: 0 of 0 is below 0%'
+    done
+    holds 'ci.sh: a program that has --fail-under-lines was asked' [ "$(grep -c '^summary --fail-under-lines' asked)" -eq 4 ]
+}
+
+@test "the script of README.md" {
+    mkdir jobs
+    lines 7 8 /src/a.c >jobs/1.info
+    printf 'TN:u\nSF:/src/b c.c\nFNL:0,1,5\nFNA:0,0,f\nBRDA:2,e0,0,1\nBRDA:2,0,1,-\nDA:1,0\nDA:2,1\nend_of_record\n' >jobs/2.info
+    lines 0 4 /src/tests/t.c >jobs/3.info
+    cat >script <<'END'
+set -e
+"$COVCOLLECT" check --lcov2 jobs/*.info >&2
+"$COVCOLLECT" merge --lcov2 -j 4 --exclude '/usr/*' --exclude '*/tests/*' jobs/*.info > own.info
+"$COVCOLLECT" list own.info
+"$COVCOLLECT" summary --fail-under-lines "$1" own.info
+echo passed
+END
+    # By hand: 8 of 10 lines, 0 of 1 functions, 1 of 2 branches.
+    cat >wanted <<'END'
+       Lines   Functions    Branches  File
+ 87.5%   7/8       - 0/0       - 0/0  /src/a.c
+ 50.0%   1/2    0.0% 0/1   50.0% 1/2  /src/b c.c
+ 80.0%  8/10    0.0% 0/1   50.0% 1/2  Total
+Summary coverage rate:
+  lines......: 80.0% (8 of 10 lines)
+  functions..: 0.0% (0 of 1 function)
+  branches...: 50.0% (1 of 2 branches)
+END
+    call bash script 80.1
+    ended 6 'README: status 6, by set -e'
+    same wanted "$work/out" 'README: a table of the files, and the summary'
+    says "$work/err" 'README: what falls short' 'lines: 8 of 10 is below 80.1%'
+    call bash script 80
+    ended 0 'README: 8 of 10 lines are 80%'
+    says "$work/out" 'README: and the script goes on' passed
+    printf 'SF:/src/a.c\nDA:1,1\n' >jobs/4.info
+    call bash script 80
+    ended 4 'README: a file that was cut off has its own status'
+}
+
+@test "JSON, as jq reads it" {
+    lines 3 4 '/src/a "b"\c.c' >a.info
+    printf 'SF:/src/t\tn\033.c\nBRDA:1,0,0,1\nBRDA:1,0,1,0\nend_of_record\nSF:/src/\377.c\nFN:1,f\nFNDA:1,f\nend_of_record\n' >>a.info
+    call "$COVCOLLECT" list --json a.info
+    cp "$work/out" list.json
+    ended 0 'list --json'
+    # shellcheck disable=SC2016 # jq's variables
+    call jq -r '.files[] | "\(.file // .file_hex) \(.lines.hit)/\(.lines.found) \(.functions.hit)/\(.functions.found) \(.branches.hit)/\(.branches.found)"' list.json
+    printf '%s 3/4 0/0 0/0\n/src/t\tn\033.c 0/0 0/0 1/2\n2f7372632fff2e63 0/0 1/1 0/0\n' '/src/a "b"\c.c' >wanted
+    same wanted "$work/out" 'list --json: names and numbers, the name that is no UTF-8 in hex'
+    call jq -c .total list.json
+    "$COVCOLLECT" summary --json a.info >summary.json
+    same summary.json "$work/out" 'summary --json: the totals of the list'
+    echo '{"lines":{"found":4,"hit":3},"functions":{"found":1,"hit":1},"branches":{"found":2,"hit":1}}' >wanted
+    same wanted summary.json 'summary --json: which are those worked out by hand'
+    # A line for each file: what a run changed is what diff finds.
+    printf 'SF:/src/t\tn\033.c\nBRDA:1,0,1,1\nend_of_record\n' >b.info
+    "$COVCOLLECT" list --json a.info b.info >new.json
+    holds 'list --json: one file changed, and the total' [ "$(diff list.json new.json | grep -c '^>')" -eq 2 ]
+    # Without --include all files count, and of no file there is JSON too.
+    call "$COVCOLLECT" list --json --include '/nothing/*' a.info
+    cp "$work/out" none.json
+    call jq -e '.files == [] and .total.lines == {"found": 0, "hit": 0}' none.json
+    ended 0 'list --json: of no file'
+}
+
+@test "names with control bytes" {
+    mkdir $'job\ts'
+    printf 'SF:/a.c\nDA:1\nend_of_record\n' >$'job\ts/1\n2.info'
+    printf '<html>\n' >$'job\ts/3\033.info'
+    call "$COVCOLLECT" check $'job\ts/1\n2.info' $'job\ts/3\033.info' $'no\nfile'
+    ended 1 'check: of which one is missing'
+    printf '%s\n' 'job\x09s/1\x0a2.info: refused BadLine at 2' 'job\x09s/3\x1b.info: sections 0 items 0 odd 0 skipped 1 first <html> at 1' >wanted
+    same wanted "$work/out" 'check: each name stays in its line'
+    printf '%s\n' 'job\x09s/3\x1b.info: no items' 'no\x0afile: can'\''t read' >wanted
+    same wanted "$work/err" 'check: in its complaints too'
+    # intake tells each file from its copy's line, whatever the folder's name is.
+    mkdir $'cop\ties'
+    cp $'job\ts/1\n2.info' bad.info
+    printf 'SF:/a.c\nDA:1,1\nend_of_record\n' >good.info
+    call bash -c 'printf "%s\0" good.info bad.info good.info | bash "$1/intake" "$2"' - "$recipes" $'cop\ties'
+    ended 4 'intake: a folder of copies whose name has a tab'
+    echo 'bad.info: refused BadLine at 2' >wanted
+    same wanted "$work/err" 'intake: names the file that is refused'
+}
