@@ -8,11 +8,11 @@ use covline::{Bytes, Memory};
 use std::alloc::Allocator;
 
 /// Appends a file's name. A control byte (below 32, or 127) is shown as `\x` and two lower-case hexadecimal digits, any other byte
-/// as it is. So a name has no line feed, and no byte that steers a terminal.
+/// as it is. So what is appended has no line feed and no escape byte.
 ///
 /// # Errors
 ///
-/// `Memory` if memory was refused. The text then has a part of the name.
+/// `Memory` if memory was refused. The text may then end in a part of the name.
 pub fn put_shown_name<A: Allocator>(name: &[u8], text: &mut Bytes<A>) -> Result<(), Memory>
     ensures { OnOk result (text.new ≡ text.old ++ shown_name name.now) }
 {

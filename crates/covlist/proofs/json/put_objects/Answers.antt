@@ -1,5 +1,5 @@
-use Rattle.std.proofs.Common.{◌≡◌, ◌++◌, List, ℕ, true, ap, ◌∙◌}
-use Rattle.covstore.specs.Files.{FileTotalsData, files_with_totals}
+use Rattle.std.proofs.Common.{◌++◌, List, ap, ◌∙◌}
+use Rattle.covstore.specs.Files.{FileTotalsData}
 use Rattle.covstore.specs.FilesView.{file_totals_data}
 use Rattle.covreport.specs.ChoiceView.{choice_data}
 use Rattle.covlist.specs.Chosen.{chosen_among, chosen_files}
