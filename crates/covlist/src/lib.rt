@@ -16,11 +16,11 @@
 //! ```
 #![tactic(auto)]
 
-mod json;
+mod json_text;
 mod numbers;
 mod shown;
 mod table;
 
-pub use json::{list_json, summary_json};
+pub use json_text::{list_json, summary_json};
 pub use shown::put_shown_name;
 pub use table::list_table;

@@ -3,7 +3,7 @@ use Rattle.covreport.specs.ChoiceView.{choice_data}
 use Rattle.covlist.specs.Chosen.{chosen_among, chosen_files}
 use Rattle.covlist.specs.Json.{objects}
 use Rattle.covlist.proofs.Files.{objects_left}
-use Rattle.covlist.proofs.json.put_objects.Given as goal
+use Rattle.covlist.proofs.json_text.put_objects.Given as goal
 
 abbrev pub invariant-loop-file : goal.invariant-loop-file
 invariant-loop-file g l =

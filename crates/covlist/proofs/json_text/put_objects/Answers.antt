@@ -5,7 +5,7 @@ use Rattle.covreport.specs.ChoiceView.{choice_data}
 use Rattle.covlist.specs.Chosen.{chosen_among, chosen_files}
 use Rattle.covlist.specs.Json.{objects}
 use Rattle.covlist.proofs.Files.{object_passed, object_put, objects_end}
-use Rattle.covlist.proofs.json.put_objects.Goals as goal
+use Rattle.covlist.proofs.json_text.put_objects.Goals as goal
 
 pub loop-file-init : goal.loop-file-init
 loop-file-init g c =

@@ -1,7 +1,7 @@
 use Rattle.std.proofs.Common.{◌≡◌, ℕ, List, ◌++◌, OnOk, sym, ap, ◌∙◌, subst}
 use Rattle.covlist.specs.Json.{string_name}
 use Rattle.covlist.proofs.Names.{named_by_bytes, named_by_string}
-use Rattle.covlist.proofs.json.put_name.Goals as goal
+use Rattle.covlist.proofs.json_text.put_name.Goals as goal
 
 pub returns-in-Ok : goal.returns-in-Ok
 returns-in-Ok g c =

@@ -2,7 +2,7 @@ use Rattle.std.proofs.Common.{◌≡◌, ℕ, List, OnOk, subst}
 use Rattle.std.specs.Prelude.{codes}
 use Rattle.hex.specs.Hex.{encode_lower}
 use Rattle.covlist.proofs.Names.{three_put}
-use Rattle.covlist.proofs.json.put_hexadecimal_name.Goals as goal
+use Rattle.covlist.proofs.json_text.put_hexadecimal_name.Goals as goal
 
 pub returns : goal.returns
 returns g c =

@@ -2,7 +2,7 @@ use Rattle.std.proofs.Common.{◌≡◌, ℕ, List, [], ◌∷◌, ◌++◌, OnO
 use Rattle.json.specs.Token.{Token, string}
 use Rattle.json.specs.Print.{quoted}
 use Rattle.covlist.proofs.Names.{written}
-use Rattle.covlist.proofs.json.put_string.Goals as goal
+use Rattle.covlist.proofs.json_text.put_string.Goals as goal
 
 pub returns : goal.returns
 returns g c =
