@@ -26,7 +26,7 @@ shows whether a file has them.
 Exit status:
   0  done
   1  a file can't be read, or reading or writing failed
-  2  the call is wrong: its words, a pattern or the name of a test
+  2  the call is wrong: its words, a pattern, a limit or the name of a test
   3  memory ran out, or the history is full
   4  a file was refused, or checksums clash; nothing is printed, but by check
   5  check found a file without items

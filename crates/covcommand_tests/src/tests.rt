@@ -4,7 +4,8 @@
 //! Examples are text, so that they cost the proof of these tests nothing: a line has a call and, after ` => `, its answer.
 
 use covcommand::{
-    Command, CommandFault, LcovVersion, Limits, Names, SourceFilter, TotalsForm, TextFormat, command,
+    Command, CommandFault, LcovVersion, Limits, Names, SourceFilter, TextFormat, TotalsForm,
+    command,
 };
 use std::alloc::Global;
 use std::process::Abort;

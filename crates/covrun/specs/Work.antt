@@ -3,7 +3,7 @@ use Rattle.std.specs.List.{AllByRecursion}
 use Rattle.std.specs.Prelude.{◌≡◌, ◌⊎◌, ◌<◌, ◌≤◌, ℕ, Bool, true, ◌||◌, if◌then◌else◌, List, [], Option, None, Some, is_some, length, take, drop}
 use Rattle.covline.specs.Lawful.{IsGoodTest}
 use Rattle.covlimit.specs.Limits.{LimitsData}
-use Rattle.covlimit.specs.Rate.{IsRate}
+use Rattle.covlimit.specs.Rates.{IsRate}
 use Rattle.covreport.specs.Choice.{ChoiceData, AllFiles, Filtered, max_patterns, max_pattern_bytes}
 use Rattle.covbook.specs.Op.{OpData, ReportOp, SummaryOp, ExtractOp, RemoveOp}
 use Rattle.covjobs.specs.Collect.{InputData, TraceInput, Lcov2Input, GcovInput}
