@@ -36,10 +36,11 @@ ghost use Rattle.covjobs.specs.Collect.{InputData, IsCollected};
 ghost use Rattle.covjobs.specs.InputView.{input_data};
 ghost use Rattle.covlock.specs.Start.{AreJobs};
 
-/// Collects inputs by jobs that work at once, each in a thread of its own. Job j of n takes the inputs j, j + n, j + 2n and so
-/// on, in order: it reads the text, outside the book's lock, and submits what was read. A text that isn't read is refused, and
-/// the job goes on. After each submit the job reads the totals once, without the lock; if there is no place for its reader, it
-/// has no readings. When all have ended, job 0 performs the last operation. Waits for the workers.
+/// Collects inputs by jobs that work at once, each in a thread of its own. A single job works on the calling thread. Job j of n
+/// takes the inputs j, j + n, j + 2n and so on, in order: it reads the text, outside the book's lock, and submits what was read.
+/// A text that isn't read is refused, and the job goes on. After each submit the job reads the totals once, without the lock. If
+/// there is no place for its reader, it has no readings. When all have ended, job 0 performs the last operation. Waits for the
+/// workers.
 ///
 /// Counts add up as with lcov(1), --add-tracefile. Faults: `BadJobs` exactly if `jobs` isn't 1 to 64; `Full`; `Memory`, also
 /// if a worker can't be started; `Gather` and `NotLast` if history and logs don't fit, which no run meets.

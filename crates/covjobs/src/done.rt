@@ -16,7 +16,7 @@ use crate::readers::Readers;
 use crate::shares::{Dealt, deal};
 use crate::stop::{Refusal, Stop, both, lesser, worst};
 use crate::worker::Worker;
-use crate::workers::work_at_once;
+use crate::workers::do_all_work;
 use covbook::{BookFault, Entry, Keep, Op, Receipt};
 use covline::Memory;
 use covlock::{Name, Seats, Shared};
@@ -51,7 +51,7 @@ pub(crate) fn all_done<
     let count = inputs.len();
     let dealt = deal(alloc, inputs, jobs)?;
     let Dealt { inputs, shares } = dealt;
-    let ended = work_at_once(rt, alloc, book, gate, seats, jobs, readers, &inputs, shares)?;
+    let ended = do_all_work(rt, alloc, book, gate, seats, jobs, readers, &inputs, shares)?;
     match all_well(alloc, ended) {
         Ok(workers) => Ok(workers),
         Err(stop) => Err(fault_of(count, stop)),

@@ -7,10 +7,10 @@
 //! - `Shared::reader` makes a reader of the totals (`Live`), which takes no lock.
 //! - `Shared::close` takes all seats back and returns the history.
 //!
-//! `collect` does all of this for texts that are already in memory. It opens a book, and starts a thread for each job, which
-//! reads its share of the inputs and submits them. Then it performs a last operation, closes the book, and gathers the history
-//! from the jobs' logs. `collect_owned` does the same, and frees each text once it is read. `collect_into_book` keeps no history
-//! and no logs: it returns the book. Its inputs are read when their turn comes (`LateInput`).
+//! `collect` does all of this for texts that are already in memory. It opens a book. Each job reads its share of the inputs and
+//! submits them: one job on the calling thread, several in a thread each. Then `collect` performs a last operation, closes the
+//! book, and gathers the history from the jobs' logs. `collect_owned` does the same, and frees each text once it is read.
+//! `collect_into_book` keeps no history and no logs: it returns the book. Its inputs are read when their turn comes (`LateInput`).
 //!
 //! This crate also re-exports what a thread asks (`Op`) and what it keeps (`Receipt` and `Reading`, in a `JobLog`), and `gather`,
 //! which checks that the logs fit the closed history (`Entries`). All of this is covbook's. So a user needs only this crate.

@@ -1,4 +1,4 @@
-//! The workers of all jobs, each in a thread of its own.
+//! The workers of all jobs: one on the calling thread, or several, each in a thread of its own.
 
 ghost use Rattle.std.specs.Prelude.{◌≡◌, Err, IfOk, IsTrue, false, map, Contains};
 ghost use Rattle.std.specs.List.{AllByRecursion};
@@ -47,9 +47,79 @@ impl<L: Name, T: LateInput<Global>, P: Keep<Of = Receipt>> Promise<
     ghost kept_by = { λ p r. HasEnded (chances_of T.may_be T.may_fail) p r };
 }
 
-/// Starts a worker for each seat, with its share of the inputs. Waits until all workers have ended, and returns how each ended,
-/// in the order of the seats. A worker that can't be started counts as refused memory, and no further worker is started.
-pub(crate) fn work_at_once<
+/// Does the work of all seats, each with its share of the inputs, and returns how each worker ended, in the order of the seats. One
+/// job works on the calling thread. Several work at once, each in a thread of its own.
+pub(crate) fn do_all_work<
+    R: Threads + Wait + Sync,
+    G: Gate + Sync,
+    L: Name + Send + Sync,
+    T: LateInput<Global> + Send,
+    K: Keep<Of = Entry> + Send,
+    P: Keep<Of = Receipt> + Send,
+>(
+    rt: &R,
+    alloc: Global,
+    book: &Shared<L, Global, K>,
+    gate: &G,
+    seats: Seats<L>,
+    jobs: u32,
+    readers: Readers,
+    inputs: &Snapshot<Vec<T>>,
+    shares: Vec<Vec<Placed<T>>>,
+) -> Result<Vec<Result<Worker<L, Global, P>, Stop>>, Memory>
+    requires shares { map (λ share. share.items) shares.items ≡ map (λ seat. share_of inputs.now.value.items jobs seat.job) seats }
+    requires fresh { AllByRecursion (λ seat. seat ≡ fresh_seat seat.job) seats }
+    ensures { IfOk result (λ ended. HaveEndedIfStarted (chances_of T.may_be T.may_fail) (map (work_of inputs.now.value.items jobs readers) seats) ended.items) }
+{
+    if jobs == 1 {
+        return work_in_turn(rt, alloc, book, gate, seats, jobs, readers, inputs, shares);
+    }
+    work_at_once(rt, alloc, book, gate, seats, jobs, readers, inputs, shares)
+}
+
+/// Does the work of each seat on the calling thread, one seat after another, with its share of the inputs. Returns how each worker
+/// ended, in the order of the seats. One job needs no thread of its own: a thread's memory comes from an arena that grows in small
+/// steps, each of which is a call of the system.
+fn work_in_turn<
+    R: Wait,
+    G: Gate,
+    L: Name,
+    T: LateInput<Global>,
+    K: Keep<Of = Entry>,
+    P: Keep<Of = Receipt>,
+>(
+    rt: &R,
+    alloc: Global,
+    book: &Shared<L, Global, K>,
+    gate: &G,
+    seats: Seats<L>,
+    jobs: u32,
+    readers: Readers,
+    inputs: &Snapshot<Vec<T>>,
+    shares: Vec<Vec<Placed<T>>>,
+) -> Result<Vec<Result<Worker<L, Global, P>, Stop>>, Memory>
+    requires shares { map (λ share. share.items) shares.items ≡ map (λ seat. share_of inputs.now.value.items jobs seat.job) seats }
+    requires fresh { AllByRecursion (λ seat. seat ≡ fresh_seat seat.job) seats }
+    ensures { IfOk result (λ ended. HaveEndedIfStarted (chances_of T.may_be T.may_fail) (map (work_of inputs.now.value.items jobs readers) seats) ended.items) }
+{
+    let seats = seats.into_vec();
+    let mut shares = shares.into_iter();
+    let mut ended = Vec::with_capacity(alloc, seats.len())?;
+    for seat in seats {
+        let share = match shares.next() {
+            Some(share) => share,
+            // There is a share for each seat.
+            None => unreachable!(),
+        };
+        ended.push(work(rt, alloc, book, gate, seat, jobs, readers, inputs, share))?;
+    }
+    Ok(ended)
+}
+
+/// Starts a worker in a thread for each seat, with its share of the inputs. Waits until all workers have ended, and returns how
+/// each ended, in the order of the seats. A worker that can't be started counts as refused memory, and no further worker is
+/// started.
+fn work_at_once<
     R: Threads + Wait + Sync,
     G: Gate + Sync,
     L: Name + Send + Sync,

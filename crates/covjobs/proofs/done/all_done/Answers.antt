@@ -19,14 +19,14 @@ returns-in-Ok-clause-done g c =
     c.in-Ok.ensures.workers
 
 -- there is a share for each seat
-pub work_at_once-requires-clause-shares : goal.work_at_once-requires-clause-shares
-work_at_once-requires-clause-shares g c κs within =
+pub do_all_work-requires-clause-shares : goal.do_all_work-requires-clause-shares
+do_all_work-requires-clause-shares g c κs within =
     let shared = share_for_each c.args.inputs.items c.in_ok-dealt.dealt.inputs.value.items c.args.jobs c.args.seats (map {A = Vec (Placed g.row.T.Denot) Global} {B = List (Placed g.row.T.Denot)} (λ share. share.items) c.in_ok-dealt.dealt.shares.items)
     (ap (λ (v : Vec g.row.T.Denot Global). v.items) c.in_ok-dealt.ensures.inputs) c.requires.seats c.in_ok-dealt.ensures.shares in
     search rules
 
-pub work_at_once-requires-clause-fresh : goal.work_at_once-requires-clause-fresh
-work_at_once-requires-clause-fresh g c κs within = all_fresh c.args.jobs c.args.seats c.requires.seats
+pub do_all_work-requires-clause-fresh : goal.do_all_work-requires-clause-fresh
+do_all_work-requires-clause-fresh g c κs within = all_fresh c.args.jobs c.args.seats c.requires.seats
 
 -- the worst end of the workers
 pub returns-clause-unread : goal.returns-clause-unread
