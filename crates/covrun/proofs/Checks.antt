@@ -12,6 +12,7 @@ use Rattle.covcommand.specs.declared.asked.LcovVersion.TheVariants as versions
 use Rattle.covcommand.specs.declared.asked.TextFormat.{TextFormat}
 use Rattle.covcommand.specs.declared.asked.TextFormat.TheVariants.{Tracefile, Gcov}
 use Rattle.covline.specs.Row.{SubmissionData}
+use Rattle.covlist.specs.Shown.{shown_name}
 use Rattle.covlcov2.specs.Outcome as lcov2
 use Rattle.covread.specs.GcovOutcome as gcov
 use Rattle.covread.specs.Outcome as trace
@@ -24,7 +25,7 @@ use Rattle.covsession.specs.Session.{said}
 use Rattle.covsession.specs.declared.session.fault.SessionFault.{SessionFault}
 use Rattle.covsession.specs.declared.session.fault.SessionFault.TheVariants as faults
 use Rattle.covrun.specs.Check.{OutcomeData, Unread, Refused, Held, IsOutcome, IsCheck, EndsWithin, has_item, outcome_line, outcome_complaint, check_lines, check_complaints, is_unread, is_refused, is_empty}
-use Rattle.covrun.specs.Checked.{AnswersText, Says, TellsEach, TellsOne, TellsText, verdict_of, worse, worst_of}
+use Rattle.covrun.specs.Checked.{AnswersText, ReportsFile, Says, TellsEach, TellsOne, TellsText, verdict_of, worse, worst_of}
 use Rattle.covrun.specs.Folder.{FolderData, IsTextOf}
 use Rattle.covrun.specs.Streams.{SinksData}
 use Rattle.covrun.specs.declared.check_verdict.CheckVerdict.{CheckVerdict}
@@ -77,13 +78,32 @@ each_next told files rest outcomes file outcome same =
 abbrev becomes : FolderData → TextFormat → List ℕ × OutcomeData → Type 0
 becomes folder format f = IsOutcome folder format f.0 f.1
 
+-- the line that reports a file, and the complaint about it
+abbrev line_told : List ℕ → OutcomeData → List ℕ
+line_told file outcome = outcome_line (shown_name file) outcome
+
+abbrev complaint_told : List ℕ → OutcomeData → List ℕ
+complaint_told file outcome = outcome_complaint (shown_name file) outcome
+
 -- if the file may have this text, a report on the file with this text is a report on the file
-pub told_text : (folder : FolderData) (format : TextFormat) (file text : List ℕ) → length text ≤ suc max_bytes → IsTextOf (folder.holds file) text
-    → (answer : Result CheckVerdict SessionFault) (b d : SinksData) → TellsText format file text answer b d → TellsOne folder format file answer b d
-told_text folder format file text short fits answer b d (inl ran_out) = inl ran_out
-told_text folder format file text short fits answer b d (inr (Unread, none, told)) = absurd none
-told_text folder format file text short fits answer b d (inr (Refused fault, is, told)) = inr (Refused fault, (text, short, fits, is), told)
-told_text folder format file text short fits answer b d (inr (Held summary, is, told)) = inr (Held summary, (text, short, fits, is), told)
+told_as : (folder : FolderData) (format : TextFormat) (file text : List ℕ) → length text ≤ suc max_bytes → IsTextOf (folder.holds file) text
+    → (answer : Result CheckVerdict SessionFault) (b d : SinksData) → TellsText format (shown_name file) text answer b d → TellsOne folder format file answer b d
+told_as folder format file text short fits answer b d (inl ran_out) = inl ran_out
+told_as folder format file text short fits answer b d (inr (Unread, none, told)) = absurd none
+told_as folder format file text short fits answer b d (inr (Refused fault, is, told)) = inr (Refused fault, (text, short, fits, is), told)
+told_as folder format file text short fits answer b d (inr (Held summary, is, told)) = inr (Held summary, (text, short, fits, is), told)
+
+-- the same for the file's shown name
+pub told_text : (folder : FolderData) (format : TextFormat) (file shown text : List ℕ) → shown ≡ shown_name file → length text ≤ suc max_bytes → IsTextOf (folder.holds file) text
+    → (answer : Result CheckVerdict SessionFault) (b d : SinksData) → TellsText format shown text answer b d → TellsOne folder format file answer b d
+told_text folder format file shown text is short fits answer b d told =
+    told_as folder format file text short fits answer b d (subst (λ (name : List ℕ). TellsText format name text answer b d) is told)
+
+-- a file that can't be read is reported by its complaint alone
+pub told_unread : (folder : FolderData) (format : TextFormat) (file shown : List ℕ) → shown ≡ shown_name file → folder.MayFail file
+    → (answer : Result CheckVerdict SessionFault) (b d : SinksData) → ReportsFile shown Unread answer b d → TellsOne folder format file answer b d
+told_unread folder format file shown is may answer b d told =
+    inr (Unread, may, subst (λ (name : List ℕ). ReportsFile name Unread answer b d) is told)
 
 -- ---- the worst verdict
 
@@ -145,7 +165,7 @@ within_next files outcomes a b d same within = record {
   each = within.each;
   between = within.between;
   whole = within.whole;
-  part = subst (λ (o : Option (List ℕ)). HasBegun within.between o (outcome_line within.file within.last)) (sym same) within.part;
+  part = subst (λ (o : Option (List ℕ)). HasBegun within.between o (outcome_line (shown_name within.file) within.last)) (sym same) within.part;
 }
 
 -- ---- one more file
@@ -161,11 +181,11 @@ told_next folder format files file so_far verdict a b d (outcomes, all, (same, i
       (
         longer ∙ ap (λ (n : ℕ). n + 1) same ∙ sym (length-append files (file ∷ [])),
         ap (λ (v : CheckVerdict). worse v verdict) is ∙ ap (worse (worst_of outcomes)) is' ∙ sym (worst_next outcomes outcome),
-        subst (Appends a.output d.output) (each_next outcome_line files [] outcomes file outcome same)
+        subst (Appends a.output d.output) (each_next line_told files [] outcomes file outcome same)
             (Appends-trans a.output b.output d.output _ _ lines line),
         good' ∙ good,
         subst (λ (n : ℕ). Says n (check_complaints (files ++ file ∷ []) (outcomes ++ outcome ∷ [])) a d) (sym longer)
-            (subst (λ (ws : List ℕ). Says (length outcomes + 1) ws a d) (each_next outcome_complaint files [] outcomes file outcome same)
+            (subst (λ (ws : List ℕ). Says (length outcomes + 1) ws a d) (each_next complaint_told files [] outcomes file outcome same)
             (says_next (length outcomes) 1 _ _ a b d says says')),
       ),
     )
@@ -180,9 +200,9 @@ told_without_room folder format files rest file so_far a b d (outcomes, all, (sa
       pairs_front (becomes folder format) files (file ∷ rest) outcomes same all,
       (
         omega (arith, same, length-append files (file ∷ rest)),
-        subst (Appends a.output b.output) (ap (flat_map (λ (f : List ℕ × OutcomeData). outcome_line f.0 f.1)) (sym front)) lines,
+        subst (Appends a.output b.output) (ap (flat_map (λ (f : List ℕ × OutcomeData). outcome_line (shown_name f.0) f.1)) (sym front)) lines,
         good,
-        subst (λ (ws : List ℕ). Says (length outcomes) ws a b) (ap (flat_map (λ (f : List ℕ × OutcomeData). outcome_complaint f.0 f.1)) (sym front)) says,
+        subst (λ (ws : List ℕ). Says (length outcomes) ws a b) (ap (flat_map (λ (f : List ℕ × OutcomeData). outcome_complaint (shown_name f.0) f.1)) (sym front)) says,
       ),
     )
 
@@ -211,7 +231,7 @@ told_until folder format files rest file so_far faults.Write a b d (outcomes, al
         },
         failed ∙ ap suc good,
         subst (λ (n : ℕ). Says n (check_complaints (files ++ file ∷ rest) (outcomes ++ outcome ∷ [])) a d) (sym longer)
-            (subst (λ (ws : List ℕ). Says (length outcomes + 1) ws a d) (each_next outcome_complaint files rest outcomes file outcome same)
+            (subst (λ (ws : List ℕ). Says (length outcomes + 1) ws a d) (each_next complaint_told files rest outcomes file outcome same)
             (says_next (length outcomes) 1 _ _ a b d says says')),
       ),
     )

@@ -68,7 +68,7 @@ fn print_short<O: Sink, E: Sink>(
 {
     match text.print(output) {
         Ok(()) => complain(b"", lines, 6, faults),
-        Err(failed) => complain(b"", line_of(failed), status_of(failed), faults),
+        Err(write) => complain(b"", line_of(write), status_of(write), faults),
     }
 }
 

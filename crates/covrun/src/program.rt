@@ -21,11 +21,12 @@ use std::thread::Threads;
 /// Runs the program, and returns its exit status. The first of the words is the program's name.
 ///
 /// A call that collects files looks for faults in this order, given here with their exit statuses: the command line (2); the
-/// patterns, or the test's name of `gcov` (2); the first file that can't be read (1); a fault of collecting (3), such as a full
-/// history; a text for which memory ran out (3); refused texts and clashes (4); a failed write to the output (1). `out of memory`
-/// (3) may end the call at any point before the first byte of its text. Only help, the version, or the text of a call that
-/// succeeds goes to the output. The answer of a call that collects is written in blocks while it is made, after all other faults
-/// are ruled out. If a write fails, the output has a beginning of the text.
+/// patterns, then the limits, or the test's name of `gcov` (2); the first file that can't be read (1); a fault of collecting (3),
+/// such as a full history; a text for which memory ran out (3); refused texts and clashes (4); a failed write to the output (1);
+/// rates below their limits (6). `out of memory` (3) may end the call at any point before the first byte of its text. Only help,
+/// the version, or the text that is asked for goes to the output, and the text only after all faults but the last two are ruled
+/// out. The answer of a call that collects is written in blocks while it is made. If a write fails, the output has a beginning of
+/// the text.
 ///
 /// A call that checks files checks one after another. It writes a line to the output for each file that can be read, and
 /// complains about a file that can't be read or has no item. Its status is 1 if a file can't be read, else 4 if one is refused,

@@ -1,10 +1,13 @@
 //! What is asked after all files of a call are collected.
 
-ghost use Rattle.std.specs.Prelude.{◌≡◌, IfOk};
+ghost use Rattle.std.specs.Prelude.{◌≡◌, ◌++◌, [], ◌∷◌, IfOk};
 ghost use Rattle.covreport.specs.ChoiceView.{choice_data};
 ghost use Rattle.covstore.specs.Totals.{AreTotals};
 ghost use Rattle.covlimit.specs.LimitsView.{limits_data};
-ghost use Rattle.covrun.specs.Ending.{totals_text as totals_text_of};
+ghost use Rattle.covbook.specs.Op.{SummaryOp};
+ghost use Rattle.covbook.specs.Step.{next_entry};
+ghost use Rattle.covrun.specs.Ending.{asked_text, totals_text as totals_text_of};
+ghost use Rattle.covrun.specs.Work.{ChosenList};
 ghost use Rattle.covrun.specs.Work.{has_limit as has_limit_of};
 
 use covbook::Op;
@@ -33,7 +36,10 @@ pub(crate) enum Question {
         limits: Limits,
     },
     /// The list of the chosen source files, in this form.
-    ChosenList { form: TotalsForm, choice: Choice },
+    ChosenList {
+        form: TotalsForm,
+        choice: Choice,
+    },
 }
 
 impl Question {
