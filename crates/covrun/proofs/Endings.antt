@@ -159,6 +159,12 @@ pub prints_with_lines : (lines text told asked : List ℕ) → (told ≡ [] → 
 prints_with_lines lines text [] asked some are is = absurd (some refl)
 prints_with_lines lines text (b ∷ told) asked some are is = (λ k. with_shortfalls (are k) (is k))
 
+-- what follows of an ending follows of the ending of a call that may be refused
+pub answer_then : {X E : Type 0} (told_by : X → EndingData) (result : Result X E) (ending other : EndingData) → IfOk result (λ x. told_by x ≡ ending)
+    → ((told : EndingData) → told ≡ ending → told ≡ other) → IfOk result (λ x. told_by x ≡ other)
+answer_then told_by (Ok x) ending other is follows = follows (told_by x) is
+answer_then told_by (Err e) ending other is follows = tt
+
 -- no input was refused and nothing clashed, so what is asked is answered
 pub ends_with_answer : (files : List (List ℕ)) (entries : List EntryData) (refused : List RefusedInput) (asks : QuestionData) (lines : List ℕ) (ending : EndingData) → IsText (last_of asks)
     → ran_out refused ≡ false → lines ≡ complaints files refused entries → lines ≡ [] → ending ≡ answered asks (entries ++ next_entry entries 0 (last_of asks) ∷ [])

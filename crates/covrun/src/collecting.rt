@@ -25,6 +25,7 @@ use crate::ready_text::ReadyText;
 use crate::work::Work;
 use covbook::{Answer, Answered};
 use covjobs::{CollectedBook, IntoBookFault, NoGate, RefusedInput, collect_into_book};
+use covline::Bytes;
 use covsession::{SessionFault, Sink, clash_line, refused_line};
 use std::alloc::Global;
 use std::sync::Wait;
@@ -124,10 +125,18 @@ fn answered<'a>(
 {
     let lines = asks.shortfalls(alloc, collected)?;
     let text = ReadyText::of(alloc, asks.printing(alloc, collected)?)?;
+    Ok(ending_with(text, lines))
+}
+
+/// The ending that prints the text, and says the lines on rates that are below their limits, if there are such lines.
+fn ending_with<'a>(text: ReadyText<'a>, lines: Bytes) -> Ending<'a>
+    ensures { ending_data result ≡ with_shortfalls lines text.entry }
+{
     if lines.get().is_empty() {
-        return Ok(Ending::Done(text));
+        Ending::Done(text)
+    } else {
+        Ending::Short { text, lines }
     }
-    Ok(Ending::Short { text, lines })
 }
 
 /// The lines of the refused inputs, and then of the clashes.

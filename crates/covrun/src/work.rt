@@ -98,7 +98,9 @@ ghost use Rattle.covrun.specs.View.{question_data, task_data};
 ghost use Rattle.covlimit.specs.LimitsView.{limits_data};
 ghost use Rattle.covrun.specs.Work.{choice_of, limits_of, task_of, ArePatterns, AreRates, AreTaken, Collects, IsFilter, IsRateIfAny};
 ghost use Rattle.covrun.specs.WorkFault.{IsRefusal, IsFilterRefusal, IsLimitRefusal, IsPatternRefusal, IsTestRefusal};
+ghost use Rattle.covrun.specs.declared.argument_fault.ArgumentFault.TheVariants as arguments;
 ghost use Rattle.covrun.specs.declared.work.FileFormat.TheVariants.{Tracefile};
+ghost use Rattle.covrun.specs.declared.work.WorkFault.TheVariants as work_faults;
 
 /// Checks the command's patterns, limits and test name, and returns what the command has to do.
 pub(crate) fn task_for(alloc: Global, command: Command) -> Result<Task, WorkFault>

@@ -32,3 +32,7 @@ returns-in_ok-text-in-LimitedTotals c =
     rw c.in-LimitedTotals.is
     (c.of_text-in-LimitedTotals.ensures ∙ c.in_ok-text-in-LimitedTotals.ensures ∙ ap (totals_text c.in-LimitedTotals.form) (c.chosen_totals-totals-in-LimitedTotals.ensures.value
     ∙ totals_are_asked entries (choice_data c.in-LimitedTotals.choice) _ (ap (λ (s : StoreData). s.sections) held.store ∙ held.stands.content)))
+
+pub returns-in_ok-text-in-ChosenList : goal.returns-in_ok-text-in-ChosenList
+returns-in_ok-text-in-ChosenList c =
+    rw c.in-ChosenList.is (c.of_text-in-ChosenList.ensures ∙ c.in_ok-text-in-ChosenList.ensures)

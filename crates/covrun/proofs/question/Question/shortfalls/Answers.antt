@@ -1,0 +1,16 @@
+use Rattle.std.proofs.Common.{ap, ◌∙◌}
+use Rattle.covlimit.specs.Limits.{shortfalls}
+use Rattle.covlimit.specs.LimitsView.{limits_data}
+use Rattle.covstore.specs.Store.{StoreData}
+use Rattle.covreport.specs.ChoiceView.{choice_data}
+use Rattle.covrun.proofs.Endings.{text_then, totals_are_asked}
+use Rattle.covrun.proofs.question.Question.shortfalls.Goals as goal
+
+pub returns-in-LimitedTotals : goal.returns-in-LimitedTotals
+returns-in-LimitedTotals c =
+    let entries = c.args.collected.now.book.entries in
+    let held = c.store.ensures in
+    rw c.in-LimitedTotals.is
+    (text_then c.shortfall_lines.result _ _ c.shortfall_lines.ensures.lines
+    (ap (shortfalls (limits_data c.in-LimitedTotals.limits)) (c.chosen_totals-totals.ensures.value
+    ∙ totals_are_asked entries (choice_data c.in-LimitedTotals.choice) _ (ap (λ (s : StoreData). s.sections) held.store ∙ held.stands.content))))
