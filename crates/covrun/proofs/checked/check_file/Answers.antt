@@ -1,4 +1,4 @@
-use Rattle.std.proofs.Common.{◌≡◌, ◌∙◌, ℕ, suc, ◌≤◌, List, length, ap, subst, sym}
+use Rattle.std.proofs.Common.{◌∙◌, ℕ, suc, ◌≤◌, List, length, ap, subst, sym}
 use Rattle.covlist.specs.Shown.{shown_name}
 use Rattle.covread.specs.Outcome.{max_bytes}
 use Rattle.covrun.specs.Folder.{IsTextOf, folder_data}
