@@ -100,7 +100,7 @@ ghost use Rattle.covrun.specs.Work.{choice_of, limits_of, task_of, ArePatterns, 
 ghost use Rattle.covrun.specs.WorkFault.{IsRefusal, IsFilterRefusal, IsLimitRefusal, IsPatternRefusal, IsTestRefusal};
 ghost use Rattle.covrun.specs.declared.argument_fault.ArgumentFault.TheVariants as arguments;
 ghost use Rattle.covrun.specs.declared.work.FileFormat.TheVariants.{Tracefile};
-ghost use Rattle.covrun.specs.declared.work.WorkFault.TheVariants as work_faults;
+ghost use Rattle.covrun.specs.declared.work.WorkFault.TheVariants as faults;
 
 /// Checks the command's patterns, limits and test name, and returns what the command has to do.
 pub(crate) fn task_for(alloc: Global, command: Command) -> Result<Task, WorkFault>
@@ -210,7 +210,7 @@ fn rates(words: LimitWords) -> Result<Limits, WorkFault>
 fn rate(word: Option<Bytes>) -> Result<Option<Rate>, WorkFault>
     ensures rate { IfOk result (λ rate. rate ≡ word) }
     ensures taken { IfOk result (λ _. IsRateIfAny word) }
-    ensures fault { IfErr result (λ fault. fault ≡ work_faults.Words arguments.BadRate) }
+    ensures fault { IfErr result (λ fault. fault ≡ faults.Words arguments.BadRate) }
     ensures refused { IfErr result (λ _. IsRateIfAny word → ⊥) }
 {
     let Some(word) = word else {
