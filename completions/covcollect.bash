@@ -75,7 +75,7 @@ _covcollect() {
                 ;;
             # A pattern, the name of a test, and a threshold.
             merge--include | merge--exclude | summary--include | summary--exclude | list--include | list--exclude | gcov--test | \
-                summary--fail-under-*)
+                summary--fail-under-lines | summary--fail-under-functions | summary--fail-under-branches)
                 return
                 ;;
         esac

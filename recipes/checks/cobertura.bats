@@ -287,7 +287,7 @@ END
     cp all.info project/coverage/own.info
     call bash -c 'cd project && bash ../steps'
     ended 0 'Jenkinsfile: its commands run'
-    says "$work/err" 'Jenkinsfile: ci.sh fails at 80% where 4 of 6 lines are hit' 'ci.sh: 4 of 6 lines are hit, 80% needed'
+    says "$work/err" 'Jenkinsfile: ci.sh fails at 80% where 4 of 6 lines are hit' 'lines: 4 of 6 is below 80%'
     cp project/coverage/cobertura.xml "$work/xml"
     cobertura_totals 'the commands of Jenkinsfile' project/coverage/own.info
     call bash -c 'cd project && sed "s/^export COVERAGE_TEST=.*/export COVERAGE_TEST=false/" ../steps >../broken && bash ../broken'

@@ -200,8 +200,15 @@ WANTED
     holds 'collector: and no spool is made' [ ! -e without ]
 }
 
+# Whether the session that was started again has gone on to another file than the one at which the first was killed.
+goes_on() { # SPOOL
+    local count
+    count=$(sed -n 's/.*: read \([0-9]*\) files again$/\1/p' "$1.said" | sed -n 2p)
+    [ -n "$count" ] && [ "$(find "$1/accepted" -type f | wc -l)" -gt "$count" ]
+}
+
 @test "clients, the session and its feeder are killed" {
-    local writer number pid status killed=0 again=() gone=() in=0 writers=() asker span=600
+    local writer number pid status killed=0 again=() gone=() in=0 writers=() asker span=600 try
     for ((writer = 0; writer < 8; writer++)); do
         tracefiles "writers/$writer" $((writer * 50 + 1)) $((writer * 50 + 50))
     done
@@ -243,7 +250,13 @@ WANTED
             0) again+=("victims/$number.info") span=$((span * 2 / 3 + 10)) ;;
             *) verdict 1 "collector: a client that wasn't killed ended with status $status" ;;
         esac
-        # The session dies, then its feeder.
+        # The session dies, then its feeder, but not at the same file, which would be refused.
+        if [ $killed -eq 6 ] && [ ! -e feeder.killed ]; then
+            for ((try = 0; try < 600; try++)); do
+                ! goes_on storm && [ "$(cat count.* 2>/dev/null | wc -l)" -lt 400 ] || break
+                sleep 0.1
+            done
+        fi
         case $killed in
             3) [ -e session.killed ] || ! kill -9 "$(cut -d' ' -f2 storm/pids)" 2>/dev/null || : >session.killed ;;
             6) [ -e feeder.killed ] || ! kill -9 "$(cut -d' ' -f1 storm/pids)" 2>/dev/null || : >feeder.killed ;;
