@@ -94,7 +94,7 @@ fn push_wide(value: u128, digit: u8) -> Number
 
 /// The largest number that stays below 2^64 whatever digit is appended. All numbers of 18 digits are below it, so a number of
 /// up to 19 digits is read without overflow checks.
-const MOST_BEFORE_DIGIT: u64 = 1_844_674_407_370_955_160;
+const LARGEST_EXTENDABLE: u64 = 1_844_674_407_370_955_160;
 
 /// The number that the digits at the front of the text say, and what follows them. It is 0 if there are none.
 fn read_digits(text: &[u8]) -> (Number, &[u8])
@@ -107,7 +107,7 @@ fn read_digits(text: &[u8]) -> (Number, &[u8])
         if !digit.is_ascii_digit() {
             break;
         }
-        if value > MOST_BEFORE_DIGIT {
+        if value > LARGEST_EXTENDABLE {
             return read_more_digits(Number::Value(value), rest);
         }
         value = value * 10 + u64::from(*digit - b'0');

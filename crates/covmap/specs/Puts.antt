@@ -10,7 +10,7 @@ use Rattle.std.specs.Map.{lookup}
 abbrev pub value_of : {K V : Type 0} → (K → K → Ordering) → K → List (K × V) → Option V
 value_of cmp key pairs = lookup (λ other. is_eq (cmp other key)) pairs
 
--- the pairs after the key gets this value. A key without a value is inserted in order
+-- the pairs, once the key has this value. If no pair has the key yet, a pair is inserted where its key belongs in the order
 abbrev pub put : {K V : Type 0} → (K → K → Ordering) → K → V → List (K × V) → List (K × V)
 put cmp key value [] = (key, value) ∷ []
 put cmp key value (pair ∷ pairs) = match_ordering (cmp pair.0 key) (pair ∷ put cmp key value pairs) ((key, value) ∷ pairs) ((key, value) ∷ pair ∷ pairs)

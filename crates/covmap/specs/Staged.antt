@@ -92,7 +92,7 @@ pub record IsWidened {V : Type 0} (page index : ℕ) (old new : List (ℕ × Lis
 
 -- ---- a page split in two
 
--- the new number of the page `number` when the page `page` is split
+-- the number that page `number` has after page `page` is split in two: pages behind `page` move up by one
 abbrev pub number_after : ℕ → ℕ → ℕ
 number_after page number = if nat_lt page number then suc number else number
 

@@ -16,8 +16,8 @@ use std::marker::Model;
 /// Contracts see two lists of entries, ascending by their keys: the committed entries and the staged entries. A commit replaces
 /// the committed entries with the staged ones.
 ///
-/// A look-up costs no search for the key right after the one that was looked up last. It costs none for that key itself either,
-/// unless a run was staged since.
+/// A look-up needs no search if its key comes right after the key that was looked up last. A look-up of the same key again
+/// needs no search either, unless a run was staged in between.
 #[derive(Drop)]
 pub struct StagedMap<K: Key, V, A: Allocator> {
     slots: Slots<K, V, A>,

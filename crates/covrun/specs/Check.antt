@@ -133,7 +133,8 @@ pub record EndsWithin (files : List (List ℕ)) (outcomes : List OutcomeData) (o
   pub whole : Appends old.output between (check_lines earlier before)
   pub part : HasBegun between new.output (outcome_line (shown_name file) last)
 
--- a write of a file's line failed. No later file was checked, and the failure is reported last
+-- the output line about one file couldn't be written. No later file was checked, and the failed write is the last thing
+-- reported
 pub record IsCheckCutShort (files : List (List ℕ)) (outcomes : List OutcomeData) (status : ℕ) (old new : SinksData) : Type 0 where
   pub lines : EndsWithin files outcomes old new
   pub ends : status ≡ fault_status faults.Write

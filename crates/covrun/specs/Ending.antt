@@ -103,7 +103,7 @@ text_in (RenamedAnswer sections) = []
 text_in NoSuchTestAnswer = []
 text_in (TextAnswer text) = text
 
--- the text that is this entry's answer, or no bytes if its answer is no text
+-- the text that this entry answers with; no bytes if the answer isn't a text, or if there is no entry
 abbrev pub text_at : Option EntryData → List ℕ
 text_at (Some e) = text_in e.answer
 text_at None = []

@@ -8,8 +8,8 @@ use Rattle.std.specs.Option.{is_some}
 use Rattle.std.specs.Ordering.{nat_cmp}
 use Rattle.std.proofs.lemmas.Bool.{false≢true}
 use Rattle.covline.specs.Row.{ItemData, Row}
-use Rattle.covstore.specs.declared.stage_fault.StageFault.{StageFault}
-use Rattle.covstore.specs.declared.stage_fault.StageFault.TheVariants.{Clash, Memory}
+use Rattle.covstore.specs.declared.stage.fault.StageFault.{StageFault}
+use Rattle.covstore.specs.declared.stage.fault.StageFault.TheVariants.{Clash, Memory}
 use Rattle.covstore.specs.Section.{Adds, Clashes, HasRoomFor, IsIn}
 use Rattle.covstore.specs.FileSection.{AddsItems, ClashesIn, HasFile, HasRoomIn}
 use Rattle.covstore.specs.FileIndex.{FileIndexData}

@@ -3,8 +3,8 @@ use Rattle.std.proofs.Common.{◌≡◌, ℕ, ◌+◌, ◌<◌, List, [], ◌∷
 use Rattle.std.proofs.lemmas.List.{drop_more, map-append, map_more, take-append-drop}
 use Rattle.covline.specs.Row.{ItemData}
 use Rattle.covstore.specs.declared.index.FileIndex.{FileIndex}
-use Rattle.covstore.specs.declared.stage_fault.StageFault.{StageFault}
-use Rattle.covstore.specs.declared.stage_fault.StageFault.TheVariants.{Clash, Memory}
+use Rattle.covstore.specs.declared.stage.fault.StageFault.{StageFault}
+use Rattle.covstore.specs.declared.stage.fault.StageFault.TheVariants.{Clash, Memory}
 use Rattle.covstore.specs.declared.test.Test.{Test}
 use Rattle.covstore.specs.Section.{Adds, Clashes, HasRoomFor}
 use Rattle.covstore.specs.FileIndexView.{KeepsCommitted, index_staged}

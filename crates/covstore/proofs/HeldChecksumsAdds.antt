@@ -10,8 +10,8 @@ use Rattle.std.proofs.lemmas.Cmp.{tied_itself}
 use Rattle.std.proofs.lemmas.List.Concat.{flat_map-append}
 use Rattle.covline.specs.Row.{ItemData, LineItem, FuncItem, BranchItem, Row, rows_of_sect}
 use Rattle.covmap.specs.Puts.{put, value_of}
-use Rattle.covstore.specs.declared.stage_fault.StageFault.{StageFault}
-use Rattle.covstore.specs.declared.stage_fault.StageFault.TheVariants.{Clash, Memory}
+use Rattle.covstore.specs.declared.stage.fault.StageFault.{StageFault}
+use Rattle.covstore.specs.declared.stage.fault.StageFault.TheVariants.{Clash, Memory}
 use Rattle.covstore.specs.Clash.{Agree, Checksum, checksum_of_row, checksums_in, clash_of}
 use Rattle.covstore.specs.FileIndex.{FileIndexData}
 use Rattle.covstore.specs.Items.{HasRoomForRun, IsClashAt, IsClashOf, IsOtherText, KeepsCounts}

@@ -5,8 +5,8 @@ use Rattle.std.specs.Cmp.Lexicographic.{slice_cmp}
 use Rattle.std.specs.Option.{is_some}
 use Rattle.std.specs.Ordering.{nat_cmp}
 use Rattle.covline.specs.Row.{ItemData, Row, rows_of_sect}
-use Rattle.covstore.specs.declared.stage_fault.StageFault.{StageFault}
-use Rattle.covstore.specs.declared.stage_fault.StageFault.TheVariants.{Clash, Memory}
+use Rattle.covstore.specs.declared.stage.fault.StageFault.{StageFault}
+use Rattle.covstore.specs.declared.stage.fault.StageFault.TheVariants.{Clash, Memory}
 use Rattle.covstore.specs.FileSection.{AddsItems, ClashesIn, HasFile, HasRoomIn, KeepsIn}
 use Rattle.covstore.specs.FileView.{tests_with}
 use Rattle.covmap.specs.Puts.{put, value_of}

@@ -21,8 +21,8 @@ use Rattle.covstore.proofs.AddsLoop.{HasTaken, none_taken, some_have_room, some_
 use Rattle.covstore.specs.FileIndexView.{KeepsCommitted, index_staged}
 use Rattle.covstore.specs.TestView.{test_staged, test_committed}
 use Rattle.covstore.specs.declared.index.FileIndex.{FileIndex}
-use Rattle.covstore.specs.declared.stage_fault.StageFault.{StageFault}
-use Rattle.covstore.specs.declared.stage_fault.StageFault.TheVariants.{Clash, Memory}
+use Rattle.covstore.specs.declared.stage.fault.StageFault.{StageFault}
+use Rattle.covstore.specs.declared.stage.fault.StageFault.TheVariants.{Clash, Memory}
 use Rattle.covstore.specs.declared.test.Test.{Test}
 use Rattle.std.proofs.lemmas.List.{append-nil, append_assoc, nil_from_length}
 use Rattle.covstore.proofs.RunsKept.{plain_keep, runs_have_room}

@@ -29,7 +29,7 @@ pub record AreCounts {K V : Type 0} (cmp : K → K → Ordering) (is_above : V �
   pub ascending : ArePairs cmp counts
   pub counted : (key : K) → value_of cmp key counts ≡ tests_at cmp is_above key tests
 
--- some test has the point above 0
+-- some test has the point with a value above 0
 abbrev pub is_hit_by_some : TestCounts → Bool
 is_hit_by_some numbers = nat_lt 0 numbers.hit
 
@@ -37,7 +37,7 @@ is_hit_by_some numbers = nat_lt 0 numbers.hit
 abbrev pub found_of : {K : Type 0} → List (K × TestCounts) → ℕ
 found_of counts = length counts
 
--- how many of the points some test has above 0
+-- how many of the points have a value above 0 in some test
 abbrev pub hit_of : {K : Type 0} → List (K × TestCounts) → ℕ
 hit_of counts = count_by (λ pair. nat_lt 0 pair.1.hit) counts
 

@@ -9,7 +9,7 @@ use Rattle.covstore.specs.Without.{is_of_test}
 abbrev pub renamed_row : List ℕ → List ℕ → Row → Row
 renamed_row old new row = record { test = if bytes_eq row.test old then new else row.test; file = row.file; item = row.item }
 
--- the table after the rename: its members stay, and so does the order of their rows
+-- the table after the rename: each row of the old test gets the new name. Each row stays in its member, at its place
 abbrev pub renamed : List ℕ → List ℕ → Table → Table
 renamed old new table = map (map (renamed_row old new)) table
 

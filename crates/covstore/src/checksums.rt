@@ -4,11 +4,11 @@ ghost use Rattle.std.specs.Prelude.{◌≡◌, ◌≤◌, ◌^◌, [], true, Som
 ghost use Rattle.covstore.specs.Checksums.{IsReportedClash, IsHeldToo, KeepsTexts, StayTexts, held_more};
 ghost use Rattle.covstore.specs.PointIndexDrops.{held_less, one_less};
 ghost use Rattle.covmap.specs.Puts.{put, value_of};
-ghost use Rattle.covstore.specs.declared.stage_fault.StageFault.TheVariants as stops;
+ghost use Rattle.covstore.specs.declared.stage.fault.StageFault.TheVariants as stops;
 ghost use Rattle.std.specs.Ordering.{nat_cmp};
 
 use crate::kept_texts::KeptTexts;
-use crate::stage_fault::StageFault;
+use crate::stage::fault::StageFault;
 use covline::Bytes;
 use covmap::{SlotIndex, StagedMap};
 use std::alloc::Allocator;

@@ -12,7 +12,7 @@ ghost use Rattle.covstore.specs.TestView.{test_staged};
 ghost use Rattle.covstore.specs.HeldChecksums.{AscendFrom, HasRoomToHold, HoldsText, HoldsTexts, checked_line, checked_lines};
 
 use crate::index::FileIndex;
-use crate::stage_fault::StageFault;
+use crate::stage::fault::StageFault;
 use crate::sums::LineSum;
 use crate::test::Test;
 use covline::Item;

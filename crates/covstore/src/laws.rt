@@ -72,8 +72,8 @@ pub fn no_more_are_hit_than_found()
     ensures rows { (rows : List Row) → AreTotals (totals_of (content_of rows)) }
 {}
 
-/// The totals of the sections that rows add up to can be counted from the rows themselves. For each file, the points found are
-/// its different points, over all tests. The points hit are those of them that some row has with a count above 0.
+/// Rows add up to sections. The totals of these sections can be counted from the rows themselves. For each file, the points
+/// found are the distinct points of its rows, over all tests. A point is hit if some row gives it a count above 0.
 pub fn totals_count_the_rows()
     ensures { (rows : List Row) → totals_of (content_of rows) ≡ totals_over rows }
 {}

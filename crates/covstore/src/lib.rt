@@ -29,11 +29,12 @@
 //! ```
 #![tactic(auto)]
 
+mod all_files;
+mod all_files;
 mod boxed;
 mod checksums;
 mod content;
 mod file;
-mod file_walks;
 mod files;
 mod held_checksums;
 mod index;
@@ -51,14 +52,7 @@ mod refuse;
 mod renaming;
 mod runs;
 mod sole_test;
-mod stage_by_line;
-mod stage_copied;
-mod stage_counted;
-mod stage_fault;
-mod stage_one_item;
-mod stage_point_run;
-mod stage_section;
-mod stage_sole;
+mod stage;
 mod store;
 mod sums;
 mod test;

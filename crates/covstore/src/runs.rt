@@ -13,7 +13,7 @@ ghost use Rattle.covstore.specs.FileIndexView.{KeepsCommitted, index_staged};
 ghost use Rattle.covstore.specs.TestView.{test_staged, test_committed};
 
 use crate::index::FileIndex;
-use crate::stage_point_run::{stage_one_by_one, stage_whole_run};
+use crate::stage::point_run::{stage_one_by_one, stage_whole_run};
 use crate::sums::{BranchAddend, FunctionAddend, LineAddend};
 use crate::test::Test;
 use covline::{BranchPoint, Item};

@@ -13,10 +13,10 @@ ghost use Rattle.covstore.specs.StoreSection.{HasRoomAmong, rows_of_items};
 ghost use Rattle.covstore.specs.StoreView.{AreSettledBut, files_staged, files_committed, touched_data};
 ghost use Rattle.covstore.specs.TotalsExchanged.{IsExchange};
 
+use crate::all_files::{add_up, count_sections, count_without, drop_from_files, names_with};
 use crate::boxed::Boxed;
 use crate::content::Sections;
 use crate::file::File;
-use crate::file_walks::{add_up, count_sections, count_without, drop_from_files, names_with};
 use crate::files::Files;
 use crate::path::Path;
 use crate::plan::Plan;

@@ -1,0 +1,6 @@
+use Rattle.std.proofs.Common.{◌≡◌, take}
+use Rattle.covstore.specs.Order.{at_spots}
+use Rattle.covstore.proofs.stage.by_line.spots_of.Given as goal
+
+abbrev pub invariant-loop-index : goal.invariant-loop-index
+invariant-loop-index g l = at_spots l.items l.spots.items ≡ take l.index l.items

@@ -1,0 +1,10 @@
+//! Staging: the items of a section are added beside the committed values, in their test and in the file's index.
+
+mod by_line;
+pub(crate) mod copied;
+mod counted;
+pub(crate) mod fault;
+mod one_item;
+pub(crate) mod point_run;
+pub(crate) mod section;
+mod sole;

@@ -1,0 +1,50 @@
+//! Why the items of a section can't be staged.
+
+use covline::{Bytes, Memory};
+use std::alloc::{AllocError, AllocFailed, Allocator};
+
+/// Why the items of a section can't be staged.
+#[derive(Drop)]
+pub(crate) enum StageFault<A: Allocator> {
+    /// An item gives this line a checksum that differs from the held one, or from an earlier one of the submission.
+    Clash {
+        line: u64,
+        held: Bytes<A>,
+        given: Bytes<A>,
+    },
+    /// Memory was refused.
+    Memory,
+}
+
+impl<A: Allocator> From<Memory> for StageFault<A> {
+    ghost use Rattle.std.specs.Prelude.{◌≡◌};
+    ghost use Rattle.covstore.specs.declared.stage.fault.StageFault.TheVariants as stops;
+
+    ghost from_gives = { λ _ e. e ≡ stops.Memory };
+
+    fn from(_refused: Memory) -> StageFault<A> {
+        StageFault::Memory
+    }
+}
+
+impl<A: Allocator> From<AllocError> for StageFault<A> {
+    ghost use Rattle.std.specs.Prelude.{◌≡◌};
+    ghost use Rattle.covstore.specs.declared.stage.fault.StageFault.TheVariants as stops;
+
+    ghost from_gives = { λ _ e. e ≡ stops.Memory };
+
+    fn from(_refused: AllocError) -> StageFault<A> {
+        StageFault::Memory
+    }
+}
+
+impl<T: Drop, A: Allocator> From<AllocFailed<T>> for StageFault<A> {
+    ghost use Rattle.std.specs.Prelude.{◌≡◌};
+    ghost use Rattle.covstore.specs.declared.stage.fault.StageFault.TheVariants as stops;
+
+    ghost from_gives = { λ _ e. e ≡ stops.Memory };
+
+    fn from(_refused: AllocFailed<T>) -> StageFault<A> {
+        StageFault::Memory
+    }
+}

@@ -1,0 +1,114 @@
+//! Stages the items of a section, in their test and in the file's index.
+
+ghost use Rattle.std.specs.Prelude.{◌≡◌, map, IfErr, OnOk};
+ghost use Rattle.std.specs.List.Sorted.{IsStrictlySortedBy};
+ghost use Rattle.std.specs.Ordering.{nat_cmp};
+ghost use Rattle.covline.specs.Row.{item_data};
+ghost use Rattle.covstore.specs.Section.{Adds, Clashes, HasRoomFor};
+ghost use Rattle.covstore.specs.Follows.{Follows, StillFollows};
+ghost use Rattle.covstore.specs.FileIndexView.{KeepsCommitted, index_staged};
+ghost use Rattle.covstore.specs.TestView.{test_staged, test_committed};
+ghost use Rattle.covstore.specs.HeldChecksums.{checked_lines};
+
+use crate::held_checksums::{checked_lines_ascend, hold_checksums};
+use crate::index::FileIndex;
+use crate::runs::{MAX_STAGED_AT_ONCE, runs_in, stage_runs};
+use crate::stage::by_line::{have_no_checksum, stage_without_checksums};
+use crate::stage::fault::StageFault;
+use crate::stage::one_item::stage_item;
+use crate::test::Test;
+use covline::Item;
+use std::alloc::Allocator;
+
+/// Stages the items of a section, and stops at the first item that clashes. At most `MAX_STAGED_AT_ONCE` items are staged at a
+/// time. If there are many items, no item has a checksum and the lines often fall, the items are staged in the order of their
+/// lines.
+pub(crate) fn stage_items<A: Allocator + Copy>(
+    test: &mut Test<A>,
+    index: &mut FileIndex<A>,
+    alloc: A,
+    items: &[Item<A>],
+) -> Result<(), StageFault<A>>
+    requires follows { Follows test.old index.old }
+    requires room { HasRoomFor (map item_data items.now) (test_staged test.old) (index_staged index.old) }
+    ensures test_committed { test_committed test.new ≡ test_committed test.old }
+    ensures index_committed { KeepsCommitted index.old index.new }
+    ensures follows { StillFollows index.old test.new index.new }
+    ensures ok { OnOk result (Adds (map item_data items.now) (test_staged test.old) (index_staged index.old) (test_staged test.new) (index_staged index.new)) }
+    ensures clash { IfErr result (Clashes (map item_data items.now) (test_staged test.old) (index_staged index.old)) }
+{
+    if have_no_checksum(items) {
+        stage_without_checksums(test, index, alloc, items)?;
+        return Ok(());
+    }
+    for some in items.chunks(MAX_STAGED_AT_ONCE) {
+        stage_some(test, index, alloc, some)?;
+    }
+    Ok(())
+}
+
+/// Stages some of a section's items, and stops at the first item that clashes. If the lines of the items with a checksum
+/// ascend, the items are staged at once. These lines ascend in the tracefiles that geninfo writes. Otherwise, the items are
+/// staged one by one.
+fn stage_some<A: Allocator + Copy>(
+    test: &mut Test<A>,
+    index: &mut FileIndex<A>,
+    alloc: A,
+    items: &[Item<A>],
+) -> Result<(), StageFault<A>>
+    requires follows { Follows test.old index.old }
+    requires room { HasRoomFor (map item_data items.now) (test_staged test.old) (index_staged index.old) }
+    ensures test_committed { test_committed test.new ≡ test_committed test.old }
+    ensures index_committed { KeepsCommitted index.old index.new }
+    ensures follows { StillFollows index.old test.new index.new }
+    ensures ok { OnOk result (Adds (map item_data items.now) (test_staged test.old) (index_staged index.old) (test_staged test.new) (index_staged index.new)) }
+    ensures clash { IfErr result (Clashes (map item_data items.now) (test_staged test.old) (index_staged index.old)) }
+{
+    if checked_lines_ascend(items) {
+        return stage_at_once(test, index, alloc, items);
+    }
+    stage_each(test, index, alloc, items)
+}
+
+/// Stages the items' checksums, and returns the first clash if there is one. If there is none, stages the items as runs.
+fn stage_at_once<A: Allocator + Copy>(
+    test: &mut Test<A>,
+    index: &mut FileIndex<A>,
+    alloc: A,
+    items: &[Item<A>],
+) -> Result<(), StageFault<A>>
+    requires follows { Follows test.old index.old }
+    requires room { HasRoomFor (map item_data items.now) (test_staged test.old) (index_staged index.old) }
+    requires ascend { IsStrictlySortedBy nat_cmp (checked_lines (map item_data items.now)) }
+    ensures test_committed { test_committed test.new ≡ test_committed test.old }
+    ensures index_committed { KeepsCommitted index.old index.new }
+    ensures follows { StillFollows index.old test.new index.new }
+    ensures ok { OnOk result (Adds (map item_data items.now) (test_staged test.old) (index_staged index.old) (test_staged test.new) (index_staged index.new)) }
+    ensures clash { IfErr result (Clashes (map item_data items.now) (test_staged test.old) (index_staged index.old)) }
+{
+    hold_checksums(test, index, alloc, items)?;
+    let runs = runs_in(alloc, items)?;
+    stage_runs(test, index, alloc, &runs)?;
+    Ok(())
+}
+
+/// Stages items one by one, up to the first that clashes.
+fn stage_each<A: Allocator + Copy>(
+    test: &mut Test<A>,
+    index: &mut FileIndex<A>,
+    alloc: A,
+    items: &[Item<A>],
+) -> Result<(), StageFault<A>>
+    requires follows { Follows test.old index.old }
+    requires room { HasRoomFor (map item_data items.now) (test_staged test.old) (index_staged index.old) }
+    ensures test_committed { test_committed test.new ≡ test_committed test.old }
+    ensures index_committed { KeepsCommitted index.old index.new }
+    ensures follows { StillFollows index.old test.new index.new }
+    ensures ok { OnOk result (Adds (map item_data items.now) (test_staged test.old) (index_staged index.old) (test_staged test.new) (index_staged index.new)) }
+    ensures clash { IfErr result (Clashes (map item_data items.now) (test_staged test.old) (index_staged index.old)) }
+{
+    for item in items {
+        stage_item(test, index, alloc, item)?;
+    }
+    Ok(())
+}
