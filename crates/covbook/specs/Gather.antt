@@ -56,8 +56,8 @@ pub record IsMerge (entries : List EntryData) (logs : List LogData) : Type 0 whe
   pub kept : AllByRecursion (IsLogOf entries) logs
   pub whole : (place : ℕ) → place < length entries → Contains (places_in logs) place
 
--- a reading is of a history: the history has at least as many entries as the reading counts, and the reading's totals are those
--- after this number of entries. The totals after no entries are zeros
+-- a reading is of a history: the reading's totals are those after its first `upto` entries, and the history has that many. The
+-- totals after no entries are zeros
 pub record IsReadingOf (entries : List EntryData) (r : Reading) : Type 0 where
   pub within : r.upto ≤ length entries
   pub totals : r.totals ≡ last_totals (take r.upto entries)

@@ -1,4 +1,4 @@
--- What the private functions below `gather` return.
+-- What the private functions that `gather` calls return.
 use Rattle.std.specs.Prelude.{ℕ, ◌+◌, ◌<◌, ◌≤◌, cond, List, [], ◌∷◌, Option, Result, MatchOption, MatchResult, eqb, ltb}
 use Rattle.std.specs.List.{AllByRecursion, Contains}
 use Rattle.covbook.specs.declared.gather_fault.GatherFault.{GatherFault}

@@ -48,8 +48,8 @@ impl From<Memory> for BookFault {
     }
 }
 
-/// A table of counts with its history. Contracts see the history. It is legal at every moment, and the table is the last one of
-/// its run. Contracts also see what `finish` relies on: for how many entries there is room, and the model of the store.
+/// A table of counts with its history. Contracts see the history, which is always legal. The table is what the run of its
+/// operations gives. Contracts also see what `finish` relies on: for how many entries there is room, and the model of the store.
 ///
 /// `K` is what the book keeps of each entry: all of it, its answer, or nothing. Contracts see whole entries in any case.
 #[derive(Drop)]

@@ -144,7 +144,7 @@ fn check_readings<A: Allocator>(
     Ok(())
 }
 
-/// Whether there are at least as many entries as the reading counts, and its totals are those after this number of entries.
+/// Whether the reading's totals are those after its first `upto` entries. False if there are fewer entries.
 fn is_reading_of<A: Allocator>(reading: &Reading, entries: &[Entry<A>]) -> bool
     ensures { IsTrue result ↔ IsReadingOf (map entry_data entries.now) reading.now }
 {

@@ -55,7 +55,7 @@ lcov2 = flag (codes "lcov2")
 abbrev pub json : Rule
 json = flag (codes "json")
 
--- an option for a pattern, which may be given any number of times, also not at all: `--include PATTERN`, `--exclude PATTERN`
+-- an option that takes a pattern. It may be given any number of times, or not at all: `--include PATTERN`, `--exclude PATTERN`
 abbrev pub patterns : Text → Rule
 patterns id = record (new_rule id) {
   long = Some id;
@@ -63,7 +63,7 @@ patterns id = record (new_rule id) {
   action = Some Append;
 }
 
--- an option for a limit, which is one word, and which may be given at most once, also not at all: `--fail-under-lines N`
+-- an option that takes a limit of one word. It may be given once, or not at all: `--fail-under-lines N`
 abbrev pub limit : Text → Rule
 limit id = record (new_rule id) {
   long = Some id;

@@ -14,8 +14,8 @@ use Rattle.covjobs.specs.declared.stop.Refusal.{Refusal}
 use Rattle.covjobs.specs.declared.stop.Stop.{Stop}
 use Rattle.covjobs.specs.declared.stop.Stop.TheVariants as stops
 
--- which fault of collecting is returned if the book refused a call. The history can't be full if there are fewer inputs than it
--- has entries: the fault for this case is `NotLast`
+-- which fault of collecting is returned if the book refused a call. With fewer inputs than `max_entries` the history never gets
+-- full: `NotLast` stands for that case
 abbrev pub of_refused : (inputs : ℕ) → BookFault → CollectFault
 of_refused inputs book.Full = if nat_lt inputs max_entries then collects.NotLast else collects.Full
 of_refused inputs book.Memory = collects.Memory

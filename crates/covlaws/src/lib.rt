@@ -102,8 +102,7 @@ pub fn lawful_rows_are_printable()
     ensures run { (ops : List OpData) → AreLawfulOps ops → HaveGoodNames ops → AllByRecursion IsLawfulRow (all_rows (table_of ops)) }
 {}
 
-/// The report of rows may take their place: the rows that it is read as have the same content, also together with any other
-/// rows.
+/// A report stands for its rows. The rows that it is read as have the same content as these, also together with any other rows.
 pub fn a_report_stands_for_its_rows()
     ensures { (rows others : List Row) → content_of (rows_of (submission_shown (content_of rows)) ++ others) ≡ content_of (rows ++ others) }
 {}

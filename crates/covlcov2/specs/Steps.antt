@@ -64,7 +64,7 @@ Lcov2Steps (Err why.Inside) above before after says = IsInside above before.sect
 Lcov2Steps (Err why.Misplaced) above before after says = IsMisplaced above before.section says
 Lcov2Steps (Err why.Memory) above before after says = Grows before.section says
 
--- the total is one of functions
+-- the total counts functions
 abbrev pub counts_functions : TotalKind → Bool
 counts_functions FuncFound = true
 counts_functions FuncHit = true

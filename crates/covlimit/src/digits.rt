@@ -81,7 +81,7 @@ fn are_digits(text: &[u8]) -> bool
     text.iter().all(|byte| byte.is_ascii_digit())
 }
 
-/// The rate in millionths of a percent that has these digits before its point and these after it.
+/// The rate with these digits before its point and these after it, in millionths of a percent.
 fn millionths(whole: &[u8], part: &[u8]) -> u64
     requires { IsTrue (is_well_formed whole.now part.now) }
     ensures { result ≡ digits_value 10 (whole.now ++ part.now) * 10 ^ (6 - length part.now) }
@@ -89,7 +89,7 @@ fn millionths(whole: &[u8], part: &[u8]) -> u64
     with_digits(with_digits(0, whole), part) * millionths_at(part.len())
 }
 
-/// The number that the digits say if they follow those of `number`.
+/// The number that is written as the digits of `number` and then these digits.
 fn with_digits(number: u64, digits: &[u8]) -> u64
     requires { HasRoom number digits.now }
     ensures value { result ≡ digits_value_after 10 number digits.now }

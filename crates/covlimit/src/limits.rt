@@ -1,7 +1,7 @@
 //! The least rates that a call asks for, and which of them totals fall short of.
 
 ghost use Rattle.std.specs.Prelude.{◌≡◌, [], IfOk, IsOk};
-ghost use Rattle.covlimit.specs.Limits.{shortfalls};
+ghost use Rattle.covlimit.specs.Limits.{has_limit, shortfalls};
 ghost use Rattle.covlimit.specs.LimitsView.{limits_data};
 
 use crate::rate::Rate;
@@ -21,9 +21,18 @@ pub struct Limits<A: Allocator = Global> {
     pub branches: Option<Rate<A>>,
 }
 
+impl<A: Allocator> Limits<A> {
+    /// Whether a rate is asked for.
+    pub fn has_limit(&self) -> bool
+        ensures { result ≡ has_limit (limits_data self.now) }
+    {
+        self.lines.is_some() || self.functions.is_some() || self.branches.is_some()
+    }
+}
+
 /// A line for each kind of points that are below the rate that is asked for, in the order lines, functions, branches: `lines:
 /// 3996 of 5000 is below 80%`. The rate is written as the call gave it. If no point of a kind is found, its points are below any
-/// rate. The text is empty if no rate is missed, and then no memory is taken. The fault is that memory was refused.
+/// rate. The text is empty if no rate is missed, and then nothing is refused. The fault is that memory was refused.
 pub fn shortfall_lines<A: Allocator>(
     alloc: A,
     limits: &Limits<A>,

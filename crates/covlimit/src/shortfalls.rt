@@ -9,7 +9,7 @@ use itoa::Buffer;
 use std::alloc::Allocator;
 
 /// Appends the line of a kind of points, if a rate is asked for and these points are below it. Otherwise appends nothing, and
-/// takes no memory.
+/// isn't refused memory.
 pub(crate) fn put_shortfall<A: Allocator>(
     kind: &[u8],
     limit: &Option<Rate<A>>,

@@ -534,8 +534,8 @@ fn front_checksum(text: &[u8]) -> Option<(&[u8], &[u8])>
     Some((checksum, rest))
 }
 
-/// The checksum after a line's count, if there is one, and what follows the line feed. `None` if the count isn't followed by a
-/// line feed, or by a comma, a checksum and a line feed.
+/// The checksum after a line's count, if there is one, and what follows the line feed. `None` unless the count is followed by
+/// a line feed, or by a comma, a checksum and a line feed.
 fn split_count_end(text: &[u8]) -> Option<(Option<&[u8]>, &[u8])>
     ensures { option_map (λ end. (option_map (λ c. c.now) end.0, end.1.now)) result ≡ count_end text.now }
 {

@@ -31,8 +31,8 @@ abbrev pub column_summed : {V Q M : Type 0} → (M → Option V → V) → List 
 column_summed sum [] column = column
 column_summed sum (here ∷ placed) column = column_summed sum placed (value_summed sum here.slot here.item column)
 
--- each addend fits the value that its key's slot has after the addends before it are added. From the first key without a slot
--- on, nothing is required
+-- the addends are added in order, and each fits the value that its key's slot has by then. From the first key without a slot on,
+-- nothing is required
 abbrev pub FitHere : {K V Q M : Type 0} → (K → K → Ordering) → (Q → K) → (M → Option V → Type 0) → (M → Option V → V) → List (K × Option V) → List (Q × M) → List (Option V) → Type 0
 FitHere cmp named fits sum page [] column = Unit {0}
 FitHere cmp named fits sum page (item ∷ run) column =

@@ -17,7 +17,7 @@ use Rattle.covread.specs.Reads.{own_total, items_of}
 abbrev pub function_at : BTreeMap (Bor (List ℕ)) Function → List ℕ → Option Function
 function_at functions name = get_by (λ k. slice_cmp nat_cmp name k.now) functions
 
--- a function with this start line, which is hit if its name is one of these
+-- a function with this start line. The function is hit if `name` is one of `names`
 abbrev pub known : List (List ℕ) → List ℕ → ℕ → Function
 known names name line = record { start = line; is_hit = list_any (bytes_eq name) names }
 

@@ -1,8 +1,8 @@
 -- What a subcommand has to do, and which of its words are refused before any file is read.
 use Rattle.std.specs.List.{AllByRecursion}
-use Rattle.std.specs.Prelude.{◌≡◌, ◌⊎◌, ◌<◌, ◌≤◌, ℕ, Bool, true, ◌||◌, if◌then◌else◌, List, [], Option, None, Some, is_some, length, take, drop}
+use Rattle.std.specs.Prelude.{◌≡◌, ◌⊎◌, ◌<◌, ◌≤◌, ℕ, if◌then◌else◌, List, [], Option, None, Some, length, take, drop}
 use Rattle.covline.specs.Lawful.{IsGoodTest}
-use Rattle.covlimit.specs.Limits.{LimitsData}
+use Rattle.covlimit.specs.Limits.{LimitsData, has_limit}
 use Rattle.covlimit.specs.Rates.{IsRate}
 use Rattle.covreport.specs.Choice.{ChoiceData, AllFiles, Filtered, max_patterns, max_pattern_bytes}
 use Rattle.covbook.specs.Op.{OpData, ReportOp, SummaryOp, ExtractOp, RemoveOp}
@@ -68,10 +68,6 @@ chosen_or_all (Some choice) = choice
 -- the words of the limits, as covlimit has them
 abbrev pub limits_of : Limits → LimitsData
 limits_of limits = record { lines = limits.lines; functions = limits.functions; branches = limits.branches }
-
--- at least one limit is given
-abbrev pub has_limit : LimitsData → Bool
-has_limit limits = is_some limits.lines || is_some limits.functions || is_some limits.branches
 
 -- what `summary` asks in words: the summary, or if there is a limit, the totals that are compared with it
 abbrev pub words_asked : LimitsData → Option ChoiceData → QuestionData

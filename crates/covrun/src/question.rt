@@ -8,7 +8,6 @@ ghost use Rattle.covbook.specs.Op.{SummaryOp};
 ghost use Rattle.covbook.specs.Step.{next_entry};
 ghost use Rattle.covrun.specs.Ending.{asked_text, totals_text as totals_text_of};
 ghost use Rattle.covrun.specs.Work.{ChosenList};
-ghost use Rattle.covrun.specs.Work.{has_limit as has_limit_of};
 
 use covbook::Op;
 use covcommand::TotalsForm;
@@ -80,7 +79,7 @@ impl Question {
     fn words(limits: Limits, choice: Option<Choice>) -> Question
         ensures { question_data result ≡ words_asked (limits_data limits) (option_map choice_data choice) }
     {
-        if has_limit(&limits) {
+        if limits.has_limit() {
             return Question::LimitedTotals {
                 form: TotalsForm::Words,
                 choice: choice.unwrap_or(Choice::All),
@@ -152,13 +151,6 @@ impl Question {
             _ => Ok(Bytes::new(alloc)),
         }
     }
-}
-
-/// Whether there is a limit.
-fn has_limit(limits: &Limits) -> bool
-    ensures { result ≡ has_limit_of (limits_data limits.now) }
-{
-    limits.lines.is_some() || limits.functions.is_some() || limits.branches.is_some()
 }
 
 /// The totals in this form.

@@ -26,8 +26,8 @@ section_of_items file name items = record { test = name; file = file; items = it
 abbrev pub files_with : List ℕ → List ℕ → List (List ℕ × TestData) → TestData → FileIndexData → List (List ℕ × FileData) → List (List ℕ × FileData)
 files_with file name tests test index files = put (slice_cmp nat_cmp) file (file_with (put (slice_cmp nat_cmp) name test tests) index) files
 
--- whatever the other files are: the test and the index afterwards are those with these items added, and the items clash with
--- nothing
+-- the items clash with nothing, and adding them to the test and the index gives `test_after` and `index_after`. This holds
+-- whatever the other files are
 abbrev pub Adds : List ItemData → TestData → FileIndexData → TestData → FileIndexData → Type 0
 Adds items test index test_after index_after =
     (rows : List Row) (files : List (List ℕ × FileData)) (file name : List ℕ) (tests : List (List ℕ × TestData)) → IsIn rows files file name tests test index

@@ -92,7 +92,7 @@ impl<A: Allocator + Copy> FileIndex<A> {
         self.checksums.rollback();
     }
 
-    /// Commits what is staged. A kind of points doesn't change if its counts follow a test.
+    /// Commits the staged checksums, and the staged counts of each kind of points unless they follow a test.
     pub(crate) fn commit_counts(&mut self)
         ensures staged { index_staged self.new ≡ index_staged self.old }
         ensures same { FollowsTheSame self.old self.new }
@@ -104,7 +104,7 @@ impl<A: Allocator + Copy> FileIndex<A> {
         self.checksums.commit();
     }
 
-    /// Forgets what is staged. A kind of points doesn't change if its counts follow a test.
+    /// Forgets the staged checksums, and the staged counts of each kind of points unless they follow a test.
     pub(crate) fn rollback_counts(&mut self)
         ensures committed { index_committed self.new ≡ index_committed self.old }
         ensures same { FollowsTheSame self.old self.new }

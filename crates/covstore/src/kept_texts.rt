@@ -105,7 +105,7 @@ impl<A: Allocator> KeptTexts<A> {
     }
 }
 
-/// Appends a text, and stages its index as the index of the line's text.
+/// Appends a text, and stages its index as the index of the line's text. If that is refused, the text stays in the list.
 fn push<A: Allocator + Copy>(
     places: &mut StagedMap<u64, u64, A>,
     texts: &mut Vec<Bytes<A>, A>,
