@@ -125,6 +125,13 @@ impl<W: io::Write> FromWrite<W> {
             failed: 0,
         }
     }
+
+    /// The writer, with the bytes that the sink has taken. It isn't flushed.
+    pub fn into_inner(self) -> W
+        ensures { W.contents result ≡ ⟦<FromWrite<W> as Sink>⟧.written self }
+    {
+        self.writer
+    }
 }
 
 impl<W: io::Write> Sink for FromWrite<W> {
