@@ -30,7 +30,6 @@
 #![tactic(auto)]
 
 mod all_files;
-mod all_files;
 mod boxed;
 mod checksums;
 mod content;
