@@ -1,7 +1,10 @@
 -- What a call asks for, given the subcommand that clap reads from its words and what clap found for that subcommand's arguments.
-use Rattle.std.specs.Prelude.{◌≡◌, ◌≤◌, ◌++◌, ℕ, List, [], Option, Some, None, codes, length, unwrap_or}
+use Rattle.std.specs.Prelude.{◌≡◌, ◌≤◌, ◌++◌, ℕ, List, [], Option, Some, None, String, codes, length, option_map, unwrap_or}
+use Rattle.std.specs.Option.{option_map_or}
 use Rattle.std.specs.Str.Parse.{digits_value, without_leading_plus}
+use Rattle.std.specs.String.{string_bytes}
 use Rattle.clap.specs.Walk.{Row, Text, all_of, first_of, one_of}
+use Rattle.covcommand.specs.declared.asked.Asked.{Asked}
 use Rattle.covcommand.specs.declared.asked.Command.{Command}
 use Rattle.covcommand.specs.declared.asked.Command.TheVariants.{Session, Merge, Summary, Extract, Remove, Gcov, Check}
 use Rattle.covcommand.specs.declared.asked.Command.TheVariants as commands
@@ -76,6 +79,30 @@ AsksFor met (Gcov test names) = (rows : List Row) × (met ≡ Some (codes "gcov"
     × (names ≡ values_of (codes "FILE") rows)
 AsksFor met (Check how names) = (rows : List Row) × (met ≡ Some (codes "check", rows))
     × IsFormatOf rows how × (names ≡ values_of (codes "FILE") rows)
+
+-- the word that clap found for `--output`, as it is, and `None` if the option isn't given
+abbrev pub IsOutputOf : List Row → Option String → Type 0
+IsOutputOf rows output = first_of (codes "output") rows ≡ option_map string_bytes output
+
+-- where the text of this command goes: to the file that `--output` names, or to standard output (`None`). The text of a session and
+-- of `check` goes to standard output
+abbrev pub GoesTo : List Row → Command → Option String → Type 0
+GoesTo rows Session output = output ≡ None
+GoesTo rows (Merge version jobs filter names) output = IsOutputOf rows output
+GoesTo rows (Summary version jobs filter form limits names) output = IsOutputOf rows output
+GoesTo rows (commands.List version jobs filter form names) output = IsOutputOf rows output
+GoesTo rows (Extract version names) output = IsOutputOf rows output
+GoesTo rows (Remove version names) output = IsOutputOf rows output
+GoesTo rows (Gcov test names) output = IsOutputOf rows output
+GoesTo rows (Check how names) output = output ≡ None
+
+-- the rows of the subcommand that clap reads from the words of a call, and none for a session
+abbrev pub rows_met : Option (Text × List Row) → List Row
+rows_met met = option_map_or (λ subcommand. subcommand.1) met []
+
+-- a call asks for this command, and for its text to go there
+abbrev pub AsksForAll : Option (Text × List Row) → Asked → Type 0
+AsksForAll met asked = AsksFor met asked.command × GoesTo (rows_met met) asked.command asked.output
 
 -- `merge`, `summary` and `list` have 1 to 64 jobs. Each subcommand has at least one name, and `extract` and `remove` have at
 -- least two

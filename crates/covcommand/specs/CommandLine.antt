@@ -30,6 +30,15 @@ jobs = record (new_rule (codes "jobs")) {
   defaults = codes "1" ∷ [];
 }
 
+-- `--output FILE` or `-o FILE`. It may be given once, or not at all. 111 is the code of `o`
+abbrev pub output : Rule
+output = record (new_rule (codes "output")) {
+  long = Some (codes "output");
+  short = Some 111;
+  value_names = 1;
+  action = Some Set;
+}
+
 -- `--test NAME`, which has to be given
 abbrev pub test : Rule
 test = record (new_rule (codes "test")) {
@@ -71,11 +80,11 @@ limit id = record (new_rule id) {
   action = Some Set;
 }
 
--- a subcommand that takes tracefiles, a number of jobs, and patterns of source files: `merge`, and with more options `summary`
--- and `list`
+-- a subcommand that takes tracefiles, a number of jobs, a file for its text, and patterns of source files: `merge`, and with more
+-- options `summary` and `list`
 abbrev pub merging : Text → App
-merging name = with_rule (with_rule (with_rule (with_rule (with_rule (new_app name) (several (codes "FILE"))) jobs) lcov2)
-    (patterns (codes "include"))) (patterns (codes "exclude"))
+merging name = with_rule (with_rule (with_rule (with_rule (with_rule (with_rule (new_app name) (several (codes "FILE"))) jobs) output)
+    lcov2) (patterns (codes "include"))) (patterns (codes "exclude"))
 
 abbrev pub merge : App
 merge = merging (codes "merge")
@@ -91,9 +100,10 @@ summary = with_rule (with_rule (with_rule (listing (codes "summary")) (limit (co
 abbrev pub list : App
 list = listing (codes "list")
 
--- a subcommand that takes a tracefile and patterns: `extract` and `remove`
+-- a subcommand that takes a tracefile, patterns, and a file for its text: `extract` and `remove`
 abbrev pub filtering : Text → App
-filtering name = with_rule (with_rule (with_rule (new_app name) (single (codes "TRACEFILE"))) (several (codes "PATTERN"))) lcov2
+filtering name = with_rule (with_rule (with_rule (with_rule (new_app name) (single (codes "TRACEFILE"))) (several (codes "PATTERN")))
+    output) lcov2
 
 abbrev pub extract : App
 extract = filtering (codes "extract")
@@ -102,7 +112,7 @@ abbrev pub remove : App
 remove = filtering (codes "remove")
 
 abbrev pub gcov : App
-gcov = with_rule (with_rule (new_app (codes "gcov")) (several (codes "FILE"))) test
+gcov = with_rule (with_rule (with_rule (new_app (codes "gcov")) (several (codes "FILE"))) test) output
 
 abbrev pub check : App
 check = with_rule (with_rule (with_rule (new_app (codes "check")) (several (codes "FILE"))) annotated) lcov2

@@ -3,6 +3,15 @@
 use crate::names::Names;
 use covline::Bytes;
 
+/// What the words of a call ask for: a command, and where its text goes.
+#[derive(Drop)]
+pub struct Asked {
+    /// The command.
+    pub command: Command,
+    /// The path of the file that the text goes to, or `None`: to standard output.
+    pub output: Option<String>,
+}
+
 /// What a call of the program asks for.
 #[derive(Drop)]
 pub enum Command {

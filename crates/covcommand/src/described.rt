@@ -67,7 +67,8 @@ fn listing<'a>(alloc: Global, name: &'a str) -> Result<Command<'a>, AllocError>
     merging(alloc, name)?.arg(json(alloc))
 }
 
-/// A command that takes tracefiles, which jobs may read at once, and patterns of the source files to keep and to leave out.
+/// A command that takes tracefiles, which jobs may read at once, a file for its text, and patterns of the source files to keep and
+/// to leave out.
 fn merging<'a>(alloc: Global, name: &'a str) -> Result<Command<'a>, AllocError>
     ensures { IfOk result (HasNoGlobals (line.merging name.entry.now)) }
 {
@@ -75,6 +76,7 @@ fn merging<'a>(alloc: Global, name: &'a str) -> Result<Command<'a>, AllocError>
     merging
         .arg(several(alloc, "FILE", help::TRACEFILES))?
         .arg(jobs(alloc))?
+        .arg(output(alloc))?
         .arg(lcov2(alloc))?
         .arg(patterns(alloc, "include", help::INCLUDE))?
         .arg(patterns(alloc, "exclude", help::EXCLUDE))
@@ -94,7 +96,7 @@ fn remove<'a>(alloc: Global) -> Result<Command<'a>, AllocError>
     Ok(remove.about(help::REMOVE).after_help(help::REMOVE_END))
 }
 
-/// A command that takes a tracefile and patterns.
+/// A command that takes a tracefile, patterns, and a file for its text.
 fn filter<'a>(alloc: Global, name: &'a str) -> Result<Command<'a>, AllocError>
     ensures { IfOk result (HasNoGlobals (line.filtering name.entry.now)) }
 {
@@ -102,6 +104,7 @@ fn filter<'a>(alloc: Global, name: &'a str) -> Result<Command<'a>, AllocError>
     filter
         .arg(tracefile(alloc))?
         .arg(several(alloc, "PATTERN", help::PATTERNS))?
+        .arg(output(alloc))?
         .arg(lcov2(alloc))
 }
 
@@ -112,7 +115,8 @@ fn gcov<'a>(alloc: Global) -> Result<Command<'a>, AllocError>
         .about(help::GCOV)
         .after_help(help::GCOV_END);
     gcov.arg(several(alloc, "FILE", help::SOURCES))?
-        .arg(test(alloc))
+        .arg(test(alloc))?
+        .arg(output(alloc))
 }
 
 fn check<'a>(alloc: Global) -> Result<Command<'a>, AllocError>
@@ -160,6 +164,18 @@ fn jobs<'a>(alloc: Global) -> Arg<'a>
         .value_parser(value_parser!(u32).range(1..=64))
         .default_value("1")
         .help(help::JOBS)
+}
+
+/// `--output FILE` or `-o FILE`, the file that the text goes to.
+fn output<'a>(alloc: Global) -> Arg<'a>
+    ensures { IsRule line.output result }
+{
+    Arg::new(alloc, "output")
+        .short('o')
+        .long("output")
+        .value_name("FILE")
+        .action(ArgAction::Set)
+        .help(help::OUTPUT)
 }
 
 /// `--test NAME`, the name of a test.

@@ -152,6 +152,9 @@ pub(crate) const CHECKED: &str = "Tracefiles, looked at in this order";
 /// The help of `--jobs`.
 pub(crate) const JOBS: &str = "Files read at once, from 1 to 64";
 
+/// The help of `--output`.
+pub(crate) const OUTPUT: &str = "Write to FILE, which may be one of the inputs";
+
 /// The help of `--test`.
 pub(crate) const TEST: &str = "The test that the counts are of; --test= is the empty name";
 

@@ -8,7 +8,7 @@
 //!
 //! ```text
 //! pub fn merge_of(alloc: Global, words: &[String]) -> Result<Option<(u32, Names)>, CommandFault> {
-//!     match command(alloc, words)? {
+//!     match command(alloc, words)?.command {
 //!         Command::Merge { jobs, names, .. } => Ok(Some((jobs, names))),
 //!         _ => Ok(None),
 //!     }
@@ -25,7 +25,7 @@ mod names;
 mod parsing;
 mod word;
 
-pub use asked::{Command, LcovVersion, Limits, SourceFilter, TextFormat, TotalsForm};
+pub use asked::{Asked, Command, LcovVersion, Limits, SourceFilter, TextFormat, TotalsForm};
 pub use fault::CommandFault;
 pub use help::VERSION;
 pub use laws::{

@@ -4,12 +4,12 @@ ghost use Rattle.std.specs.Prelude.{◌≡◌, ◌≤◌, ◌++◌, [], IfOk, If
 ghost use Rattle.std.specs.String.{string_bytes};
 ghost use Rattle.clap.specs.Words.{rows_of, found_of, subcommand_of, takes, fault_of, first_of};
 ghost use Rattle.covcommand.specs.CommandLine.{covcollect};
-ghost use Rattle.covcommand.specs.Asked.{AreLimitsOf, AsksFor, IsFilterOf, IsFormOf, IsFormatOf, IsInBounds, IsLimitOf, IsNumberOf, IsVersionOf, tracefile_and_patterns, values_of};
+ghost use Rattle.covcommand.specs.Asked.{AreLimitsOf, AsksFor, GoesTo, IsFilterOf, IsFormOf, IsFormatOf, IsInBounds, IsLimitOf, IsNumberOf, IsOutputOf, IsVersionOf, rows_met, tracefile_and_patterns, values_of};
 ghost use Rattle.covcommand.specs.Found.{Fits, HasFilter, HasFlag, HasJobs, HasSome, HasTest};
 ghost use Rattle.covcommand.specs.Fault.{IsFaultAmong};
 ghost use Rattle.covcommand.specs.declared.fault.CommandFault.TheVariants as faults;
 
-use crate::asked::{Command, LcovVersion, Limits, SourceFilter, TextFormat, TotalsForm};
+use crate::asked::{Asked, Command, LcovVersion, Limits, SourceFilter, TextFormat, TotalsForm};
 use crate::described::described;
 use crate::fault::CommandFault;
 use crate::names::Names;
@@ -21,9 +21,10 @@ use std::alloc::Global;
 ///
 /// Faults: `Help` or `Version` if the words ask for one of these, `Line` if they don't fit, each with its text; and `Memory`. If
 /// clap takes the words, `Memory` is the only fault.
-pub fn command(alloc: Global, words: &[String]) -> Result<Command, CommandFault>
-    ensures asks { IfOk result (AsksFor (subcommand_of covcollect (map string_bytes words.now))) }
-    ensures bounds { IfOk result IsInBounds }
+pub fn command(alloc: Global, words: &[String]) -> Result<Asked, CommandFault>
+    ensures asks { IfOk result (λ asked. AsksFor (subcommand_of covcollect (map string_bytes words.now)) asked.command) }
+    ensures output { IfOk result (λ asked. GoesTo (rows_met (subcommand_of covcollect (map string_bytes words.now))) asked.command asked.output) }
+    ensures bounds { IfOk result (λ asked. IsInBounds asked.command) }
     ensures fits { IfOk result (λ _. fault_of covcollect (map string_bytes words.now) ≡ []) }
     ensures takes { takes covcollect (map string_bytes words.now) ≡ true
         → IfErr result (λ f. f ≡ faults.Memory) }
@@ -34,8 +35,48 @@ pub fn command(alloc: Global, words: &[String]) -> Result<Command, CommandFault>
         Err(error) => return Err(CommandFault::of(alloc, &error)),
     };
     match matches.subcommand() {
-        Some((name, found)) => command_from(alloc, name, found),
-        None => Ok(Command::Session),
+        Some((name, found)) => asked_from(alloc, name, found),
+        None => Ok(Asked {
+            command: Command::Session,
+            output: None,
+        }),
+    }
+}
+
+/// What the subcommand of this name asks for, and where its text goes.
+fn asked_from(alloc: Global, name: &str, found: &ArgMatches<'_>) -> Result<Asked, CommandFault>
+    requires { Fits name.now (rows_of (found_of found.now)) }
+    ensures asks { IfOk result (λ asked. AsksFor (Some (name.now, rows_of (found_of found.now))) asked.command) }
+    ensures output { IfOk result (λ asked. GoesTo (rows_of (found_of found.now)) asked.command asked.output) }
+    ensures bounds { IfOk result (λ asked. IsInBounds asked.command) }
+    ensures memory { IfErr result (λ f. f ≡ faults.Memory) }
+{
+    let command = command_from(alloc, name, found)?;
+    let output = output_for(alloc, &command, found)?;
+    Ok(Asked { command, output })
+}
+
+/// Where the text of the command goes, by what clap found for its arguments.
+fn output_for(
+    alloc: Global,
+    command: &Command,
+    found: &ArgMatches<'_>,
+) -> Result<Option<String>, Memory>
+    ensures { IfOk result (GoesTo (rows_of (found_of found.now)) command.now) }
+{
+    match command {
+        Command::Session | Command::Check { .. } => Ok(None),
+        _ => output_of(alloc, found),
+    }
+}
+
+/// The word that clap found for `--output`, or `None` if the option isn't given.
+fn output_of(alloc: Global, found: &ArgMatches<'_>) -> Result<Option<String>, Memory>
+    ensures { IfOk result (IsOutputOf (rows_of (found_of found.now))) }
+{
+    match found.get_str("output") {
+        Some(path) => Ok(Some(String::from_str(alloc, path)?)),
+        None => Ok(None),
     }
 }
 
