@@ -23,7 +23,7 @@ use covcommand::{CommandFault, word_at};
 pub use covlaws::{
     a_merge_of_merges_is_the_merge_of_all, each_report_of_a_history_reads_back, reports_read_back,
 };
-use covrun::{FromFiles, refuse, run};
+use covrun::{FromFiles, IntoFiles, refuse, run};
 use covsession::{FromRead, FromWrite};
 use std::env::FillError;
 use std::io;
@@ -39,6 +39,7 @@ fn main(rt: HostRuntime) -> ExitCode {
             &rt,
             &FromFiles::new(&rt),
             words.as_slice(),
+            &mut IntoFiles::new(&rt),
             &mut input,
             &mut output,
             &mut faults,

@@ -174,7 +174,7 @@ told_next : (folder : FolderData) (format : TextFormat) (files : List (List ℕ)
     → TellsEach folder format files (Ok so_far) a b → TellsOne folder format file (Ok verdict) b d
     → TellsEach folder format (files ++ file ∷ []) (Ok (worse so_far verdict)) a d
 told_next folder format files file so_far verdict a b d before (inl (ran_out, unchanged)) = absurd cc
-told_next folder format files file so_far verdict a b d (outcomes, all, (same, is, lines, good, says)) (inr (outcome, fits, (is', line, good', says'))) =
+told_next folder format files file so_far verdict a b d (outcomes, all, (same, is, lines, good, sent, says)) (inr (outcome, fits, (is', line, good', sent', says'))) =
     let longer : length (outcomes ++ outcome ∷ []) ≡ length outcomes + 1 = length-append outcomes (outcome ∷ []) in (
       outcomes ++ outcome ∷ [],
       pairs_more (becomes folder format) files [] outcomes file outcome same all fits,
@@ -184,6 +184,7 @@ told_next folder format files file so_far verdict a b d (outcomes, all, (same, i
         subst (Appends a.output d.output) (each_next line_told files [] outcomes file outcome same)
             (Appends-trans a.output b.output d.output _ _ lines line),
         good' ∙ good,
+        λ none. sent' (sent none),
         subst (λ (n : ℕ). Says n (check_complaints (files ++ file ∷ []) (outcomes ++ outcome ∷ [])) a d) (sym longer)
             (subst (λ (ws : List ℕ). Says (length outcomes + 1) ws a d) (each_next complaint_told files [] outcomes file outcome same)
             (says_next (length outcomes) 1 _ _ a b d says says')),
@@ -193,7 +194,7 @@ told_next folder format files file so_far verdict a b d (outcomes, all, (same, i
 -- memory ran out before the next file was reported
 told_without_room : (folder : FolderData) (format : TextFormat) (files rest : List (List ℕ)) (file : List ℕ) (so_far : CheckVerdict) (a b d : SinksData)
     → TellsEach folder format files (Ok so_far) a b → d ≡ b → TellsEach folder format (files ++ file ∷ rest) (Err faults.Memory) a d
-told_without_room folder format files rest file so_far a b d (outcomes, all, (same, is, lines, good, says)) unchanged =
+told_without_room folder format files rest file so_far a b d (outcomes, all, (same, is, lines, good, sent, says)) unchanged =
     let front : zip (files ++ file ∷ rest) outcomes ≡ zip files outcomes = zip_front files (file ∷ rest) outcomes same in
     subst (λ (s : SinksData). TellsEach folder format (files ++ file ∷ rest) (Err faults.Memory) a s) (sym unchanged) (
       outcomes,
@@ -211,7 +212,7 @@ told_until : (folder : FolderData) (format : TextFormat) (files rest : List (Lis
     → TellsEach folder format files (Ok so_far) a b → TellsOne folder format file (Err fault) b d
     → TellsEach folder format (files ++ file ∷ rest) (Err fault) a d
 told_until folder format files rest file so_far faults.Write a b d before (inl (ran_out, unchanged)) = absurd cc
-told_until folder format files rest file so_far faults.Write a b d (outcomes, all, (same, is, lines, good, says)) (inr (outcome, fits, (begun, failed, says'))) =
+told_until folder format files rest file so_far faults.Write a b d (outcomes, all, (same, is, lines, good, sent, says)) (inr (outcome, fits, (begun, failed, says'))) =
     let longer : length (outcomes ++ outcome ∷ []) ≡ length outcomes + 1 = length-append outcomes (outcome ∷ []) in (
       outcomes ++ outcome ∷ [],
       pairs_more (becomes folder format) files rest outcomes file outcome same all fits,

@@ -26,12 +26,15 @@ use Rattle.covcommand.specs.declared.asked.TotalsForm.TheVariants as forms
 use Rattle.covrun.specs.WorkFault.{IsRefusal, of_work}
 use Rattle.covrun.specs.declared.work.WorkFault.{WorkFault}
 use Rattle.covrun.specs.declared.work.WorkFault.TheVariants.{Words, Memory}
-use Rattle.covcommand.specs.declared.fault.CommandFault.{CommandFault}
-use Rattle.covrun.specs.Call.{StopsEarly, AreTexts, IsUnreadable, WorkEnds, IsTaskDone, IsEndingPrinted, of_line}
+use Rattle.covrun.specs.Call.{StopsEarly, AreTexts, IsUnreadable, WorkEnds, IsTaskDone, IsCutShort, IsEndingPrinted, IsEndingReported, IsEndingWritten, IsUnwritten, IsWritten}
 use Rattle.covrun.specs.Check.{IsCheck}
 use Rattle.covrun.specs.Folder.{FolderData}
-use Rattle.covrun.specs.Streams.{SourceData, SinksData, sinks}
-use Rattle.covrun.specs.Ending.{EndingData, Prints, FallsShort, Unreadable, Stopped, of_collect, of_collected, complaints, refusal_line, ran_out, text_in, text_at, last_text, asked_shortfalls, asked_text, list_text, unless_any, with_shortfalls}
+use Rattle.covrun.specs.OutputFiles.{OutputFilesData}
+use Rattle.covrun.specs.Streams.{SourceData, SinksData, Complains, PutsOut, sinks}
+use Rattle.covrun.specs.View.{failure_data}
+use Rattle.covrun.specs.declared.ending.Failure.{Failure}
+use Rattle.covrun.specs.declared.ending.Failure.TheVariants as failures
+use Rattle.covrun.specs.Ending.{EndingData, Prints, FallsShort, Unreadable, Stopped, of_collect, of_collected, complaint, complaints, refusal_line, ran_out, shortfall_status, status_of, text_in, text_at, last_text, asked_shortfalls, asked_text, list_text, unless_any, with_shortfalls}
 use Rattle.covlimit.specs.Limits.{has_limit}
 use Rattle.covrun.specs.Work.{QuestionData, Answer, ChosenReport, ChosenSummary, LimitedTotals, ChosenList, last_of, choice_of, chosen_or_all, asked_of, limits_of, summary_asked, WorkData, TaskData, Serves, Collects, Checks, task_of}
 use Rattle.covcommand.specs.declared.asked.TextFormat.{TextFormat}
@@ -218,33 +221,69 @@ asks_text command work is = subst AsksText (sym is) (asks_text_of command)
 -- ---- how a call ends
 
 -- if the ending of the work was reported, the task of collecting is done
-pub told_work : (folder : FolderData) (work : WorkData) (task : TaskData) (ending : EndingData) (status : ℕ) (before after : SourceData) (old new : SinksData)
-    → after ≡ before → Collects work ≡ task → WorkEnds folder work ending → IsEndingPrinted ending status old new → IsTaskDone folder task status before after old new
-told_work folder work task ending status before after old new unread is ends told =
-    subst (λ (t : TaskData). IsTaskDone folder t status before after old new) is (unread, ending, ends, told)
+pub told_work : (folder : FolderData) (work : WorkData) (task : TaskData) (file named : Option (List ℕ)) (ending : EndingData) (status : ℕ) (before after : SourceData) (old new : SinksData) (files written : OutputFilesData)
+    → after ≡ before → Collects work ≡ task → named ≡ file → WorkEnds folder work ending → IsEndingReported named ending status old new files written → IsTaskDone folder task file status before after old new files written
+told_work folder work task file named ending status before after old new files written unread is same ends told =
+    subst (λ (t : TaskData). IsTaskDone folder t file status before after old new files written) is
+    (unread, ending, ends, subst (λ (f : Option (List ℕ)). IsEndingReported f ending status old new files written) same told)
 
 -- if files were checked, the task of a check is done
-pub told_check : (folder : FolderData) (format : TextFormat) (files named : List (List ℕ)) (task : TaskData) (status : ℕ) (before after : SourceData) (old new : SinksData)
-    → after ≡ before → named ≡ files → Checks format files ≡ task → IsCheck folder format named status old new → IsTaskDone folder task status before after old new
-told_check folder format files named task status before after old new unread same is checked =
-    subst (λ (t : TaskData). IsTaskDone folder t status before after old new) is
-    (unread, subst (λ (fs : List (List ℕ)). IsCheck folder format fs status old new) same checked)
-
--- if the words form no command, the ending for this fault is reported
-pub told_line : (fault : CommandFault) (ending : EndingData) → ending ≡ of_line fault → (status : ℕ) (old new : SinksData) → IsEndingPrinted ending status old new
-    → IsEndingPrinted (of_line fault) status old new
-told_line fault ending is status old new told = subst (λ (e : EndingData). IsEndingPrinted e status old new) is told
+pub told_check : (folder : FolderData) (format : TextFormat) (names named : List (List ℕ)) (task : TaskData) (file : Option (List ℕ)) (status : ℕ) (before after : SourceData) (old new : SinksData) (files : OutputFilesData)
+    → after ≡ before → named ≡ names → Checks format names ≡ task → IsCheck folder format named status old new → IsTaskDone folder task file status before after old new files files
+told_check folder format names named task file status before after old new files unread same is checked =
+    subst (λ (t : TaskData). IsTaskDone folder t file status before after old new files files) is
+    (unread, refl, subst (λ (ns : List (List ℕ)). IsCheck folder format ns status old new) same checked)
 
 -- if the work doesn't begin, the call ends early
 pub stops_early : (command : Command) (fault : WorkFault) (ending : EndingData) → ending ≡ of_work fault → IsRefusal command fault → StopsEarly command ending
 stops_early command (Words fault) ending is refused = inr (fault, is, refused)
 stops_early command Memory ending is refused = inl is
 
--- the ending of a file that can't be read is reported: its complaint and the status 1
-pub told_unreadable : (asked : EndingData) (name : List ℕ) → asked ≡ Unreadable name → (status : ℕ) → status ≡ 1
-    → (output : Option (List ℕ)) (failed_output : ℕ) (before after : Option (List ℕ)) (fails fails_after : ℕ) (words : List ℕ)
-    → words ≡ name ++ said (codes ": can't read") → (fails_after ≡ fails → Appends before after words)
-    → IsEndingPrinted asked status (sinks output failed_output before fails) (sinks output failed_output after fails_after)
-told_unreadable asked name is status one output failed_output before after fails fails_after words spelled complained =
-    subst (λ (e : EndingData). IsEndingPrinted e status (sinks output failed_output before fails) (sinks output failed_output after fails_after)) (sym is)
-    (one, (refl, refl), λ good. subst (λ (ws : List ℕ). Appends before after ws) spelled (complained good))
+-- a failure is reported by its status and its complaint alone
+pub failure_printed : (failure : Failure) (status : ℕ) → status ≡ status_of (failure_data failure)
+    → (output : Option (List ℕ)) (held failed : ℕ) (before after : Option (List ℕ)) (fails fails_after : ℕ)
+    → (fails_after ≡ fails → Appends before after (complaint (failure_data failure)))
+    → IsEndingPrinted (failure_data failure) status (sinks output held failed before fails) (sinks output held failed after fails_after)
+failure_printed (failures.Words fault) status is output held failed before after fails fails_after said = (is, (refl, refl, refl), said)
+failure_printed (failures.Unreadable name) status is output held failed before after fails fails_after said = (is, (refl, refl, refl), said)
+failure_printed (failures.Stopped fault) status is output held failed before after fails fails_after said = (is, (refl, refl, refl), said)
+failure_printed failures.Ungathered status is output held failed before after fails fails_after said = (is, (refl, refl, refl), said)
+failure_printed (failures.Refused lines) status is output held failed before after fails fails_after said = (is, (refl, refl, refl), said)
+
+-- a failure writes no file
+pub failure_reported : (file : Option (List ℕ)) (failure : Failure) (status : ℕ) (old new : SinksData) (files : OutputFilesData)
+    → IsEndingPrinted (failure_data failure) status old new → IsEndingReported file (failure_data failure) status old new files files
+failure_reported None failure status old new files printed = (printed, refl)
+failure_reported (Some name) (failures.Words fault) status old new files printed = (printed, refl)
+failure_reported (Some name) (failures.Unreadable file) status old new files printed = (printed, refl)
+failure_reported (Some name) (failures.Stopped fault) status old new files printed = (printed, refl)
+failure_reported (Some name) failures.Ungathered status old new files printed = (printed, refl)
+failure_reported (Some name) (failures.Refused lines) status old new files printed = (printed, refl)
+
+-- a text was printed, and what is said of its rates after it
+pub answer_printed : (lines text : List ℕ) (status : ℕ) → status ≡ shortfall_status lines → (old new : SinksData) → PutsOut text old new
+    → (lines ≡ [] → (new.faults ≡ old.faults) × (new.failed_faults ≡ old.failed_faults)) → Complains lines old new
+    → IsEndingPrinted (with_shortfalls lines text) status old new
+answer_printed [] text status is old new put none told = inl (is, put, none refl)
+answer_printed (b ∷ lines) text status is old new put none told = inl (is, put, told)
+
+-- a write of the text failed
+pub answer_cut_short : (lines text : List ℕ) (status : ℕ) (old new : SinksData) → IsCutShort text status old new → IsEndingPrinted (with_shortfalls lines text) status old new
+answer_cut_short [] text status old new short = inr short
+answer_cut_short (b ∷ lines) text status old new short = inr short
+
+-- a text was written into a file, and what is said of its rates after that
+pub answer_written : (name lines text : List ℕ) (status : ℕ) → status ≡ shortfall_status lines → (files written : OutputFilesData) → IsWritten name text files written
+    → (output : Option (List ℕ)) (held failed : ℕ) (before after : Option (List ℕ)) (fails fails_after : ℕ)
+    → (lines ≡ [] → (after ≡ before) × (fails_after ≡ fails)) → (fails_after ≡ fails → Appends before after lines)
+    → IsEndingWritten name (with_shortfalls lines text) status (sinks output held failed before fails) (sinks output held failed after fails_after) files written
+answer_written name [] text status is files written done output held failed before after fails fails_after none told =
+    inl (is, (λ k. sinks output held failed ((none refl).0 k) ((none refl).1 k)), done)
+answer_written name (b ∷ lines) text status is files written done output held failed before after fails fails_after none told =
+    inl (is, (refl, refl, refl), told, done)
+
+-- the file couldn't be written
+pub answer_unwritten : (name lines text : List ℕ) (status : ℕ) (old new : SinksData) (files written : OutputFilesData) → IsUnwritten name status old new files written
+    → IsEndingWritten name (with_shortfalls lines text) status old new files written
+answer_unwritten name [] text status old new files written unwritten = inr unwritten
+answer_unwritten name (b ∷ lines) text status old new files written unwritten = inr unwritten

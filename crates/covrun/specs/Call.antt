@@ -1,6 +1,6 @@
 -- What one call of the program does: the order in which it looks for faults, and what it writes to its streams.
 use Rattle.std.specs.List.{AllByRecursion}
-use Rattle.std.specs.Prelude.{◌≡◌, ◌⊎◌, ◌≤◌, ℕ, suc, List, [], ◌∷◌, ◌++◌, length, map, Result, Ok, Err, IfOk, IfErr, true}
+use Rattle.std.specs.Prelude.{◌≡◌, ◌⊎◌, ◌≤◌, ℕ, suc, List, [], ◌∷◌, ◌++◌, length, map, option_map, codes, Option, Some, None, Result, Ok, Err, IfOk, IfErr, true}
 use Rattle.std.specs.String.{string_bytes}
 use Rattle.clap.specs.Words.{subcommand_of, takes, fault_of}
 use Rattle.covread.specs.Outcome.{max_bytes}
@@ -12,9 +12,10 @@ use Rattle.covjobs.specs.Start.{AreJobs}
 use Rattle.covjobs.specs.declared.collect_fault.CollectFault.{CollectFault}
 use Rattle.covjobs.specs.declared.collect_fault.CollectFault.TheVariants as collects
 use Rattle.covjobs.specs.declared.refused.RefusedInput.{RefusedInput}
-use Rattle.covcommand.specs.Asked.{AsksFor, IsInBounds}
+use Rattle.covcommand.specs.Asked.{AsksFor, GoesTo, IsInBounds, rows_met}
 use Rattle.covcommand.specs.CommandLine.{covcollect}
 use Rattle.covcommand.specs.Fault.{IsFaultAmong}
+use Rattle.covcommand.specs.declared.asked.Asked.{Asked}
 use Rattle.covcommand.specs.declared.asked.Command.{Command}
 use Rattle.covcommand.specs.declared.fault.CommandFault.{CommandFault}
 use Rattle.covcommand.specs.declared.fault.CommandFault.TheVariants as line
@@ -26,7 +27,9 @@ use Rattle.covrun.specs.declared.argument_fault.ArgumentFault.{ArgumentFault}
 use Rattle.covrun.specs.Ending.{EndingData, Prints, FallsShort, BadLine, BadWords, Unreadable, Stopped, status_of, complaint, of_collect, of_collected}
 use Rattle.covrun.specs.Work.{WorkData, TaskData, Serves, Collects, Checks, last_of, task_of, input_of, AreTaken, AreRefused}
 use Rattle.covrun.specs.Check.{IsCheck}
+use Rattle.covlist.specs.Shown.{shown_name}
 use Rattle.covrun.specs.Folder.{FolderData, AreTextsOf}
+use Rattle.covrun.specs.OutputFiles.{OutputFilesData, Finishes}
 use Rattle.covrun.specs.Streams.{SourceData, SinksData, Complains, Withholds, Delivers, DeliversAndComplains}
 
 -- there is one text for each file. A text has at most one byte more than the limit. If the folder knows a file's bytes, the
@@ -94,39 +97,70 @@ IsEndingPrinted (FallsShort text lines) status old new =
     ((status ≡ status_of (FallsShort text lines)) × DeliversAndComplains text lines old new) ⊎ IsCutShort text status old new
 IsEndingPrinted ending status old new = (status ≡ status_of ending) × Withholds old new × Complains (complaint ending) old new
 
--- what covcommand makes of the words: this command, or this fault
-pub record AreParsed (words : List (List ℕ)) (parsed : Result Command CommandFault) : Type 0 where
-  pub asks : IfOk parsed (AsksFor (subcommand_of covcollect words))
-  pub bounds : IfOk parsed IsInBounds
-  pub fits : IfOk parsed (λ command. fault_of covcollect words ≡ [])
+-- the text went into a file of this name, which was finished
+abbrev pub IsWritten : (name text : List ℕ) → OutputFilesData → OutputFilesData → Type 0
+IsWritten name text files after = Finishes name text files.finished after.finished × (after.failed ≡ files.failed)
+
+-- the file of this name couldn't be written. No file was finished, and the failure is reported
+abbrev pub IsUnwritten : (name : List ℕ) → (status : ℕ) → SinksData → SinksData → OutputFilesData → OutputFilesData → Type 0
+IsUnwritten name status old new files after =
+    (status ≡ 1) × (after.finished ≡ files.finished) × (after.failed ≡ suc files.failed) × Withholds old new
+    × Complains (shown_name name ++ said (codes ": can't write")) old new
+
+-- how an ending is reported if the call names a file for its text: the text goes into the file instead of to the output. For an
+-- ending without a text no file is written
+abbrev pub IsEndingWritten : (name : List ℕ) → EndingData → (status : ℕ) → SinksData → SinksData → OutputFilesData → OutputFilesData → Type 0
+IsEndingWritten name (Prints text) status old new files after =
+    ((status ≡ status_of (Prints text)) × (new ≡ old) × IsWritten name text files after)
+    ⊎ IsUnwritten name status old new files after
+IsEndingWritten name (FallsShort text lines) status old new files after =
+    ((status ≡ status_of (FallsShort text lines)) × Withholds old new × Complains lines old new × IsWritten name text files after)
+    ⊎ IsUnwritten name status old new files after
+IsEndingWritten name ending status old new files after = IsEndingPrinted ending status old new × (after ≡ files)
+
+-- how an ending is reported. `file`: the name of the file that the call names for its text
+abbrev pub IsEndingReported : (file : Option (List ℕ)) → EndingData → (status : ℕ) → SinksData → SinksData → OutputFilesData → OutputFilesData → Type 0
+IsEndingReported None ending status old new files after = IsEndingPrinted ending status old new × (after ≡ files)
+IsEndingReported (Some name) ending status old new files after = IsEndingWritten name ending status old new files after
+
+-- what covcommand makes of the words: this command and the file for its text, or this fault
+pub record AreParsed (words : List (List ℕ)) (parsed : Result Asked CommandFault) : Type 0 where
+  pub asks : IfOk parsed (λ asked. AsksFor (subcommand_of covcollect words) asked.command)
+  pub output : IfOk parsed (λ asked. GoesTo (rows_met (subcommand_of covcollect words)) asked.command asked.output)
+  pub bounds : IfOk parsed (λ asked. IsInBounds asked.command)
+  pub fits : IfOk parsed (λ asked. fault_of covcollect words ≡ [])
   pub taken : takes covcollect words ≡ true → IfErr parsed (λ fault. fault ≡ line.Memory)
   pub told : IfErr parsed (IsFaultAmong (fault_of covcollect words))
 
 -- what a call does for its task. A session reads the input; the other tasks don't. Collecting files has an ending, which is
--- reported. Checking files reports each file
-abbrev pub IsTaskDone : FolderData → TaskData → (status : ℕ) → (before after : SourceData) → SinksData → SinksData → Type 0
-IsTaskDone folder Serves status before after old new =
-    TellsSession status before.left after.left old.output new.output old.faults new.faults
+-- reported. Checking files reports each file. Only collecting writes a file
+abbrev pub IsTaskDone : FolderData → TaskData → (file : Option (List ℕ)) → (status : ℕ) → (before after : SourceData) → SinksData → SinksData → OutputFilesData → OutputFilesData → Type 0
+IsTaskDone folder Serves file status before after old new files written =
+    (written ≡ files)
+    × TellsSession status before.left after.left old.output new.output old.faults new.faults
     (calls before.reads before.failed_reads old.failed_output) (calls after.reads after.failed_reads new.failed_output)
     old.failed_faults new.failed_faults
-IsTaskDone folder (Collects work) status before after old new =
-    (after ≡ before) × (ending : EndingData) × WorkEnds folder work ending × IsEndingPrinted ending status old new
-IsTaskDone folder (Checks format files) status before after old new = (after ≡ before) × IsCheck folder format files status old new
+IsTaskDone folder (Collects work) file status before after old new files written =
+    (after ≡ before) × (ending : EndingData) × WorkEnds folder work ending × IsEndingReported file ending status old new files written
+IsTaskDone folder (Checks format names) file status before after old new files written =
+    (after ≡ before) × (written ≡ files) × IsCheck folder format names status old new
 
 -- a command ends early, and the input isn't read; or its words are accepted, and its task is done
-abbrev pub IsCommandDone : FolderData → Command → (status : ℕ) → (before after : SourceData) → SinksData → SinksData → Type 0
-IsCommandDone folder command status before after old new =
-    ((after ≡ before) × (ending : EndingData) × StopsEarly command ending × IsEndingPrinted ending status old new)
-    ⊎ (AreTaken command × IsTaskDone folder (task_of command) status before after old new)
+abbrev pub IsCommandDone : FolderData → Command → (file : Option (List ℕ)) → (status : ℕ) → (before after : SourceData) → SinksData → SinksData → OutputFilesData → OutputFilesData → Type 0
+IsCommandDone folder command file status before after old new files written =
+    ((after ≡ before) × (written ≡ files) × (ending : EndingData) × StopsEarly command ending × IsEndingPrinted ending status old new)
+    ⊎ (AreTaken command × IsTaskDone folder (task_of command) file status before after old new files written)
 
 -- what a call does after its words are parsed. If they form a command, the command is done. If they form none, the fault is
 -- reported, and the input isn't read
-abbrev pub IsCallDone : FolderData → Result Command CommandFault → (status : ℕ) → (before after : SourceData) → SinksData → SinksData → Type 0
-IsCallDone folder (Ok command) status before after old new = IsCommandDone folder command status before after old new
-IsCallDone folder (Err fault) status before after old new = (after ≡ before) × IsEndingPrinted (of_line fault) status old new
+abbrev pub IsCallDone : FolderData → Result Asked CommandFault → (status : ℕ) → (before after : SourceData) → SinksData → SinksData → OutputFilesData → OutputFilesData → Type 0
+IsCallDone folder (Ok asked) status before after old new files written =
+    IsCommandDone folder asked.command (option_map string_bytes asked.output) status before after old new files written
+IsCallDone folder (Err fault) status before after old new files written =
+    (after ≡ before) × (written ≡ files) × IsEndingPrinted (of_line fault) status old new
 
--- one call of the program: the folder whose files it reads, its words, its exit status, its input before and after, and its two
--- output streams before and after
-abbrev pub IsCall : FolderData → (words : List (List ℕ)) → (status : ℕ) → (before after : SourceData) → SinksData → SinksData → Type 0
-IsCall folder words status before after old new =
-    (parsed : Result Command CommandFault) × AreParsed words parsed × IsCallDone folder parsed status before after old new
+-- one call of the program: the folder whose files it reads, its words, its exit status, its input before and after, its two output
+-- streams before and after, and the files that it writes, before and after
+abbrev pub IsCall : FolderData → (words : List (List ℕ)) → (status : ℕ) → (before after : SourceData) → SinksData → SinksData → OutputFilesData → OutputFilesData → Type 0
+IsCall folder words status before after old new files written =
+    (parsed : Result Asked CommandFault) × AreParsed words parsed × IsCallDone folder parsed status before after old new files written

@@ -100,12 +100,13 @@ check_status outcomes =
     else if list_any is_refused outcomes then 4
     else if list_any is_empty outcomes then 5 else 0
 
--- all files were checked: the output has their lines, the stream for faults has the complaints, and the status is that of the
--- worst outcome
+-- all files were checked: the output has their lines and holds nothing back, the stream for faults has the complaints, and the
+-- status is that of the worst outcome
 pub record IsWholeCheck (files : List (List ℕ)) (outcomes : List OutcomeData) (status : ℕ) (old new : SinksData) : Type 0 where
   pub all : length outcomes ≡ length files
   pub ends : status ≡ check_status outcomes
   pub lines : Appends old.output new.output (check_lines files outcomes)
+  pub sent : old.held ≡ 0 → new.held ≡ 0
   pub written : new.failed_output ≡ old.failed_output
   pub complaints : Complains (check_complaints files outcomes) old new
 

@@ -63,7 +63,7 @@ Says most words old new =
 abbrev pub ReportsFile : (shown : List ℕ) → OutcomeData → Result CheckVerdict SessionFault → SinksData → SinksData → Type 0
 ReportsFile shown outcome (Ok verdict) old new =
     (verdict ≡ verdict_of outcome) × Appends old.output new.output (outcome_line shown outcome)
-    × (new.failed_output ≡ old.failed_output) × Says 1 (outcome_complaint shown outcome) old new
+    × (new.failed_output ≡ old.failed_output) × (old.held ≡ 0 → new.held ≡ 0) × Says 1 (outcome_complaint shown outcome) old new
 ReportsFile shown outcome (Err faults.Write) old new =
     HasBegun old.output new.output (outcome_line shown outcome)
     × (new.failed_output ≡ suc old.failed_output) × Says 1 (outcome_complaint shown outcome) old new
@@ -94,7 +94,7 @@ abbrev pub TellsAll : TextFormat → (files : List (List ℕ)) → List OutcomeD
 TellsAll format files outcomes (Ok verdict) old new =
     (length outcomes ≡ length files) × (verdict ≡ worst_of outcomes)
     × Appends old.output new.output (check_lines files outcomes) × (new.failed_output ≡ old.failed_output)
-    × Says (length outcomes) (check_complaints files outcomes) old new
+    × (old.held ≡ 0 → new.held ≡ 0) × Says (length outcomes) (check_complaints files outcomes) old new
 TellsAll format files outcomes (Err faults.Write) old new =
     EndsWithin files outcomes old new
     × (new.failed_output ≡ suc old.failed_output) × Says (length outcomes) (check_complaints files outcomes) old new

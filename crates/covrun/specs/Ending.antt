@@ -51,6 +51,11 @@ status_of (Stopped fault) = fault_status fault
 status_of Ungathered = 3
 status_of (Refuses lines) = 4
 
+-- the exit status of a call that prints its text: 6 if there are lines that say which rates are below their limits
+abbrev pub shortfall_status : (lines : List ℕ) → ℕ
+shortfall_status [] = 0
+shortfall_status (b ∷ bs) = 6
+
 abbrev pub argument_fault_name : ArgumentFault → List ℕ
 argument_fault_name arguments.TooMany = codes "TooMany"
 argument_fault_name arguments.TooLong = codes "TooLong"

@@ -11,16 +11,19 @@ pub record SourceData : Type 0 where
 abbrev pub source : Option (List ℕ) → (reads failed_reads : ℕ) → SourceData
 source left reads failed_reads = record { left = left; reads = reads; failed_reads = failed_reads }
 
--- the two streams that a call writes to: the bytes each has taken, if these are known, and how many writes to it failed
+-- the two streams that a call writes to: the bytes each has taken, if these are known, and how many writes to it failed. `held`:
+-- how many bytes the output may still hold back
 pub record SinksData : Type 0 where
   pub output : Option (List ℕ)
+  pub held : ℕ
   pub failed_output : ℕ
   pub faults : Option (List ℕ)
   pub failed_faults : ℕ
 
-abbrev pub sinks : Option (List ℕ) → ℕ → Option (List ℕ) → ℕ → SinksData
-sinks output failed_output faults failed_faults = record {
+abbrev pub sinks : Option (List ℕ) → (held failed_output : ℕ) → Option (List ℕ) → (failed_faults : ℕ) → SinksData
+sinks output held failed_output faults failed_faults = record {
   output = output;
+  held = held;
   failed_output = failed_output;
   faults = faults;
   failed_faults = failed_faults;
@@ -32,15 +35,17 @@ Complains words old new = new.failed_faults ≡ old.failed_faults → Appends ol
 
 -- nothing was written to the output
 abbrev pub Withholds : SinksData → SinksData → Type 0
-Withholds old new = (new.output ≡ old.output) × (new.failed_output ≡ old.failed_output)
+Withholds old new = (new.output ≡ old.output) × (new.held ≡ old.held) × (new.failed_output ≡ old.failed_output)
+
+-- the whole text went to the output, which holds nothing back
+abbrev pub PutsOut : List ℕ → SinksData → SinksData → Type 0
+PutsOut text old new =
+    Appends old.output new.output text × (new.held ≡ 0) × (new.failed_output ≡ old.failed_output)
 
 -- the whole text went to the output, and nothing to the stream for faults
 abbrev pub Delivers : List ℕ → SinksData → SinksData → Type 0
-Delivers text old new =
-    Appends old.output new.output text × (new.failed_output ≡ old.failed_output)
-    × (new.faults ≡ old.faults) × (new.failed_faults ≡ old.failed_faults)
+Delivers text old new = PutsOut text old new × (new.faults ≡ old.faults) × (new.failed_faults ≡ old.failed_faults)
 
 -- the whole text went to the output, and these words to the stream for faults
 abbrev pub DeliversAndComplains : (text words : List ℕ) → SinksData → SinksData → Type 0
-DeliversAndComplains text words old new =
-    Appends old.output new.output text × (new.failed_output ≡ old.failed_output) × Complains words old new
+DeliversAndComplains text words old new = PutsOut text old new × Complains words old new

@@ -1,17 +1,17 @@
 -- Values of the code, seen as plain data.
-use Rattle.std.specs.String.{string_bytes}
 use Rattle.covbook.specs.View.{op_data}
 use Rattle.covreport.specs.ChoiceView.{choice_data}
 use Rattle.covlimit.specs.LimitsView.{limits_data}
 use Rattle.covrun.specs.Work.{QuestionData, Answer, ChosenReport, ChosenSummary, LimitedTotals, ChosenList, WorkData, TaskData, Serves, Collects, Checks}
-use Rattle.covrun.specs.Ending.{EndingData, Prints, FallsShort, BadLine, BadWords, Unreadable, Stopped, Ungathered, Refuses}
+use Rattle.covrun.specs.Ending.{EndingData, BadWords, Unreadable, Stopped, Ungathered, Refuses, with_shortfalls}
 use Rattle.covrun.specs.declared.question.Question.{Question}
 use Rattle.covrun.specs.declared.question.Question.TheVariants as questions
 use Rattle.covrun.specs.declared.work.Work.{Work}
 use Rattle.covrun.specs.declared.work.Task.{Task}
 use Rattle.covrun.specs.declared.work.Task.TheVariants as tasks
-use Rattle.covrun.specs.declared.ending.Ending.{Ending}
-use Rattle.covrun.specs.declared.ending.Ending.TheVariants as endings
+use Rattle.covrun.specs.declared.ending.ReadyAnswer.{ReadyAnswer}
+use Rattle.covrun.specs.declared.ending.Failure.{Failure}
+use Rattle.covrun.specs.declared.ending.Failure.TheVariants as failures
 
 abbrev pub question_data : Question → QuestionData
 question_data (questions.Answer op) = Answer (op_data op)
@@ -28,13 +28,12 @@ task_data tasks.Session = Serves
 task_data (tasks.Collect work) = Collects (work_data work)
 task_data (tasks.Check format files) = Checks format files
 
-abbrev pub ending_data : Ending → EndingData
-ending_data (endings.Done text) = Prints text
-ending_data (endings.Short text lines) = FallsShort text lines
-ending_data (endings.Help text) = Prints (string_bytes text)
-ending_data (endings.Line text) = BadLine (string_bytes text)
-ending_data (endings.Words fault) = BadWords fault
-ending_data (endings.Unreadable name) = Unreadable name.now
-ending_data (endings.Stopped fault) = Stopped fault
-ending_data endings.Ungathered = Ungathered
-ending_data (endings.Refused lines) = Refuses lines.items
+abbrev pub ready_data : ReadyAnswer → EndingData
+ready_data answer = with_shortfalls answer.shortfalls answer.text
+
+abbrev pub failure_data : Failure → EndingData
+failure_data (failures.Words fault) = BadWords fault
+failure_data (failures.Unreadable name) = Unreadable name.now
+failure_data (failures.Stopped fault) = Stopped fault
+failure_data failures.Ungathered = Ungathered
+failure_data (failures.Refused lines) = Refuses lines.items

@@ -177,6 +177,7 @@ pub(crate) fn print_text<O: Sink>(
     requires few { O.failed_writes output.old < 2 ^ 62 }
     requires empty { block ≡ [] }
     ensures written { OnOk result (Appends (O.written output.old) (O.written output.new) text.entry) }
+    ensures sent { OnOk result (O.held output.new ≡ 0) }
     ensures good { OnOk result (O.failed_writes output.new ≡ O.failed_writes output.old) }
     ensures failed { OnErr result (O.failed_writes output.new ≡ suc (O.failed_writes output.old)) }
     ensures begun { OnErr result (HasBegun (O.written output.old) (O.written output.new) text.entry) }

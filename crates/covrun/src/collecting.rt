@@ -1,6 +1,6 @@
 //! A subcommand's work: collects its files, decides how the call ends, and reports that.
 
-ghost use Rattle.std.specs.Prelude.{◌≡◌, ◌⊎◌, ◌<◌, ◌^◌, ◌++◌, [], ◌∷◌, map, slice_get, IfOk, OnOk, IfErr};
+ghost use Rattle.std.specs.Prelude.{◌≡◌, ◌⊎◌, ◌<◌, ◌^◌, ◌++◌, [], ◌∷◌, map, option_map, slice_get, IfOk, OnOk, IfErr};
 ghost use Rattle.std.specs.List.{flat_map};
 ghost use Rattle.std.specs.String.{string_bytes};
 ghost use Rattle.covbook.specs.EntryView.{entry_data};
@@ -9,17 +9,19 @@ ghost use Rattle.covbook.specs.Texts.{IsText};
 ghost use Rattle.covbook.specs.View.{answer_data};
 ghost use Rattle.covsession.specs.Session.{clash_text};
 ghost use Rattle.covsession.specs.declared.session.fault.SessionFault.TheVariants as session_faults;
-ghost use Rattle.covrun.specs.Call.{IsEndingPrinted, WorkEnds};
+ghost use Rattle.covrun.specs.Call.{IsEndingReported, WorkEnds};
 ghost use Rattle.covrun.specs.Ending.{EndingData, Stopped, of_collected, asked_shortfalls, asked_text, complaints, refusal_line, ran_out, name_at, with_shortfalls};
 ghost use Rattle.covrun.specs.Folder.{folder_data};
+ghost use Rattle.covrun.specs.OutputFiles.{output_files};
 ghost use Rattle.covrun.specs.Streams.{sinks};
-ghost use Rattle.covrun.specs.View.{ending_data, question_data, work_data};
+ghost use Rattle.covrun.specs.View.{failure_data, question_data, ready_data, work_data};
 ghost use Rattle.covrun.specs.Work.{last_of};
 
-use crate::ending::{Ending, ending_of_collect};
+use crate::ending::{Failure, ReadyAnswer, failure_of_collect};
 use crate::file_input::file_inputs;
 use crate::folder::Folder;
-use crate::output::report_ending;
+use crate::output::{report_answer, report_failure};
+use crate::output_folder::OutputFolder;
 use crate::question::Question;
 use crate::ready_text::ReadyText;
 use crate::work::Work;
@@ -32,111 +34,93 @@ use std::sync::Wait;
 use std::thread::Threads;
 
 /// Does the work, reports the call's ending, and returns the exit status. A job reads a file when the file's turn comes, and then
-/// frees the file's text. A tracefile that is asked for is made from the book piece by piece, while it is printed.
-pub(crate) fn do_work<R: Threads + Wait + Sync, F: Folder<File: Send> + Sync, O: Sink, E: Sink>(
+/// frees the file's text. A tracefile that is asked for is made from the book piece by piece, while it is printed. `file`: the
+/// name of the file that the text goes into, if the call names one.
+pub(crate) fn do_work<
+    R: Threads + Wait + Sync,
+    F: Folder<File: Send> + Sync,
+    P: OutputFolder,
+    O: Sink,
+    E: Sink,
+>(
     rt: &R,
     folder: &F,
     alloc: Global,
     work: &Work,
+    file: Option<&str>,
+    files: &mut P,
     output: &mut O,
     faults: &mut E,
 ) -> u8
     requires text { IsText (last_of (question_data work.now.asks)) }
+    requires files { P.failed files.old < 2 ^ 62 }
     requires output { O.failed_writes output.old < 2 ^ 62 }
     requires faults { E.failed_writes faults.old < 2 ^ 62 }
     ensures { (ending : EndingData)
         × WorkEnds (folder_data (F.holds folder.now) (F.may_refuse folder.now) (F.may_open folder.now) F.File.left F.File.failed_reads) (work_data work.now) ending
-        × IsEndingPrinted ending result
-        (sinks (O.written output.old) (O.failed_writes output.old) (E.written faults.old) (E.failed_writes faults.old))
-        (sinks (O.written output.new) (O.failed_writes output.new) (E.written faults.new) (E.failed_writes faults.new)) }
+        × IsEndingReported (option_map (λ name. name.now) file) ending result
+        (sinks (O.written output.old) (O.held output.old) (O.failed_writes output.old) (E.written faults.old) (E.failed_writes faults.old))
+        (sinks (O.written output.new) (O.held output.new) (O.failed_writes output.new) (E.written faults.new) (E.failed_writes faults.new))
+        (output_files (P.finished files.old) (P.failed files.old))
+        (output_files (P.finished files.new) (P.failed files.new)) }
 {
-    let files = work.files.get();
-    let Ok(inputs) = file_inputs(folder, alloc, &work.format, files) else {
-        return report_ending(Ending::Stopped(SessionFault::Memory), output, faults);
+    let names = work.files.get();
+    let Ok(inputs) = file_inputs(folder, alloc, &work.format, names) else {
+        return report_failure(Failure::Stopped(SessionFault::Memory), faults);
     };
     match collect_into_book(rt, alloc, inputs, work.jobs, &NoGate) {
-        Ok(collected) => report_ending(
-            ending_of_collected(alloc, files, &work.asks, &collected),
-            output,
-            faults,
-        ),
-        Err(IntoBookFault::Unread { index }) => report_ending(
-            Ending::Unreadable(file_name(files, index)),
-            output,
-            faults,
-        ),
-        Err(IntoBookFault::Collect(fault)) => {
-            report_ending(ending_of_collect(fault), output, faults)
+        Ok(collected) => match answer_of(alloc, names, &work.asks, &collected) {
+            Ok(answer) => report_answer(alloc, answer, file, files, output, faults),
+            Err(failure) => report_failure(failure, faults),
+        },
+        Err(IntoBookFault::Unread { index }) => {
+            report_failure(Failure::Unreadable(file_name(names, index)), faults)
         }
+        Err(IntoBookFault::Collect(fault)) => report_failure(failure_of_collect(fault), faults),
     }
 }
 
-/// The ending of a call after its files are collected. `asks` is what is asked then. It is `Stopped` if memory runs out.
-fn ending_of_collected<'a>(
+/// The answer of a call after its files are collected, or why it has none. `asks` is what is asked then. It is `Stopped` if memory
+/// runs out. All memory for printing the answer is already reserved.
+fn answer_of<'a>(
     alloc: Global,
     files: &[String],
     asks: &Question,
     collected: &'a CollectedBook,
-) -> Ending<'a>
+) -> Result<ReadyAnswer<'a>, Failure<'a>>
     requires { IsText (last_of (question_data asks.now)) }
-    ensures { (ending_data result ≡ Stopped session_faults.Memory) ⊎ (ending_data result ≡ of_collected (map string_bytes files.now) (question_data asks.now)
+    ensures answer { IfOk result (λ answer. ready_data answer ≡ of_collected (map string_bytes files.now) (question_data asks.now)
         (collected.now.book.entries ++ next_entry collected.now.book.entries 0 (last_of (question_data asks.now)) ∷ []) collected.now.refused) }
-{
-    match ending_with_room(alloc, files, asks, collected) {
-        Ok(ending) => ending,
-        Err(fault) => Ending::Stopped(fault),
-    }
-}
-
-/// As `ending_of_collected`, but the fault `Memory` is returned if memory runs out here. All memory for reporting the ending is
-/// already reserved.
-fn ending_with_room<'a>(
-    alloc: Global,
-    files: &[String],
-    asks: &Question,
-    collected: &'a CollectedBook,
-) -> Result<Ending<'a>, SessionFault>
-    requires { IsText (last_of (question_data asks.now)) }
-    ensures ending { IfOk result (λ ending. ending_data ending ≡ of_collected (map string_bytes files.now) (question_data asks.now)
-        (collected.now.book.entries ++ next_entry collected.now.book.entries 0 (last_of (question_data asks.now)) ∷ []) collected.now.refused) }
-    ensures fault { IfErr result (λ fault. fault ≡ session_faults.Memory) }
+    ensures failure { IfErr result (λ failure. (failure_data failure ≡ Stopped session_faults.Memory)
+        ⊎ (failure_data failure ≡ of_collected (map string_bytes files.now) (question_data asks.now)
+        (collected.now.book.entries ++ next_entry collected.now.book.entries 0 (last_of (question_data asks.now)) ∷ []) collected.now.refused)) }
 {
     if has_run_out(collected.refused.get()) {
-        return Ok(Ending::Stopped(SessionFault::Memory));
+        return Err(Failure::Stopped(SessionFault::Memory));
     }
     let lines = complaint_lines(alloc, files, collected)?;
     if lines.is_empty() {
-        return answered(alloc, asks, collected);
+        Ok(answered(alloc, asks, collected)?)
+    } else {
+        Err(Failure::Refused(lines))
     }
-    Ok(Ending::Refused(lines))
 }
 
-/// The ending of a call whose files are all accepted: what is asked is printed.
+/// The answer to what is asked, with the lines on rates that are below their limits.
 fn answered<'a>(
     alloc: Global,
     asks: &Question,
     collected: &'a CollectedBook,
-) -> Result<Ending<'a>, SessionFault>
+) -> Result<ReadyAnswer<'a>, SessionFault>
     requires { IsText (last_of (question_data asks.now)) }
-    ensures ending { IfOk result (λ ending. ending_data ending ≡ with_shortfalls
+    ensures answer { IfOk result (λ answer. ready_data answer ≡ with_shortfalls
         (asked_shortfalls (question_data asks.now) (collected.now.book.entries ++ next_entry collected.now.book.entries 0 (last_of (question_data asks.now)) ∷ []))
         (asked_text (question_data asks.now) (collected.now.book.entries ++ next_entry collected.now.book.entries 0 (last_of (question_data asks.now)) ∷ []))) }
     ensures fault { IfErr result (λ fault. fault ≡ session_faults.Memory) }
 {
-    let lines = asks.shortfalls(alloc, collected)?;
+    let shortfalls = asks.shortfalls(alloc, collected)?;
     let text = ReadyText::of(alloc, asks.printing(alloc, collected)?)?;
-    Ok(ending_with(text, lines))
-}
-
-/// The ending that prints the text, and says the lines on rates that are below their limits, if there are such lines.
-fn ending_with<'a>(text: ReadyText<'a>, lines: Bytes) -> Ending<'a>
-    ensures { ending_data result ≡ with_shortfalls lines text.entry }
-{
-    if lines.get().is_empty() {
-        Ending::Done(text)
-    } else {
-        Ending::Short { text, lines }
-    }
+    Ok(ReadyAnswer { text, shortfalls })
 }
 
 /// The lines of the refused inputs, and then of the clashes.

@@ -1,30 +1,29 @@
 //! How a call with a subcommand ends.
 
 ghost use Rattle.std.specs.Prelude.{◌≡◌};
-ghost use Rattle.covrun.specs.Call.{of_line};
 ghost use Rattle.covrun.specs.Ending.{of_collect};
-ghost use Rattle.covrun.specs.View.{ending_data};
+ghost use Rattle.covrun.specs.View.{failure_data};
 ghost use Rattle.covrun.specs.WorkFault.{of_work};
 
 use crate::argument_fault::ArgumentFault;
 use crate::ready_text::ReadyText;
 use crate::work::WorkFault;
-use covcommand::CommandFault;
 use covjobs::CollectFault;
 use covline::Bytes;
 use covsession::SessionFault;
 
-/// How a call with a subcommand ends: this decides its exit status and what it writes.
+/// A call's answer, ready to be printed.
 #[derive(Drop)]
-pub(crate) enum Ending<'a> {
-    /// This text, which was asked for, is printed.
-    Done(ReadyText<'a>),
-    /// This text, which was asked for, is printed. These lines say which rates are below their limits.
-    Short { text: ReadyText<'a>, lines: Bytes },
-    /// Help, or the version, is printed.
-    Help(String),
-    /// The words don't fit the command line.
-    Line(String),
+pub(crate) struct ReadyAnswer<'a> {
+    /// The text that was asked for.
+    pub(crate) text: ReadyText<'a>,
+    /// The lines that say which rates are below their limits. They are empty if no rate is.
+    pub(crate) shortfalls: Bytes,
+}
+
+/// Why a call has no answer: this decides its exit status and what it writes.
+#[derive(Drop)]
+pub(crate) enum Failure<'a> {
     /// The patterns, the limits, the test's name or the number of jobs are refused.
     Words(ArgumentFault),
     /// This file can't be read.
@@ -37,35 +36,36 @@ pub(crate) enum Ending<'a> {
     Refused(Vec<u8>),
 }
 
-/// The ending of a call whose words form no command.
-pub(crate) fn ending_of_line<'a>(fault: CommandFault) -> Ending<'a>
-    ensures { ending_data result ≡ of_line fault }
+/// Why a call has no answer if its texts weren't collected.
+pub(crate) fn failure_of_collect<'a>(fault: CollectFault) -> Failure<'a>
+    ensures { failure_data result ≡ of_collect fault }
 {
     match fault {
-        CommandFault::Help(text) | CommandFault::Version(text) => Ending::Help(text),
-        CommandFault::Line(text) => Ending::Line(text),
-        CommandFault::Memory => Ending::Stopped(SessionFault::Memory),
+        CollectFault::BadJobs => Failure::Words(ArgumentFault::BadJobs),
+        CollectFault::Full => Failure::Stopped(SessionFault::Full),
+        CollectFault::Memory => Failure::Stopped(SessionFault::Memory),
+        CollectFault::Gather(_) | CollectFault::NotLast => Failure::Ungathered,
     }
 }
 
-/// The ending of a call whose texts weren't collected.
-pub(crate) fn ending_of_collect<'a>(fault: CollectFault) -> Ending<'a>
-    ensures { ending_data result ≡ of_collect fault }
+/// Why a call has no answer if its work doesn't begin.
+pub(crate) fn failure_of_work<'a>(fault: WorkFault) -> Failure<'a>
+    ensures { failure_data result ≡ of_work fault }
 {
     match fault {
-        CollectFault::BadJobs => Ending::Words(ArgumentFault::BadJobs),
-        CollectFault::Full => Ending::Stopped(SessionFault::Full),
-        CollectFault::Memory => Ending::Stopped(SessionFault::Memory),
-        CollectFault::Gather(_) | CollectFault::NotLast => Ending::Ungathered,
+        WorkFault::Words(fault) => Failure::Words(fault),
+        WorkFault::Memory => Failure::Stopped(SessionFault::Memory),
     }
 }
 
-/// The ending of a call whose work doesn't begin.
-pub(crate) fn ending_of_work<'a>(fault: WorkFault) -> Ending<'a>
-    ensures { ending_data result ≡ of_work fault }
-{
-    match fault {
-        WorkFault::Words(fault) => Ending::Words(fault),
-        WorkFault::Memory => Ending::Stopped(SessionFault::Memory),
+impl<'a> From<SessionFault> for Failure<'a> {
+    ghost use Rattle.std.specs.Prelude.{◌≡◌};
+    ghost use Rattle.covrun.specs.Ending.{Stopped};
+    ghost use Rattle.covrun.specs.View.{failure_data};
+
+    ghost from_gives = { λ fault f. failure_data f ≡ Stopped fault };
+
+    fn from(fault: SessionFault) -> Failure<'a> {
+        Failure::Stopped(fault)
     }
 }

@@ -3,10 +3,11 @@
 //! `run` parses the command line (covcommand), and makes a `Task` of the command. Without a subcommand, the task is a session
 //! (covsession). For `check`, each file is read and reported by itself (`checked`). Any other subcommand is `Work`: covjobs
 //! collects its files in a book, and a job reads each file when its turn comes (`FileInput`). So at most one text for each job is
-//! in memory. The result of collecting becomes an `Ending`, which `report_ending` reports by an exit status and on the two output
-//! streams. If the ending is a text, the text is made while it is printed: it goes from the book to the output in blocks
-//! (`BlockPrinter`). All memory for printing is reserved before the first byte is written (`ReadyText`). Files are read from a
-//! `Folder` (`files`). `FromFiles` is the folder of std's files.
+//! in memory. The result of collecting is a `ReadyAnswer` or a `Failure`, which is reported by an exit status and on the two
+//! output streams. The text of an answer is made while it is printed: it goes from the book to the output in blocks
+//! (`BlockPrinter`). All memory for printing is reserved before the first byte is written (`ReadyText`). If the call names a file
+//! for its text (`--output`), the blocks go into that file (`write_file`). Files are read from a `Folder` (`files`), and written
+//! to an `OutputFolder`. `FromFiles` and `IntoFiles` are these for std's files.
 //!
 //! A sketch: the program's main function.
 //!
@@ -16,7 +17,15 @@
 //!     let mut output = FromWrite::new(io::writer(&rt));
 //!     let mut faults = FromWrite::new(rt.stderr());
 //!     ExitCode::from(match words_of_call(&rt) {
-//!         Ok(words) => run(&rt, &FromFiles::new(&rt), words.as_slice(), &mut input, &mut output, &mut faults),
+//!         Ok(words) => run(
+//!             &rt,
+//!             &FromFiles::new(&rt),
+//!             words.as_slice(),
+//!             &mut IntoFiles::new(&rt),
+//!             &mut input,
+//!             &mut output,
+//!             &mut faults,
+//!         ),
 //!         Err(fault) => refuse(fault, &mut output, &mut faults),
 //!     })
 //! }
@@ -34,11 +43,16 @@ mod file_input;
 mod files;
 mod folder;
 mod output;
+mod output_folder;
 mod program;
 mod question;
 mod ready_text;
+mod unfinished_file;
 mod work;
+mod written_file;
 
 pub use argument_fault::ArgumentFault;
 pub use folder::{Folder, FromFiles, Opened};
+pub use output_folder::{IntoFiles, OutputFault, OutputFolder};
 pub use program::{refuse, run};
+pub use unfinished_file::UnfinishedFile;

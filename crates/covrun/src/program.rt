@@ -1,18 +1,20 @@
 //! The program as a function.
 
-ghost use Rattle.std.specs.Prelude.{◌≡◌, ◌<◌, ◌^◌, map};
+ghost use Rattle.std.specs.Prelude.{◌≡◌, ◌<◌, ◌^◌, map, option_map};
 ghost use Rattle.std.specs.String.{string_bytes};
 ghost use Rattle.covrun.specs.Call.{of_line, IsCall, IsEndingPrinted, IsCommandDone};
 ghost use Rattle.covrun.specs.Folder.{folder_data};
+ghost use Rattle.covrun.specs.OutputFiles.{output_files};
 ghost use Rattle.covrun.specs.Streams.{sinks, source};
 
 use crate::checked::check_files;
 use crate::collecting::do_work;
-use crate::ending::{ending_of_line, ending_of_work};
+use crate::ending::failure_of_work;
 use crate::folder::Folder;
-use crate::output::report_ending;
+use crate::output::{report_failure, report_line};
+use crate::output_folder::OutputFolder;
 use crate::work::{Task, task_for};
-use covcommand::{Command, CommandFault, command};
+use covcommand::{Asked, CommandFault, command};
 use covsession::{Sink, Source, run_session};
 use std::alloc::{AllocGlobal, Global};
 use std::sync::Wait;
@@ -22,11 +24,14 @@ use std::thread::Threads;
 ///
 /// A call that collects files looks for faults in this order, given here with their exit statuses: the command line (2); the
 /// patterns, then the limits, or the test's name of `gcov` (2); the first file that can't be read (1); a fault of collecting (3),
-/// such as a full history; a text for which memory ran out (3); refused texts and clashes (4); a failed write to the output (1);
+/// such as a full history; a text for which memory ran out (3); refused texts and clashes (4); a failed write of the text (1);
 /// rates below their limits (6). `out of memory` (3) may end the call at any point before the first byte of its text. Only help,
 /// the version, or the text that is asked for goes to the output, and the text only after all faults but the last two are ruled
 /// out. The answer of a call that collects is written in blocks while it is made. If a write fails, the output has a beginning of
 /// the text.
+///
+/// If the call names a file for its text (`--output`), the text goes into that file instead. The file is one of `files`, and gets
+/// its name once its whole text is written. If a write fails, no file has changed.
 ///
 /// A call that checks files checks one after another. It writes a line to the output for each file that can be read, and
 /// complains about a file that can't be read or has no item. Its status is 1 if a file can't be read, else 4 if one is refused,
@@ -39,52 +44,103 @@ use std::thread::Threads;
 pub fn run<
     R: AllocGlobal + Threads + Wait + Sync,
     F: Folder<File: Send> + Sync,
+    P: OutputFolder,
     I: Source,
     O: Sink,
     E: Sink,
->(rt: &R, folder: &F, words: &[String], input: &mut I, output: &mut O, faults: &mut E) -> u8
-    requires reads { I.reads input.old < 2 ^ 62 }
-    requires failed_reads { I.failed_reads input.old < 2 ^ 62 }
-    requires failed_writes { O.failed_writes output.old < 2 ^ 62 }
-    requires failed_words { E.failed_writes faults.old < 2 ^ 62 }
-    ensures { IsCall (folder_data (F.holds folder.now) (F.may_refuse folder.now) (F.may_open folder.now) F.File.left F.File.failed_reads)
-        (map string_bytes words.now) result (source (I.left input.old) (I.reads input.old) (I.failed_reads input.old)) (source (I.left input.new) (I.reads input.new) (I.failed_reads input.new))
-        (sinks (O.written output.old) (O.failed_writes output.old) (E.written faults.old) (E.failed_writes faults.old))
-        (sinks (O.written output.new) (O.failed_writes output.new) (E.written faults.new) (E.failed_writes faults.new)) }
-{
-    let alloc = rt.alloc();
-    match command(alloc, words) {
-        Ok(asked) => run_command(rt, folder, alloc, asked, input, output, faults),
-        Err(fault) => report_ending(ending_of_line(fault), output, faults),
-    }
-}
-
-/// Does what the command asks for, and returns the exit status.
-fn run_command<R: Threads + Wait + Sync, F: Folder<File: Send> + Sync, I: Source, O: Sink, E: Sink>(
+>(
     rt: &R,
     folder: &F,
-    alloc: Global,
-    asked: Command,
+    words: &[String],
+    files: &mut P,
     input: &mut I,
     output: &mut O,
     faults: &mut E,
 ) -> u8
     requires reads { I.reads input.old < 2 ^ 62 }
     requires failed_reads { I.failed_reads input.old < 2 ^ 62 }
+    requires failed_files { P.failed files.old < 2 ^ 62 }
+    requires failed_writes { O.failed_writes output.old < 2 ^ 62 }
+    requires failed_words { E.failed_writes faults.old < 2 ^ 62 }
+    ensures { IsCall (folder_data (F.holds folder.now) (F.may_refuse folder.now) (F.may_open folder.now) F.File.left F.File.failed_reads)
+        (map string_bytes words.now) result (source (I.left input.old) (I.reads input.old) (I.failed_reads input.old)) (source (I.left input.new) (I.reads input.new) (I.failed_reads input.new))
+        (sinks (O.written output.old) (O.held output.old) (O.failed_writes output.old) (E.written faults.old) (E.failed_writes faults.old))
+        (sinks (O.written output.new) (O.held output.new) (O.failed_writes output.new) (E.written faults.new) (E.failed_writes faults.new))
+        (output_files (P.finished files.old) (P.failed files.old))
+        (output_files (P.finished files.new) (P.failed files.new)) }
+{
+    let alloc = rt.alloc();
+    match command(alloc, words) {
+        Ok(asked) => run_command(rt, folder, alloc, asked, files, input, output, faults),
+        Err(fault) => report_line(fault, output, faults),
+    }
+}
+
+/// Does what the command asks for, and returns the exit status.
+fn run_command<
+    R: Threads + Wait + Sync,
+    F: Folder<File: Send> + Sync,
+    P: OutputFolder,
+    I: Source,
+    O: Sink,
+    E: Sink,
+>(
+    rt: &R,
+    folder: &F,
+    alloc: Global,
+    asked: Asked,
+    files: &mut P,
+    input: &mut I,
+    output: &mut O,
+    faults: &mut E,
+) -> u8
+    requires reads { I.reads input.old < 2 ^ 62 }
+    requires failed_reads { I.failed_reads input.old < 2 ^ 62 }
+    requires failed_files { P.failed files.old < 2 ^ 62 }
     requires failed_writes { O.failed_writes output.old < 2 ^ 62 }
     requires failed_words { E.failed_writes faults.old < 2 ^ 62 }
     ensures { IsCommandDone (folder_data (F.holds folder.now) (F.may_refuse folder.now) (F.may_open folder.now) F.File.left F.File.failed_reads)
-        asked result (source (I.left input.old) (I.reads input.old) (I.failed_reads input.old)) (source (I.left input.new) (I.reads input.new) (I.failed_reads input.new))
-        (sinks (O.written output.old) (O.failed_writes output.old) (E.written faults.old) (E.failed_writes faults.old))
-        (sinks (O.written output.new) (O.failed_writes output.new) (E.written faults.new) (E.failed_writes faults.new)) }
+        asked.command (option_map string_bytes asked.output) result (source (I.left input.old) (I.reads input.old) (I.failed_reads input.old)) (source (I.left input.new) (I.reads input.new) (I.failed_reads input.new))
+        (sinks (O.written output.old) (O.held output.old) (O.failed_writes output.old) (E.written faults.old) (E.failed_writes faults.old))
+        (sinks (O.written output.new) (O.held output.new) (O.failed_writes output.new) (E.written faults.new) (E.failed_writes faults.new))
+        (output_files (P.finished files.old) (P.failed files.old))
+        (output_files (P.finished files.new) (P.failed files.new)) }
 {
-    match task_for(alloc, asked) {
+    let Asked {
+        command,
+        output: file,
+    } = asked;
+    match task_for(alloc, command) {
         Ok(Task::Session) => run_session(alloc, input, output, faults),
-        Ok(Task::Collect(work)) => do_work(rt, folder, alloc, &work, output, faults),
-        Ok(Task::Check { format, files }) => {
-            check_files(folder, alloc, format, files.get(), output, faults)
+        Ok(Task::Collect(work)) => {
+            do_work(
+                rt,
+                folder,
+                alloc,
+                &work,
+                name_of(&file),
+                files,
+                output,
+                faults,
+            )
         }
-        Err(fault) => report_ending(ending_of_work(fault), output, faults),
+        Ok(
+            Task::Check {
+                format,
+                files: names,
+            },
+        ) => { check_files(folder, alloc, format, names.get(), output, faults) }
+        Err(fault) => report_failure(failure_of_work(fault), faults),
+    }
+}
+
+/// The name of the file, if there is one.
+fn name_of(file: &Option<String>) -> Option<&str>
+    ensures { option_map (λ name. name.now) result ≡ option_map string_bytes file.now }
+{
+    match file {
+        Some(name) => Some(name.as_str()),
+        None => None,
     }
 }
 
@@ -93,8 +149,8 @@ pub fn refuse<O: Sink, E: Sink>(fault: CommandFault, output: &mut O, faults: &mu
     requires failed_writes { O.failed_writes output.old < 2 ^ 62 }
     requires failed_words { E.failed_writes faults.old < 2 ^ 62 }
     ensures { IsEndingPrinted (of_line fault) result
-        (sinks (O.written output.old) (O.failed_writes output.old) (E.written faults.old) (E.failed_writes faults.old))
-        (sinks (O.written output.new) (O.failed_writes output.new) (E.written faults.new) (E.failed_writes faults.new)) }
+        (sinks (O.written output.old) (O.held output.old) (O.failed_writes output.old) (E.written faults.old) (E.failed_writes faults.old))
+        (sinks (O.written output.new) (O.held output.new) (O.failed_writes output.new) (E.written faults.new) (E.failed_writes faults.new)) }
 {
-    report_ending(ending_of_line(fault), output, faults)
+    report_line(fault, output, faults)
 }

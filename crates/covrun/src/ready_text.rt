@@ -43,6 +43,7 @@ impl<'s> ReadyText<'s> {
     pub(crate) fn print<O: Sink>(self, output: &mut O) -> Result<(), SessionFault>
         requires { O.failed_writes output.old < 2 ^ 62 }
         ensures written { OnOk result (Appends (O.written output.old) (O.written output.new) self.entry) }
+        ensures sent { OnOk result (O.held output.new ≡ 0) }
         ensures good { OnOk result (O.failed_writes output.new ≡ O.failed_writes output.old) }
         ensures failed { OnErr result (O.failed_writes output.new ≡ suc (O.failed_writes output.old)) }
         ensures begun { OnErr result (HasBegun (O.written output.old) (O.written output.new) self.entry) }

@@ -5,11 +5,12 @@
 
 ghost use Rattle.std.specs.Prelude.{◌<◌, ◌^◌};
 
-use covrun::{FromFiles, run};
+use covrun::{FromFiles, IntoFiles, run};
 use covsession::{FromRead, FromWrite, Sink, Source};
 use std::alloc::Global;
 use std::fs;
 use std::process::Abort;
+use std::random::RandomSource;
 use std::rt::Files;
 use std::sync::Wait;
 use std::test::*;
@@ -24,13 +25,14 @@ mod folders;
 mod lcov2;
 mod limits;
 mod lists;
+mod outputs;
 mod printing;
 mod rates;
 
 /// Makes a call, and returns its exit status. This function promises nothing: a test looks at what a call does, and is proved
 /// more quickly this way.
 fn called<
-    R: Files<File: Send, Dir: Send> + AllocGlobal + Threads + Wait + Sync,
+    R: Files<File: Send, Dir: Send> + RandomSource + AllocGlobal + Threads + Wait + Sync,
     I: Source,
     O: Sink,
     E: Sink,
@@ -40,7 +42,15 @@ fn called<
     requires failed_writes { O.failed_writes output.old < 2 ^ 62 }
     requires failed_words { E.failed_writes faults.old < 2 ^ 62 }
 {
-    run(rt, &FromFiles::new(rt), words, input, output, faults)
+    run(
+        rt,
+        &FromFiles::new(rt),
+        words,
+        &mut IntoFiles::new(rt),
+        input,
+        output,
+        faults,
+    )
 }
 
 /// The exit status of a call, and what it wrote to its output and to the stream for faults.
@@ -52,7 +62,7 @@ struct Told {
 }
 
 /// Makes a call of these words, with this input.
-fn call<R: Files<File: Send, Dir: Send> + AllocGlobal + Threads + Wait + Sync>(
+fn call<R: Files<File: Send, Dir: Send> + RandomSource + AllocGlobal + Threads + Wait + Sync>(
     rt: &R,
     words: &[String],
     input: &[u8],
@@ -85,9 +95,10 @@ struct Said {
 /// A line `@ NAME` makes a file of the text before it. A line `$ STATUS WORDS` makes a call, with the text before it as input.
 /// The call has to end with this status. Lines before it that begin with `> ` are what it has to write to its output, and lines
 /// that begin with `! ` are what it has to write to the stream for faults. If the last of these lines ends in `...`, only what
-/// is before the `...` has to be there. A line `% HEX` appends these bytes to the text, without a line feed. Every other line is
+/// is before the `...` has to be there. A line `= NAME` says that the file has to hold the text before it, and a line `& NUMBER`
+/// that there have to be so many files. A line `% HEX` appends these bytes to the text, without a line feed. Every other line is
 /// appended to the text. In words, outputs and faults `~` is the folder.
-fn play<R: Files<File: Send, Dir: Send> + AllocGlobal + Threads + Wait + Abort + Sync>(
+fn play<R: Files<File: Send, Dir: Send> + RandomSource + AllocGlobal + Threads + Wait + Abort + Sync>(
     rt: &R,
     process: u32,
     script: &str,
@@ -107,7 +118,7 @@ fn play<R: Files<File: Send, Dir: Send> + AllocGlobal + Threads + Wait + Abort +
 }
 
 /// Does what a line of a script says.
-fn play_line<R: Files<File: Send, Dir: Send> + AllocGlobal + Threads + Wait + Abort + Sync>(
+fn play_line<R: Files<File: Send, Dir: Send> + RandomSource + AllocGlobal + Threads + Wait + Abort + Sync>(
     rt: &R,
     folder: &str,
     line: &str,
@@ -115,6 +126,10 @@ fn play_line<R: Files<File: Send, Dir: Send> + AllocGlobal + Threads + Wait + Ab
 ) -> Result<(), Fail> {
     if let Some(name) = line.strip_prefix("@ ") {
         make_file(rt, folder, name, said)
+    } else if let Some(name) = line.strip_prefix("= ") {
+        check_file(rt, folder, name, said)
+    } else if let Some(number) = line.strip_prefix("& ") {
+        check_number(rt, folder, number)
     } else if let Some(bytes) = line.strip_prefix("% ") {
         push_bytes(&mut said.text, bytes)
     } else if let Some(answer) = line.strip_prefix("> ") {
@@ -144,7 +159,7 @@ fn make_file<R: Files + AllocGlobal>(
 }
 
 /// Makes a call, and checks its status and what it wrote.
-fn make_call<R: Files<File: Send, Dir: Send> + AllocGlobal + Threads + Wait + Abort + Sync>(
+fn make_call<R: Files<File: Send, Dir: Send> + RandomSource + AllocGlobal + Threads + Wait + Abort + Sync>(
     rt: &R,
     folder: &str,
     asked: &str,
@@ -160,6 +175,37 @@ fn make_call<R: Files<File: Send, Dir: Send> + AllocGlobal + Threads + Wait + Ab
     said.text.clear();
     said.output.clear();
     said.faults.clear();
+    Ok(())
+}
+
+/// Checks that the file holds the text.
+fn check_file<R: Files + AllocGlobal + Abort>(
+    rt: &R,
+    folder: &str,
+    name: &str,
+    said: &mut Said,
+) -> Result<(), Fail> {
+    let path = format!(in rt.alloc(); "{folder}/{name}")?;
+    let held = fs::read(rt, path.as_str())?;
+    let shown: String = String::from_utf8_lossy(rt.alloc(), held.as_slice())?;
+    assert!(rt; held.as_slice() == said.text.as_slice(), "{name} holds: {shown}");
+    said.text.clear();
+    Ok(())
+}
+
+/// Checks how many files the folder has.
+fn check_number<R: Files<File: Send, Dir: Send> + AllocGlobal + Abort>(
+    rt: &R,
+    folder: &str,
+    wanted: &str,
+) -> Result<(), Fail> {
+    let mut number: usize = 0;
+    for entry in fs::read_dir(rt, folder)? {
+        drop(entry?);
+        number += 1;
+    }
+    let given = format!(in rt.alloc(); "{number}")?;
+    assert!(rt; given.as_str() == wanted, "there are {given} files");
     Ok(())
 }
 

@@ -5,6 +5,7 @@ ghost use Rattle.std.specs.Prelude.{None};
 use super::{called, check_text, play, words_of};
 use covsession::{Failed, FromRead, FromWrite, Sink, Source};
 use std::process::{self, Abort};
+use std::random::RandomSource;
 use std::rt::Files;
 use std::sync::Wait;
 use std::test::*;
@@ -136,7 +137,7 @@ impl Sink for Closed {
 }
 
 /// The exit status of a call with such an output, and what the call writes to the stream for faults.
-fn call_closed<R: Files<File: Send, Dir: Send> + AllocGlobal + Threads + Wait + Sync>(
+fn call_closed<R: Files<File: Send, Dir: Send> + RandomSource + AllocGlobal + Threads + Wait + Sync>(
     rt: &R,
     asked: &str,
     takes: bool,
@@ -161,7 +162,7 @@ fn call_closed<R: Files<File: Send, Dir: Send> + AllocGlobal + Threads + Wait + 
 
 /// Checks that a call with such an output ends with status 1, and writes `told` to the stream for faults.
 pub(super) fn check_closed<
-    R: Files<File: Send, Dir: Send> + AllocGlobal + Threads + Wait + Abort + Sync,
+    R: Files<File: Send, Dir: Send> + RandomSource + AllocGlobal + Threads + Wait + Abort + Sync,
 >(rt: &R, asked: &str, takes: bool, told: &str) -> Result<(), Fail> {
     let (status, faults) = call_closed(rt, asked, takes)?;
     check_text(rt, asked, faults.as_slice(), told)?;
@@ -283,7 +284,7 @@ impl Source for Broken {
 }
 
 /// The exit status of a call with such an input, and how often the input was read.
-fn call_broken<R: Files<File: Send, Dir: Send> + AllocGlobal + Threads + Wait + Sync>(
+fn call_broken<R: Files<File: Send, Dir: Send> + RandomSource + AllocGlobal + Threads + Wait + Sync>(
     rt: &R,
     asked: &str,
 ) -> Result<(u8, u64), Fail> {
@@ -306,7 +307,7 @@ fn call_broken<R: Files<File: Send, Dir: Send> + AllocGlobal + Threads + Wait + 
 }
 
 /// Checks the exit status of a call with such an input, and how often the input was read.
-fn check_broken<R: Files<File: Send, Dir: Send> + AllocGlobal + Threads + Wait + Abort + Sync>(
+fn check_broken<R: Files<File: Send, Dir: Send> + RandomSource + AllocGlobal + Threads + Wait + Abort + Sync>(
     rt: &R,
     asked: &str,
     status: u8,

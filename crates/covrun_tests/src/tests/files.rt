@@ -6,6 +6,7 @@ use std::fs;
 use std::io::{self, Write};
 use std::os::fd::AsRawFd;
 use std::process::{self, Abort};
+use std::random::RandomSource;
 use std::rt::Files;
 use std::sync::Wait;
 use std::test::*;
@@ -24,7 +25,7 @@ fn merged(alloc: Global, path: &str, times: usize) -> Result<Vec<String>, Fail> 
 }
 
 /// Checks how a call ends that merges a file of these bytes `times` times.
-fn check<R: Files<File: Send, Dir: Send> + AllocGlobal + Threads + Wait + Abort + Sync>(
+fn check<R: Files<File: Send, Dir: Send> + RandomSource + AllocGlobal + Threads + Wait + Abort + Sync>(
     rt: &R,
     path: &str,
     text: &[u8],

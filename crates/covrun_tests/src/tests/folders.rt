@@ -3,6 +3,7 @@
 
 ghost use Rattle.std.specs.Prelude.{◌≡◌, ◌≢◌, None, Some};
 
+use super::outputs::NoFiles;
 use super::{Told, check_text, words_of};
 use covrun::{Folder, Opened, run};
 use covsession::{Failed, FromRead, FromWrite, Source};
@@ -24,7 +25,15 @@ pub(super) fn call_over<R: AllocGlobal + Threads + Wait + Sync, F: Folder<File: 
         let mut source = FromRead::new(input);
         let mut sink = FromWrite::new(&mut output);
         let mut complaints = FromWrite::new(&mut faults);
-        run(rt, folder, words, &mut source, &mut sink, &mut complaints)
+        run(
+            rt,
+            folder,
+            words,
+            &mut NoFiles { failed: 0 },
+            &mut source,
+            &mut sink,
+            &mut complaints,
+        )
     };
     Told {
         status,

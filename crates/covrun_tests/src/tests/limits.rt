@@ -3,6 +3,7 @@
 use super::{call, check_text};
 use std::alloc::Global;
 use std::process::Abort;
+use std::random::RandomSource;
 use std::rt::Files;
 use std::sync::Wait;
 use std::test::*;
@@ -33,7 +34,7 @@ fn chosen_by(alloc: Global, patterns: usize, bytes: usize) -> Result<Vec<String>
 }
 
 /// Checks that a call of these words ends with this status and these faults, and has no output.
-fn check<R: Files<File: Send, Dir: Send> + AllocGlobal + Threads + Wait + Abort + Sync>(
+fn check<R: Files<File: Send, Dir: Send> + RandomSource + AllocGlobal + Threads + Wait + Abort + Sync>(
     rt: &R,
     words: &[String],
     status: u8,

@@ -4,6 +4,7 @@ ghost use Rattle.std.specs.Prelude.{◌<◌, ◌^◌};
 
 use super::faults::Closing;
 use super::folders::OneFile;
+use super::outputs::NoFiles;
 use super::{check_text, words_of};
 use covrun::{Folder, run};
 use covsession::{FromRead, FromWrite, Sink};
@@ -28,7 +29,15 @@ fn call_into<R: AllocGlobal + Threads + Wait + Sync, F: Folder<File: Send> + Syn
         let input: &[u8] = b"";
         let mut source = FromRead::new(input);
         let mut complaints = FromWrite::new(&mut faults);
-        run(rt, folder, words, &mut source, output, &mut complaints)
+        run(
+            rt,
+            folder,
+            words,
+            &mut NoFiles { failed: 0 },
+            &mut source,
+            output,
+            &mut complaints,
+        )
     };
     (status, faults)
 }

@@ -10,5 +10,5 @@ abbrev pub invariant-loop-name : goal.invariant-loop-name
 invariant-loop-name g l =
     TellsEach (folder_data (g.F.Folder.holds l.folder) (g.F.Folder.may_refuse l.folder) (g.F.Folder.may_open l.folder) g.F.File.Source.left g.F.File.Source.failed_reads)
     l.format (map string_bytes (take l.name-index l.files)) (Ok l.worst)
-    (sinks (g.O.Sink.written l.initial.output) (g.O.Sink.failed_writes l.initial.output) (g.E.Sink.written l.initial.faults) (g.E.Sink.failed_writes l.initial.faults))
-    (sinks (g.O.Sink.written l.output) (g.O.Sink.failed_writes l.output) (g.E.Sink.written l.faults) (g.E.Sink.failed_writes l.faults))
+    (sinks (g.O.Sink.written l.initial.output) (g.O.Sink.held l.initial.output) (g.O.Sink.failed_writes l.initial.output) (g.E.Sink.written l.initial.faults) (g.E.Sink.failed_writes l.initial.faults))
+    (sinks (g.O.Sink.written l.output) (g.O.Sink.held l.output) (g.O.Sink.failed_writes l.output) (g.E.Sink.written l.faults) (g.E.Sink.failed_writes l.faults))

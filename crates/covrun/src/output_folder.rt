@@ -1,0 +1,120 @@
+//! Where a call's text goes if the call names a file for it.
+
+ghost use Rattle.std.specs.Prelude.{◌≡◌, ℕ, ◌<◌, ◌×◌, ◌^◌, List, Option, None, Some, suc, IfOk, IfErr, OnOk, OnErr};
+ghost use Rattle.covrun.specs.OutputFiles.{CountsFault, Finishes, IsBegun};
+
+use crate::unfinished_file::{UnfinishedFile, abandon_file, begin_file, finish_file};
+use covsession::Sink;
+use std::alloc::AllocGlobal;
+use std::random::RandomSource;
+use std::rt::Files;
+
+/// Why a file isn't begun or finished.
+#[derive(Clone, Copy, Debug, PartialEq, Eq)]
+pub enum OutputFault {
+    /// The file can't be written.
+    Failed,
+    /// Memory was refused.
+    Memory,
+}
+
+/// Writes files, each of them whole or not at all.
+///
+/// A file is begun, its bytes are written, and then it is finished. It gets its name only when it is finished. Until then, a file
+/// that had the name before stays as it was.
+pub trait OutputFolder {
+    // The files that were finished, in order, each with its name and its text, if they are known.
+    ghost finished: { Self → Option (List (List ℕ × List ℕ)) };
+
+    // How many files couldn't be written.
+    ghost failed: { Self → ℕ };
+
+    /// A file that isn't finished, as a sink of its bytes.
+    type File: Sink + Drop;
+
+    /// Begins a file that is to get this name.
+    fn begin(&mut self, name: &str) -> Result<Self::File, OutputFault>
+        requires { failed self.old < 2 ^ 63 }
+        ensures same { finished self.new ≡ finished self.old }
+        ensures begun { IfOk result (λ file. IsBegun (finished self.old) (Self.File.written file)) }
+        ensures fresh { IfOk result (λ file. Self.File.failed_writes file ≡ 0) }
+        ensures good { OnOk result (failed self.new ≡ failed self.old) }
+        ensures counted { IfErr result (λ fault. CountsFault fault (failed self.old) (failed self.new)) };
+
+    /// Finishes a file that was begun for this name: the file gets the name. A fault drops the file.
+    fn finish(&mut self, name: &str, file: Self::File) -> Result<(), OutputFault>
+        requires { failed self.old < 2 ^ 63 }
+        ensures finished { OnOk result ((text : List ℕ) → Self.File.written file ≡ Some text → Finishes name.now text (finished self.old) (finished self.new)) }
+        ensures same { OnErr result (finished self.new ≡ finished self.old) }
+        ensures good { OnOk result (failed self.new ≡ failed self.old) }
+        ensures counted { IfErr result (λ fault. CountsFault fault (failed self.old) (failed self.new)) };
+
+    /// Drops a file to which a write failed.
+    fn abandon(&mut self, file: Self::File)
+        requires { failed self.old < 2 ^ 63 }
+        ensures same { finished self.new ≡ finished self.old }
+        ensures counted { failed self.new ≡ suc (failed self.old) };
+}
+
+/// The files of std as an output folder.
+///
+/// std's `Files` doesn't specify what a file holds, so `finished` is `None`. It is assumed that std does with files what the
+/// functions of `unfinished_file` ask for.
+#[derive(Drop)]
+pub struct IntoFiles<'a, R> {
+    rt: &'a R,
+    failed: u64,
+}
+
+impl<'a, R: Files + RandomSource + AllocGlobal> IntoFiles<'a, R> {
+    /// The files of this runtime, as an output folder.
+    pub fn new(rt: &'a R) -> IntoFiles<'a, R>
+        ensures { ⟦<IntoFiles<'a, R> as OutputFolder>⟧.failed result ≡ 0 }
+    {
+        IntoFiles { rt, failed: 0 }
+    }
+
+    /// Counts a file that couldn't be written.
+    fn count(&mut self, fault: OutputFault)
+        requires { self.old.failed < 2 ^ 63 }
+        ensures { CountsFault fault self.old.failed self.new.failed }
+    {
+        match fault {
+            OutputFault::Failed => self.failed += 1,
+            OutputFault::Memory => (),
+        }
+    }
+}
+
+impl<'a, R: Files + RandomSource + AllocGlobal> OutputFolder for IntoFiles<'a, R> {
+    ghost finished = { λ _. None };
+
+    ghost failed = { λ f. f.failed };
+
+    type File = UnfinishedFile<R::File>;
+
+    fn begin(&mut self, name: &str) -> Result<UnfinishedFile<R::File>, OutputFault> {
+        match begin_file(self.rt, name) {
+            Ok(file) => Ok(file),
+            Err(fault) => {
+                self.count(fault);
+                Err(fault)
+            }
+        }
+    }
+
+    fn finish(&mut self, _name: &str, file: UnfinishedFile<R::File>) -> Result<(), OutputFault> {
+        match finish_file(self.rt, file) {
+            Ok(()) => Ok(()),
+            Err(fault) => {
+                self.count(fault);
+                Err(fault)
+            }
+        }
+    }
+
+    fn abandon(&mut self, file: UnfinishedFile<R::File>) {
+        abandon_file(self.rt, file);
+        self.failed += 1;
+    }
+}

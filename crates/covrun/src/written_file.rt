@@ -1,0 +1,29 @@
+//! A text that is written into a file.
+
+ghost use Rattle.std.specs.Prelude.{◌≡◌, ◌<◌, ◌^◌, IfErr, OnOk, OnErr};
+ghost use Rattle.covrun.specs.OutputFiles.{CountsFault, Finishes};
+
+use crate::output_folder::{OutputFault, OutputFolder};
+use crate::ready_text::ReadyText;
+
+/// Writes the text into a file of this name. If that fails, a file that has the name stays as it is.
+pub(crate) fn write_file<P: OutputFolder>(
+    name: &str,
+    text: ReadyText<'_>,
+    files: &mut P,
+) -> Result<(), OutputFault>
+    requires { P.failed files.old < 2 ^ 62 }
+    ensures finished { OnOk result (Finishes name.now text.entry (P.finished files.old) (P.finished files.new)) }
+    ensures good { OnOk result (P.failed files.new ≡ P.failed files.old) }
+    ensures same { OnErr result (P.finished files.new ≡ P.finished files.old) }
+    ensures counted { IfErr result (λ fault. CountsFault fault (P.failed files.old) (P.failed files.new)) }
+{
+    let mut file = files.begin(name)?;
+    match text.print(&mut file) {
+        Ok(()) => files.finish(name, file),
+        Err(_) => {
+            files.abandon(file);
+            Err(OutputFault::Failed)
+        }
+    }
+}

@@ -1,0 +1,352 @@
+//! Calls whose text goes into a file (`--output`).
+
+ghost use Rattle.std.specs.Prelude.{◌≡◌, ◌<◌, ◌^◌, None, Some, map};
+ghost use Rattle.std.specs.String.{string_bytes};
+
+use super::folders::OneFile;
+use super::{check_text, play, words_of};
+use covrun::{OutputFault, OutputFolder, run};
+use covsession::{Failed, FromRead, FromWrite, Sink};
+use std::alloc::Global;
+use std::process;
+use std::process::Abort;
+use std::sync::Wait;
+use std::test::*;
+use std::thread::Threads;
+
+/// An output folder that can't write any file.
+#[derive(Drop)]
+pub(super) struct NoFiles {
+    pub(super) failed: u64,
+}
+
+impl OutputFolder for NoFiles {
+    ghost finished = { λ _. None };
+
+    ghost failed = { λ f. f.failed };
+
+    type File = FromWrite<Vec<u8>>;
+
+    fn begin(&mut self, _name: &str) -> Result<FromWrite<Vec<u8>>, OutputFault> {
+        self.failed += 1;
+        Err(OutputFault::Failed)
+    }
+
+    fn finish(&mut self, _name: &str, _file: FromWrite<Vec<u8>>) -> Result<(), OutputFault> {
+        self.failed += 1;
+        Err(OutputFault::Failed)
+    }
+
+    fn abandon(&mut self, _file: FromWrite<Vec<u8>>) {
+        self.failed += 1;
+    }
+}
+
+/// A file of a shelf.
+#[derive(Drop)]
+struct Kept {
+    name: String,
+    text: Vec<u8>,
+}
+
+/// An output folder in memory. Its contract says what each file holds. It takes so many files, and then fails.
+#[derive(Drop)]
+struct Shelf {
+    alloc: Global,
+    room: u64,
+    files: Vec<Kept>,
+    failed: u64,
+}
+
+impl OutputFolder for Shelf {
+    ghost finished = { λ s. Some (map (λ k. (string_bytes k.name, k.text.items)) s.files.items) };
+
+    ghost failed = { λ s. s.failed };
+
+    type File = FromWrite<Vec<u8>>;
+
+    fn begin(&mut self, _name: &str) -> Result<FromWrite<Vec<u8>>, OutputFault> {
+        Ok(FromWrite::new(Vec::new(self.alloc)))
+    }
+
+    fn finish(&mut self, name: &str, file: FromWrite<Vec<u8>>) -> Result<(), OutputFault> {
+        if self.room == 0 {
+            self.failed += 1;
+            return Err(OutputFault::Failed);
+        }
+        self.room -= 1;
+        let Ok(name) = String::from_str(self.alloc, name) else {
+            return Err(OutputFault::Memory);
+        };
+        let text = file.into_inner();
+        match self.files.push(Kept { name, text }) {
+            Ok(()) => Ok(()),
+            Err(_) => Err(OutputFault::Memory),
+        }
+    }
+
+    fn abandon(&mut self, _file: FromWrite<Vec<u8>>) {
+        self.failed += 1;
+    }
+}
+
+/// The exit status of a call, and what it wrote to the stream for faults. It writes nothing to the output.
+fn call_onto<R: AllocGlobal + Threads + Wait + Abort + Sync, P: OutputFolder>(
+    rt: &R,
+    asked: &str,
+    files: &mut P,
+) -> Result<(u8, Vec<u8>), Fail>
+    requires { P.failed files.old < 2 ^ 62 }
+{
+    let words = words_of(rt.alloc(), asked, "")?;
+    let folder = OneFile {
+        name: "a.info",
+        text: b"SF:/src/a.c\nDA:1,2\nDA:2,0\nend_of_record\n",
+    };
+    let mut output: Vec<u8> = Vec::new(rt.alloc());
+    let mut faults: Vec<u8> = Vec::new(rt.alloc());
+    let status = {
+        let input: &[u8] = b"";
+        let mut source = FromRead::new(input);
+        let mut sink = FromWrite::new(&mut output);
+        let mut complaints = FromWrite::new(&mut faults);
+        run(
+            rt,
+            &folder,
+            words.as_slice(),
+            files,
+            &mut source,
+            &mut sink,
+            &mut complaints,
+        )
+    };
+    check_text(rt, asked, output.as_slice(), "")?;
+    Ok((status, faults))
+}
+
+/// A shelf that takes so many files.
+fn shelf(alloc: Global, room: u64) -> Shelf
+    ensures { result.failed ≡ 0 }
+{
+    Shelf {
+        alloc,
+        room,
+        files: Vec::new(alloc),
+        failed: 0,
+    }
+}
+
+/// The text goes into the file that the call names, and nowhere else. Rates below their limits are told after that.
+#[test]
+fn a_text_goes_onto_a_shelf(rt: HostRuntime) -> Result<(), Fail> {
+    let mut files = shelf(rt.alloc(), 2);
+    let (status, faults) = call_onto(&rt, "covcollect merge a.info -o b.info", &mut files)?;
+    check_text(&rt, "merge", faults.as_slice(), "")?;
+    assert_eq!(rt; status, 0);
+    let asked = "covcollect summary --fail-under-lines 60 --output=s.txt a.info";
+    let (status, faults) = call_onto(&rt, asked, &mut files)?;
+    check_text(&rt, asked, faults.as_slice(), "lines: 1 of 2 is below 60%\n")?;
+    assert_eq!(rt; status, 6);
+    let [merged, summary] = files.files.as_slice() else {
+        return Err(Fail);
+    };
+    assert_eq!(rt; merged.name.as_str(), "b.info");
+    let text = "TN:\nSF:/src/a.c\nDA:1,2\nDA:2,0\nLF:2\nLH:1\nend_of_record\n";
+    check_text(&rt, "b.info", merged.text.as_slice(), text)?;
+    assert_eq!(rt; summary.name.as_str(), "s.txt");
+    Ok(())
+}
+
+/// A file that can't be begun or finished is told by its shown name. Rates below their limits aren't told then.
+#[test]
+fn a_file_cannot_be_written(rt: HostRuntime) -> Result<(), Fail> {
+    let mut full = shelf(rt.alloc(), 0);
+    let asked = "covcollect summary --fail-under-lines 60 -o full\x1b.txt a.info";
+    let (status, faults) = call_onto(&rt, asked, &mut full)?;
+    check_text(&rt, asked, faults.as_slice(), "full\\x1b.txt: can't write\n")?;
+    assert_eq!(rt; status, 1);
+    assert!(rt; full.files.is_empty());
+    let mut none = NoFiles { failed: 0 };
+    let asked = "covcollect merge -o none.info a.info";
+    let (status, faults) = call_onto(&rt, asked, &mut none)?;
+    check_text(&rt, asked, faults.as_slice(), "none.info: can't write\n")?;
+    assert_eq!(rt; status, 1);
+    Ok(())
+}
+
+/// An unfinished file that takes so many writes, and then fails.
+#[derive(Drop)]
+struct Short {
+    left: u64,
+    failed: u64,
+}
+
+impl Sink for Short {
+    ghost written = { λ _. None };
+
+    ghost held = { λ _. 0 };
+
+    ghost failed_writes = { λ s. s.failed };
+
+    fn write(&mut self, bytes: &[u8]) -> Result<usize, Failed> {
+        if self.left == 0 {
+            self.failed += 1;
+            return Err(Failed);
+        }
+        self.left -= 1;
+        Ok(bytes.len())
+    }
+
+    fn flush(&mut self) -> Result<(), Failed> {
+        Ok(())
+    }
+}
+
+/// An output folder whose files fail while they are written. It counts those that are abandoned.
+#[derive(Drop)]
+struct Shorts {
+    abandoned: u64,
+    failed: u64,
+}
+
+impl OutputFolder for Shorts {
+    ghost finished = { λ _. None };
+
+    ghost failed = { λ s. s.failed };
+
+    type File = Short;
+
+    fn begin(&mut self, _name: &str) -> Result<Short, OutputFault> {
+        Ok(Short { left: 0, failed: 0 })
+    }
+
+    fn finish(&mut self, _name: &str, _file: Short) -> Result<(), OutputFault> {
+        Ok(())
+    }
+
+    fn abandon(&mut self, _file: Short) {
+        self.abandoned = self.abandoned.saturating_add(1);
+        self.failed += 1;
+    }
+}
+
+/// A file to which a write failed is abandoned, and told.
+#[test]
+fn a_write_to_a_file_fails(rt: HostRuntime) -> Result<(), Fail> {
+    let mut files = Shorts {
+        abandoned: 0,
+        failed: 0,
+    };
+    let asked = "covcollect merge -o short.info a.info";
+    let (status, faults) = call_onto(&rt, asked, &mut files)?;
+    check_text(&rt, asked, faults.as_slice(), "short.info: can't write\n")?;
+    assert_eq!(rt; status, 1);
+    assert_eq!(rt; files.abandoned, 1);
+    Ok(())
+}
+
+/// Files of std. The file may be an input. If the call fails, it stays as it was, and no other file is left beside it.
+#[test]
+fn files_are_written(rt: HostRuntime) -> Result<(), Fail> {
+    play(
+        &rt,
+        process::id(rt.process()),
+        "\
+SF:/src/a.c
+DA:1,2
+end_of_record
+@ a.info
+$ 0 merge -o ~/out.info ~/a.info
+TN:
+SF:/src/a.c
+DA:1,2
+LF:1
+LH:1
+end_of_record
+= out.info
+& 2
+$ 0 merge ~/a.info --output ~/a.info ~/out.info
+TN:
+SF:/src/a.c
+DA:1,4
+LF:1
+LH:1
+end_of_record
+= a.info
+& 2
+! ~/none.info: can't read
+$ 1 merge -o ~/a.info ~/a.info ~/none.info
+DA:1,1
+@ bad.info
+! ~/bad.info: refused Outside at 1
+$ 4 merge -o ~/a.info ~/a.info ~/bad.info
+TN:
+SF:/src/a.c
+DA:1,4
+LF:1
+LH:1
+end_of_record
+= a.info
+! ~/none/out.info: can't write
+$ 1 merge -o ~/none/out.info ~/a.info
+! ~: can't write
+$ 1 merge -o ~ ~/a.info
+! /dev/full: can't write
+$ 1 merge -o /dev/full ~/a.info
+$ 0 merge -o /dev/null ~/a.info
+& 3
+",
+    )
+}
+
+/// Each subcommand that prints a text can write it into a file.
+#[test]
+fn each_text_goes_into_a_file(rt: HostRuntime) -> Result<(), Fail> {
+    play(
+        &rt,
+        process::id(rt.process()),
+        "\
+SF:/src/a.c
+DA:1,2
+end_of_record
+SF:/lib/b.c
+DA:1,0
+end_of_record
+@ a.info
+$ 0 extract -o ~/e.info ~/a.info /src/*
+TN:
+SF:/src/a.c
+DA:1,2
+LF:1
+LH:1
+end_of_record
+= e.info
+$ 0 remove -o ~/r.info ~/a.info /src/*
+TN:
+SF:/lib/b.c
+DA:1,0
+LF:1
+LH:0
+end_of_record
+= r.info
+$ 0 summary --json -o ~/s.json ~/a.info
+& 4
+        -:    0:Source:c.c
+        3:    1:f();
+@ c.gcov
+$ 0 gcov --test t -o ~/g.info ~/c.gcov
+TN:t
+SF:c.c
+DA:1,3
+LF:1
+LH:1
+end_of_record
+= g.info
+$ 0 list -o ~/l.txt ~/a.info
+& 7
+! error: unexpected argument '-o' found...
+$ 2 check -o ~/c.txt ~/a.info
+& 7
+",
+    )
+}
