@@ -98,11 +98,17 @@ struct Said {
 /// is before the `...` has to be there. A line `= NAME` says that the file has to hold the text before it, and a line `& NUMBER`
 /// that there have to be so many files. A line `% HEX` appends these bytes to the text, without a line feed. Every other line is
 /// appended to the text. In words, outputs and faults `~` is the folder.
-fn play<R: Files<File: Send, Dir: Send> + RandomSource + AllocGlobal + Threads + Wait + Abort + Sync>(
-    rt: &R,
-    process: u32,
-    script: &str,
-) -> Result<(), Fail> {
+fn play<
+    R: Files<File: Send, Dir: Send>
+        + RandomSource
+        + AllocGlobal
+        + Threads
+        + Wait
+        + Abort
+        + Clone
+        + Drop
+        + Sync,
+>(rt: &R, process: u32, script: &str) -> Result<(), Fail> {
     let folder = format!(in rt.alloc(); "/tmp/covrun_tests-{process}")?;
     fs::create_dir_all(rt, folder.as_str())?;
     let mut said = Said {
@@ -118,12 +124,17 @@ fn play<R: Files<File: Send, Dir: Send> + RandomSource + AllocGlobal + Threads +
 }
 
 /// Does what a line of a script says.
-fn play_line<R: Files<File: Send, Dir: Send> + RandomSource + AllocGlobal + Threads + Wait + Abort + Sync>(
-    rt: &R,
-    folder: &str,
-    line: &str,
-    said: &mut Said,
-) -> Result<(), Fail> {
+fn play_line<
+    R: Files<File: Send, Dir: Send>
+        + RandomSource
+        + AllocGlobal
+        + Threads
+        + Wait
+        + Abort
+        + Clone
+        + Drop
+        + Sync,
+>(rt: &R, folder: &str, line: &str, said: &mut Said) -> Result<(), Fail> {
     if let Some(name) = line.strip_prefix("@ ") {
         make_file(rt, folder, name, said)
     } else if let Some(name) = line.strip_prefix("= ") {
@@ -159,12 +170,9 @@ fn make_file<R: Files + AllocGlobal>(
 }
 
 /// Makes a call, and checks its status and what it wrote.
-fn make_call<R: Files<File: Send, Dir: Send> + RandomSource + AllocGlobal + Threads + Wait + Abort + Sync>(
-    rt: &R,
-    folder: &str,
-    asked: &str,
-    said: &mut Said,
-) -> Result<(), Fail> {
+fn make_call<
+    R: Files<File: Send, Dir: Send> + RandomSource + AllocGlobal + Threads + Wait + Abort + Sync,
+>(rt: &R, folder: &str, asked: &str, said: &mut Said) -> Result<(), Fail> {
     let (status, words) = asked.split_once(' ').unwrap_or((asked, ""));
     let words = words_of(rt.alloc(), words, folder)?;
     let told = call(rt, words.as_slice(), said.text.as_slice());
@@ -188,13 +196,16 @@ fn check_file<R: Files + AllocGlobal + Abort>(
     let path = format!(in rt.alloc(); "{folder}/{name}")?;
     let held = fs::read(rt, path.as_str())?;
     let shown: String = String::from_utf8_lossy(rt.alloc(), held.as_slice())?;
-    assert!(rt; held.as_slice() == said.text.as_slice(), "{name} holds: {shown}");
+    assert!(rt;
+        held.as_slice() == said.text.as_slice(),
+        "{name} holds: {shown}"
+    );
     said.text.clear();
     Ok(())
 }
 
 /// Checks how many files the folder has.
-fn check_number<R: Files<File: Send, Dir: Send> + AllocGlobal + Abort>(
+fn check_number<R: Files<File: Send, Dir: Send> + AllocGlobal + Abort + Clone + Drop>(
     rt: &R,
     folder: &str,
     wanted: &str,

@@ -137,11 +137,9 @@ impl Sink for Closed {
 }
 
 /// The exit status of a call with such an output, and what the call writes to the stream for faults.
-fn call_closed<R: Files<File: Send, Dir: Send> + RandomSource + AllocGlobal + Threads + Wait + Sync>(
-    rt: &R,
-    asked: &str,
-    takes: bool,
-) -> Result<(u8, Vec<u8>), Fail> {
+fn call_closed<
+    R: Files<File: Send, Dir: Send> + RandomSource + AllocGlobal + Threads + Wait + Sync,
+>(rt: &R, asked: &str, takes: bool) -> Result<(u8, Vec<u8>), Fail> {
     let words = words_of(rt.alloc(), asked, "")?;
     let mut faults: Vec<u8> = Vec::new(rt.alloc());
     let status = {
@@ -284,10 +282,9 @@ impl Source for Broken {
 }
 
 /// The exit status of a call with such an input, and how often the input was read.
-fn call_broken<R: Files<File: Send, Dir: Send> + RandomSource + AllocGlobal + Threads + Wait + Sync>(
-    rt: &R,
-    asked: &str,
-) -> Result<(u8, u64), Fail> {
+fn call_broken<
+    R: Files<File: Send, Dir: Send> + RandomSource + AllocGlobal + Threads + Wait + Sync,
+>(rt: &R, asked: &str) -> Result<(u8, u64), Fail> {
     let words = words_of(rt.alloc(), asked, "")?;
     let mut source = Broken { reads: 0 };
     let mut output: Vec<u8> = Vec::new(rt.alloc());
@@ -307,12 +304,9 @@ fn call_broken<R: Files<File: Send, Dir: Send> + RandomSource + AllocGlobal + Th
 }
 
 /// Checks the exit status of a call with such an input, and how often the input was read.
-fn check_broken<R: Files<File: Send, Dir: Send> + RandomSource + AllocGlobal + Threads + Wait + Abort + Sync>(
-    rt: &R,
-    asked: &str,
-    status: u8,
-    reads: u64,
-) -> Result<(), Fail> {
+fn check_broken<
+    R: Files<File: Send, Dir: Send> + RandomSource + AllocGlobal + Threads + Wait + Abort + Sync,
+>(rt: &R, asked: &str, status: u8, reads: u64) -> Result<(), Fail> {
     let (given, times) = call_broken(rt, asked)?;
     assert!(rt; given == status, "{asked}: the status is {given}");
     assert!(rt; times == reads, "{asked}: the input was read {times} times");

@@ -25,13 +25,9 @@ fn merged(alloc: Global, path: &str, times: usize) -> Result<Vec<String>, Fail> 
 }
 
 /// Checks how a call ends that merges a file of these bytes `times` times.
-fn check<R: Files<File: Send, Dir: Send> + RandomSource + AllocGlobal + Threads + Wait + Abort + Sync>(
-    rt: &R,
-    path: &str,
-    text: &[u8],
-    times: usize,
-    wanted: (u8, &str, &str),
-) -> Result<(), Fail> {
+fn check<
+    R: Files<File: Send, Dir: Send> + RandomSource + AllocGlobal + Threads + Wait + Abort + Sync,
+>(rt: &R, path: &str, text: &[u8], times: usize, wanted: (u8, &str, &str)) -> Result<(), Fail> {
     fs::write(rt, path, text)?;
     let words = merged(rt.alloc(), path, times)?;
     let told = call(rt, words.as_slice(), b"");

@@ -34,12 +34,9 @@ fn chosen_by(alloc: Global, patterns: usize, bytes: usize) -> Result<Vec<String>
 }
 
 /// Checks that a call of these words ends with this status and these faults, and has no output.
-fn check<R: Files<File: Send, Dir: Send> + RandomSource + AllocGlobal + Threads + Wait + Abort + Sync>(
-    rt: &R,
-    words: &[String],
-    status: u8,
-    faults: &str,
-) -> Result<(), Fail> {
+fn check<
+    R: Files<File: Send, Dir: Send> + RandomSource + AllocGlobal + Threads + Wait + Abort + Sync,
+>(rt: &R, words: &[String], status: u8, faults: &str) -> Result<(), Fail> {
     let told = call(rt, words, b"");
     check_text(rt, faults, told.faults.as_slice(), faults)?;
     check_text(rt, faults, told.output.as_slice(), "")?;

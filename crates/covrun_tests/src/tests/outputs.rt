@@ -125,7 +125,7 @@ fn call_onto<R: AllocGlobal + Threads + Wait + Abort + Sync, P: OutputFolder>(
 }
 
 /// A shelf that takes so many files.
-fn shelf(alloc: Global, room: u64) -> Shelf
+fn shelf_of(alloc: Global, room: u64) -> Shelf
     ensures { result.failed ≡ 0 }
 {
     Shelf {
@@ -139,16 +139,21 @@ fn shelf(alloc: Global, room: u64) -> Shelf
 /// The text goes into the file that the call names, and nowhere else. Rates below their limits are told after that.
 #[test]
 fn a_text_goes_onto_a_shelf(rt: HostRuntime) -> Result<(), Fail> {
-    let mut files = shelf(rt.alloc(), 2);
+    let mut files = shelf_of(rt.alloc(), 2);
     let (status, faults) = call_onto(&rt, "covcollect merge a.info -o b.info", &mut files)?;
     check_text(&rt, "merge", faults.as_slice(), "")?;
     assert_eq!(rt; status, 0);
     let asked = "covcollect summary --fail-under-lines 60 --output=s.txt a.info";
     let (status, faults) = call_onto(&rt, asked, &mut files)?;
-    check_text(&rt, asked, faults.as_slice(), "lines: 1 of 2 is below 60%\n")?;
+    check_text(
+        &rt,
+        asked,
+        faults.as_slice(),
+        "lines: 1 of 2 is below 60%\n",
+    )?;
     assert_eq!(rt; status, 6);
     let [merged, summary] = files.files.as_slice() else {
-        return Err(Fail);
+        panic!(rt; "there aren't two files");
     };
     assert_eq!(rt; merged.name.as_str(), "b.info");
     let text = "TN:\nSF:/src/a.c\nDA:1,2\nDA:2,0\nLF:2\nLH:1\nend_of_record\n";
@@ -160,10 +165,15 @@ fn a_text_goes_onto_a_shelf(rt: HostRuntime) -> Result<(), Fail> {
 /// A file that can't be begun or finished is told by its shown name. Rates below their limits aren't told then.
 #[test]
 fn a_file_cannot_be_written(rt: HostRuntime) -> Result<(), Fail> {
-    let mut full = shelf(rt.alloc(), 0);
+    let mut full = shelf_of(rt.alloc(), 0);
     let asked = "covcollect summary --fail-under-lines 60 -o full\x1b.txt a.info";
     let (status, faults) = call_onto(&rt, asked, &mut full)?;
-    check_text(&rt, asked, faults.as_slice(), "full\\x1b.txt: can't write\n")?;
+    check_text(
+        &rt,
+        asked,
+        faults.as_slice(),
+        "full\\x1b.txt: can't write\n",
+    )?;
     assert_eq!(rt; status, 1);
     assert!(rt; full.files.is_empty());
     let mut none = NoFiles { failed: 0 };
@@ -256,7 +266,7 @@ SF:/src/a.c
 DA:1,2
 end_of_record
 @ a.info
-$ 0 merge -o ~/out.info ~/a.info
+$ 0 covcollect merge -o ~/out.info ~/a.info
 TN:
 SF:/src/a.c
 DA:1,2
@@ -265,7 +275,7 @@ LH:1
 end_of_record
 = out.info
 & 2
-$ 0 merge ~/a.info --output ~/a.info ~/out.info
+$ 0 covcollect merge ~/a.info --output ~/a.info ~/out.info
 TN:
 SF:/src/a.c
 DA:1,4
@@ -275,11 +285,11 @@ end_of_record
 = a.info
 & 2
 ! ~/none.info: can't read
-$ 1 merge -o ~/a.info ~/a.info ~/none.info
+$ 1 covcollect merge -o ~/a.info ~/a.info ~/none.info
 DA:1,1
 @ bad.info
 ! ~/bad.info: refused Outside at 1
-$ 4 merge -o ~/a.info ~/a.info ~/bad.info
+$ 4 covcollect merge -o ~/a.info ~/a.info ~/bad.info
 TN:
 SF:/src/a.c
 DA:1,4
@@ -288,12 +298,12 @@ LH:1
 end_of_record
 = a.info
 ! ~/none/out.info: can't write
-$ 1 merge -o ~/none/out.info ~/a.info
+$ 1 covcollect merge -o ~/none/out.info ~/a.info
 ! ~: can't write
-$ 1 merge -o ~ ~/a.info
+$ 1 covcollect merge -o ~ ~/a.info
 ! /dev/full: can't write
-$ 1 merge -o /dev/full ~/a.info
-$ 0 merge -o /dev/null ~/a.info
+$ 1 covcollect merge -o /dev/full ~/a.info
+$ 0 covcollect merge -o /dev/null ~/a.info
 & 3
 ",
     )
@@ -313,7 +323,7 @@ SF:/lib/b.c
 DA:1,0
 end_of_record
 @ a.info
-$ 0 extract -o ~/e.info ~/a.info /src/*
+$ 0 covcollect extract -o ~/e.info ~/a.info /src/*
 TN:
 SF:/src/a.c
 DA:1,2
@@ -321,7 +331,7 @@ LF:1
 LH:1
 end_of_record
 = e.info
-$ 0 remove -o ~/r.info ~/a.info /src/*
+$ 0 covcollect remove -o ~/r.info ~/a.info /src/*
 TN:
 SF:/lib/b.c
 DA:1,0
@@ -329,12 +339,12 @@ LF:1
 LH:0
 end_of_record
 = r.info
-$ 0 summary --json -o ~/s.json ~/a.info
+$ 0 covcollect summary --json -o ~/s.json ~/a.info
 & 4
         -:    0:Source:c.c
         3:    1:f();
 @ c.gcov
-$ 0 gcov --test t -o ~/g.info ~/c.gcov
+$ 0 covcollect gcov --test t -o ~/g.info ~/c.gcov
 TN:t
 SF:c.c
 DA:1,3
@@ -342,10 +352,10 @@ LF:1
 LH:1
 end_of_record
 = g.info
-$ 0 list -o ~/l.txt ~/a.info
+$ 0 covcollect list -o ~/l.txt ~/a.info
 & 7
 ! error: unexpected argument '-o' found...
-$ 2 check -o ~/c.txt ~/a.info
+$ 2 covcollect check -o ~/c.txt ~/a.info
 & 7
 ",
     )
