@@ -163,7 +163,7 @@ pub(crate) const JOBS: &str = "Files read at once, from 1 to 64";
 pub(crate) const OUTPUT: &str = "Write to FILE, which may be one of the inputs";
 
 /// The help of `--test`.
-pub(crate) const TEST: &str = "The test that the counts are of; --test= is the empty name";
+pub(crate) const TEST: &str = "Test that the counts are of; --test= is the empty name";
 
 /// The help of `--lcov2`.
 pub(crate) const LCOV2: &str = "Tracefiles of LCOV 2 are read too";
