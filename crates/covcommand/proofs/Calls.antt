@@ -1,13 +1,13 @@
 -- The laws of single calls in `src/laws.rt`. Each is proved by computing what clap's definitions give.
-use Rattle.std.proofs.Common.{◌≡◌, List, [], ◌∷◌, Some, None, true, refl, codes}
+use Rattle.std.proofs.Common.{◌≡◌, List, [], ◌∷◌, Option, Some, None, String, true, refl, codes, option_map, string_bytes}
+use Rattle.std.specs.declared.alloc.Global.{Global}
 use Rattle.clap.proofs.OnLiterals.{clap_on_literals}
-use Rattle.std.specs.Option.{option_map_or}
-use Rattle.clap.specs.Walk.{Row, Text}
+use Rattle.clap.specs.Walk.{Row, Text, first_of}
 use Rattle.clap.specs.Words.{takes, fault_of, subcommand_of}
 use Rattle.clap.specs.declared.error.kind.ErrorKind.TheVariants as kind
-use Rattle.covcommand.specs.Asked.{AsksFor}
+use Rattle.covcommand.specs.Asked.{AsksFor, AsksForAll, rows_met}
 use Rattle.covcommand.specs.CommandLine.{covcollect}
-use Rattle.covcommand.specs.declared.asked.Command.TheVariants.{Check, Merge, Summary}
+use Rattle.covcommand.specs.declared.asked.Command.TheVariants.{Check, Extract, Gcov, Merge, Remove, Summary}
 use Rattle.covcommand.specs.declared.asked.Command.TheVariants as commands
 use Rattle.covcommand.specs.declared.asked.TotalsForm.TheVariants.{Words, Json}
 use Rattle.covcommand.specs.declared.asked.TextFormat.TheVariants as format
@@ -93,73 +93,148 @@ pub summary_limits_taken : takes covcollect (codes "covcollect" ∷ codes "summa
 unfolding clap_on_literals
 summary_limits_taken = refl
 
+pub merge_output_taken : takes covcollect (codes "covcollect" ∷ codes "merge" ∷ codes "-o" ∷ codes "out.info" ∷ codes "a.info" ∷ codes "b.info" ∷ []) ≡ true
+unfolding clap_on_literals
+merge_output_taken = refl
+
+pub summary_output_taken : takes covcollect (codes "covcollect" ∷ codes "summary" ∷ codes "a.info" ∷ codes "--output" ∷ codes "out.txt" ∷ codes "--json" ∷ []) ≡ true
+unfolding clap_on_literals
+summary_output_taken = refl
+
+pub list_output_taken : takes covcollect (codes "covcollect" ∷ codes "list" ∷ codes "--output=out.txt" ∷ codes "a.info" ∷ []) ≡ true
+unfolding clap_on_literals
+list_output_taken = refl
+
+pub extract_output_taken : takes covcollect (codes "covcollect" ∷ codes "extract" ∷ codes "-oout.info" ∷ codes "a.info" ∷ codes "*.c" ∷ []) ≡ true
+unfolding clap_on_literals
+extract_output_taken = refl
+
+pub remove_output_taken : takes covcollect (codes "covcollect" ∷ codes "remove" ∷ codes "a.info" ∷ codes "*.c" ∷ codes "-o" ∷ codes "a.info" ∷ []) ≡ true
+unfolding clap_on_literals
+remove_output_taken = refl
+
+pub gcov_output_taken : takes covcollect (codes "covcollect" ∷ codes "gcov" ∷ codes "--test=" ∷ codes "-o" ∷ codes "out.info" ∷ codes "a.c.gcov" ∷ []) ≡ true
+unfolding clap_on_literals
+gcov_output_taken = refl
+
 -- the rows of the subcommand that the words name
-abbrev rows_met : List Text → List Row
-rows_met words = option_map_or (λ met. met.1) (subcommand_of covcollect words) []
+abbrev rows_for : List Text → List Row
+rows_for words = rows_met (subcommand_of covcollect words)
 
 pub tracefile_asked : AsksFor (subcommand_of covcollect (codes "covcollect" ∷ codes "check" ∷ codes "a.info" ∷ [])) (Check (format.Tracefile One) (codes "a.info" ∷ []))
 unfolding clap_on_literals
-tracefile_asked = (rows_met (codes "covcollect" ∷ codes "check" ∷ codes "a.info" ∷ []), refl, (refl, refl), refl)
+tracefile_asked = (rows_for (codes "covcollect" ∷ codes "check" ∷ codes "a.info" ∷ []), refl, (refl, refl), refl)
 
 pub before_asked : AsksFor (subcommand_of covcollect (codes "covcollect" ∷ codes "check" ∷ codes "--gcov" ∷ codes "a.c.gcov" ∷ [])) (Check format.Gcov (codes "a.c.gcov" ∷ []))
 unfolding clap_on_literals
-before_asked = (rows_met (codes "covcollect" ∷ codes "check" ∷ codes "--gcov" ∷ codes "a.c.gcov" ∷ []), refl, refl, refl)
+before_asked = (rows_for (codes "covcollect" ∷ codes "check" ∷ codes "--gcov" ∷ codes "a.c.gcov" ∷ []), refl, refl, refl)
 
 pub after_asked : AsksFor (subcommand_of covcollect (codes "covcollect" ∷ codes "check" ∷ codes "a.c.gcov" ∷ codes "--gcov" ∷ [])) (Check format.Gcov (codes "a.c.gcov" ∷ []))
 unfolding clap_on_literals
-after_asked = (rows_met (codes "covcollect" ∷ codes "check" ∷ codes "a.c.gcov" ∷ codes "--gcov" ∷ []), refl, refl, refl)
+after_asked = (rows_for (codes "covcollect" ∷ codes "check" ∷ codes "a.c.gcov" ∷ codes "--gcov" ∷ []), refl, refl, refl)
 
 pub name_asked : AsksFor (subcommand_of covcollect (codes "covcollect" ∷ codes "check" ∷ codes "--" ∷ codes "--gcov" ∷ [])) (Check (format.Tracefile One) (codes "--gcov" ∷ []))
 unfolding clap_on_literals
-name_asked = (rows_met (codes "covcollect" ∷ codes "check" ∷ codes "--" ∷ codes "--gcov" ∷ []), refl, (refl, refl), refl)
+name_asked = (rows_for (codes "covcollect" ∷ codes "check" ∷ codes "--" ∷ codes "--gcov" ∷ []), refl, (refl, refl), refl)
 
 pub lcov2_asked : AsksFor (subcommand_of covcollect (codes "covcollect" ∷ codes "check" ∷ codes "--lcov2" ∷ codes "a.info" ∷ [])) (Check (format.Tracefile Two) (codes "a.info" ∷ []))
 unfolding clap_on_literals
-lcov2_asked = (rows_met (codes "covcollect" ∷ codes "check" ∷ codes "--lcov2" ∷ codes "a.info" ∷ []), refl, (refl, refl), refl)
+lcov2_asked = (rows_for (codes "covcollect" ∷ codes "check" ∷ codes "--lcov2" ∷ codes "a.info" ∷ []), refl, (refl, refl), refl)
 
 pub both_asked : AsksFor (subcommand_of covcollect (codes "covcollect" ∷ codes "check" ∷ codes "--gcov" ∷ codes "--lcov2" ∷ codes "a.c.gcov" ∷ [])) (Check format.Gcov (codes "a.c.gcov" ∷ []))
 unfolding clap_on_literals
-both_asked = (rows_met (codes "covcollect" ∷ codes "check" ∷ codes "--gcov" ∷ codes "--lcov2" ∷ codes "a.c.gcov" ∷ []), refl, refl, refl)
+both_asked = (rows_for (codes "covcollect" ∷ codes "check" ∷ codes "--gcov" ∷ codes "--lcov2" ∷ codes "a.c.gcov" ∷ []), refl, refl, refl)
 
 pub merge_filter_asked : AsksFor (subcommand_of covcollect (codes "covcollect" ∷ codes "merge" ∷ codes "--include" ∷ codes "b" ∷ codes "--exclude" ∷ codes "x" ∷ codes "--include=a" ∷ codes "--exclude" ∷ codes "y" ∷ codes "f" ∷ []))
     (Merge One 1 (record { includes = codes "b" ∷ codes "a" ∷ []; excludes = codes "x" ∷ codes "y" ∷ [] }) (codes "f" ∷ []))
 unfolding clap_on_literals
-merge_filter_asked = (rows_met (codes "covcollect" ∷ codes "merge" ∷ codes "--include" ∷ codes "b" ∷ codes "--exclude" ∷ codes "x" ∷ codes "--include=a" ∷ codes "--exclude" ∷ codes "y" ∷ codes "f" ∷ []), refl, refl, (codes "1", refl, refl), (refl, refl), refl)
+merge_filter_asked = (rows_for (codes "covcollect" ∷ codes "merge" ∷ codes "--include" ∷ codes "b" ∷ codes "--exclude" ∷ codes "x" ∷ codes "--include=a" ∷ codes "--exclude" ∷ codes "y" ∷ codes "f" ∷ []), refl, refl, (codes "1", refl, refl), (refl, refl), refl)
 
 pub summary_filter_asked : AsksFor (subcommand_of covcollect (codes "covcollect" ∷ codes "summary" ∷ codes "f" ∷ codes "--exclude=x" ∷ codes "--lcov2" ∷ []))
     (Summary Two 1 (record { includes = []; excludes = codes "x" ∷ [] }) Words (record { lines = None; functions = None; branches = None }) (codes "f" ∷ []))
 unfolding clap_on_literals
-summary_filter_asked = (rows_met (codes "covcollect" ∷ codes "summary" ∷ codes "f" ∷ codes "--exclude=x" ∷ codes "--lcov2" ∷ []), refl, refl, (codes "1", refl, refl), (refl, refl), refl, (refl, refl, refl), refl)
+summary_filter_asked = (rows_for (codes "covcollect" ∷ codes "summary" ∷ codes "f" ∷ codes "--exclude=x" ∷ codes "--lcov2" ∷ []), refl, refl, (codes "1", refl, refl), (refl, refl), refl, (refl, refl, refl), refl)
 
 pub neither_filter_asked : AsksFor (subcommand_of covcollect (codes "covcollect" ∷ codes "merge" ∷ codes "f" ∷ []))
     (Merge One 1 (record { includes = []; excludes = [] }) (codes "f" ∷ []))
 unfolding clap_on_literals
-neither_filter_asked = (rows_met (codes "covcollect" ∷ codes "merge" ∷ codes "f" ∷ []), refl, refl, (codes "1", refl, refl), (refl, refl), refl)
+neither_filter_asked = (rows_for (codes "covcollect" ∷ codes "merge" ∷ codes "f" ∷ []), refl, refl, (codes "1", refl, refl), (refl, refl), refl)
 
 pub name_filter_asked : AsksFor (subcommand_of covcollect (codes "covcollect" ∷ codes "merge" ∷ codes "--" ∷ codes "--include" ∷ codes "a" ∷ []))
     (Merge One 1 (record { includes = []; excludes = [] }) (codes "--include" ∷ codes "a" ∷ []))
 unfolding clap_on_literals
-name_filter_asked = (rows_met (codes "covcollect" ∷ codes "merge" ∷ codes "--" ∷ codes "--include" ∷ codes "a" ∷ []), refl, refl, (codes "1", refl, refl), (refl, refl), refl)
+name_filter_asked = (rows_for (codes "covcollect" ∷ codes "merge" ∷ codes "--" ∷ codes "--include" ∷ codes "a" ∷ []), refl, refl, (codes "1", refl, refl), (refl, refl), refl)
 
 pub summary_total_asked : AsksFor (subcommand_of covcollect (codes "covcollect" ∷ codes "summary" ∷ codes "--json" ∷ codes "--fail-under-lines" ∷ codes "80" ∷ codes "--fail-under-branches" ∷ codes "79.5" ∷ codes "a" ∷ []))
     (Summary One 1 (record { includes = []; excludes = [] }) Json (record { lines = Some (codes "80"); functions = None; branches = Some (codes "79.5") }) (codes "a" ∷ []))
 unfolding clap_on_literals
-summary_total_asked = (rows_met (codes "covcollect" ∷ codes "summary" ∷ codes "--json" ∷ codes "--fail-under-lines" ∷ codes "80" ∷ codes "--fail-under-branches" ∷ codes "79.5" ∷ codes "a" ∷ []), refl, refl, (codes "1", refl, refl), (refl, refl), refl, (refl, refl, refl), refl)
+summary_total_asked = (rows_for (codes "covcollect" ∷ codes "summary" ∷ codes "--json" ∷ codes "--fail-under-lines" ∷ codes "80" ∷ codes "--fail-under-branches" ∷ codes "79.5" ∷ codes "a" ∷ []), refl, refl, (codes "1", refl, refl), (refl, refl), refl, (refl, refl, refl), refl)
 
 pub functions_total_asked : AsksFor (subcommand_of covcollect (codes "covcollect" ∷ codes "summary" ∷ codes "a" ∷ codes "--fail-under-functions=x" ∷ []))
     (Summary One 1 (record { includes = []; excludes = [] }) Words (record { lines = None; functions = Some (codes "x"); branches = None }) (codes "a" ∷ []))
 unfolding clap_on_literals
-functions_total_asked = (rows_met (codes "covcollect" ∷ codes "summary" ∷ codes "a" ∷ codes "--fail-under-functions=x" ∷ []), refl, refl, (codes "1", refl, refl), (refl, refl), refl, (refl, refl, refl), refl)
+functions_total_asked = (rows_for (codes "covcollect" ∷ codes "summary" ∷ codes "a" ∷ codes "--fail-under-functions=x" ∷ []), refl, refl, (codes "1", refl, refl), (refl, refl), refl, (refl, refl, refl), refl)
 
 pub list_total_asked : AsksFor (subcommand_of covcollect (codes "covcollect" ∷ codes "list" ∷ codes "--lcov2" ∷ codes "--include" ∷ codes "b" ∷ codes "--exclude" ∷ codes "x" ∷ codes "--json" ∷ codes "a" ∷ []))
     (commands.List Two 1 (record { includes = codes "b" ∷ []; excludes = codes "x" ∷ [] }) Json (codes "a" ∷ []))
 unfolding clap_on_literals
-list_total_asked = (rows_met (codes "covcollect" ∷ codes "list" ∷ codes "--lcov2" ∷ codes "--include" ∷ codes "b" ∷ codes "--exclude" ∷ codes "x" ∷ codes "--json" ∷ codes "a" ∷ []), refl, refl, (codes "1", refl, refl), (refl, refl), refl, refl)
+list_total_asked = (rows_for (codes "covcollect" ∷ codes "list" ∷ codes "--lcov2" ∷ codes "--include" ∷ codes "b" ∷ codes "--exclude" ∷ codes "x" ∷ codes "--json" ∷ codes "a" ∷ []), refl, refl, (codes "1", refl, refl), (refl, refl), refl, refl)
 
 pub name_total_asked : AsksFor (subcommand_of covcollect (codes "covcollect" ∷ codes "list" ∷ codes "--" ∷ codes "--json" ∷ []))
     (commands.List One 1 (record { includes = []; excludes = [] }) Words (codes "--json" ∷ []))
 unfolding clap_on_literals
-name_total_asked = (rows_met (codes "covcollect" ∷ codes "list" ∷ codes "--" ∷ codes "--json" ∷ []), refl, refl, (codes "1", refl, refl), (refl, refl), refl, refl)
+name_total_asked = (rows_for (codes "covcollect" ∷ codes "list" ∷ codes "--" ∷ codes "--json" ∷ []), refl, refl, (codes "1", refl, refl), (refl, refl), refl, refl)
+
+pub merge_output_asked : (output : Option (String Global)) → Some (codes "out") ≡ option_map string_bytes output
+    → AsksForAll (subcommand_of covcollect (codes "covcollect" ∷ codes "merge" ∷ codes "-o" ∷ codes "out" ∷ codes "f" ∷ []))
+    (record { command = Merge One 1 (record { includes = []; excludes = [] }) (codes "f" ∷ []); output = output })
+unfolding clap_on_literals
+merge_output_asked output is = ((rows_for (codes "covcollect" ∷ codes "merge" ∷ codes "-o" ∷ codes "out" ∷ codes "f" ∷ []), refl, refl, (codes "1", refl, refl), (refl, refl), refl), is)
+
+pub extract_output_asked : (output : Option (String Global)) → Some (codes "out") ≡ option_map string_bytes output
+    → AsksForAll (subcommand_of covcollect (codes "covcollect" ∷ codes "extract" ∷ codes "f" ∷ codes "p" ∷ codes "--output=out" ∷ []))
+    (record { command = Extract One (codes "f" ∷ codes "p" ∷ []); output = output })
+unfolding clap_on_literals
+extract_output_asked output is = ((rows_for (codes "covcollect" ∷ codes "extract" ∷ codes "f" ∷ codes "p" ∷ codes "--output=out" ∷ []), refl, refl, refl), is)
+
+pub remove_output_asked : (output : Option (String Global)) → Some (codes "out") ≡ option_map string_bytes output
+    → AsksForAll (subcommand_of covcollect (codes "covcollect" ∷ codes "remove" ∷ codes "-oout" ∷ codes "--lcov2" ∷ codes "f" ∷ codes "p" ∷ []))
+    (record { command = Remove Two (codes "f" ∷ codes "p" ∷ []); output = output })
+unfolding clap_on_literals
+remove_output_asked output is = ((rows_for (codes "covcollect" ∷ codes "remove" ∷ codes "-oout" ∷ codes "--lcov2" ∷ codes "f" ∷ codes "p" ∷ []), refl, refl, refl), is)
+
+pub gcov_output_asked : (output : Option (String Global)) → Some (codes "out") ≡ option_map string_bytes output
+    → AsksForAll (subcommand_of covcollect (codes "covcollect" ∷ codes "gcov" ∷ codes "--test" ∷ codes "t" ∷ codes "-o" ∷ codes "out" ∷ codes "f" ∷ []))
+    (record { command = Gcov (codes "t") (codes "f" ∷ []); output = output })
+unfolding clap_on_literals
+gcov_output_asked output is = ((rows_for (codes "covcollect" ∷ codes "gcov" ∷ codes "--test" ∷ codes "t" ∷ codes "-o" ∷ codes "out" ∷ codes "f" ∷ []), refl, refl, refl), is)
+
+pub summary_output_asked : first_of (codes "output") (rows_met (subcommand_of covcollect (codes "covcollect" ∷ codes "summary" ∷ codes "f" ∷ codes "--output" ∷ codes "out" ∷ codes "--json" ∷ []))) ≡ Some (codes "out")
+unfolding clap_on_literals
+summary_output_asked = refl
+
+pub list_output_asked : first_of (codes "output") (rows_met (subcommand_of covcollect (codes "covcollect" ∷ codes "list" ∷ codes "f" ∷ codes "-o=out" ∷ []))) ≡ Some (codes "out")
+unfolding clap_on_literals
+list_output_asked = refl
+
+pub dash_output_asked : first_of (codes "output") (rows_met (subcommand_of covcollect (codes "covcollect" ∷ codes "merge" ∷ codes "--output=-o" ∷ codes "f" ∷ []))) ≡ Some (codes "-o")
+unfolding clap_on_literals
+dash_output_asked = refl
+
+pub neither_output_asked : AsksForAll (subcommand_of covcollect (codes "covcollect" ∷ codes "merge" ∷ codes "f" ∷ []))
+    (record { command = Merge One 1 (record { includes = []; excludes = [] }) (codes "f" ∷ []); output = None })
+unfolding clap_on_literals
+neither_output_asked = ((rows_for (codes "covcollect" ∷ codes "merge" ∷ codes "f" ∷ []), refl, refl, (codes "1", refl, refl), (refl, refl), refl), refl)
+
+pub name_output_asked : AsksForAll (subcommand_of covcollect (codes "covcollect" ∷ codes "extract" ∷ codes "f" ∷ codes "--" ∷ codes "-o" ∷ []))
+    (record { command = Extract One (codes "f" ∷ codes "-o" ∷ []); output = None })
+unfolding clap_on_literals
+name_output_asked = ((rows_for (codes "covcollect" ∷ codes "extract" ∷ codes "f" ∷ codes "--" ∷ codes "-o" ∷ []), refl, refl, refl), refl)
+
+pub check_output_asked : AsksForAll (subcommand_of covcollect (codes "covcollect" ∷ codes "check" ∷ codes "f" ∷ []))
+    (record { command = Check (format.Tracefile One) (codes "f" ∷ []); output = None })
+unfolding clap_on_literals
+check_output_asked = ((rows_for (codes "covcollect" ∷ codes "check" ∷ codes "f" ∷ []), refl, (refl, refl), refl), refl)
 
 pub jobs_refused : fault_of covcollect (codes "covcollect" ∷ codes "merge" ∷ codes "--jobs" ∷ codes "65" ∷ codes "a.info" ∷ []) ≡ kind.ValueValidation ∷ []
 unfolding clap_on_literals
@@ -224,6 +299,22 @@ limit_twice_refused = refl
 pub no_limit_refused : fault_of covcollect (codes "covcollect" ∷ codes "summary" ∷ codes "a.info" ∷ codes "--fail-under-branches" ∷ []) ≡ kind.InvalidValue ∷ []
 unfolding clap_on_literals
 no_limit_refused = refl
+
+pub output_twice_refused : fault_of covcollect (codes "covcollect" ∷ codes "merge" ∷ codes "-o" ∷ codes "a.info" ∷ codes "--output" ∷ codes "b.info" ∷ codes "c.info" ∷ []) ≡ kind.ArgumentConflict ∷ []
+unfolding clap_on_literals
+output_twice_refused = refl
+
+pub no_output_refused : fault_of covcollect (codes "covcollect" ∷ codes "merge" ∷ codes "a.info" ∷ codes "-o" ∷ []) ≡ kind.InvalidValue ∷ []
+unfolding clap_on_literals
+no_output_refused = refl
+
+pub check_output_refused : fault_of covcollect (codes "covcollect" ∷ codes "check" ∷ codes "-o" ∷ codes "x" ∷ codes "a.info" ∷ []) ≡ kind.UnknownArgument ∷ []
+unfolding clap_on_literals
+check_output_refused = refl
+
+pub session_output_refused : fault_of covcollect (codes "covcollect" ∷ codes "-o" ∷ codes "x" ∷ []) ≡ kind.UnknownArgument ∷ []
+unfolding clap_on_literals
+session_output_refused = refl
 
 pub help_refused : fault_of covcollect (codes "covcollect" ∷ codes "merge" ∷ codes "--help" ∷ []) ≡ kind.DisplayHelp ∷ []
 unfolding clap_on_literals

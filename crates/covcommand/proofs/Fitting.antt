@@ -13,7 +13,7 @@ use Rattle.clap.specs.Walk.{Row, Text, answers_to, has_row, nothing_held, rows_a
 use Rattle.clap.specs.Simple.{App, Shape, argument_words, built, entered, filled, help_rule, label_of, names_of, rows_at, subcommand_of, with_index, with_subcommand}
 use Rattle.clap.specs.Takes.{is_given}
 use Rattle.clap.specs.Faults.{built_fault, check_fault, entered_fault, fault_of, level_fault, repeat_fault, walk_fault}
-use Rattle.covcommand.specs.CommandLine.{check, covcollect, extract, filtering, flag, gcov, jobs, limit, list, merge, patterns, program, remove, several, single, summary, test}
+use Rattle.covcommand.specs.CommandLine.{check, covcollect, extract, filtering, flag, gcov, jobs, limit, list, merge, output, patterns, program, remove, several, single, summary, test}
 use Rattle.covcommand.specs.Found.{Fits, HasCheck, HasFiltering, HasFlag, HasListing, HasMerging, HasSome, HasTest}
 use Rattle.covcommand.proofs.Walks.{EachKeeps, Keeps, level_keeps, no_faults, settled_after}
 use Rattle.covcommand.proofs.Rows.{EachDefaultFits, FitsValues, RowOf, RowsFit, append_fits, defaulted, defaults_fit, given_row, has_default, has_flag, has_jobs, has_some, has_test, held_row, is_flag, numbers, set_fits}
@@ -53,6 +53,11 @@ limit_keeps : (id : Text) (i : ℕ) → IsFree id → Keeps RowsFit (with_index 
 limit_keeps id i free again [] rows none fit = absurd cc
 limit_keeps id i free again (v ∷ vs) rows none fit =
     set_fits id AsWritten (v ∷ vs) rows (any_fit id v vs free) fit
+
+output_keeps : (i : ℕ) → Keeps RowsFit (with_index i (filled output))
+output_keeps i again [] rows none fit = absurd cc
+output_keeps i again (v ∷ vs) rows none fit =
+    set_fits (codes "output") AsWritten (v ∷ vs) rows (any_fit (codes "output") v vs (refl, refl)) fit
 
 test_keeps : (i : ℕ) → Keeps RowsFit (with_index i (filled test))
 test_keeps i again [] rows none fit = absurd cc
@@ -150,12 +155,15 @@ merge_leaves words none =
       (
         jobs_keeps 2,
         (
-          flag_keeps (codes "lcov2") 2 refl,
-          (patterns_keeps (codes "include") 2 (refl, refl), (patterns_keeps (codes "exclude") 2 (refl, refl), (help_keeps 2, tt))),
+          output_keeps 2,
+          (
+            flag_keeps (codes "lcov2") 2 refl,
+            (patterns_keeps (codes "include") 2 (refl, refl), (patterns_keeps (codes "exclude") 2 (refl, refl), (help_keeps 2, tt))),
+          ),
         ),
       ),
     ) in
-    let defaults : EachDefaultFits (built_below merge).rules = (tt, (one_job_fits, (unset_fits (codes "lcov2") refl, (tt, (tt, (tt, tt)))))) in
+    let defaults : EachDefaultFits (built_below merge).rules = (tt, (one_job_fits, (tt, (unset_fits (codes "lcov2") refl, (tt, (tt, (tt, tt))))))) in
     of_left _ (left_after (built_below merge) words each defaults none)
   where
     of_left : (rows : List Row) → Left (built_below merge) rows → HasMerging rows
@@ -174,13 +182,16 @@ summary_leaves words none =
       (
         jobs_keeps 2,
         (
-          flag_keeps (codes "lcov2") 2 refl,
-          (patterns_keeps (codes "include") 2 (refl, refl), (patterns_keeps (codes "exclude") 2 (refl, refl), (flag_keeps (codes "json") 2 refl, limits))),
+          output_keeps 2,
+          (
+            flag_keeps (codes "lcov2") 2 refl,
+            (patterns_keeps (codes "include") 2 (refl, refl), (patterns_keeps (codes "exclude") 2 (refl, refl), (flag_keeps (codes "json") 2 refl, limits))),
+          ),
         ),
       ),
     ) in
     let defaults : EachDefaultFits (built_below summary).rules =
-    (tt, (one_job_fits, (unset_fits (codes "lcov2") refl, (tt, (tt, (unset_fits (codes "json") refl, (tt, (tt, (tt, (tt, tt)))))))))) in
+    (tt, (one_job_fits, (tt, (unset_fits (codes "lcov2") refl, (tt, (tt, (unset_fits (codes "json") refl, (tt, (tt, (tt, (tt, tt))))))))))) in
     of_left _ (left_after (built_below summary) words each defaults none)
   where
     of_left : (rows : List Row) → Left (built_below summary) rows → HasListing rows
@@ -193,16 +204,19 @@ list_leaves words none =
       (
         jobs_keeps 2,
         (
-          flag_keeps (codes "lcov2") 2 refl,
+          output_keeps 2,
           (
-            patterns_keeps (codes "include") 2 (refl, refl),
-            (patterns_keeps (codes "exclude") 2 (refl, refl), (flag_keeps (codes "json") 2 refl, (help_keeps 2, tt))),
+            flag_keeps (codes "lcov2") 2 refl,
+            (
+              patterns_keeps (codes "include") 2 (refl, refl),
+              (patterns_keeps (codes "exclude") 2 (refl, refl), (flag_keeps (codes "json") 2 refl, (help_keeps 2, tt))),
+            ),
           ),
         ),
       ),
     ) in
     let defaults : EachDefaultFits (built_below list).rules =
-    (tt, (one_job_fits, (unset_fits (codes "lcov2") refl, (tt, (tt, (unset_fits (codes "json") refl, (tt, tt))))))) in
+    (tt, (one_job_fits, (tt, (unset_fits (codes "lcov2") refl, (tt, (tt, (unset_fits (codes "json") refl, (tt, tt)))))))) in
     of_left _ (left_after (built_below list) words each defaults none)
   where
     of_left : (rows : List Row) → Left (built_below list) rows → HasListing rows
@@ -211,9 +225,11 @@ list_leaves words none =
 -- `extract` and `remove`
 filtering_leaves : (name : Text) → Leaves (built_below (filtering name)) HasFiltering
 filtering_leaves name words none =
-    let each : EachKeeps RowsFit (built_below (filtering name)).rules =
-    (single_keeps (codes "TRACEFILE") 1 (refl, refl), (several_keeps (codes "PATTERN") 2 (refl, refl), (flag_keeps (codes "lcov2") 3 refl, (help_keeps 3, tt)))) in
-    let defaults : EachDefaultFits (built_below (filtering name)).rules = (tt, (tt, (unset_fits (codes "lcov2") refl, (tt, tt)))) in
+    let each : EachKeeps RowsFit (built_below (filtering name)).rules = (
+      single_keeps (codes "TRACEFILE") 1 (refl, refl),
+      (several_keeps (codes "PATTERN") 2 (refl, refl), (output_keeps 3, (flag_keeps (codes "lcov2") 3 refl, (help_keeps 3, tt)))),
+    ) in
+    let defaults : EachDefaultFits (built_below (filtering name)).rules = (tt, (tt, (tt, (unset_fits (codes "lcov2") refl, (tt, tt))))) in
     of_left _ (left_after (built_below (filtering name)) words each defaults none)
   where
     of_left : (rows : List Row) → Left (built_below (filtering name)) rows → HasFiltering rows
@@ -226,8 +242,8 @@ filtering_leaves name words none =
 
 gcov_leaves : Leaves (built_below gcov) (λ rows. HasTest rows × HasSome (codes "FILE") rows)
 gcov_leaves words none =
-    let each : EachKeeps RowsFit (built_below gcov).rules = (several_keeps (codes "FILE") 1 (refl, refl), (test_keeps 2, (help_keeps 2, tt))) in
-    of_left _ (left_after (built_below gcov) words each (tt, (tt, (tt, tt))) none)
+    let each : EachKeeps RowsFit (built_below gcov).rules = (several_keeps (codes "FILE") 1 (refl, refl), (test_keeps 2, (output_keeps 2, (help_keeps 2, tt)))) in
+    of_left _ (left_after (built_below gcov) words each (tt, (tt, (tt, (tt, tt)))) none)
   where
     of_left : (rows : List Row) → Left (built_below gcov) rows → HasTest rows × HasSome (codes "FILE") rows
     of_left rows left =

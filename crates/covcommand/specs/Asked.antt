@@ -3,6 +3,7 @@ use Rattle.std.specs.Prelude.{◌≡◌, ◌≤◌, ◌++◌, ℕ, List, [], Opt
 use Rattle.std.specs.Option.{option_map_or}
 use Rattle.std.specs.Str.Parse.{digits_value, without_leading_plus}
 use Rattle.std.specs.String.{string_bytes}
+use Rattle.std.specs.declared.alloc.Global.{Global}
 use Rattle.clap.specs.Walk.{Row, Text, all_of, first_of, one_of}
 use Rattle.covcommand.specs.declared.asked.Asked.{Asked}
 use Rattle.covcommand.specs.declared.asked.Command.{Command}
@@ -81,12 +82,12 @@ AsksFor met (Check how names) = (rows : List Row) × (met ≡ Some (codes "check
     × IsFormatOf rows how × (names ≡ values_of (codes "FILE") rows)
 
 -- the word that clap found for `--output`, as it is, and `None` if the option isn't given
-abbrev pub IsOutputOf : List Row → Option String → Type 0
+abbrev pub IsOutputOf : List Row → Option (String Global) → Type 0
 IsOutputOf rows output = first_of (codes "output") rows ≡ option_map string_bytes output
 
 -- where the text of this command goes: to the file that `--output` names, or to standard output (`None`). The text of a session and
 -- of `check` goes to standard output
-abbrev pub GoesTo : List Row → Command → Option String → Type 0
+abbrev pub GoesTo : List Row → Command → Option (String Global) → Type 0
 GoesTo rows Session output = output ≡ None
 GoesTo rows (Merge version jobs filter names) output = IsOutputOf rows output
 GoesTo rows (Summary version jobs filter form limits names) output = IsOutputOf rows output

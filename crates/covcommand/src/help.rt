@@ -46,7 +46,10 @@ and where there are many files
 and where LCOV 2 wrote some of them
   covcollect merge --lcov2 A.info B.info > OUT
 and to leave out source files (extract --help tells of patterns)
-  covcollect merge --exclude '/usr/*' A.info B.info > OUT";
+  covcollect merge --exclude '/usr/*' A.info B.info > OUT
+With -o the text is written to FILE instead of standard output. FILE may be one
+of the inputs:
+  covcollect merge A.info B.info -o A.info";
 
 /// What `summary` does.
 pub(crate) const SUMMARY: &str = "Tells how much of the code is hit (lcov --summary)";
@@ -92,7 +95,9 @@ patterns in quotes, else the shell takes them for its own. In place of
 write
   covcollect extract A.info '*/src/*' > OUT
 and with several patterns
-  covcollect extract A.info '*/src/*' '*/lib/*' > OUT";
+  covcollect extract A.info '*/src/*' '*/lib/*' > OUT
+and to put the result in place of the tracefile
+  covcollect extract A.info '*/src/*' -o A.info";
 
 /// What `remove` does.
 pub(crate) const REMOVE: &str = "Leaves out the source files that match a pattern (lcov -r)";
@@ -106,7 +111,9 @@ patterns in quotes, else the shell takes them for its own. In place of
 write
   covcollect remove A.info '/usr/*' > OUT
 and with several patterns
-  covcollect remove A.info '/usr/*' '*/tests/*' > OUT";
+  covcollect remove A.info '/usr/*' '*/tests/*' > OUT
+and to put the result in place of the tracefile
+  covcollect remove A.info '/usr/*' -o A.info";
 
 /// What `gcov` does.
 pub(crate) const GCOV: &str = "Makes a tracefile of what gcov wrote (geninfo)";
@@ -156,7 +163,7 @@ pub(crate) const JOBS: &str = "Files read at once, from 1 to 64";
 pub(crate) const OUTPUT: &str = "Write to FILE, which may be one of the inputs";
 
 /// The help of `--test`.
-pub(crate) const TEST: &str = "The test that the counts are of; --test= is the empty name";
+pub(crate) const TEST: &str = "Test that the counts are of; --test= is the empty name";
 
 /// The help of `--lcov2`.
 pub(crate) const LCOV2: &str = "Tracefiles of LCOV 2 are read too";

@@ -1,12 +1,14 @@
 //! Laws of single calls: what clap's definitions say of these words for this program's command line.
 
-ghost use Rattle.std.specs.Prelude.{◌≡◌, [], ◌∷◌, Some, None, true, codes};
+ghost use Rattle.std.specs.Prelude.{◌≡◌, [], ◌∷◌, Option, Some, None, String, true, codes, option_map};
+ghost use Rattle.std.specs.String.{string_bytes};
+ghost use Rattle.std.specs.declared.alloc.Global.{Global};
 ghost use Rattle.clap.specs.Words.{takes, fault_of};
 ghost use Rattle.clap.specs.declared.error.kind.ErrorKind.TheVariants as kind;
-ghost use Rattle.clap.specs.Words.{subcommand_of};
-ghost use Rattle.covcommand.specs.Asked.{AsksFor};
+ghost use Rattle.clap.specs.Words.{subcommand_of, first_of};
+ghost use Rattle.covcommand.specs.Asked.{AsksFor, AsksForAll, rows_met};
 ghost use Rattle.covcommand.specs.CommandLine.{covcollect};
-ghost use Rattle.covcommand.specs.declared.asked.Command.TheVariants.{Check, Merge, Summary};
+ghost use Rattle.covcommand.specs.declared.asked.Command.TheVariants.{Check, Extract, Gcov, Merge, Remove, Summary};
 ghost use Rattle.covcommand.specs.declared.asked.Command.TheVariants as commands;
 ghost use Rattle.covcommand.specs.declared.asked.TotalsForm.TheVariants.{Words, Json};
 ghost use Rattle.covcommand.specs.declared.asked.TextFormat.TheVariants as format;
@@ -34,6 +36,12 @@ pub fn calls_are_taken()
     ensures list_options { takes covcollect (codes "covcollect" ∷ codes "list" ∷ codes "--json" ∷ codes "--lcov2" ∷ codes "-j" ∷ codes "4" ∷ codes "--include" ∷ codes "*.c" ∷ codes "--exclude" ∷ codes "*.h" ∷ codes "a.info" ∷ codes "b.info" ∷ []) ≡ true }
     ensures summary_json { takes covcollect (codes "covcollect" ∷ codes "summary" ∷ codes "--json" ∷ codes "a.info" ∷ []) ≡ true }
     ensures summary_limits { takes covcollect (codes "covcollect" ∷ codes "summary" ∷ codes "--fail-under-lines" ∷ codes "80" ∷ codes "--fail-under-functions=75" ∷ codes "a.info" ∷ codes "--fail-under-branches" ∷ codes "79.5" ∷ []) ≡ true }
+    ensures merge_output { takes covcollect (codes "covcollect" ∷ codes "merge" ∷ codes "-o" ∷ codes "out.info" ∷ codes "a.info" ∷ codes "b.info" ∷ []) ≡ true }
+    ensures summary_output { takes covcollect (codes "covcollect" ∷ codes "summary" ∷ codes "a.info" ∷ codes "--output" ∷ codes "out.txt" ∷ codes "--json" ∷ []) ≡ true }
+    ensures list_output { takes covcollect (codes "covcollect" ∷ codes "list" ∷ codes "--output=out.txt" ∷ codes "a.info" ∷ []) ≡ true }
+    ensures extract_output { takes covcollect (codes "covcollect" ∷ codes "extract" ∷ codes "-oout.info" ∷ codes "a.info" ∷ codes "*.c" ∷ []) ≡ true }
+    ensures remove_output { takes covcollect (codes "covcollect" ∷ codes "remove" ∷ codes "a.info" ∷ codes "*.c" ∷ codes "-o" ∷ codes "a.info" ∷ []) ≡ true }
+    ensures gcov_output { takes covcollect (codes "covcollect" ∷ codes "gcov" ∷ codes "--test=" ∷ codes "-o" ∷ codes "out.info" ∷ codes "a.c.gcov" ∷ []) ≡ true }
 {}
 
 /// What calls of `check` ask for. With the flag `--gcov`, before or after the files, the files are gcov's, also beside `--lcov2`;
@@ -79,6 +87,32 @@ pub fn totals_by_their_words()
         (commands.List One 1 (record { includes = []; excludes = [] }) Words (codes "--json" ∷ [])) }
 {}
 
+/// What calls ask for by `--output` or `-o`, with its word after it, after `=`, or joined to `-o`: that word. A call without the
+/// option, with it after `--`, or of `check` asks for standard output (`None`).
+pub fn outputs_by_their_words()
+    ensures merge { (output : Option (String Global)) → Some (codes "out") ≡ option_map string_bytes output
+        → AsksForAll (subcommand_of covcollect (codes "covcollect" ∷ codes "merge" ∷ codes "-o" ∷ codes "out" ∷ codes "f" ∷ []))
+        (record { command = Merge One 1 (record { includes = []; excludes = [] }) (codes "f" ∷ []); output = output }) }
+    ensures extract { (output : Option (String Global)) → Some (codes "out") ≡ option_map string_bytes output
+        → AsksForAll (subcommand_of covcollect (codes "covcollect" ∷ codes "extract" ∷ codes "f" ∷ codes "p" ∷ codes "--output=out" ∷ []))
+        (record { command = Extract One (codes "f" ∷ codes "p" ∷ []); output = output }) }
+    ensures remove { (output : Option (String Global)) → Some (codes "out") ≡ option_map string_bytes output
+        → AsksForAll (subcommand_of covcollect (codes "covcollect" ∷ codes "remove" ∷ codes "-oout" ∷ codes "--lcov2" ∷ codes "f" ∷ codes "p" ∷ []))
+        (record { command = Remove Two (codes "f" ∷ codes "p" ∷ []); output = output }) }
+    ensures gcov { (output : Option (String Global)) → Some (codes "out") ≡ option_map string_bytes output
+        → AsksForAll (subcommand_of covcollect (codes "covcollect" ∷ codes "gcov" ∷ codes "--test" ∷ codes "t" ∷ codes "-o" ∷ codes "out" ∷ codes "f" ∷ []))
+        (record { command = Gcov (codes "t") (codes "f" ∷ []); output = output }) }
+    ensures summary { first_of (codes "output") (rows_met (subcommand_of covcollect (codes "covcollect" ∷ codes "summary" ∷ codes "f" ∷ codes "--output" ∷ codes "out" ∷ codes "--json" ∷ []))) ≡ Some (codes "out") }
+    ensures list { first_of (codes "output") (rows_met (subcommand_of covcollect (codes "covcollect" ∷ codes "list" ∷ codes "f" ∷ codes "-o=out" ∷ []))) ≡ Some (codes "out") }
+    ensures dash { first_of (codes "output") (rows_met (subcommand_of covcollect (codes "covcollect" ∷ codes "merge" ∷ codes "--output=-o" ∷ codes "f" ∷ []))) ≡ Some (codes "-o") }
+    ensures neither { AsksForAll (subcommand_of covcollect (codes "covcollect" ∷ codes "merge" ∷ codes "f" ∷ []))
+        (record { command = Merge One 1 (record { includes = []; excludes = [] }) (codes "f" ∷ []); output = None }) }
+    ensures name { AsksForAll (subcommand_of covcollect (codes "covcollect" ∷ codes "extract" ∷ codes "f" ∷ codes "--" ∷ codes "-o" ∷ []))
+        (record { command = Extract One (codes "f" ∷ codes "-o" ∷ []); output = None }) }
+    ensures check { AsksForAll (subcommand_of covcollect (codes "covcollect" ∷ codes "check" ∷ codes "f" ∷ []))
+        (record { command = Check (format.Tracefile One) (codes "f" ∷ []); output = None }) }
+{}
+
 /// Calls that are refused, with clap's kind of error for each. The program takes `--version`, but its subcommands don't.
 pub fn calls_are_refused()
     ensures jobs { fault_of covcollect (codes "covcollect" ∷ codes "merge" ∷ codes "--jobs" ∷ codes "65" ∷ codes "a.info" ∷ [])
@@ -113,6 +147,14 @@ pub fn calls_are_refused()
         ≡ kind.ArgumentConflict ∷ [] }
     ensures no_limit { fault_of covcollect (codes "covcollect" ∷ codes "summary" ∷ codes "a.info" ∷ codes "--fail-under-branches" ∷ [])
         ≡ kind.InvalidValue ∷ [] }
+    ensures output_twice { fault_of covcollect (codes "covcollect" ∷ codes "merge" ∷ codes "-o" ∷ codes "a.info" ∷ codes "--output" ∷ codes "b.info" ∷ codes "c.info" ∷ [])
+        ≡ kind.ArgumentConflict ∷ [] }
+    ensures no_output { fault_of covcollect (codes "covcollect" ∷ codes "merge" ∷ codes "a.info" ∷ codes "-o" ∷ [])
+        ≡ kind.InvalidValue ∷ [] }
+    ensures check_output { fault_of covcollect (codes "covcollect" ∷ codes "check" ∷ codes "-o" ∷ codes "x" ∷ codes "a.info" ∷ [])
+        ≡ kind.UnknownArgument ∷ [] }
+    ensures session_output { fault_of covcollect (codes "covcollect" ∷ codes "-o" ∷ codes "x" ∷ [])
+        ≡ kind.UnknownArgument ∷ [] }
     ensures help { fault_of covcollect (codes "covcollect" ∷ codes "merge" ∷ codes "--help" ∷ [])
         ≡ kind.DisplayHelp ∷ [] }
     ensures version { fault_of covcollect (codes "covcollect" ∷ codes "--version" ∷ [])

@@ -4,7 +4,7 @@
 //! Examples are text, so that they cost the proof of these tests nothing: a line has a call and, after ` => `, its answer.
 
 use covcommand::{
-    Command, CommandFault, LcovVersion, Limits, Names, SourceFilter, TextFormat, TotalsForm,
+    Asked, Command, CommandFault, LcovVersion, Limits, Names, SourceFilter, TextFormat, TotalsForm,
     command,
 };
 use std::alloc::Global;
@@ -17,7 +17,7 @@ mod words;
 
 /// What the words ask for. This function has no contract: a test looks at what `command` returns, and is proved more quickly
 /// this way.
-fn asked(alloc: Global, words: &[String]) -> Result<Command, CommandFault> {
+fn asked(alloc: Global, words: &[String]) -> Result<Asked, CommandFault> {
     command(alloc, words)
 }
 
@@ -30,11 +30,11 @@ fn words_of(alloc: Global, call: &str) -> Result<Vec<String>, Fail> {
     Ok(words)
 }
 
-/// The command that a call asks for, or its refusal, in words.
+/// What a call asks for, or its refusal, in words.
 fn answer(alloc: Global, call: &str) -> Result<String, Fail> {
     let words = words_of(alloc, call)?;
     match asked(alloc, words.as_slice()) {
-        Ok(command) => told(alloc, &command),
+        Ok(whole) => told(alloc, &whole),
         Err(fault) => refused(alloc, &fault),
     }
 }
@@ -46,9 +46,14 @@ fn refused(alloc: Global, fault: &CommandFault) -> Result<String, Fail> {
     Ok(format!(in alloc; "{} {} {first}", fault.number(), fault.status())?)
 }
 
+/// What is asked for in words: the command, and the file for its text.
+fn told(alloc: Global, whole: &Asked) -> Result<String, Fail> {
+    with_output(command_in_words(alloc, &whole.command)?, &whole.output)
+}
+
 /// The command in words: its subcommand, its version of LCOV, its number of jobs, its test or its format, then its filter, its
 /// form, its limits and its names.
-fn told(alloc: Global, command: &Command) -> Result<String, Fail> {
+fn command_in_words(alloc: Global, command: &Command) -> Result<String, Fail> {
     match command {
         Command::Session => Ok(String::from_str(alloc, "session")?),
         Command::Merge {
@@ -146,6 +151,16 @@ fn with_limits(alloc: Global, mut text: String, limits: &Limits) -> Result<Strin
 fn with_limit(alloc: Global, text: String, of: &str, limit: &[u8]) -> Result<String, Fail> {
     let limit: String = String::from_utf8_lossy(alloc, limit)?;
     Ok(format!(in alloc; "{text} {of}({limit})")?)
+}
+
+/// The text with the path of the file for a command's text after it, if there is one: in brackets, with `>` before them.
+fn with_output(mut text: String, output: &Option<String>) -> Result<String, Fail> {
+    if let Some(path) = output {
+        text.push_str(" >[")?;
+        text.push_str(path.as_str())?;
+        text.push(']')?;
+    }
+    Ok(text)
 }
 
 /// The text with each name after it, in brackets.

@@ -15,7 +15,7 @@ pub fn merge_of(alloc: Global, words: &[String]) -> Result<Option<(u32, Names)>,
     ensures merge { IfOk result (AsksForMerge (subcommand_of covcollect (map string_bytes words.now))) }
     ensures fault { IfErr result (IsFaultAmong (fault_of covcollect (map string_bytes words.now))) }
 {
-    match command(alloc, words)? {
+    match command(alloc, words)?.command {
         Command::Merge { jobs, names, .. } => Ok(Some((jobs, names))),
         _ => Ok(None),
     }

@@ -221,6 +221,73 @@ covcollect summary --fail-under 80 a => 2 2 error: unexpected argument '--fail-u
     )
 }
 
+/// The option `--output` or `-o`, of each subcommand that has it, before, between and after other words. Its word may be an input,
+/// empty, and anything that is no option.
+#[test]
+fn outputs(rt: HostRuntime) -> Result<(), Fail> {
+    check_all(
+        &rt,
+        "\
+covcollect merge -o out.info a.info => merge (1 1) [a.info] >[out.info]
+covcollect merge --output out.info a.info b.info => merge (1 1) [a.info] [b.info] >[out.info]
+covcollect merge --output=out.info a.info => merge (1 1) [a.info] >[out.info]
+covcollect merge -oout.info a.info => merge (1 1) [a.info] >[out.info]
+covcollect merge -o=out.info a.info => merge (1 1) [a.info] >[out.info]
+covcollect merge a.info -o out.info b.info => merge (1 1) [a.info] [b.info] >[out.info]
+covcollect merge a.info b.info -o a.info => merge (1 1) [a.info] [b.info] >[a.info]
+covcollect merge -j2 -o out.info --lcov2 --exclude x a.info => merge (2 2) -[x] [a.info] >[out.info]
+covcollect merge --output= a.info => merge (1 1) [a.info] >[]
+covcollect merge --output=-o a.info => merge (1 1) [a.info] >[-o]
+covcollect merge -o - a.info => merge (1 1) [a.info] >[-]
+covcollect merge -o a=b a.info => merge (1 1) [a.info] >[a=b]
+covcollect merge -o out.info -- -o => merge (1 1) [-o] >[out.info]
+covcollect merge -- -o out.info => merge (1 1) [-o] [out.info]
+covcollect merge output => merge (1 1) [output]
+covcollect summary --json -o out.json a.info => summary (1 1) json [a.info] >[out.json]
+covcollect summary a.info --fail-under-lines 80 --output=out.txt => summary (1 1) lines(80) [a.info] >[out.txt]
+covcollect list a.info -o out.txt => list (1 1) [a.info] >[out.txt]
+covcollect list -j 4 --output out.json --json a b => list (1 4) json [a] [b] >[out.json]
+covcollect extract -o out a.info 'p*' => extract (1) [a.info] [p*] >[out]
+covcollect extract a.info 'p*' -o a.info => extract (1) [a.info] [p*] >[a.info]
+covcollect extract a.info -o out --lcov2 'p*' '*.h' => extract (2) [a.info] [p*] [*.h] >[out]
+covcollect extract a.info -o out -- -o => extract (1) [a.info] [-o] >[out]
+covcollect remove --output=out a.info '/usr/*' => remove (1) [a.info] [/usr/*] >[out]
+covcollect remove a.info '/usr/*' -oa.info => remove (1) [a.info] [/usr/*] >[a.info]
+covcollect gcov --test unit -o unit.info main.c.gcov => gcov (unit) [main.c.gcov] >[unit.info]
+covcollect gcov -o unit.info --test= main.c.gcov util.c.gcov => gcov () [main.c.gcov] [util.c.gcov] >[unit.info]
+",
+    )
+}
+
+/// An output that comes twice, has no word, or stands without the words that are required; and where nothing takes it.
+#[test]
+fn outputs_that_are_refused(rt: HostRuntime) -> Result<(), Fail> {
+    check_all(
+        &rt,
+        "\
+covcollect merge -o a -o b c => 2 2 error: the argument '--output <FILE>' cannot be used multiple times
+covcollect merge -o a --output a c => 2 2 error: the argument '--output <FILE>' cannot be used multiple times
+covcollect summary --output=a b --output=a => 2 2 error: the argument '--output <FILE>' cannot be used multiple times
+covcollect merge a.info -o => 2 2 error: a value is required for '--output <FILE>' but none was supplied
+covcollect list a.info --output => 2 2 error: a value is required for '--output <FILE>' but none was supplied
+covcollect extract a.info 'p*' -o => 2 2 error: a value is required for '--output <FILE>' but none was supplied
+covcollect gcov --test unit main.c.gcov -o => 2 2 error: a value is required for '--output <FILE>' but none was supplied
+covcollect merge -o --lcov2 a.info => 2 2 error: a value is required for '--output <FILE>' but none was supplied
+covcollect merge -o out.info => 2 2 error: the following required arguments were not provided:
+covcollect extract -o out a.info => 2 2 error: the following required arguments were not provided:
+covcollect remove -o out => 2 2 error: the following required arguments were not provided:
+covcollect gcov -o out main.c.gcov => 2 2 error: the following required arguments were not provided:
+covcollect check -o x a => 2 2 error: unexpected argument '-o' found
+covcollect check --output x a => 2 2 error: unexpected argument '--output' found
+covcollect check a --output=x => 2 2 error: unexpected argument '--output' found
+covcollect -o x => 2 2 error: unexpected argument '-o' found
+covcollect --output x merge a.info => 2 2 error: unexpected argument '--output' found
+covcollect merge -O out a.info => 2 2 error: unexpected argument '-O' found
+covcollect merge --output-file out a.info => 2 2 error: unexpected argument '--output-file' found
+",
+    )
+}
+
 /// Words that are missing, that come twice, and that nothing takes.
 #[test]
 fn refusals(rt: HostRuntime) -> Result<(), Fail> {
@@ -243,7 +310,6 @@ covcollect check --gcov --gcov main.c.gcov => 2 2 error: the argument '--gcov' c
 covcollect check --gcov=true main.c.gcov => 2 2 error: unexpected value 'true' for '--gcov' found; no more were expected
 covcollect check --jobs 2 a.info => 2 2 error: unexpected argument '--jobs' found
 covcollect merge --gcov a.info => 2 2 error: unexpected argument '--gcov' found
-covcollect merge -o out a.info => 2 2 error: unexpected argument '-o' found
 covcollect -a a.info => 2 2 error: unexpected argument '-a' found
 covcollect bogus => 2 2 error: unrecognized subcommand 'bogus'
 covcollect a.info => 2 2 error: unrecognized subcommand 'a.info'
@@ -287,7 +353,7 @@ fn check_words(
 /// What the words ask for, or the text of their refusal.
 fn told_of(alloc: Global, words: &[String]) -> Result<String, Fail> {
     match asked(alloc, words) {
-        Ok(command) => told(alloc, &command),
+        Ok(whole) => told(alloc, &whole),
         Err(fault) => Ok(format!(in alloc; "{fault}")?),
     }
 }

@@ -126,14 +126,15 @@ fn the_whole_help_of_gcov(rt: HostRuntime) -> Result<(), Fail> {
         "\
 Makes a tracefile of what gcov wrote (geninfo)
 
-Usage: covcollect gcov --test <NAME> <FILE>...
+Usage: covcollect gcov [OPTIONS] --test <NAME> <FILE>...
 
 Arguments:
   <FILE>...  Files that gcov wrote, read in this order
 
 Options:
-      --test <NAME>  The test that the counts are of; --test= is the empty name
-  -h, --help         Print help
+      --test <NAME>    Test that the counts are of; --test= is the empty name
+  -o, --output <FILE>  Write to FILE, which may be one of the inputs
+  -h, --help           Print help
 
 Prints the tracefile of annotated source, as the counts of one test. gcov writes
 it without options, or by -b -c with functions and branches:
@@ -143,7 +144,42 @@ it without options, or by -b -c with functions and branches:
     )
 }
 
-/// The help of a subcommand with an option that has a short form is exactly this.
+/// The help of a subcommand that takes patterns as names is exactly this.
+#[test]
+fn the_whole_help_of_remove(rt: HostRuntime) -> Result<(), Fail> {
+    let help = help_of(rt.alloc(), "covcollect remove --help")?;
+    check_text(
+        &rt,
+        help.as_str(),
+        "\
+Leaves out the source files that match a pattern (lcov -r)
+
+Usage: covcollect remove [OPTIONS] <TRACEFILE> <PATTERN>...
+
+Arguments:
+  <TRACEFILE>   The tracefile
+  <PATTERN>...  Patterns of whole paths, in quotes
+
+Options:
+  -o, --output <FILE>  Write to FILE, which may be one of the inputs
+      --lcov2          Tracefiles of LCOV 2 are read too
+  -h, --help           Print help
+
+Prints the tracefile of the other source files. A pattern has to match the whole
+path: * is any run of bytes, also of /, ? is one byte, [..] is one of a set. Put
+patterns in quotes, else the shell takes them for its own. In place of
+  lcov -r A.info '/usr/*' -o OUT
+write
+  covcollect remove A.info '/usr/*' > OUT
+and with several patterns
+  covcollect remove A.info '/usr/*' '*/tests/*' > OUT
+and to put the result in place of the tracefile
+  covcollect remove A.info '/usr/*' -o A.info
+",
+    )
+}
+
+/// The help of a subcommand with options that have a short form is exactly this.
 #[test]
 fn the_whole_help_of_summary(rt: HostRuntime) -> Result<(), Fail> {
     let help = help_of(rt.alloc(), "covcollect summary --help")?;
@@ -160,6 +196,7 @@ Arguments:
 
 Options:
   -j, --jobs <N>                  Files read at once, from 1 to 64 [default: 1]
+  -o, --output <FILE>             Write to FILE, which may be one of the inputs
       --lcov2                     Tracefiles of LCOV 2 are read too
       --include <PATTERN>         Only source files that match; may be repeated
       --exclude <PATTERN>         No source files that match; may be repeated
@@ -201,6 +238,7 @@ Arguments:
 
 Options:
   -j, --jobs <N>           Files read at once, from 1 to 64 [default: 1]
+  -o, --output <FILE>      Write to FILE, which may be one of the inputs
       --lcov2              Tracefiles of LCOV 2 are read too
       --include <PATTERN>  Only source files that match; may be repeated
       --exclude <PATTERN>  No source files that match; may be repeated
@@ -264,11 +302,11 @@ fn check_text(rt: &impl Abort, given: &str, wanted: &str) -> Result<(), Fail> {
 #[test]
 fn examples_are_taken(rt: HostRuntime) -> Result<(), Fail> {
     check_examples(&rt, "covcollect --help", 5)?;
-    check_examples(&rt, "covcollect merge --help", 4)?;
+    check_examples(&rt, "covcollect merge --help", 5)?;
     check_examples(&rt, "covcollect summary --help", 4)?;
     check_examples(&rt, "covcollect list --help", 3)?;
-    check_examples(&rt, "covcollect extract --help", 2)?;
-    check_examples(&rt, "covcollect remove --help", 2)?;
+    check_examples(&rt, "covcollect extract --help", 3)?;
+    check_examples(&rt, "covcollect remove --help", 3)?;
     check_examples(&rt, "covcollect gcov --help", 1)?;
     check_examples(&rt, "covcollect check --help", 3)
 }
@@ -313,7 +351,7 @@ fn told_after_name(alloc: Global, call: &str) -> Result<String, Fail> {
     let call = format!(in alloc; "covcollect {call}")?;
     let words = words_of(alloc, call.as_str())?;
     match asked(alloc, words.as_slice()) {
-        Ok(command) => told(alloc, &command),
+        Ok(whole) => told(alloc, &whole),
         Err(fault) => Ok(format!(in alloc; "{fault}")?),
     }
 }

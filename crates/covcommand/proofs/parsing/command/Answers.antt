@@ -7,7 +7,7 @@ use Rattle.clap.specs.Walk.{Row, Text}
 use Rattle.clap.specs.Words.{fault_of, found_of, rows_of, subcommand_rows_of, takes}
 use Rattle.clap.specs.Faults.{is_simple_and_free}
 use Rattle.clap.specs.Kinds.{HasKind}
-use Rattle.covcommand.specs.Asked.{AsksFor}
+use Rattle.covcommand.specs.Asked.{AsksFor, GoesTo, rows_met}
 use Rattle.covcommand.specs.CommandLine.{covcollect}
 use Rattle.covcommand.proofs.Told.{both_halves, same_name, told_memory, told_of}
 use Rattle.covcommand.proofs.Fitting.{fits}
@@ -30,8 +30,8 @@ returns-clause-fits c =
     ap (λ (a : App). fault_of a (map string_bytes c.args.words.now)) (sym c.in_ok-described.ensures)
     ∙ c.in-Ok.ensures.kinds (ap is_simple_and_free c.in_ok-described.ensures ∙ simple_and_free)
 
-pub command_from-requires : goal.command_from-requires
-command_from-requires c =
+pub asked_from-requires : goal.asked_from-requires
+asked_from-requires c =
     let words = map string_bytes c.args.words.now in
     let none = ap (λ (a : App). fault_of a words) (sym c.in_ok-described.ensures)
     ∙ c.in-Ok.ensures.kinds (ap is_simple_and_free c.in_ok-described.ensures ∙ simple_and_free) in
@@ -47,11 +47,20 @@ returns-in-Some-clause-asks c =
     ∙ ap (λ (a : App). subcommand_of a words) c.in_ok-described.ensures in
     let rows = rows_of (found_of c.in-Some.found.now) in
     let is = sym met ∙ both_halves (subcommand_rows_of c.in-Ok.matches) c.in-Some.name.now rows (c.in-Some.ensures.name ∙ same_name c.in-Ok.matches) c.in-Some.ensures.rows in
-    subst (λ (m : Option (Text × List Row)). IfOk c.command_from.result (AsksFor m)) (sym is) c.command_from.ensures.asks
+    subst (λ (m : Option (Text × List Row)). IfOk c.asked_from.result (λ asked. AsksFor m asked.command)) (sym is) c.asked_from.ensures.asks
+
+pub returns-in-Some-clause-output : goal.returns-in-Some-clause-output
+returns-in-Some-clause-output c =
+    let words = map string_bytes c.args.words.now in
+    let met = (c.in-Ok.ensures.matches (ap is_simple c.in_ok-described.ensures ∙ simple)).1
+    ∙ ap (λ (a : App). subcommand_of a words) c.in_ok-described.ensures in
+    let rows = rows_of (found_of c.in-Some.found.now) in
+    let is = sym met ∙ both_halves (subcommand_rows_of c.in-Ok.matches) c.in-Some.name.now rows (c.in-Some.ensures.name ∙ same_name c.in-Ok.matches) c.in-Some.ensures.rows in
+    subst (λ (m : Option (Text × List Row)). IfOk c.asked_from.result (λ asked. GoesTo (rows_met m) asked.command asked.output)) (sym is) c.asked_from.ensures.output
 
 pub returns-in-Some-clause-fits : goal.returns-in-Some-clause-fits
 returns-in-Some-clause-fits c =
     let words = map string_bytes c.args.words.now in
     let none = ap (λ (a : App). fault_of a words) (sym c.in_ok-described.ensures)
     ∙ c.in-Ok.ensures.kinds (ap is_simple_and_free c.in_ok-described.ensures ∙ simple_and_free) in
-    IfOk-weaker c.command_from.result _ _ (λ _ _. none) c.command_from.ensures.asks
+    IfOk-weaker c.asked_from.result _ _ (λ _ _. none) c.asked_from.ensures.asks
