@@ -144,6 +144,15 @@ onto_disk() { # HOW
     only 'merge -o: and nothing is made' folder real
     call "$COVCOLLECT" merge -o folder a.info
     ended 1 'merge -o: a folder'
+    if unshare -m true 2>/dev/null; then
+        : >bound
+        call unshare -m bash -c 'mount --bind a.info bound && exec "$COVCOLLECT" merge -o bound a.info'
+        ended 1 'merge -o: a mount point'
+        says "$work/err" 'merge -o: is told' "bound: can't write"
+        holds 'merge -o: nothing is left beside it' [ -z "$(compgen -G 'bound.*')" ]
+    else
+        not_tried 'merge -o: a mount point: this user may not mount'
+    fi
     call "$COVCOLLECT" merge -o $'no\nfolder/x\033' a.info
     ended 1 "merge -o: a folder that isn't there"
     says "$work/err" 'merge -o: control bytes of its name are shown' "no\\x0afolder/x\\x1b: can't write"
