@@ -174,6 +174,11 @@ onto_disk() { # HOW
     holds 'merge -o /dev/full: is still a device' [ -c /dev/full ]
     "$COVCOLLECT" merge -o /dev/stdout "$work/1.info" "$work/2.info" 3>&- 4>&- | cat >piped
     same "$work/3.info" piped 'merge -o /dev/stdout: into a pipe'
+    echo before >log
+    "$COVCOLLECT" merge -o /dev/stdout "$work/1.info" "$work/2.info" >>log 3>&- 4>&-
+    { echo before; cat "$work/3.info"; } >wanted
+    same wanted log 'merge -o /dev/stdout >> FILE: the text follows what is there'
+    rm log wanted
     mkfifo fifo
     daemon dd status=none if=fifo of=given bs=100
     call timeout 20 "$COVCOLLECT" merge -o fifo "$work/1.info" "$work/2.info"
