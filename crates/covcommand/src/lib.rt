@@ -8,7 +8,8 @@
 //!
 //! ```text
 //! pub fn merge_of(alloc: Global, words: &[String]) -> Result<Option<(u32, Names)>, CommandFault> {
-//!     match command(alloc, words)?.command {
+//!     let Asked { command, .. } = command(alloc, words)?;
+//!     match command {
 //!         Command::Merge { jobs, names, .. } => Ok(Some((jobs, names))),
 //!         _ => Ok(None),
 //!     }

@@ -7,7 +7,7 @@ ghost use Rattle.covcommand.specs.CommandLine.{covcollect};
 ghost use Rattle.covcommand.specs.Fault.{IsFaultAmong};
 ghost use Rattle.covuses.specs.Merge.{AsksForMerge};
 
-use covcommand::{Command, CommandFault, Names, command};
+use covcommand::{Asked, Command, CommandFault, Names, command};
 use std::alloc::Global;
 
 /// What a call asks to merge: the number of jobs and the files' names; `None` if it asks for something else.
@@ -15,7 +15,8 @@ pub fn merge_of(alloc: Global, words: &[String]) -> Result<Option<(u32, Names)>,
     ensures merge { IfOk result (AsksForMerge (subcommand_of covcollect (map string_bytes words.now))) }
     ensures fault { IfErr result (IsFaultAmong (fault_of covcollect (map string_bytes words.now))) }
 {
-    match command(alloc, words)?.command {
+    let Asked { command, .. } = command(alloc, words)?;
+    match command {
         Command::Merge { jobs, names, .. } => Ok(Some((jobs, names))),
         _ => Ok(None),
     }
