@@ -1,5 +1,5 @@
 -- A worker reads its share to the end, also after it was refused something.
-use Rattle.std.proofs.Common.{◌≡◌, ◌∙◌, ℕ, zero, suc, List, [], ◌∷◌, ◌++◌, length, map, Option, None, Some, Result, Ok, Err, slice_get, ap, sym, refl, subst}
+use Rattle.std.proofs.Common.{◌≡◌, ◌∙◌, inl, inr, ℕ, zero, suc, ◌≤◌, List, [], ◌∷◌, ◌++◌, length, map, Option, None, Some, Result, Ok, Err, slice_get, ap, sym, refl, subst}
 use Rattle.std.specs.Prelude.{IsSomeAnd}
 use Rattle.std.proofs.lemmas.List.{map-append}
 use Rattle.std.proofs.lemmas.Option.{none-some}
@@ -17,7 +17,7 @@ use Rattle.covjobs.specs.Collect.{InputData, HasRead, submitted, refusal, ops_in
 use Rattle.covjobs.specs.Late.{IsLateOutcome, MayGive}
 use Rattle.covjobs.specs.Shares.{share_of}
 use Rattle.covjobs.specs.Stops.{IsStopAt, of_late}
-use Rattle.covjobs.specs.Work.{Chances, Takes, WorkerData, HasTaken, HasOutcome, HasReadBefore, HasEnded, IsUnreadAt}
+use Rattle.covjobs.specs.Work.{Chances, Takes, WorkerData, HasTaken, HasOutcome, HasReadBefore, HasEnded, IsStopPlace, IsUnreadAt}
 use Rattle.covjobs.proofs.ReadAfter.{none_read}
 use Rattle.covjobs.proofs.Taken.{Outcome}
 use Rattle.covjobs.proofs.Underway.{IsUnderway, none_underway, one_taken, all_taken, next_of}
@@ -98,12 +98,12 @@ one_gone Gives inputs jobs job placed rest first (Some fault) old new so_far has
       own = λ is. absurd (none-some fault (sym is));
     }
 
--- nothing of the share is left: what was read is the whole share
+-- nothing of the share is left: what was read is the whole share, and the worker stops behind all inputs
 pub all_read : {X : Type 0} (chances : Chances X) (inputs : List X) (jobs job upto : ℕ) (rest : List (Placed X)) (first : Option BookFault) (worker : WorkerData) → IsGoingOn chances.Gives inputs jobs job rest first worker → rest ≡ []
-    → HasReadBefore chances inputs jobs job upto
-all_read chances inputs jobs job upto rest first worker so_far none =
+    → length inputs ≤ upto → HasReadBefore chances inputs jobs job upto × IsStopPlace inputs jobs job upto
+all_read chances inputs jobs job upto rest first worker so_far none behind =
     let taken = all_taken chances.Gives inputs jobs job rest so_far.receipts so_far.refused so_far.underway none in
-    λ place less within own. read_of chances inputs jobs job (length inputs) so_far.receipts so_far.refused taken place within within own
+    (λ place less within own. read_of chances inputs jobs job (length inputs) so_far.receipts so_far.refused taken place within within own, inr behind)
 
 -- if nothing was refused, the worker has taken its share
 pub all_gone : {X : Type 0} (Gives : X → Outcome → Type 0) (inputs : List X) (jobs job : ℕ) (rest : List (Placed X)) (first : Option BookFault) (worker : WorkerData) → IsGoingOn Gives inputs jobs job rest first worker → rest ≡ []
@@ -126,7 +126,8 @@ stop_of {X} chances readers inputs jobs job placed rest first worker (stops.Unre
     })
 stop_of chances readers inputs jobs job placed rest first worker (stops.Refused refusal) so_far is =
     let next = next_of chances.Gives inputs jobs job placed rest so_far.receipts so_far.refused so_far.underway in
-    subst (λ (i : ℕ). HasReadBefore chances inputs jobs job i) (sym is) (read_of chances inputs jobs job placed.index so_far.receipts so_far.refused next.taken)
+    subst (λ (i : ℕ). HasReadBefore chances inputs jobs job i × IsStopPlace inputs jobs job i) (sym is)
+    (read_of chances inputs jobs job placed.index so_far.receipts so_far.refused next.taken, inl next.own)
 
 abbrev fault_in : ReadFault → Result ReadFault Stop → ReadFault
 fault_in other (Ok fault) = fault

@@ -85,7 +85,7 @@ read_by chances readers inputs jobs job index place (Ok worker) done not_before 
 read_by chances readers inputs jobs job index place (Err (stops.Unread other)) stopped not_before less within own =
     stopped.before place (omega (arith, less, not_before)) within (true_is (eq-eqb (place % jobs) job own))
 read_by chances readers inputs jobs job index place (Err (stops.Refused refusal)) read not_before less within own =
-    read place (omega (arith, less, not_before)) within (true_is (eq-eqb (place % jobs) job own))
+    read.0 place (omega (arith, less, not_before)) within (true_is (eq-eqb (place % jobs) job own))
 
 -- the worker of a place's job has read the input at the place
 read_at : {X : Type 0} (chances : Chances X) (readers : Readers) (inputs : List X) (jobs from some : ℕ) (ended : List End) (index place k : ℕ) → HaveEnded chances (works_from inputs jobs readers from some) ended

@@ -1,5 +1,5 @@
 -- One step of a worker, and what all workers have done.
-use Rattle.std.specs.Prelude.{◌≡◌, ℕ, ◌+◌, ◌<◌, ◌≤◌, Bool, true, false, IsTrue, List, [], ◌∷◌, ◌++◌, length, map, slice_get, IsSomeAnd, Result, Ok, Err}
+use Rattle.std.specs.Prelude.{◌≡◌, ◌⊎◌, ℕ, ◌+◌, ◌<◌, ◌≤◌, Bool, true, false, IsTrue, List, [], ◌∷◌, ◌++◌, length, map, slice_get, IsSomeAnd, Result, Ok, Err}
 use Rattle.std.specs.List.{AllByRecursion, Contains, flat_map}
 use Rattle.covline.specs.Row.{SubmissionData}
 use Rattle.covread.specs.declared.fault.ReadFault.{ReadFault}
@@ -100,12 +100,17 @@ pub record IsUnreadAt {X : Type 0} (chances : Chances X) (inputs : List X) (jobs
   pub before : HasReadBefore chances inputs jobs job index
   pub fails : IsSomeAnd (slice_get inputs index) chances.MayFail
 
--- how a worker ended: it has done its work; or one of its inputs can't be read; or it was refused something, and has read its inputs
--- before a place nevertheless
+-- where a worker stops that was refused something: at one of its own places, or behind all inputs
+abbrev pub IsStopPlace : {X : Type 0} → (inputs : List X) → (jobs job place : ℕ) → Type 0
+IsStopPlace inputs jobs job place = IsTrue (places_of_job jobs job place) ⊎ (length inputs ≤ place)
+
+-- how a worker ended: it has done its work; or one of its inputs can't be read; or it was refused something. Then it has read its
+-- inputs before the place where it stopped nevertheless
 abbrev pub HasEnded : {X : Type 0} → Chances X → WorkData X → Result WorkerData Stop → Type 0
 HasEnded chances work (Ok worker) = HasDone chances work worker
 HasEnded chances work (Err (stops.Unread index)) = IsUnreadAt chances work.inputs work.jobs work.job index
-HasEnded chances work (Err (stops.Refused refusal)) = HasReadBefore chances work.inputs work.jobs work.job refusal.upto
+HasEnded chances work (Err (stops.Refused refusal)) =
+    HasReadBefore chances work.inputs work.jobs work.job refusal.upto × IsStopPlace work.inputs work.jobs work.job refusal.upto
 
 -- each worker has done the work at the same place, and both lists have the same length
 abbrev pub HaveDone : {X : Type 0} → Chances X → List (WorkData X) → List WorkerData → Type 0
