@@ -14,14 +14,13 @@ returns-in_default g c = (Stopped faults.Memory, inl refl, c.report_ending.ensur
 
 pub returns-in-Ok-collect_into_book : goal.returns-in-Ok-collect_into_book
 returns-in-Ok-collect_into_book g c =
-    let read = c.in-Ok-collect_into_book.ensures.collected in (
+    let collected = c.in-Ok-collect_into_book.ensures.collected in
+    let read = texts_read c.in-Ok.inputs.items c.args.folder.now c.args.work.now.format
+    (λ folder. folder_data (g.F.Folder.holds folder) (g.F.Folder.may_refuse folder) (g.F.Folder.may_open folder) g.F.File.Source.left g.F.File.Source.failed_reads)
+    (λ one. one.folder.now) (λ one. one.name.now) (λ one. one.format.now) _ collected.0 c.in-Ok.ensures.names c.in-Ok.ensures.own collected.1 in (
       ending_data c.ending_of_collected.result,
       ends_collected (folder_data (g.F.Folder.holds c.args.folder.now) (g.F.Folder.may_refuse c.args.folder.now) (g.F.Folder.may_open c.args.folder.now) g.F.File.Source.left g.F.File.Source.failed_reads)
-          (work_data c.args.work.now) _ c.get-files.ensures read.0 _ _ _
-          (texts_read c.in-Ok.inputs.items c.args.folder.now c.args.work.now.format
-          (λ folder. folder_data (g.F.Folder.holds folder) (g.F.Folder.may_refuse folder) (g.F.Folder.may_open folder) g.F.File.Source.left g.F.File.Source.failed_reads)
-          (λ one. one.folder.now) (λ one. one.name.now) (λ one. one.format.now) _ _ c.in-Ok.ensures.names c.in-Ok.ensures.own read.1)
-          c.requires.text read.2 c.ending_of_collected.ensures,
+          (work_data c.args.work.now) _ c.get-files.ensures collected.0 _ _ _ _ read.0 read.1 c.requires.text collected.2 c.ending_of_collected.ensures,
       c.report_ending-in-Ok-collect_into_book.ensures,
     )
 
