@@ -10,7 +10,7 @@ use Rattle.covjobs.specs.Work.{Chances, WorkerData, HaveDone, FirstAsks, seats_i
 use Rattle.covjobs.proofs.Whole.{works_from}
 
 -- if there are workers of `some` jobs from the job `from` on, each of these jobs has a seat among theirs
-seated_from : {X : Type 0} (chances : Chances X) (readers : Readers) (inputs : List X) (jobs from some : ℕ) (workers : List WorkerData) → HaveDone chances (works_from inputs jobs readers from some) workers
+seated_from : {X F : Type 0} (chances : Chances X F) (readers : Readers) (inputs : List X) (jobs from some : ℕ) (workers : List (WorkerData F)) → HaveDone chances (works_from inputs jobs readers from some) workers
     → (job : ℕ) → from ≤ job → job < from + some → is_seated (seats_in workers) job ≡ true
 seated_from chances readers inputs jobs from zero workers done job least less = absurd (omega (arith, least, less))
 seated_from chances readers inputs jobs from (suc some) [] done job least less = absurd done
@@ -27,26 +27,26 @@ seated_from chances readers inputs jobs from (suc some) (worker ∷ workers) don
     ]
 
 -- the last operation changes no worker's job, so the same jobs have seats before and after it
-same_seated : (workers after : List WorkerData) (end : ℕ) (last : OpData) → FirstAsks workers after end last → (job : ℕ) → is_seated (seats_in workers) job ≡ is_seated (seats_in after) job
-same_seated workers after end last asks job =
-    ap (λ (ws : List WorkerData). is_seated (seats_in ws) job) asks.old
+same_seated : {F : Type 0} (workers after : List (WorkerData F)) (end : ℕ) (last : OpData) → FirstAsks workers after end last → (job : ℕ) → is_seated (seats_in workers) job ≡ is_seated (seats_in after) job
+same_seated {F} workers after end last asks job =
+    ap (λ (ws : List (WorkerData F)). is_seated (seats_in ws) job) asks.old
     ∙ ap (λ (j : ℕ). eqb job j || is_seated (seats_in asks.others) job) (sym asks.job)
-    ∙ sym (ap (λ (ws : List WorkerData). is_seated (seats_in ws) job) asks.new)
+    ∙ sym (ap (λ (ws : List (WorkerData F)). is_seated (seats_in ws) job) asks.new)
 
 -- so no job's seat is missing after the last operation
-pub none_missing : {X : Type 0} (chances : Chances X) (readers : Readers) (inputs : List X) (jobs end : ℕ) (last : OpData) (workers after : List WorkerData) → HaveDone chances (works_from inputs jobs readers 0 jobs) workers
+pub none_missing : {X F : Type 0} (chances : Chances X F) (readers : Readers) (inputs : List X) (jobs end : ℕ) (last : OpData) (workers after : List (WorkerData F)) → HaveDone chances (works_from inputs jobs readers 0 jobs) workers
     → FirstAsks workers after end last → (job : ℕ) → IsLeastMissing jobs (seats_in after) job → ⊥
 none_missing chances readers inputs jobs end last workers after done asks job missing =
     false≢true (sym missing.missing ∙ sym (same_seated workers after end last asks job) ∙ seated_from chances readers inputs jobs 0 jobs workers done job (omega arith) (omega (arith, missing.is_job)))
 
 -- no job's seat is missing right after the work either
-pub none_missing_yet : {X : Type 0} (chances : Chances X) (readers : Readers) (inputs : List X) (jobs : ℕ) (workers : List WorkerData) → HaveDone chances (works_from inputs jobs readers 0 jobs) workers
+pub none_missing_yet : {X F : Type 0} (chances : Chances X F) (readers : Readers) (inputs : List X) (jobs : ℕ) (workers : List (WorkerData F)) → HaveDone chances (works_from inputs jobs readers 0 jobs) workers
     → (job : ℕ) → IsLeastMissing jobs (seats_in workers) job → ⊥
 none_missing_yet chances readers inputs jobs workers done job missing =
     false≢true (sym missing.missing ∙ seated_from chances readers inputs jobs 0 jobs workers done job (omega arith) (omega (arith, missing.is_job)))
 
 -- if there is a job, there is a worker
-pub some_worker : {X : Type 0} (chances : Chances X) (readers : Readers) (inputs : List X) (jobs : ℕ) (workers : List WorkerData) → 0 < jobs → HaveDone chances (works_from inputs jobs readers 0 jobs) workers → 0 < length workers
+pub some_worker : {X F : Type 0} (chances : Chances X F) (readers : Readers) (inputs : List X) (jobs : ℕ) (workers : List (WorkerData F)) → 0 < jobs → HaveDone chances (works_from inputs jobs readers 0 jobs) workers → 0 < length workers
 some_worker chances readers inputs zero workers some done = absurd (omega (arith, some))
 some_worker chances readers inputs (suc more) [] some done = absurd done
 some_worker chances readers inputs (suc more) (worker ∷ workers) some done = omega arith

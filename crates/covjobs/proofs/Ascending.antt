@@ -45,33 +45,33 @@ same_if_as_often (x ∷ xs) (y ∷ ys) up ups same =
     let rest : (k : ℕ) → times k xs ≡ times k ys = λ k. (let whole = same k in let head : cond (eqb k x) 1 0 ≡ cond (eqb k y) 1 0 = ap (λ (n : ℕ). cond {A = ℕ} (eqb k n) 1 0) is in omega (arith, whole, head)) in
     ap (λ (n : ℕ). n ∷ xs) is ∙ ap (λ (zs : List ℕ). y ∷ zs) (same_if_as_often xs ys up.1 ups.1 rest)
 
-abbrev pub places_of : List RefusedInput → List ℕ
-places_of inputs = map (λ (r : RefusedInput). r.index) inputs
+abbrev pub places_of : {F : Type 0} → List (RefusedInput F) → List ℕ
+places_of {F} inputs = map (λ (r : RefusedInput F). r.index) inputs
 
 -- the refused input has the fault that is the outcome of the input at its place
-abbrev pub IsRefusal : (ℕ → Outcome) → RefusedInput → Type 0
+abbrev pub IsRefusal : {F : Type 0} → (ℕ → Outcome F) → RefusedInput F → Type 0
 IsRefusal outcome r = refusal r.index (outcome r.index) ≡ r ∷ []
 
-same_refusal : (outcome : ℕ → Outcome) (a b : RefusedInput) → IsRefusal outcome a → IsRefusal outcome b → a.index ≡ b.index → a ≡ b
+same_refusal : {F : Type 0} (outcome : ℕ → Outcome F) (a b : RefusedInput F) → IsRefusal outcome a → IsRefusal outcome b → a.index ≡ b.index → a ≡ b
 same_refusal outcome a b of_a of_b same = head_is a b (sym of_a ∙ ap (λ (i : ℕ). refusal i (outcome i)) same ∙ of_b)
   where
-    head_is : (a b : RefusedInput) → ◌≡◌ {A = List RefusedInput} (a ∷ []) (b ∷ []) → a ≡ b
+    head_is : {F : Type 0} (a b : RefusedInput F) → ◌≡◌ {A = List (RefusedInput F)} (a ∷ []) (b ∷ []) → a ≡ b
     head_is a b is = cc
 
-pub one_refused : (outcome : ℕ → Outcome) (some others : List RefusedInput) → AllByRecursion (IsRefusal outcome) some → AllByRecursion (IsRefusal outcome) others → places_of some ≡ places_of others → some ≡ others
+pub one_refused : {F : Type 0} (outcome : ℕ → Outcome F) (some others : List (RefusedInput F)) → AllByRecursion (IsRefusal outcome) some → AllByRecursion (IsRefusal outcome) others → places_of some ≡ places_of others → some ≡ others
 one_refused outcome [] [] all alls same = refl
 one_refused outcome [] (b ∷ others) all alls same = absurd cc
 one_refused outcome (a ∷ some) [] all alls same = absurd cc
-one_refused outcome (a ∷ some) (b ∷ others) all alls same =
-    ap (λ (r : RefusedInput). r ∷ some) (same_refusal outcome a b all.0 alls.0 cc) ∙ ap (λ (rs : List RefusedInput). b ∷ rs) (one_refused outcome some others all.1 alls.1 cc)
+one_refused {F} outcome (a ∷ some) (b ∷ others) all alls same =
+    ap (λ (r : RefusedInput F). r ∷ some) (same_refusal outcome a b all.0 alls.0 cc) ∙ ap (λ (rs : List (RefusedInput F)). b ∷ rs) (one_refused outcome some others all.1 alls.1 cc)
 
 -- ---- the places of sorted refusals ascend
 
-all_from_places : (least : ℕ) (inputs : List RefusedInput) → ((j : ℕ) (d : RefusedInput) → j < length inputs → least ≤ (slice_index_or inputs j d).index) → AllByRecursion (λ (y : ℕ). least ≤ y) (places_of inputs)
+all_from_places : {F : Type 0} (least : ℕ) (inputs : List (RefusedInput F)) → ((j : ℕ) (d : RefusedInput F) → j < length inputs → least ≤ (slice_index_or inputs j d).index) → AllByRecursion (λ (y : ℕ). least ≤ y) (places_of inputs)
 all_from_places least [] above = tt
 all_from_places least (r ∷ inputs) above = (above 0 r (omega arith), all_from_places least inputs (λ j d less. above (suc j) d (omega (arith, less))))
 
-pub up_from_sorted : (inputs : List RefusedInput) → IsNonDecreasingBy (λ (r : RefusedInput). r.index) inputs → Up (places_of inputs)
+pub up_from_sorted : {F : Type 0} (inputs : List (RefusedInput F)) → IsNonDecreasingBy (λ (r : RefusedInput F). r.index) inputs → Up (places_of inputs)
 up_from_sorted [] sorted = tt
 up_from_sorted (r ∷ inputs) sorted =
     (all_from_places r.index inputs (λ j d less. sorted 0 (suc j) d (omega arith) (omega (arith, less))), up_from_sorted inputs (λ i j d le less. sorted (suc i) (suc j) d (omega (arith, le)) (omega (arith, less))))

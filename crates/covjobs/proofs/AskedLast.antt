@@ -11,14 +11,14 @@ use Rattle.covjobs.specs.Work.{WorkerData, Asks, FirstAsks, log_of, logs_in}
 use Rattle.covjobs.proofs.Taken.{Outcome}
 use Rattle.covjobs.proofs.Whole.{FollowsOutcomes, AllFollowOutcomes}
 
-abbrev jobs_in : List WorkerData → List ℕ
-jobs_in workers = map (λ (w : WorkerData). w.seat.job) workers
+abbrev jobs_in : {F : Type 0} → List (WorkerData F) → List ℕ
+jobs_in {F} workers = map (λ (w : WorkerData F). w.seat.job) workers
 
-jobs_of_logs : (workers : List WorkerData) → map (λ (log : LogData). log.job) (logs_in workers) ≡ jobs_in workers
+jobs_of_logs : {F : Type 0} (workers : List (WorkerData F)) → map (λ (log : LogData). log.job) (logs_in workers) ≡ jobs_in workers
 jobs_of_logs [] = refl
 jobs_of_logs (worker ∷ workers) = ap (λ (js : List ℕ). worker.seat.job ∷ js) (jobs_of_logs workers)
 
-abbrev HasAsked : (ℕ → Outcome) → (count jobs : ℕ) → OpData → LogData → Type 0
+abbrev HasAsked : {F : Type 0} → (ℕ → Outcome F) → (count jobs : ℕ) → OpData → LogData → Type 0
 HasAsked outcome count jobs last log = ops_in log.receipts ≡ asked_by outcome count jobs last log.job
 
 not_last : (last : OpData) (job : ℕ) → 0 < job → last_of last job ≡ []
@@ -33,7 +33,7 @@ tails x y xs ys is = cc
 none_is_some : (x : ℕ) (xs : List ℕ) → ◌≡◌ {A = List ℕ} (x ∷ xs) [] → ⊥
 none_is_some x xs is = cc
 
-others_asked : (outcome : ℕ → Outcome) (count jobs from some : ℕ) (last : OpData) (workers : List WorkerData) → 0 < from → jobs_in workers ≡ range_with_len from some
+others_asked : {F : Type 0} (outcome : ℕ → Outcome F) (count jobs from some : ℕ) (last : OpData) (workers : List (WorkerData F)) → 0 < from → jobs_in workers ≡ range_with_len from some
     → AllByRecursion (FollowsOutcomes jobs count outcome) workers → AllByRecursion (HasAsked outcome count jobs last) (logs_in workers)
 others_asked outcome count jobs from some last [] above are told = tt
 others_asked outcome count jobs from zero last (worker ∷ workers) above are told = absurd (none_is_some worker.seat.job (jobs_in workers) are)
@@ -45,7 +45,7 @@ others_asked outcome count jobs from (suc some) last (worker ∷ workers) above 
       others_asked outcome count jobs (from + 1) some last workers (omega arith) rest told.1,
     )
 
-first_asked : (outcome : ℕ → Outcome) (count jobs end : ℕ) (last : OpData) (first next : WorkerData) → first.seat.job ≡ 0 → next.seat.job ≡ first.seat.job
+first_asked : {F : Type 0} (outcome : ℕ → Outcome F) (count jobs end : ℕ) (last : OpData) (first next : WorkerData F) → first.seat.job ≡ 0 → next.seat.job ≡ first.seat.job
     → Asks first.receipts next.receipts end last → FollowsOutcomes jobs count outcome first → HasAsked outcome count jobs last (log_of next)
 first_asked outcome count jobs end last first next zero_is same asks told =
     let subs : ℕ → List OpData = λ job. map SubmitOp (submissions_of (places_of_job jobs job) outcome count) in
@@ -56,15 +56,15 @@ first_asked outcome count jobs end last first next zero_is same asks told =
     ∙ ap (λ (job : ℕ). subs job ++ asks.receipt.op ∷ []) zero_is
     ∙ ap (λ (op : OpData). subs 0 ++ op ∷ []) asks.asked)
 
-pub logs_asked : (outcome : ℕ → Outcome) (count jobs end : ℕ) (last : OpData) (workers after : List WorkerData) → 0 < jobs → AllFollowOutcomes jobs 0 jobs count outcome workers
+pub logs_asked : {F : Type 0} (outcome : ℕ → Outcome F) (count jobs end : ℕ) (last : OpData) (workers after : List (WorkerData F)) → 0 < jobs → AllFollowOutcomes jobs 0 jobs count outcome workers
     → FirstAsks workers after end last → AreJobLogs outcome count jobs last (logs_in after)
 logs_asked outcome count zero end last workers after some told asks = absurd (omega (arith, some))
-logs_asked outcome count (suc more) end last workers after some told asks =
-    let are : asks.first.seat.job ∷ jobs_in asks.others ≡ 0 ∷ range_with_len 1 more = sym (ap (λ (ws : List WorkerData). jobs_in ws) asks.old) ∙ told.are in
-    let each : AllByRecursion (FollowsOutcomes (suc more) count outcome) (asks.first ∷ asks.others) = subst (λ (ws : List WorkerData). AllByRecursion (FollowsOutcomes (suc more) count outcome) ws) asks.old told.each in
+logs_asked {F} outcome count (suc more) end last workers after some told asks =
+    let are : asks.first.seat.job ∷ jobs_in asks.others ≡ 0 ∷ range_with_len 1 more = sym (ap (λ (ws : List (WorkerData F)). jobs_in ws) asks.old) ∙ told.are in
+    let each : AllByRecursion (FollowsOutcomes (suc more) count outcome) (asks.first ∷ asks.others) = subst (λ (ws : List (WorkerData F)). AllByRecursion (FollowsOutcomes (suc more) count outcome) ws) asks.old told.each in
     let zero_is : asks.first.seat.job ≡ 0 = heads asks.first.seat.job 0 (jobs_in asks.others) (range_with_len 1 more) are in
     let rest : jobs_in asks.others ≡ range_with_len 1 more = tails asks.first.seat.job 0 (jobs_in asks.others) (range_with_len 1 more) are in
-    subst (λ (ws : List WorkerData). AreJobLogs outcome count (suc more) last (logs_in ws)) (sym asks.new) (
+    subst (λ (ws : List (WorkerData F)). AreJobLogs outcome count (suc more) last (logs_in ws)) (sym asks.new) (
       jobs_of_logs (asks.next ∷ asks.others) ∙ ap (λ (job : ℕ). job ∷ jobs_in asks.others) asks.job ∙ are,
       (
         first_asked outcome count (suc more) end last asks.first asks.next zero_is asks.job asks.asks each.0,
@@ -74,7 +74,7 @@ logs_asked outcome count (suc more) end last workers after some told asks =
 
 -- ---- what the jobs read
 
-others_read : (outcome : ℕ → Outcome) (count jobs from some : ℕ) (last : OpData) (workers : List WorkerData) → 0 < from → jobs_in workers ≡ range_with_len from some
+others_read : {F : Type 0} (outcome : ℕ → Outcome F) (count jobs from some : ℕ) (last : OpData) (workers : List (WorkerData F)) → 0 < from → jobs_in workers ≡ range_with_len from some
     → AllByRecursion (FollowsOutcomes jobs count outcome) workers → AllByRecursion (HasReadings last) (logs_in workers)
 others_read outcome count jobs from some last [] above are told = tt
 others_read outcome count jobs from zero last (worker ∷ workers) above are told = absurd (none_is_some worker.seat.job (jobs_in workers) are)
@@ -91,7 +91,7 @@ others_read outcome count jobs from (suc some) last (worker ∷ workers) above a
     } in
     (here, others_read outcome count jobs (from + 1) some last workers (omega arith) rest told.1)
 
-first_read : (outcome : ℕ → Outcome) (count jobs end : ℕ) (last : OpData) (first next : WorkerData) → first.seat.job ≡ 0 → next.seat.job ≡ first.seat.job
+first_read : {F : Type 0} (outcome : ℕ → Outcome F) (count jobs end : ℕ) (last : OpData) (first next : WorkerData F) → first.seat.job ≡ 0 → next.seat.job ≡ first.seat.job
     → Asks first.receipts next.receipts end last → next.readings ≡ first.readings → FollowsOutcomes jobs count outcome first → HasReadings last (log_of next)
 first_read outcome count jobs end last first next zero_is same asks readings told = record {
   has_reader = first.has_reader;
@@ -102,15 +102,15 @@ first_read outcome count jobs end last first next zero_is same asks readings tol
   read = subst (λ (rs : List Reading). HasRead first.has_reader first.receipts rs) (sym readings) told.read;
 }
 
-pub logs_read : (outcome : ℕ → Outcome) (count jobs end : ℕ) (last : OpData) (workers after : List WorkerData) → 0 < jobs → AllFollowOutcomes jobs 0 jobs count outcome workers
+pub logs_read : {F : Type 0} (outcome : ℕ → Outcome F) (count jobs end : ℕ) (last : OpData) (workers after : List (WorkerData F)) → 0 < jobs → AllFollowOutcomes jobs 0 jobs count outcome workers
     → FirstAsks workers after end last → AllByRecursion (HasReadings last) (logs_in after)
 logs_read outcome count zero end last workers after some told asks = absurd (omega (arith, some))
-logs_read outcome count (suc more) end last workers after some told asks =
-    let are : asks.first.seat.job ∷ jobs_in asks.others ≡ 0 ∷ range_with_len 1 more = sym (ap (λ (ws : List WorkerData). jobs_in ws) asks.old) ∙ told.are in
-    let each : AllByRecursion (FollowsOutcomes (suc more) count outcome) (asks.first ∷ asks.others) = subst (λ (ws : List WorkerData). AllByRecursion (FollowsOutcomes (suc more) count outcome) ws) asks.old told.each in
+logs_read {F} outcome count (suc more) end last workers after some told asks =
+    let are : asks.first.seat.job ∷ jobs_in asks.others ≡ 0 ∷ range_with_len 1 more = sym (ap (λ (ws : List (WorkerData F)). jobs_in ws) asks.old) ∙ told.are in
+    let each : AllByRecursion (FollowsOutcomes (suc more) count outcome) (asks.first ∷ asks.others) = subst (λ (ws : List (WorkerData F)). AllByRecursion (FollowsOutcomes (suc more) count outcome) ws) asks.old told.each in
     let zero_is : asks.first.seat.job ≡ 0 = heads asks.first.seat.job 0 (jobs_in asks.others) (range_with_len 1 more) are in
     let rest : jobs_in asks.others ≡ range_with_len 1 more = tails asks.first.seat.job 0 (jobs_in asks.others) (range_with_len 1 more) are in
-    subst (λ (ws : List WorkerData). AllByRecursion (HasReadings last) (logs_in ws)) (sym asks.new) (
+    subst (λ (ws : List (WorkerData F)). AllByRecursion (HasReadings last) (logs_in ws)) (sym asks.new) (
       first_read outcome count (suc more) end last asks.first asks.next zero_is asks.job asks.asks asks.readings each.0,
       others_read outcome count (suc more) 1 more last asks.others (omega arith) rest each.1,
     )

@@ -106,7 +106,7 @@ share_for_each {X} inputs dealt jobs seats shares same seated are =
     ∙ ap (λ (ss : List SeatData). map (λ (seat : SeatData). share_of dealt jobs seat.job) ss) (sym seated)
 
 -- the seats are those of all jobs, so how their workers ended is how the work of all jobs ended
-pub ended_for_all : {X : Type 0} (chances : Chances X) (readers : Readers) (inputs dealt : List X) (jobs : ℕ) (seats : List SeatData) (ended : List (Result WorkerData Stop)) → dealt ≡ inputs → seats ≡ first_seats jobs
+pub ended_for_all : {X F : Type 0} (chances : Chances X F) (readers : Readers) (inputs dealt : List X) (jobs : ℕ) (seats : List SeatData) (ended : List (Result (WorkerData F) Stop)) → dealt ≡ inputs → seats ≡ first_seats jobs
     → HaveEndedIfStarted chances (map (work_of dealt jobs readers) seats) ended → HaveEndedIfStarted chances (works_from inputs jobs readers 0 jobs) ended
 ended_for_all {X} chances readers inputs dealt jobs seats ended same seated done =
     subst (λ (xs : List X). HaveEndedIfStarted chances (works_from xs jobs readers 0 jobs) ended) same

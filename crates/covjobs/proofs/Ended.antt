@@ -7,41 +7,41 @@ use Rattle.covjobs.specs.declared.stop.Stop.{Stop}
 use Rattle.covjobs.specs.Stops.{no_memory}
 use Rattle.covjobs.specs.Work.{Chances, WorkerData, WorkData, HaveDone, HaveEnded, HaveEndedIfStarted, IsStarted}
 
-abbrev pub End : Type 0
-End = Result WorkerData Stop
+abbrev pub End : Type 0 → Type 0
+End F = Result (WorkerData F) Stop
 
 -- when no handle is left, the ends so far are those of all workers
-pub ended_at_end : {H X : Type 0} (chances : Chances X) (work : H → WorkData X) (handles left : List H) (ended : List End)
-    → ((rest : List End) → HaveEnded chances (map work left) rest → HaveEnded chances (map work handles) (ended ++ rest)) → left ≡ [] → HaveEnded chances (map work handles) ended
-ended_at_end {H} {X} chances work handles left ended so_far none =
-    subst (λ (ends : List End). HaveEnded chances (map work handles) ends) (append-nil ended) (so_far [] (subst (λ (hs : List H). HaveEnded chances (map work hs) []) (sym none) tt))
+pub ended_at_end : {H X F : Type 0} (chances : Chances X F) (work : H → WorkData X) (handles left : List H) (ended : List (End F))
+    → ((rest : List (End F)) → HaveEnded chances (map work left) rest → HaveEnded chances (map work handles) (ended ++ rest)) → left ≡ [] → HaveEnded chances (map work handles) ended
+ended_at_end {H} {X} {F} chances work handles left ended so_far none =
+    subst (λ (ends : List (End F)). HaveEnded chances (map work handles) ends) (append-nil ended) (so_far [] (subst (λ (hs : List H). HaveEnded chances (map work hs) []) (sym none) tt))
 
 -- a worker that wasn't started is among the ends
-not_started : (ended : List End) → AllByRecursion IsStarted ended → Contains ended (Err no_memory) → ⊥
+not_started : {F : Type 0} (ended : List (End F)) → AllByRecursion IsStarted ended → Contains ended (Err no_memory) → ⊥
 not_started [] all there = omega (arith, there.1)
-not_started (end ∷ ended) all (zero, less, is) =
-    let less_than : 0 < 0 = subst (λ (e : End). IsStarted e) is all.0 in
+not_started {F} (end ∷ ended) all (zero, less, is) =
+    let less_than : 0 < 0 = subst (λ (e : End F). IsStarted e) is all.0 in
     omega (arith, less_than)
 not_started (end ∷ ended) all (suc k, less, is) = not_started ended all.1 (k, omega (arith, less), is)
 
-all_started : (workers : List WorkerData) → AllByRecursion IsStarted (map Ok workers)
+all_started : {F : Type 0} (workers : List (WorkerData F)) → AllByRecursion IsStarted (map Ok workers)
 all_started [] = tt
 all_started (worker ∷ workers) = (tt, all_started workers)
 
-have_done : {X : Type 0} (chances : Chances X) (works : List (WorkData X)) (workers : List WorkerData) → HaveEnded chances works (map Ok workers) → HaveDone chances works workers
+have_done : {X F : Type 0} (chances : Chances X F) (works : List (WorkData X)) (workers : List (WorkerData F)) → HaveEnded chances works (map Ok workers) → HaveDone chances works workers
 have_done chances [] [] done = tt
 have_done chances [] (worker ∷ workers) done = absurd done
 have_done chances (work ∷ works) [] done = absurd done
 have_done chances (work ∷ works) (worker ∷ workers) done = (done.0, have_done chances works workers done.1)
 
 -- if all workers ended well, all work is done
-pub done_if_well : {X : Type 0} (chances : Chances X) (works : List (WorkData X)) (ended : List End) (workers : List WorkerData) → HaveEndedIfStarted chances works ended → map Ok workers ≡ ended → HaveDone chances works workers
-done_if_well chances works ended workers done is =
+pub done_if_well : {X F : Type 0} (chances : Chances X F) (works : List (WorkData X)) (ended : List (End F)) (workers : List (WorkerData F)) → HaveEndedIfStarted chances works ended → map Ok workers ≡ ended → HaveDone chances works workers
+done_if_well {X} {F} chances works ended workers done is =
     have_done chances works workers
-    (subst (λ (ends : List End). HaveEnded chances works ends) (sym is) (done (subst (λ (ends : List End). AllByRecursion IsStarted ends) is (all_started workers))))
+    (subst (λ (ends : List (End F)). HaveEnded chances works ends) (sym is) (done (subst (λ (ends : List (End F)). AllByRecursion IsStarted ends) is (all_started workers))))
 
 -- if all workers of these ends were started, one was started for each seat, since otherwise one end would be a refusal
-pub ends_started : {X : Type 0} (chances : Chances X) (works handled left : List (WorkData X)) (started : Bool) (ended : List End) → (IsTrue started → handled ++ left ≡ works) → left ≡ []
+pub ends_started : {X F : Type 0} (chances : Chances X F) (works handled left : List (WorkData X)) (started : Bool) (ended : List (End F)) → (IsTrue started → handled ++ left ≡ works) → left ≡ []
     → (IsTrue started → HaveEnded chances handled ended) → (started ≡ false → Contains ended (Err no_memory)) → HaveEndedIfStarted chances works ended
 ends_started {X} chances works handled left true ended all none done short =
     λ all_are. subst (λ (ws : List (WorkData X)). HaveEnded chances ws ended) (sym (append-nil handled) ∙ sym (ap (λ (ws : List (WorkData X)). handled ++ ws) none) ∙ all refl) (done refl)
@@ -53,7 +53,7 @@ one_started work [] handle left = refl
 one_started {H} {X} work (h ∷ handles) handle left = ap (λ (ws : List (WorkData X)). work h ∷ ws) (one_started work handles handle left)
 
 -- the same for a call that joins the workers, and may be refused
-pub ends_if_ok : {V E X : Type 0} (chances : Chances X) (items : V → List End) (result : Result V E) (works handled left : List (WorkData X)) (started : Bool) → (IsTrue started → handled ++ left ≡ works) → left ≡ []
+pub ends_if_ok : {V E X F : Type 0} (chances : Chances X F) (items : V → List (End F)) (result : Result V E) (works handled left : List (WorkData X)) (started : Bool) → (IsTrue started → handled ++ left ≡ works) → left ≡ []
     → IfOk result (λ ended. IsTrue started → HaveEnded chances handled (items ended)) → IfOk result (λ ended. started ≡ false → Contains (items ended) (Err no_memory))
     → IfOk result (λ ended. HaveEndedIfStarted chances works (items ended))
 ends_if_ok chances items (Ok ended) works handled left started all none done short = ends_started chances works handled left started (items ended) all none done short

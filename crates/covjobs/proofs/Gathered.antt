@@ -43,17 +43,17 @@ brought_by_range {X} f (suc count) =
     none_before count = omega arith
 
 -- what all workers refused is what the outcomes say for each job, one job after another
-refused_by_jobs : (jobs count : ℕ) (outcome : ℕ → Outcome) (workers : List WorkerData) → AllByRecursion (FollowsOutcomes jobs count outcome) workers
-    → refused_in workers ≡ flat_map (λ job. refusals_of (places_of_job jobs job) outcome count) (map (λ (w : WorkerData). w.seat.job) workers)
+refused_by_jobs : {F : Type 0} (jobs count : ℕ) (outcome : ℕ → Outcome F) (workers : List (WorkerData F)) → AllByRecursion (FollowsOutcomes jobs count outcome) workers
+    → refused_in workers ≡ flat_map (λ job. refusals_of (places_of_job jobs job) outcome count) (map (λ (w : WorkerData F). w.seat.job) workers)
 refused_by_jobs jobs count outcome [] told = refl
-refused_by_jobs jobs count outcome (worker ∷ workers) told =
-    ap (λ (rs : List RefusedInput). rs ++ refused_in workers) told.0.are_refused
-    ∙ ap (λ (rs : List RefusedInput). refusals_of (places_of_job jobs worker.seat.job) outcome count ++ rs) (refused_by_jobs jobs count outcome workers told.1)
+refused_by_jobs {F} jobs count outcome (worker ∷ workers) told =
+    ap (λ (rs : List (RefusedInput F)). rs ++ refused_in workers) told.0.are_refused
+    ∙ ap (λ (rs : List (RefusedInput F)). refusals_of (places_of_job jobs worker.seat.job) outcome count ++ rs) (refused_by_jobs jobs count outcome workers told.1)
 
-all_refused : (jobs count : ℕ) (outcome : ℕ → Outcome) (workers : List WorkerData) → 0 < jobs → AllFollowOutcomes jobs 0 jobs count outcome workers → IsPermutation (refused_in workers) (refusals_of all_places outcome count)
-all_refused jobs count outcome workers some told =
-    let by_job : ℕ → List RefusedInput = λ job. refusals_of (places_of_job jobs job) outcome count in
-    subst (λ (rs : List RefusedInput). IsPermutation rs (refusals_of all_places outcome count))
+all_refused : {F : Type 0} (jobs count : ℕ) (outcome : ℕ → Outcome F) (workers : List (WorkerData F)) → 0 < jobs → AllFollowOutcomes jobs 0 jobs count outcome workers → IsPermutation (refused_in workers) (refusals_of all_places outcome count)
+all_refused {F} jobs count outcome workers some told =
+    let by_job : ℕ → List (RefusedInput F) = λ job. refusals_of (places_of_job jobs job) outcome count in
+    subst (λ (rs : List (RefusedInput F)). IsPermutation rs (refusals_of all_places outcome count))
     (sym (refused_by_jobs jobs count outcome workers told.each ∙ ap (λ (js : List ℕ). flat_map by_job js) told.are ∙ brought_by_range by_job jobs))
     (all_together jobs (λ index. refusal index (outcome index)) count (λ place. mod_below place jobs some))
 
@@ -63,11 +63,11 @@ pub all_joined : {X : Type 0} (P : X → Type 0) (xs ys : List X) → AllByRecur
 all_joined P [] ys a b = b
 all_joined P (x ∷ xs) ys a b = (a.0, all_joined P xs ys a.1 b)
 
-refusal_is : (outcome : ℕ → Outcome) (index : ℕ) (own : Outcome) → outcome index ≡ own → AllByRecursion (IsRefusal outcome) (refusal index own)
+refusal_is : {F : Type 0} (outcome : ℕ → Outcome F) (index : ℕ) (own : Outcome F) → outcome index ≡ own → AllByRecursion (IsRefusal outcome) (refusal index own)
 refusal_is outcome index (Ok submission) is = tt
-refusal_is outcome index (Err fault) is = (ap (λ (f : Outcome). refusal index f) is, tt)
+refusal_is {F} outcome index (Err fault) is = (ap (λ (f : Outcome F). refusal index f) is, tt)
 
-refusals_are : (outcome : ℕ → Outcome) (count : ℕ) → AllByRecursion (IsRefusal outcome) (refusals_of all_places outcome count)
+refusals_are : {F : Type 0} (outcome : ℕ → Outcome F) (count : ℕ) → AllByRecursion (IsRefusal outcome) (refusals_of all_places outcome count)
 refusals_are outcome zero = tt
 refusals_are outcome (suc count) = all_joined (IsRefusal outcome) (refusals_of all_places outcome count) (refusal count (outcome count)) (refusals_are outcome count) (refusal_is outcome count (outcome count) refl)
 
@@ -75,45 +75,45 @@ all_higher : (xs : List ℕ) (n : ℕ) → AllByRecursion (λ (x : ℕ). x < n) 
 all_higher [] n below = tt
 all_higher (x ∷ xs) n below = (omega (arith, below.0), all_higher xs n below.1)
 
-record Rising (count : ℕ) (inputs : List RefusedInput) : Type 0 where
+record Rising {F : Type 0} (count : ℕ) (inputs : List (RefusedInput F)) : Type 0 where
   up : Up (places_of inputs)
   below : AllByRecursion (λ (x : ℕ). x < count) (places_of inputs)
 
-one_more_rises : (count : ℕ) (inputs : List RefusedInput) (own : Outcome) → Rising count inputs → Rising (suc count) (inputs ++ refusal count own)
-one_more_rises count inputs (Ok submission) so_far =
-    subst (λ (rs : List RefusedInput). Rising (suc count) rs) (sym (append-nil inputs)) (record { up = so_far.up; below = all_higher (places_of inputs) count so_far.below })
-one_more_rises count inputs (Err fault) so_far =
-    let r : RefusedInput = record { index = count; fault = fault } in
-    let is : places_of (inputs ++ r ∷ []) ≡ places_of inputs ++ count ∷ [] = map-append (λ (r : RefusedInput). r.index) inputs (r ∷ []) in
+one_more_rises : {F : Type 0} (count : ℕ) (inputs : List (RefusedInput F)) (own : Outcome F) → Rising count inputs → Rising (suc count) (inputs ++ refusal count own)
+one_more_rises {F} count inputs (Ok submission) so_far =
+    subst (λ (rs : List (RefusedInput F)). Rising (suc count) rs) (sym (append-nil inputs)) (record { up = so_far.up; below = all_higher (places_of inputs) count so_far.below })
+one_more_rises {F} count inputs (Err fault) so_far =
+    let r : RefusedInput F = record { index = count; fault = fault } in
+    let is : places_of (inputs ++ r ∷ []) ≡ places_of inputs ++ count ∷ [] = map-append (λ (r : RefusedInput F). r.index) inputs (r ∷ []) in
     record {
       up = subst (λ (xs : List ℕ). Up xs) (sym is) (up_after (places_of inputs) count so_far.up so_far.below);
       below = subst (λ (xs : List ℕ). AllByRecursion (λ (x : ℕ). x < suc count) xs) (sym is)
           (all_joined (λ (x : ℕ). x < suc count) (places_of inputs) (count ∷ []) (all_higher (places_of inputs) count so_far.below) (omega arith, tt));
     }
 
-refusals_rise : (outcome : ℕ → Outcome) (count : ℕ) → Rising count (refusals_of all_places outcome count)
+refusals_rise : {F : Type 0} (outcome : ℕ → Outcome F) (count : ℕ) → Rising count (refusals_of all_places outcome count)
 refusals_rise outcome zero = record { up = tt; below = tt }
 refusals_rise outcome (suc count) = one_more_rises count (refusals_of all_places outcome count) (outcome count) (refusals_rise outcome count)
 
-times_by_sum : (k : ℕ) (inputs : List RefusedInput) → times k (places_of inputs) ≡ sum_by (λ (r : RefusedInput). cond (eqb k r.index) 1 0) inputs
+times_by_sum : {F : Type 0} (k : ℕ) (inputs : List (RefusedInput F)) → times k (places_of inputs) ≡ sum_by (λ (r : RefusedInput F). cond (eqb k r.index) 1 0) inputs
 times_by_sum k [] = refl
-times_by_sum k (r ∷ inputs) =
-    ap (λ (n : ℕ). cond (eqb k r.index) 1 0 + n) (times_by_sum k inputs) ∙ sym (sum_by-cons (λ (r : RefusedInput). cond (eqb k r.index) 1 0) r inputs)
+times_by_sum {F} k (r ∷ inputs) =
+    ap (λ (n : ℕ). cond (eqb k r.index) 1 0 + n) (times_by_sum k inputs) ∙ sym (sum_by-cons (λ (r : RefusedInput F). cond (eqb k r.index) 1 0) r inputs)
 
 -- all that the workers refused, sorted by place, is what the outcomes of all inputs refuse
-pub refused_is : (jobs count : ℕ) (outcome : ℕ → Outcome) (workers : List WorkerData) (refused : List RefusedInput) → 0 < jobs → AllFollowOutcomes jobs 0 jobs count outcome workers
-    → IsPermutation (refused_in workers) refused → IsNonDecreasingBy (λ (r : RefusedInput). r.index) refused → refused ≡ refusals_of all_places outcome count
-refused_is jobs count outcome workers refused some told same sorted =
+pub refused_is : {F : Type 0} (jobs count : ℕ) (outcome : ℕ → Outcome F) (workers : List (WorkerData F)) (refused : List (RefusedInput F)) → 0 < jobs → AllFollowOutcomes jobs 0 jobs count outcome workers
+    → IsPermutation (refused_in workers) refused → IsNonDecreasingBy (λ (r : RefusedInput F). r.index) refused → refused ≡ refusals_of all_places outcome count
+refused_is {F} jobs count outcome workers refused some told same sorted =
     let all = refusals_of all_places outcome count in
     let moved : IsPermutation all refused = IsPermutation-trans all (refused_in workers) refused (IsPermutation-sym (refused_in workers) all (all_refused jobs count outcome workers some told)) same in
     one_refused outcome refused all
     (recursion_from_All (IsRefusal outcome) refused (All-permutation (IsRefusal outcome) all refused moved (All-from_recursion (IsRefusal outcome) all (refusals_are outcome count))))
     (refusals_are outcome count)
     (same_if_as_often (places_of refused) (places_of all) (up_from_sorted refused sorted) (refusals_rise outcome count).up
-    (λ k. times_by_sum k refused ∙ sum_by-IsPermutation (λ (r : RefusedInput). cond (eqb k r.index) 1 0) all refused moved ∙ sym (times_by_sum k all)))
+    (λ k. times_by_sum k refused ∙ sum_by-IsPermutation (λ (r : RefusedInput F). cond (eqb k r.index) 1 0) all refused moved ∙ sym (times_by_sum k all)))
 
 -- the submissions of all jobs, one job after another, are those of all inputs in another order
-pub all_submitted : (jobs count : ℕ) (outcome : ℕ → Outcome) → 0 < jobs
+pub all_submitted : {F : Type 0} (jobs count : ℕ) (outcome : ℕ → Outcome F) → 0 < jobs
     → IsPermutation (flat_map (λ job. submissions_of (places_of_job jobs job) outcome count) (range_with_len 0 jobs)) (submissions_of all_places outcome count)
 all_submitted jobs count outcome some =
     let by_job : ℕ → List SubmissionData = λ job. submissions_of (places_of_job jobs job) outcome count in

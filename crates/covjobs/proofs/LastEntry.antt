@@ -83,11 +83,11 @@ first_job : (jobs : ℕ) (log : LogData) (logs : List LogData) → 0 < jobs → 
 first_job zero log logs some are = absurd (omega (arith, some))
 first_job (suc more) log logs some are = heads log.job 0 (map (λ (l : LogData). l.job) logs) (range_with_len 1 more) are
 
-last_is : (outcome : ℕ → Outcome) (count jobs end : ℕ) (last : OpData) (workers after : List WorkerData) (entries : List EntryData) → 0 < jobs → FirstAsks workers after end last
+last_is : {F : Type 0} (outcome : ℕ → Outcome F) (count jobs end : ℕ) (last : OpData) (workers after : List (WorkerData F)) (entries : List EntryData) → 0 < jobs → FirstAsks workers after end last
     → AllByRecursion (IsLogOf entries) (logs_in after) → AreJobLogs outcome count jobs last (logs_in after) → length entries ≡ end → LastIs (IsLastOf last) entries
-last_is outcome count jobs end last workers after entries some asks kept asked long =
-    let new : AllByRecursion (IsLogOf entries) (log_of asks.next ∷ logs_in asks.others) = subst (λ (ws : List WorkerData). AllByRecursion (IsLogOf entries) (logs_in ws)) asks.new kept in
-    let jobs_are : AreJobLogs outcome count jobs last (log_of asks.next ∷ logs_in asks.others) = subst (λ (ws : List WorkerData). AreJobLogs outcome count jobs last (logs_in ws)) asks.new asked in
+last_is {F} outcome count jobs end last workers after entries some asks kept asked long =
+    let new : AllByRecursion (IsLogOf entries) (log_of asks.next ∷ logs_in asks.others) = subst (λ (ws : List (WorkerData F)). AllByRecursion (IsLogOf entries) (logs_in ws)) asks.new kept in
+    let jobs_are : AreJobLogs outcome count jobs last (log_of asks.next ∷ logs_in asks.others) = subst (λ (ws : List (WorkerData F)). AreJobLogs outcome count jobs last (logs_in ws)) asks.new asked in
     let zero_is : asks.next.seat.job ≡ 0 = first_job jobs (log_of asks.next) (logs_in asks.others) some jobs_are.0 in
     let r = asks.asks.receipt in
     let own = all_last (λ (r : ReceiptData). IsSomeAnd (slice_get entries r.place) (λ (e : EntryData). e.job ≡ asks.next.seat.job)) asks.first.receipts r
@@ -167,7 +167,7 @@ last_submits_none : (last : OpData) → IsText last → (here : Bool) → submis
 last_submits_none last is true = ap (λ (ss : List SubmissionData). ss ++ []) (no_submission last is)
 last_submits_none last is false = refl
 
-job_submits : (outcome : ℕ → Outcome) (count jobs : ℕ) (last : OpData) (job : ℕ) → IsText last → submissions_in (asked_by outcome count jobs last job) ≡ submissions_of (places_of_job jobs job) outcome count
+job_submits : {F : Type 0} (outcome : ℕ → Outcome F) (count jobs : ℕ) (last : OpData) (job : ℕ) → IsText last → submissions_in (asked_by outcome count jobs last job) ≡ submissions_of (places_of_job jobs job) outcome count
 job_submits outcome count jobs last job is =
     let subs = submissions_of (places_of_job jobs job) outcome count in
     flat_map-append submission_of (map SubmitOp subs) (last_of last job)
@@ -175,13 +175,13 @@ job_submits outcome count jobs last job is =
     ∙ ap (λ (ss : List SubmissionData). subs ++ ss) (last_submits_none last is (eqb job 0))
     ∙ append-nil subs
 
-abbrev HasAsked : (ℕ → Outcome) → (count jobs : ℕ) → OpData → LogData → Type 0
+abbrev HasAsked : {F : Type 0} → (ℕ → Outcome F) → (count jobs : ℕ) → OpData → LogData → Type 0
 HasAsked outcome count jobs last log = ops_in log.receipts ≡ asked_by outcome count jobs last log.job
 
 abbrev log_submits : LogData → List SubmissionData
 log_submits log = submissions_in (ops_in log.receipts)
 
-logs_submit_by_job : (outcome : ℕ → Outcome) (count jobs : ℕ) (last : OpData) (logs : List LogData) → IsText last → AllByRecursion (HasAsked outcome count jobs last) logs
+logs_submit_by_job : {F : Type 0} (outcome : ℕ → Outcome F) (count jobs : ℕ) (last : OpData) (logs : List LogData) → IsText last → AllByRecursion (HasAsked outcome count jobs last) logs
     → flat_map log_submits logs ≡ flat_map (λ job. submissions_of (places_of_job jobs job) outcome count) (map (λ (log : LogData). log.job) logs)
 logs_submit_by_job outcome count jobs last [] is asked = refl
 logs_submit_by_job outcome count jobs last (log ∷ logs) is asked =
@@ -189,7 +189,7 @@ logs_submit_by_job outcome count jobs last (log ∷ logs) is asked =
     ∙ ap (λ (ss : List SubmissionData). ss ++ flat_map log_submits logs) (job_submits outcome count jobs last log.job is)
     ∙ ap (λ (ss : List SubmissionData). submissions_of (places_of_job jobs log.job) outcome count ++ ss) (logs_submit_by_job outcome count jobs last logs is asked.1)
 
-logs_ask : (outcome : ℕ → Outcome) (count jobs : ℕ) (last : OpData) (logs : List LogData) → IsText last → AllByRecursion (HasAsked outcome count jobs last) logs
+logs_ask : {F : Type 0} (outcome : ℕ → Outcome F) (count jobs : ℕ) (last : OpData) (logs : List LogData) → IsText last → AllByRecursion (HasAsked outcome count jobs last) logs
     → AllByRecursion (λ (log : LogData). OnlySubmitsAndAsks (ops_in log.receipts)) logs
 logs_ask outcome count jobs last [] is asked = tt
 logs_ask outcome count jobs last (log ∷ logs) is asked =
@@ -199,7 +199,7 @@ logs_ask outcome count jobs last (log ∷ logs) is asked =
     )
 
 -- the history's submissions are those of all inputs, in another order
-history_submits : (outcome : ℕ → Outcome) (count jobs : ℕ) (last : OpData) (entries : List EntryData) (logs : List LogData) → 0 < jobs → IsText last → IsMerge entries logs
+history_submits : {F : Type 0} (outcome : ℕ → Outcome F) (count jobs : ℕ) (last : OpData) (entries : List EntryData) (logs : List LogData) → 0 < jobs → IsText last → IsMerge entries logs
     → AreJobLogs outcome count jobs last logs → IsPermutation (submissions_of all_places outcome count) (submissions_in (ops_of entries))
 history_submits outcome count jobs last entries logs some is merge asked =
     let by_job : ℕ → List SubmissionData = λ job. submissions_of (places_of_job jobs job) outcome count in
@@ -219,7 +219,7 @@ front_submits before entry last is is_last =
     ∙ ap (λ (ss : List SubmissionData). front ++ (ss ++ [])) (no_submission last is)
     ∙ append-nil front
 
-front_asks : (outcome : ℕ → Outcome) (count jobs : ℕ) (last : OpData) (entries : List EntryData) (logs : List LogData) (before : List EntryData) (entry : EntryData) → IsText last
+front_asks : {F : Type 0} (outcome : ℕ → Outcome F) (count jobs : ℕ) (last : OpData) (entries : List EntryData) (logs : List LogData) (before : List EntryData) (entry : EntryData) → IsText last
     → IsMerge entries logs → AreJobLogs outcome count jobs last logs → entries ≡ before ++ entry ∷ [] → OnlySubmitsAndAsks (ops_of before)
 front_asks outcome count jobs last entries logs before entry is merge asked place =
     let every : OnlySubmitsAndAsks (ops_of entries) =
@@ -227,7 +227,7 @@ front_asks outcome count jobs last entries logs before entry is merge asked plac
     all_front SubmitsOrAsks (ops_of before) (entry.op ∷ [])
     (subst (λ (ops : List OpData). OnlySubmitsAndAsks ops) (ap (λ (es : List EntryData). ops_of es) place ∙ map-append (λ (e : EntryData). e.op) before (entry ∷ [])) every)
 
-text_is : (outcome : ℕ → Outcome) (count jobs : ℕ) (last : OpData) (entries : List EntryData) (logs : List LogData) (before : List EntryData) (entry : EntryData) → 0 < jobs
+text_is : {F : Type 0} (outcome : ℕ → Outcome F) (count jobs : ℕ) (last : OpData) (entries : List EntryData) (logs : List LogData) (before : List EntryData) (entry : EntryData) → 0 < jobs
     → IsLegal entries → IsMerge entries logs → AreJobLogs outcome count jobs last logs → entries ≡ before ++ entry ∷ [] → entry.op ≡ last → GoesOn → SameTexts
     → IsText last → AreAgreeing (submissions_of all_places outcome count) → entry.answer ≡ answer_of (table_of (map SubmitOp (submissions_of all_places outcome count))) last
 text_is outcome count jobs last entries logs before entry some legal merge asked place is_last goes same is agree =
@@ -242,7 +242,7 @@ text_is outcome count jobs last entries logs before entry some legal merge asked
     (subst (λ (ss : List SubmissionData). AreAgreeing ss) (sym (submitted_all all)) agree) last is)
 
 -- if the history has as many entries as job 0 saw after its last call, it ends with that call's entry
-pub ends_with : (outcome : ℕ → Outcome) (count jobs end : ℕ) (last : OpData) (workers after : List WorkerData) (entries : List EntryData) → 0 < jobs → FirstAsks workers after end last
+pub ends_with : {F : Type 0} (outcome : ℕ → Outcome F) (count jobs end : ℕ) (last : OpData) (workers after : List (WorkerData F)) (entries : List EntryData) → 0 < jobs → FirstAsks workers after end last
     → IsLegal entries → IsMerge entries (logs_in after) → AreJobLogs outcome count jobs last (logs_in after) → length entries ≡ end → GoesOn → SameTexts
     → EndsWith (submissions_of all_places outcome count) last entries
 ends_with outcome count jobs end last workers after entries some asks legal merge asked long goes same =

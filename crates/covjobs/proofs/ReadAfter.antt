@@ -28,7 +28,7 @@ read_more true receipts after readings behind seen least op asks same reads so_f
 read_more false receipts after readings behind seen least op asks same reads so_far = reads ∙ so_far
 
 -- the same for the states of a worker: before a submit, after it, and after the reading
-pub submitted_read : (old asked read : WorkerData) {least : ℕ} {op : OpData} → Asks old.receipts asked.receipts asked.seat.seen op → least ≡ asked.seat.seen
+pub submitted_read : {F : Type 0} (old asked read : WorkerData F) {least : ℕ} {op : OpData} → Asks old.receipts asked.receipts asked.seat.seen op → least ≡ asked.seat.seen
     → asked.has_reader ≡ old.has_reader → asked.readings ≡ old.readings → ReadsOn asked.has_reader least asked.readings read.readings
     → read.has_reader ≡ asked.has_reader → read.receipts ≡ asked.receipts
     → HasRead old.has_reader old.receipts old.readings → HasRead read.has_reader read.receipts read.readings

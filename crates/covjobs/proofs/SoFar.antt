@@ -14,13 +14,13 @@ use Rattle.covbook.specs.Texts.{IsText}
 use Rattle.covlock.specs.Seat.{SeatData, after_call, calls_in}
 use Rattle.covjobs.specs.declared.readers.Readers.TheVariants as readers
 use Rattle.covjobs.specs.declared.refused.RefusedInput.{RefusedInput}
-use Rattle.covjobs.specs.Collect.{InputData, IsCollected, HasRead}
-use Rattle.covjobs.specs.Late.{IsCollectedSoFar, TurnedOut, chances_of}
+use Rattle.covjobs.specs.Collect.{HasRead, IsCollectedWith}
+use Rattle.covjobs.specs.Late.{IsCollectedSoFar, chances_of}
 use Rattle.covjobs.specs.Latest.{history_of}
-use Rattle.covjobs.specs.Work.{WorkerData, HaveDone, FirstAsks, kept_of, logs_in, refused_in, seats_in}
+use Rattle.covjobs.specs.Work.{Chances, WorkerData, HaveDone, FirstAsks, kept_of, logs_in, refused_in, seats_in}
 use Rattle.covjobs.proofs.Everything.{collected_of}
 use Rattle.covjobs.proofs.LastEntry.{GoesOn, SameTexts}
-use Rattle.covjobs.proofs.Unread.{AllTurnedOut, all_turned_out}
+use Rattle.covjobs.proofs.Taken.{Outcome}
 use Rattle.covjobs.proofs.Whole.{IsWhole, works_from, whole_of}
 
 -- ---- laws of the book, as its functions state them
@@ -71,46 +71,46 @@ lawful_next entries last is lawful =
 -- ---- workers without readers
 
 -- a worker has no readings
-abbrev IsSilent : WorkerData → Type 0
+abbrev IsSilent : {F : Type 0} → WorkerData F → Type 0
 IsSilent worker = worker.readings ≡ []
 
-silent : {X : Type 0} (MayBe : X → InputData → Type 0) (MayFail : X → Type 0) (inputs : List X) (jobs from some : ℕ) (workers : List WorkerData)
-    → HaveDone (chances_of MayBe MayFail) (works_from inputs jobs readers.None from some) workers → AllByRecursion IsSilent workers
-silent MayBe MayFail inputs jobs from zero [] done = tt
-silent MayBe MayFail inputs jobs from zero (worker ∷ workers) done = absurd done
-silent MayBe MayFail inputs jobs from (suc some) [] done = absurd done
-silent MayBe MayFail inputs jobs from (suc some) (worker ∷ workers) done =
-    (subst (λ has. HasRead has worker.receipts worker.readings) done.0.reader done.0.read, silent MayBe MayFail inputs jobs (from + 1) some workers done.1)
+silent : {X F : Type 0} (MayGive : X → Outcome F → Type 0) (MayFail : X → Type 0) (inputs : List X) (jobs from some : ℕ) (workers : List (WorkerData F))
+    → HaveDone (chances_of MayGive MayFail) (works_from inputs jobs readers.None from some) workers → AllByRecursion IsSilent workers
+silent MayGive MayFail inputs jobs from zero [] done = tt
+silent MayGive MayFail inputs jobs from zero (worker ∷ workers) done = absurd done
+silent MayGive MayFail inputs jobs from (suc some) [] done = absurd done
+silent MayGive MayFail inputs jobs from (suc some) (worker ∷ workers) done =
+    (subst (λ has. HasRead has worker.receipts worker.readings) done.0.reader done.0.read, silent MayGive MayFail inputs jobs (from + 1) some workers done.1)
 
-logs_are_kept : (workers : List WorkerData) → AllByRecursion IsSilent workers → logs_in workers ≡ logs_kept (map kept_of workers)
+logs_are_kept : {F : Type 0} (workers : List (WorkerData F)) → AllByRecursion IsSilent workers → logs_in workers ≡ logs_kept (map kept_of workers)
 logs_are_kept [] none = refl
 logs_are_kept (worker ∷ workers) none =
     ap (λ (rs : List Reading). record { job = worker.seat.job; receipts = worker.receipts; readings = rs } ∷ logs_in workers) none.0
     ∙ ap (λ (ls : List LogData). record { job = worker.seat.job; receipts = worker.receipts; readings = [] } ∷ ls) (logs_are_kept workers none.1)
 
-nothing_read : (entries : List EntryData) (workers : List WorkerData) → AllByRecursion (AreReadingsOf entries) (logs_kept (map kept_of workers))
+nothing_read : {F : Type 0} (entries : List EntryData) (workers : List (WorkerData F)) → AllByRecursion (AreReadingsOf entries) (logs_kept (map kept_of workers))
 nothing_read entries [] = tt
 nothing_read entries (worker ∷ workers) = (tt, nothing_read entries workers)
 
-calls_are_kept : (workers : List WorkerData) → calls_kept (map kept_of workers) ≡ calls_in (seats_in workers)
+calls_are_kept : {F : Type 0} (workers : List (WorkerData F)) → calls_kept (map kept_of workers) ≡ calls_in (seats_in workers)
 calls_are_kept [] = refl
 calls_are_kept (worker ∷ workers) =
     let here : calls_kept (map kept_of (worker ∷ workers)) ≡ worker.seat.calls + calls_kept (map kept_of workers) = sum_by-cons (λ (k : KeptData). k.calls) (kept_of worker) (map kept_of workers) in
     let there : calls_in (seats_in (worker ∷ workers)) ≡ worker.seat.calls + calls_in (seats_in workers) = sum_by-cons (λ (s : SeatData). s.calls) worker.seat (seats_in workers) in
     omega (arith, here, there, calls_are_kept workers)
 
-jobs_are_kept : (workers : List WorkerData) → jobs_of (logs_kept (map kept_of workers)) ≡ map (λ (w : WorkerData). w.seat.job) workers
+jobs_are_kept : {F : Type 0} (workers : List (WorkerData F)) → jobs_of (logs_kept (map kept_of workers)) ≡ map (λ (w : WorkerData F). w.seat.job) workers
 jobs_are_kept [] = refl
 jobs_are_kept (worker ∷ workers) = ap (λ (js : List ℕ). worker.seat.job ∷ js) (jobs_are_kept workers)
 
-well_kept : (workers : List WorkerData) → AllByRecursion (λ (w : WorkerData). IsKeptWell (kept_of w)) workers → AllByRecursion IsKeptWell (map kept_of workers)
+well_kept : {F : Type 0} (workers : List (WorkerData F)) → AllByRecursion (λ (w : WorkerData F). IsKeptWell (kept_of w)) workers → AllByRecursion IsKeptWell (map kept_of workers)
 well_kept [] all = tt
 well_kept (worker ∷ workers) all = (all.0, well_kept workers all.1)
 
 longer_prefix : (some entries : List EntryData) (next : EntryData) → IsPrefix some entries → IsPrefix some (entries ++ next ∷ [])
 longer_prefix some entries next prefix = (prefix.0 ++ next ∷ [], sym (append_assoc some prefix.0 (next ∷ [])) ∙ ap (λ (es : List EntryData). es ++ next ∷ []) prefix.1)
 
-all_longer : (workers : List WorkerData) (entries : List EntryData) (next : EntryData) → AllByRecursion (λ (w : WorkerData). IsPrefix w.latest entries) workers → AreBefore (entries ++ next ∷ []) (map kept_of workers)
+all_longer : {F : Type 0} (workers : List (WorkerData F)) (entries : List EntryData) (next : EntryData) → AllByRecursion (λ (w : WorkerData F). IsPrefix w.latest entries) workers → AreBefore (entries ++ next ∷ []) (map kept_of workers)
 all_longer [] entries next all = tt
 all_longer (worker ∷ workers) entries next all = (longer_prefix worker.latest entries next all.0, all_longer workers entries next all.1)
 
@@ -124,7 +124,7 @@ prefix_short some entries prefix =
 abbrev told_last : List EntryData → OpData → ReceiptData
 told_last entries last = record { place = length entries; op = last; answer = answer_of (table_of (ops_in entries)) last }
 
-abbrev asks_next : WorkerData → List EntryData → OpData → WorkerData
+abbrev asks_next : {F : Type 0} → WorkerData F → List EntryData → OpData → WorkerData F
 asks_next first entries last = record {
   seat = after_call first.seat (length entries);
   receipts = first.receipts ++ told_last entries last ∷ [];
@@ -135,9 +135,9 @@ asks_next first entries last = record {
 }
 
 -- what is known of the workers when all have handed in their parts, and the book is closed
-pub record AreClosed (workers : List WorkerData) (entries : List EntryData) : Type 0 where
-  pub kept : AllByRecursion (λ (w : WorkerData). IsKeptWell (kept_of w)) workers
-  pub before : AllByRecursion (λ (w : WorkerData). IsPrefix w.latest entries) workers
+pub record AreClosed {F : Type 0} (workers : List (WorkerData F)) (entries : List EntryData) : Type 0 where
+  pub kept : AllByRecursion (λ (w : WorkerData F). IsKeptWell (kept_of w)) workers
+  pub before : AllByRecursion (λ (w : WorkerData F). IsPrefix w.latest entries) workers
   pub calls : length entries ≡ calls_in (seats_in workers)
   pub legal : IsLegal entries
   pub lawful : AreLawfulOps (ops_in entries)
@@ -151,19 +151,19 @@ first_is zero job others some are = absurd (omega (arith, some))
 first_is (suc jobs) job others some are = cc
 
 -- the history with the last entry, whichever text it asks for, is collected
-text_asked : {X : Type 0} (MayBe : X → InputData → Type 0) (MayFail : X → Type 0) (inputs : List X) (jobs : ℕ) (first : WorkerData) (others : List WorkerData) (entries : List EntryData) (refused : List RefusedInput)
-    (whole : IsWhole (chances_of MayBe MayFail) inputs jobs (first ∷ others)) (turned : AllTurnedOut MayBe inputs whole.outcome) (last : OpData) → 0 < jobs → IsText last
+text_asked : {X F : Type 0} (chances : Chances X F) (inputs : List X) (jobs : ℕ) (first : WorkerData F) (others : List (WorkerData F)) (entries : List EntryData) (refused : List (RefusedInput F))
+    (whole : IsWhole chances inputs jobs (first ∷ others)) (last : OpData) → 0 < jobs → IsText last
     → AllByRecursion IsSilent (first ∷ others) → AreClosed (first ∷ others) entries
-    → IsPermutation (refused_in (first ∷ others)) refused → IsNonDecreasingBy (λ (r : RefusedInput). r.index) refused
+    → IsPermutation (refused_in (first ∷ others)) refused → IsNonDecreasingBy (λ (r : RefusedInput F). r.index) refused
     → GoesOn → TotalsGoOn → SameTexts → OneMore → GatheredByCount
-    → (logs : List LogData) × IsCollected turned.read jobs last (entries ++ next_entry entries 0 last ∷ []) logs refused
-text_asked MayBe MayFail inputs jobs first others entries refused whole turned last some is none closed same sorted goes totals texts one_more by_count =
+    → (logs : List LogData) × IsCollectedWith whole.outcome (length inputs) jobs last (entries ++ next_entry entries 0 last ∷ []) logs refused
+text_asked {X} {F} chances inputs jobs first others entries refused whole last some is none closed same sorted goes totals texts one_more by_count =
     let next = next_entry entries 0 last in
     let told = told_last entries last in
     let asker = asks_next first entries last in
-    let after : List WorkerData = asker ∷ others in
+    let after : List (WorkerData F) = asker ∷ others in
     let more : List EntryData = entries ++ next ∷ [] in
-    let zero_is : first.seat.job ≡ 0 = first_is jobs first.seat.job (map (λ (w : WorkerData). w.seat.job) others) some whole.tell.are in
+    let zero_is : first.seat.job ≡ 0 = first_is jobs first.seat.job (map (λ (w : WorkerData F). w.seat.job) others) some whole.tell.are in
     let short = prefix_short first.latest entries closed.before.0 in
     let later : first.seat.seen ≤ length entries = omega (arith, short, closed.kept.0.upto) in
     let own : IsKeptWell (kept_of asker) =
@@ -188,26 +188,25 @@ text_asked MayBe MayFail inputs jobs first others entries refused whole turned l
       refused = refl;
     } in (
       logs_in after,
-      collected_of MayBe MayFail inputs jobs (length more) last (first ∷ others) after more refused whole turned some asks same sorted (legal_next entries last goes totals closed.legal) (lawful_next entries last is closed.lawful)
+      collected_of chances inputs jobs (length more) last (first ∷ others) after more refused whole some asks same sorted (legal_next entries last goes totals closed.legal) (lawful_next entries last is closed.lawful)
           (subst (λ (ls : List LogData). IsGathered more ls) (sym (logs_are_kept after silent_after)) gathered) refl goes texts,
     )
 
 -- what is collected before a text is asked
-pub so_far : {X : Type 0} (MayBe : X → InputData → Type 0) (MayFail : X → Type 0) (inputs : List X) (jobs : ℕ) (workers : List WorkerData) (entries : List EntryData) (refused : List RefusedInput) → 0 < jobs
-    → HaveDone (chances_of MayBe MayFail) (works_from inputs jobs readers.None 0 jobs) workers → AreClosed workers entries
-    → IsPermutation (refused_in workers) refused → IsNonDecreasingBy (λ (r : RefusedInput). r.index) refused
+pub so_far : {X F : Type 0} (MayGive : X → Outcome F → Type 0) (MayFail : X → Type 0) (inputs : List X) (jobs : ℕ) (workers : List (WorkerData F)) (entries : List EntryData) (refused : List (RefusedInput F)) → 0 < jobs
+    → HaveDone (chances_of MayGive MayFail) (works_from inputs jobs readers.None 0 jobs) workers → AreClosed workers entries
+    → IsPermutation (refused_in workers) refused → IsNonDecreasingBy (λ (r : RefusedInput F). r.index) refused
     → GoesOn → TotalsGoOn → SameTexts → OneMore → GatheredByCount
-    → (read : List InputData) × TurnedOut MayBe inputs read × IsCollectedSoFar read jobs entries refused
-so_far MayBe MayFail inputs jobs [] entries refused some done closed same sorted goes totals texts one_more by_count =
-    let whole = whole_of (chances_of MayBe MayFail) readers.None inputs jobs [] some done in
+    → IsCollectedSoFar MayGive inputs jobs entries refused
+so_far MayGive MayFail inputs jobs [] entries refused some done closed same sorted goes totals texts one_more by_count =
+    let whole = whole_of (chances_of MayGive MayFail) readers.None inputs jobs [] some done in
     absurd (no_worker jobs some whole.tell.are)
-so_far MayBe MayFail inputs jobs (first ∷ others) entries refused some done closed same sorted goes totals texts one_more by_count =
-    let whole = whole_of (chances_of MayBe MayFail) readers.None inputs jobs (first ∷ others) some done in
-    let turned = all_turned_out MayBe inputs whole.outcome whole.outcomes in
-    let none = silent MayBe MayFail inputs jobs 0 jobs (first ∷ others) done in (
-      turned.read,
-      turned.turned,
-      λ last is. text_asked MayBe MayFail inputs jobs first others entries refused whole turned last some is none closed same sorted goes totals texts one_more by_count,
+so_far MayGive MayFail inputs jobs (first ∷ others) entries refused some done closed same sorted goes totals texts one_more by_count =
+    let whole = whole_of (chances_of MayGive MayFail) readers.None inputs jobs (first ∷ others) some done in
+    let none = silent MayGive MayFail inputs jobs 0 jobs (first ∷ others) done in (
+      whole.outcome,
+      whole.outcomes,
+      λ last is. text_asked (chances_of MayGive MayFail) inputs jobs first others entries refused whole last some is none closed same sorted goes totals texts one_more by_count,
     )
 
 -- ---- the latest news of all workers
@@ -220,8 +219,8 @@ all_by_map : {X Y : Type 0} (P : Y → Type 0) (f : X → Y) (xs : List X) → A
 all_by_map P f [] all = tt
 all_by_map P f (x ∷ xs) all = (all.0, all_by_map P f xs all.1)
 
-pub latest_before : (latest : List (Option (List EntryData))) (workers : List WorkerData) (entries : List EntryData) → map history_of latest ≡ map (λ (w : WorkerData). w.latest) workers
-    → AllByRecursion (λ (own : Option (List EntryData)). IsPrefix (history_of own) entries) latest → AllByRecursion (λ (w : WorkerData). IsPrefix w.latest entries) workers
-latest_before latest workers entries same all =
-    all_by_map (λ (own : List EntryData). IsPrefix own entries) (λ (w : WorkerData). w.latest) workers
+pub latest_before : {F : Type 0} (latest : List (Option (List EntryData))) (workers : List (WorkerData F)) (entries : List EntryData) → map history_of latest ≡ map (λ (w : WorkerData F). w.latest) workers
+    → AllByRecursion (λ (own : Option (List EntryData)). IsPrefix (history_of own) entries) latest → AllByRecursion (λ (w : WorkerData F). IsPrefix w.latest entries) workers
+latest_before {F} latest workers entries same all =
+    all_by_map (λ (own : List EntryData). IsPrefix own entries) (λ (w : WorkerData F). w.latest) workers
     (subst (λ (owns : List (List EntryData)). AllByRecursion (λ (own : List EntryData). IsPrefix own entries) owns) same (all_of_map (λ (own : List EntryData). IsPrefix own entries) history_of latest all))

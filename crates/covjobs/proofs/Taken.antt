@@ -1,19 +1,21 @@
 -- A worker takes its inputs one after another.
-use Rattle.std.proofs.Common.{◌≡◌, ◌∙◌, ◌⊎◌, inl, inr, ℕ, zero, suc, ◌+◌, ◌<◌, Bool, true, false, IsTrue, if◌then◌else◌, List, [], ◌∷◌, ◌++◌, map, Option, Some, Result, Err, slice_get, ap, sym, refl, subst, arith}
+use Rattle.std.proofs.Common.{◌≡◌, ◌∙◌, ◌⊎◌, inl, inr, ℕ, zero, suc, ◌+◌, ◌<◌, Bool, true, false, IsTrue, if◌then◌else◌, List, [], ◌∷◌, ◌++◌, map, Option, Some, Result, Ok, slice_get, ap, sym, refl, subst, arith}
 use Rattle.std.specs.Prelude.{IsSomeAnd}
 use Rattle.std.proofs.Math.Dec.{eqb}
 use Rattle.std.proofs.lemmas.Bool.{eq-eqb, ne_eqb, false≢true}
 use Rattle.std.proofs.lemmas.Bool.Decides.{eqb_tells}
 use Rattle.covline.specs.Row.{SubmissionData}
-use Rattle.covread.specs.declared.fault.ReadFault.{ReadFault}
-use Rattle.covread.specs.declared.fault.ReadFault.TheVariants as faults
 use Rattle.covbook.specs.Op.{OpData, SubmitOp, ReceiptData}
 use Rattle.covjobs.specs.declared.refused.RefusedInput.{RefusedInput}
 use Rattle.covjobs.specs.Collect.{submitted, refusal, brought, places_of_job, submissions_of, ops_in}
 use Rattle.covjobs.specs.Work.{Takes, HasTaken}
 
-abbrev pub Outcome : Type 0
-Outcome = Result SubmissionData ReadFault
+abbrev pub Outcome : Type 0 → Type 0
+Outcome F = Result SubmissionData F
+
+-- a submission of nothing
+abbrev pub nothing : SubmissionData
+nothing = record { sects = []; odd = 0 }
 
 -- the function `old` with the value `new` at the number `at`
 abbrev pub put : {X : Type 0} → ℕ → X → (ℕ → X) → ℕ → X
@@ -59,39 +61,39 @@ pub map_after : {X Y : Type 0} (f : X → Y) (xs ys : List X) → map f (xs ++ y
 map_after f [] ys = refl
 map_after {X} {Y} f (x ∷ xs) ys = ap (λ (rest : List Y). f x ∷ rest) (map_after f xs ys)
 
-pub none_taken : {X : Type 0} (Gives : X → Outcome → Type 0) (inputs : List X) (jobs job : ℕ) (receipts : List ReceiptData) (refused : List RefusedInput) → receipts ≡ [] → refused ≡ []
+pub none_taken : {X F : Type 0} (Gives : X → Outcome F → Type 0) (inputs : List X) (jobs job : ℕ) (receipts : List ReceiptData) (refused : List (RefusedInput F)) → receipts ≡ [] → refused ≡ []
     → HasTaken Gives inputs jobs job 0 receipts refused
 none_taken {X} Gives inputs jobs job receipts refused no_receipts none_refused =
-    record { outcome = λ index. Err faults.Memory; outcomes = λ index less own. absurd (omega (arith, less)); asked = ap (λ (rs : List ReceiptData). ops_in rs) no_receipts; are_refused = none_refused }
+    record { outcome = λ index. Ok nothing; outcomes = λ index less own. absurd (omega (arith, less)); asked = ap (λ (rs : List ReceiptData). ops_in rs) no_receipts; are_refused = none_refused }
 
 is_below : (index count : ℕ) → index < count + 1 → (index ≡ count → ⊥) → index < count
 is_below index count less apart = omega (arith, less, apart)
 
-by_place : {X : Type 0} (Gives : X → Outcome → Type 0) (inputs : List X) (meant : ℕ → Bool) (count : ℕ) (input : X) (new : Outcome) (old : ℕ → Outcome)
+by_place : {X F : Type 0} (Gives : X → Outcome F → Type 0) (inputs : List X) (meant : ℕ → Bool) (count : ℕ) (input : X) (new : Outcome F) (old : ℕ → Outcome F)
     → ((index : ℕ) → index < count → IsTrue (meant index) → IsSomeAnd (slice_get inputs index) (λ input. Gives input (old index)))
     → slice_get inputs count ≡ Some input → Gives input new
     → (index : ℕ) → index < count + 1 → IsTrue (meant index)
     → ((eqb index count ≡ true) × (index ≡ count)) ⊎ ((eqb index count ≡ false) × (index ≡ count → ⊥))
     → IsSomeAnd (slice_get inputs index) (λ input. Gives input (put count new old index))
-by_place {X} Gives inputs meant count input new old before is is_outcome index less own (inl (_, same)) =
+by_place {X} {F} Gives inputs meant count input new old before is is_outcome index less own (inl (_, same)) =
     subst (λ (i : ℕ). IsSomeAnd (slice_get inputs i) (λ input. Gives input (put count new old i))) (sym same)
-    (subst (λ (f : Outcome). IsSomeAnd (slice_get inputs count) (λ input. Gives input f)) (sym (put_here count new old))
+    (subst (λ (f : Outcome F). IsSomeAnd (slice_get inputs count) (λ input. Gives input f)) (sym (put_here count new old))
     (subst (λ (found : Option X). IsSomeAnd found (λ input. Gives input new)) (sym is) is_outcome))
-by_place {X} Gives inputs meant count input new old before is is_outcome index less own (inr (_, differs)) =
-    subst (λ (f : Outcome). IsSomeAnd (slice_get inputs index) (λ input. Gives input f)) (sym (put_apart count new old index differs))
+by_place {X} {F} Gives inputs meant count input new old before is is_outcome index less own (inr (_, differs)) =
+    subst (λ (f : Outcome F). IsSomeAnd (slice_get inputs index) (λ input. Gives input f)) (sym (put_apart count new old index differs))
     (before index (is_below index count less differs) own)
 
-fates_put : {X : Type 0} (Gives : X → Outcome → Type 0) (inputs : List X) (meant : ℕ → Bool) (count : ℕ) (input : X) (new : Outcome) (old : ℕ → Outcome)
+fates_put : {X F : Type 0} (Gives : X → Outcome F → Type 0) (inputs : List X) (meant : ℕ → Bool) (count : ℕ) (input : X) (new : Outcome F) (old : ℕ → Outcome F)
     → ((index : ℕ) → index < count → IsTrue (meant index) → IsSomeAnd (slice_get inputs index) (λ input. Gives input (old index)))
     → slice_get inputs count ≡ Some input → Gives input new
     → (index : ℕ) → index < count + 1 → IsTrue (meant index) → IsSomeAnd (slice_get inputs index) (λ input. Gives input (put count new old index))
 fates_put {X} Gives inputs meant count input new old before is is_outcome index less own =
     by_place Gives inputs meant count input new old before is is_outcome index less own (eqb_tells index count)
 
-pub step_taken : {X : Type 0} (Gives : X → Outcome → Type 0) (inputs : List X) (jobs job count : ℕ) (receipts after : List ReceiptData) (refused refuses : List RefusedInput) (input : X)
+pub step_taken : {X F : Type 0} (Gives : X → Outcome F → Type 0) (inputs : List X) (jobs job count : ℕ) (receipts after : List ReceiptData) (refused refuses : List (RefusedInput F)) (input : X)
     → HasTaken Gives inputs jobs job count receipts refused → places_of_job jobs job count ≡ true → slice_get inputs count ≡ Some input
     → Takes (Gives input) count (ops_in receipts) (ops_in after) refused refuses → HasTaken Gives inputs jobs job (count + 1) after refuses
-step_taken {X} Gives inputs jobs job count receipts after refused refuses input so_far own is takes =
+step_taken {X} {F} Gives inputs jobs job count receipts after refused refuses input so_far own is takes =
     let meant = places_of_job jobs job in
     let old = so_far.outcome in
     let new = put count takes.outcome old in
@@ -103,14 +105,14 @@ step_taken {X} Gives inputs jobs job count receipts after refused refuses input 
           ∙ ap (λ (ops : List OpData). ops ++ map SubmitOp (submitted takes.outcome)) so_far.asked
           ∙ sym (map_after SubmitOp (submissions_of meant old count) (submitted takes.outcome))
           ∙ sym (ap (λ (subs : List SubmissionData). map SubmitOp subs) (brought_more meant (λ index. submitted (old index)) (λ index. submitted (new index)) count (submitted takes.outcome)
-          (λ index less. ap (λ (f : Outcome). submitted f) (put_apart count takes.outcome old index (λ same. omega (arith, less, same)))) own (ap (λ (f : Outcome). submitted f) here)));
+          (λ index less. ap (λ (f : Outcome F). submitted f) (put_apart count takes.outcome old index (λ same. omega (arith, less, same)))) own (ap (λ (f : Outcome F). submitted f) here)));
       are_refused = takes.tells
-          ∙ ap (λ (rs : List RefusedInput). rs ++ refusal count takes.outcome) so_far.are_refused
+          ∙ ap (λ (rs : List (RefusedInput F)). rs ++ refusal count takes.outcome) so_far.are_refused
           ∙ sym (brought_more meant (λ index. refusal index (old index)) (λ index. refusal index (new index)) count (refusal count takes.outcome)
-          (λ index less. ap (λ (f : Outcome). refusal index f) (put_apart count takes.outcome old index (λ same. omega (arith, less, same)))) own (ap (λ (f : Outcome). refusal count f) here));
+          (λ index less. ap (λ (f : Outcome F). refusal index f) (put_apart count takes.outcome old index (λ same. omega (arith, less, same)))) own (ap (λ (f : Outcome F). refusal count f) here));
     }
 
-fates_past : {X : Type 0} (Gives : X → Outcome → Type 0) (inputs : List X) (meant : ℕ → Bool) (count : ℕ) (old : ℕ → Outcome) → meant count ≡ false
+fates_past : {X F : Type 0} (Gives : X → Outcome F → Type 0) (inputs : List X) (meant : ℕ → Bool) (count : ℕ) (old : ℕ → Outcome F) → meant count ≡ false
     → ((index : ℕ) → index < count → IsTrue (meant index) → IsSomeAnd (slice_get inputs index) (λ input. Gives input (old index)))
     → (index : ℕ) → index < count + 1 → IsTrue (meant index)
     → ((eqb index count ≡ true) × (index ≡ count)) ⊎ ((eqb index count ≡ false) × (index ≡ count → ⊥))
@@ -118,7 +120,7 @@ fates_past : {X : Type 0} (Gives : X → Outcome → Type 0) (inputs : List X) (
 fates_past {X} Gives inputs meant count old apart before index less own (inl (_, same)) = absurd (false≢true (sym apart ∙ subst (λ (i : ℕ). meant i ≡ true) same own))
 fates_past {X} Gives inputs meant count old apart before index less own (inr (_, differs)) = before index (is_below index count less differs) own
 
-pub step_past : {X : Type 0} (Gives : X → Outcome → Type 0) (inputs : List X) (jobs job count : ℕ) (receipts : List ReceiptData) (refused : List RefusedInput)
+pub step_past : {X F : Type 0} (Gives : X → Outcome F → Type 0) (inputs : List X) (jobs job count : ℕ) (receipts : List ReceiptData) (refused : List (RefusedInput F))
     → HasTaken Gives inputs jobs job count receipts refused → places_of_job jobs job count ≡ false → HasTaken Gives inputs jobs job (count + 1) receipts refused
 step_past {X} Gives inputs jobs job count receipts refused so_far apart =
     let meant = places_of_job jobs job in

@@ -43,14 +43,14 @@ brought_both {X} meant bring from (suc more) =
 
 -- how far a worker is in its share: it has taken its inputs among the first `count` inputs, and `rest` has its inputs among the
 -- others
-pub record IsUnderway {X : Type 0} (Gives : X → Outcome → Type 0) (inputs : List X) (jobs job : ℕ) (rest : List (Placed X)) (receipts : List ReceiptData) (refused : List RefusedInput) : Type 0 where
+pub record IsUnderway {X F : Type 0} (Gives : X → Outcome F → Type 0) (inputs : List X) (jobs job : ℕ) (rest : List (Placed X)) (receipts : List ReceiptData) (refused : List (RefusedInput F)) : Type 0 where
   pub count : ℕ
   pub more : ℕ
   pub all : count + more ≡ length inputs
   pub left : rest ≡ brought_from (places_of_job jobs job) (λ index. placed_at index (slice_get inputs index)) count more
   pub taken : HasTaken Gives inputs jobs job count receipts refused
 
-pub none_underway : {X : Type 0} (Gives : X → Outcome → Type 0) (inputs : List X) (jobs job : ℕ) (share : List (Placed X)) (receipts : List ReceiptData) (refused : List RefusedInput)
+pub none_underway : {X F : Type 0} (Gives : X → Outcome F → Type 0) (inputs : List X) (jobs job : ℕ) (share : List (Placed X)) (receipts : List ReceiptData) (refused : List (RefusedInput F))
     → share ≡ share_of inputs jobs job → receipts ≡ [] → refused ≡ [] → IsUnderway Gives inputs jobs job share receipts refused
 none_underway {X} Gives inputs jobs job share receipts refused is no_receipts none_refused =
     let meant = places_of_job jobs job in
@@ -91,7 +91,7 @@ is_there [] count more all none = omega (arith, all)
 is_there {X} (x ∷ xs) count more all none = none-some (get_or (x ∷ xs) count x) (sym none ∙ slice_get-get_or (x ∷ xs) count x (omega (arith, all)))
 
 -- one place on: the place is the next of the share, or isn't of the job
-next_place : {X : Type 0} (Gives : X → Outcome → Type 0) (inputs : List X) (jobs job count more : ℕ) (placed : Placed X) (rest : List (Placed X)) (receipts after : List ReceiptData) (refused refuses : List RefusedInput)
+next_place : {X F : Type 0} (Gives : X → Outcome F → Type 0) (inputs : List X) (jobs job count more : ℕ) (placed : Placed X) (rest : List (Placed X)) (receipts after : List ReceiptData) (refused refuses : List (RefusedInput F))
     → (own : Bool) → places_of_job jobs job count ≡ own → (found : Option X) → slice_get inputs count ≡ found
     → count + suc more ≡ length inputs
     → placed ∷ rest ≡ (if own then placed_at count found else []) ++ brought_from (places_of_job jobs job) (λ index. placed_at index (slice_get inputs index)) (count + 1) more
@@ -115,7 +115,7 @@ next_place {X} Gives inputs jobs job count more placed rest receipts after refus
 next_place Gives inputs jobs job count more placed rest receipts after refused refuses false apart found is all left taken takes later =
     later (step_past Gives inputs jobs job count receipts refused taken apart) left
 
-taken_from : {X : Type 0} (Gives : X → Outcome → Type 0) (inputs : List X) (jobs job count more : ℕ) (placed : Placed X) (rest : List (Placed X)) (receipts after : List ReceiptData) (refused refuses : List RefusedInput)
+taken_from : {X F : Type 0} (Gives : X → Outcome F → Type 0) (inputs : List X) (jobs job count more : ℕ) (placed : Placed X) (rest : List (Placed X)) (receipts after : List ReceiptData) (refused refuses : List (RefusedInput F))
     → count + more ≡ length inputs
     → placed ∷ rest ≡ brought_from (places_of_job jobs job) (λ index. placed_at index (slice_get inputs index)) count more
     → HasTaken Gives inputs jobs job count receipts refused
@@ -127,7 +127,7 @@ taken_from Gives inputs jobs job count (suc more) placed rest receipts after ref
     (λ past left_past. taken_from Gives inputs jobs job (count + 1) more placed rest receipts after refused refuses (sym (one_later count more) ∙ all) left_past past takes)
 
 -- the next input of the share is taken
-pub one_taken : {X : Type 0} (Gives : X → Outcome → Type 0) (inputs : List X) (jobs job : ℕ) (placed : Placed X) (rest : List (Placed X)) (receipts after : List ReceiptData) (refused refuses : List RefusedInput)
+pub one_taken : {X F : Type 0} (Gives : X → Outcome F → Type 0) (inputs : List X) (jobs job : ℕ) (placed : Placed X) (rest : List (Placed X)) (receipts after : List ReceiptData) (refused refuses : List (RefusedInput F))
     → IsUnderway Gives inputs jobs job (placed ∷ rest) receipts refused
     → Takes (Gives placed.input) placed.index (ops_in receipts) (ops_in after) refused refuses
     → IsUnderway Gives inputs jobs job rest after refuses
@@ -135,13 +135,13 @@ one_taken Gives inputs jobs job placed rest receipts after refused refuses so_fa
     taken_from Gives inputs jobs job so_far.count so_far.more placed rest receipts after refused refuses so_far.all so_far.left so_far.taken takes
 
 -- the next input of a share is at a place of the job, and the job has taken its inputs before that place
-pub record IsNext {X : Type 0} (Gives : X → Outcome → Type 0) (inputs : List X) (jobs job : ℕ) (placed : Placed X) (receipts : List ReceiptData) (refused : List RefusedInput) : Type 0 where
+pub record IsNext {X F : Type 0} (Gives : X → Outcome F → Type 0) (inputs : List X) (jobs job : ℕ) (placed : Placed X) (receipts : List ReceiptData) (refused : List (RefusedInput F)) : Type 0 where
   pub own : places_of_job jobs job placed.index ≡ true
   pub is : slice_get inputs placed.index ≡ Some placed.input
   pub taken : HasTaken Gives inputs jobs job placed.index receipts refused
 
 -- one place on: the place is that of the next input, or isn't of the job
-next_at : {X : Type 0} (Gives : X → Outcome → Type 0) (inputs : List X) (jobs job count more : ℕ) (placed : Placed X) (rest : List (Placed X)) (receipts : List ReceiptData) (refused : List RefusedInput)
+next_at : {X F : Type 0} (Gives : X → Outcome F → Type 0) (inputs : List X) (jobs job count more : ℕ) (placed : Placed X) (rest : List (Placed X)) (receipts : List ReceiptData) (refused : List (RefusedInput F))
     → (own : Bool) → places_of_job jobs job count ≡ own → (found : Option X) → slice_get inputs count ≡ found
     → count + suc more ≡ length inputs
     → placed ∷ rest ≡ (if own then placed_at count found else []) ++ brought_from (places_of_job jobs job) (λ index. placed_at index (slice_get inputs index)) (count + 1) more
@@ -157,7 +157,7 @@ next_at {X} Gives inputs jobs job count more placed rest receipts refused true i
 next_at Gives inputs jobs job count more placed rest receipts refused false apart found is all left taken later =
     later (step_past Gives inputs jobs job count receipts refused taken apart) left
 
-next_from : {X : Type 0} (Gives : X → Outcome → Type 0) (inputs : List X) (jobs job count more : ℕ) (placed : Placed X) (rest : List (Placed X)) (receipts : List ReceiptData) (refused : List RefusedInput)
+next_from : {X F : Type 0} (Gives : X → Outcome F → Type 0) (inputs : List X) (jobs job count more : ℕ) (placed : Placed X) (rest : List (Placed X)) (receipts : List ReceiptData) (refused : List (RefusedInput F))
     → count + more ≡ length inputs
     → placed ∷ rest ≡ brought_from (places_of_job jobs job) (λ index. placed_at index (slice_get inputs index)) count more
     → HasTaken Gives inputs jobs job count receipts refused → IsNext Gives inputs jobs job placed receipts refused
@@ -166,13 +166,13 @@ next_from Gives inputs jobs job count (suc more) placed rest receipts refused al
     next_at Gives inputs jobs job count more placed rest receipts refused (places_of_job jobs job count) refl (slice_get inputs count) refl all left taken
     (λ past left_past. next_from Gives inputs jobs job (count + 1) more placed rest receipts refused (sym (one_later count more) ∙ all) left_past past)
 
-pub next_of : {X : Type 0} (Gives : X → Outcome → Type 0) (inputs : List X) (jobs job : ℕ) (placed : Placed X) (rest : List (Placed X)) (receipts : List ReceiptData) (refused : List RefusedInput)
+pub next_of : {X F : Type 0} (Gives : X → Outcome F → Type 0) (inputs : List X) (jobs job : ℕ) (placed : Placed X) (rest : List (Placed X)) (receipts : List ReceiptData) (refused : List (RefusedInput F))
     → IsUnderway Gives inputs jobs job (placed ∷ rest) receipts refused → IsNext Gives inputs jobs job placed receipts refused
 next_of Gives inputs jobs job placed rest receipts refused so_far =
     next_from Gives inputs jobs job so_far.count so_far.more placed rest receipts refused so_far.all so_far.left so_far.taken
 
 -- the places that are left aren't of the job
-past_place : {X : Type 0} (Gives : X → Outcome → Type 0) (inputs : List X) (jobs job count more : ℕ) (receipts : List ReceiptData) (refused : List RefusedInput)
+past_place : {X F : Type 0} (Gives : X → Outcome F → Type 0) (inputs : List X) (jobs job count more : ℕ) (receipts : List ReceiptData) (refused : List (RefusedInput F))
     → (own : Bool) → places_of_job jobs job count ≡ own → (found : Option X) → slice_get inputs count ≡ found
     → count + suc more ≡ length inputs
     → [] ≡ (if own then placed_at count found else []) ++ brought_from (places_of_job jobs job) (λ index. placed_at index (slice_get inputs index)) (count + 1) more
@@ -185,7 +185,7 @@ past_place {X} Gives inputs jobs job count more receipts refused true is_own (So
 past_place Gives inputs jobs job count more receipts refused false apart found is all left taken later =
     later (step_past Gives inputs jobs job count receipts refused taken apart) left
 
-past_from : {X : Type 0} (Gives : X → Outcome → Type 0) (inputs : List X) (jobs job count more : ℕ) (receipts : List ReceiptData) (refused : List RefusedInput)
+past_from : {X F : Type 0} (Gives : X → Outcome F → Type 0) (inputs : List X) (jobs job count more : ℕ) (receipts : List ReceiptData) (refused : List (RefusedInput F))
     → count + more ≡ length inputs
     → [] ≡ brought_from (places_of_job jobs job) (λ index. placed_at index (slice_get inputs index)) count more
     → HasTaken Gives inputs jobs job count receipts refused
@@ -200,7 +200,7 @@ past_from Gives inputs jobs job count (suc more) receipts refused all left taken
     (λ past left_past. past_from Gives inputs jobs job (count + 1) more receipts refused (sym (one_later count more) ∙ all) left_past past)
 
 -- nothing of the share is left, so all of it is taken
-pub all_taken : {X : Type 0} (Gives : X → Outcome → Type 0) (inputs : List X) (jobs job : ℕ) (rest : List (Placed X)) (receipts : List ReceiptData) (refused : List RefusedInput)
+pub all_taken : {X F : Type 0} (Gives : X → Outcome F → Type 0) (inputs : List X) (jobs job : ℕ) (rest : List (Placed X)) (receipts : List ReceiptData) (refused : List (RefusedInput F))
     → IsUnderway Gives inputs jobs job rest receipts refused → rest ≡ [] → HasTaken Gives inputs jobs job (length inputs) receipts refused
 all_taken Gives inputs jobs job rest receipts refused so_far none =
     past_from Gives inputs jobs job so_far.count so_far.more receipts refused so_far.all (sym none ∙ so_far.left) so_far.taken

@@ -3,74 +3,50 @@ use Rattle.std.proofs.Common.{◌≡◌, ◌∙◌, ◌⊎◌, inl, inr, ap, ℕ
 use Rattle.std.specs.Prelude.{IsSomeAnd, ◌≤◌, if◌then◌else◌, nat_lt, false}
 use Rattle.std.specs.List.{AllByRecursion, Contains}
 use Rattle.std.proofs.lemmas.Bool.{eq-eqb, ltb-false}
+use Rattle.std.proofs.lemmas.List.{length-map}
 use Rattle.std.proofs.lemmas.Nat.{mod_below}
 use Rattle.covbook.specs.declared.book.BookFault.{BookFault}
 use Rattle.covbook.specs.declared.book.BookFault.TheVariants as book
+use Rattle.covbook.specs.Gather.{LogData}
+use Rattle.covbook.specs.Op.{OpData, EntryData}
 use Rattle.covbook.specs.Step.{max_entries}
 use Rattle.covjobs.specs.declared.book_fault.IntoBookFault.{IntoBookFault}
 use Rattle.covjobs.specs.declared.book_fault.IntoBookFault.TheVariants as into_book
 use Rattle.covjobs.specs.declared.collect_fault.CollectFault.{CollectFault}
 use Rattle.covjobs.specs.declared.collect_fault.CollectFault.TheVariants as collects
 use Rattle.covjobs.specs.declared.readers.Readers.{Readers}
+use Rattle.covjobs.specs.declared.refused.RefusedInput.{RefusedInput}
 use Rattle.covjobs.specs.declared.stop.Stop.{Stop}
 use Rattle.covjobs.specs.declared.stop.Stop.TheVariants as stops
-use Rattle.covjobs.specs.Collect.{InputData, IsOutcomeOf, AreOutcomes}
-use Rattle.covjobs.specs.Late.{MayCome, MayGive, TurnedOut, IsFirstUnread, IsIntoBookFault, IsUnreadFault, chances_of}
+use Rattle.covjobs.specs.Collect.{AreOutcomes, IsCollectedFrom, IsCollectedWith}
+use Rattle.covjobs.specs.Late.{MayCome, IsFirstUnread, IsIntoBookFault, IsUnreadFault, chances_of}
 use Rattle.covjobs.specs.Stops.{no_memory, of_refused, of_stop}
 use Rattle.covjobs.specs.Work.{Chances, WorkData, HasEnded, HasOutcome, HaveEnded, IsStarted, IsUnreadAt, IsNotBefore, IsLeastUnread, IsWorstEnd}
 use Rattle.covjobs.proofs.Ended.{End}
 use Rattle.covjobs.proofs.GoingOn.{read_of}
 use Rattle.covjobs.proofs.Taken.{Outcome}
-use Rattle.covjobs.proofs.Whole.{AllGive, works_from}
+use Rattle.covjobs.proofs.Whole.{works_from}
 
--- ---- what inputs that were read turned out to be
+-- ---- inputs that were read
 
--- the inputs before a place turned out to be something
-pub before_turned_out : {X : Type 0} (MayBe : X → InputData → Type 0) (inputs : List X) (index : ℕ)
-    → ((place : ℕ) → place < index → place < length inputs → IsSomeAnd (slice_get inputs place) (λ late. HasOutcome (MayGive (MayBe late))))
-    → (before : List InputData) × TurnedOut MayBe (take index inputs) before
-before_turned_out MayBe inputs zero each = ([], tt)
-before_turned_out MayBe [] (suc index) each = ([], tt)
-before_turned_out {X} MayBe (late ∷ inputs) (suc index) each =
-    let here : HasOutcome (MayGive (MayBe late)) = each 0 (omega arith) (omega arith) in
-    let rest = before_turned_out MayBe inputs index (λ place less within. each (suc place) (omega (arith, less)) (omega (arith, within))) in
-    (here.1.0 ∷ rest.0, (here.1.1, rest.1))
-
--- what all inputs turned out to be, if each has an outcome
-pub record AllTurnedOut {X : Type 0} (MayBe : X → InputData → Type 0) (inputs : List X) (outcome : ℕ → Outcome) : Type 0 where
-  pub read : List InputData
-  pub turned : TurnedOut MayBe inputs read
-  pub outcomes : AreOutcomes read outcome
-  pub long : length read ≡ length inputs
-
-pub all_turned_out : {X : Type 0} (MayBe : X → InputData → Type 0) (inputs : List X) (outcome : ℕ → Outcome) → AllGive (λ late. MayGive (MayBe late)) inputs outcome → AllTurnedOut MayBe inputs outcome
-all_turned_out MayBe [] outcome each = record { read = []; turned = tt; outcomes = λ index less. absurd (omega (arith, less)); long = refl }
-all_turned_out {X} MayBe (late ∷ inputs) outcome each =
-    let here : MayGive (MayBe late) (outcome 0) = each 0 (omega arith) in
-    let rest = all_turned_out MayBe inputs (λ index. outcome (suc index)) (λ index less. each (suc index) (omega (arith, less))) in
-    record {
-      read = here.0 ∷ rest.read;
-      turned = (here.1, rest.turned);
-      outcomes = outcome_at here.0 rest.read outcome here.2 rest.outcomes;
-      long = one_longer here.0 late rest.read inputs rest.long;
-    }
-  where
-    outcome_at : (input : InputData) (read : List InputData) (outcome : ℕ → Outcome) → IsOutcomeOf input (outcome 0) → AreOutcomes read (λ index. outcome (suc index)) → AreOutcomes (input ∷ read) outcome
-    outcome_at input read outcome first rest zero less = first
-    outcome_at input read outcome first rest (suc index) less = rest index (omega (arith, less))
-
-    one_longer : {X : Type 0} (input : InputData) (late : X) (read : List InputData) (inputs : List X) → length read ≡ length inputs → length (input ∷ read) ≡ length (late ∷ inputs)
-    one_longer input late read inputs long = omega (arith, long)
+-- the inputs before a place were read
+pub before_read : {X F : Type 0} (MayGive : X → Outcome F → Type 0) (inputs : List X) (index : ℕ)
+    → ((place : ℕ) → place < index → place < length inputs → IsSomeAnd (slice_get inputs place) (λ late. HasOutcome (MayGive late)))
+    → AllByRecursion (λ (late : X). HasOutcome (MayGive late)) (take index inputs)
+before_read MayGive inputs zero each = tt
+before_read MayGive [] (suc index) each = tt
+before_read MayGive (late ∷ inputs) (suc index) each =
+    (each 0 (omega arith) (omega arith), before_read MayGive inputs index (λ place less within. each (suc place) (omega (arith, less)) (omega (arith, within))))
 
 -- ---- the least place
 
 -- a worker that has read its inputs before a place was started
-started : (index : ℕ) (end : End) → IsNotBefore index end → IsStarted end
+started : {F : Type 0} (index : ℕ) (end : End F) → IsNotBefore index end → IsStarted end
 started index (Ok worker) is = tt
 started index (Err (stops.Unread other)) is = tt
 started index (Err (stops.Refused refusal)) is = omega (arith, is)
 
-all_started : (index : ℕ) (ended : List End) → AllByRecursion (IsNotBefore index) ended → AllByRecursion IsStarted ended
+all_started : {F : Type 0} (index : ℕ) (ended : List (End F)) → AllByRecursion (IsNotBefore index) ended → AllByRecursion IsStarted ended
 all_started index [] all = tt
 all_started index (end ∷ ended) all = (started index end all.0, all_started index ended all.1)
 
@@ -78,17 +54,17 @@ true_is : {b : Bool} → b ≡ true → IsTrue b
 true_is e = e
 
 -- a worker whose end doesn't come before `index` has read its inputs before `index`
-read_by : {X : Type 0} (chances : Chances X) (readers : Readers) (inputs : List X) (jobs job index place : ℕ) (end : End) → HasEnded chances (record { inputs = inputs; jobs = jobs; job = job; readers = readers }) end
+read_by : {X F : Type 0} (chances : Chances X F) (readers : Readers) (inputs : List X) (jobs job index place : ℕ) (end : End F) → HasEnded chances (record { inputs = inputs; jobs = jobs; job = job; readers = readers }) end
     → IsNotBefore index end → place < index → place < length inputs → place % jobs ≡ job → IsSomeAnd (slice_get inputs place) (λ input. HasOutcome (chances.Gives input))
 read_by chances readers inputs jobs job index place (Ok worker) done not_before less within own =
     read_of chances inputs jobs job (length inputs) worker.receipts worker.refused done.taken place within within (true_is (eq-eqb (place % jobs) job own))
 read_by chances readers inputs jobs job index place (Err (stops.Unread other)) stopped not_before less within own =
     stopped.before place (omega (arith, less, not_before)) within (true_is (eq-eqb (place % jobs) job own))
 read_by chances readers inputs jobs job index place (Err (stops.Refused refusal)) read not_before less within own =
-    read place (omega (arith, less, not_before)) within (true_is (eq-eqb (place % jobs) job own))
+    read.0 place (omega (arith, less, not_before)) within (true_is (eq-eqb (place % jobs) job own))
 
 -- the worker of a place's job has read the input at the place
-read_at : {X : Type 0} (chances : Chances X) (readers : Readers) (inputs : List X) (jobs from some : ℕ) (ended : List End) (index place k : ℕ) → HaveEnded chances (works_from inputs jobs readers from some) ended
+read_at : {X F : Type 0} (chances : Chances X F) (readers : Readers) (inputs : List X) (jobs from some : ℕ) (ended : List (End F)) (index place k : ℕ) → HaveEnded chances (works_from inputs jobs readers from some) ended
     → AllByRecursion (IsNotBefore index) ended → k < some → place < index → place < length inputs → place % jobs ≡ from + k → IsSomeAnd (slice_get inputs place) (λ input. HasOutcome (chances.Gives input))
 read_at chances readers inputs jobs from zero ended index place k done all below less within own = absurd (omega (arith, below))
 read_at chances readers inputs jobs from (suc some) [] index place k done all below less within own = absurd done
@@ -104,13 +80,13 @@ read_at chances readers inputs jobs from (suc some) (end ∷ ended) index place 
     one_more from k = omega arith
 
 -- if a worker stopped at an input that can't be read, the input is one that may fail
-fails_by : {X : Type 0} (chances : Chances X) (works : List (WorkData X)) (inputs : List X) (ended : List End) (index : ℕ) → AllByRecursion (λ (work : WorkData X). work.inputs ≡ inputs) works → HaveEnded chances works ended
+fails_by : {X F : Type 0} (chances : Chances X F) (works : List (WorkData X)) (inputs : List X) (ended : List (End F)) (index : ℕ) → AllByRecursion (λ (work : WorkData X). work.inputs ≡ inputs) works → HaveEnded chances works ended
     → Contains ended (Err (stops.Unread index)) → IsSomeAnd (slice_get inputs index) chances.MayFail
 fails_by chances [] inputs [] index same done there = absurd (omega (arith, there.1))
 fails_by chances [] inputs (end ∷ ended) index same done there = absurd done
 fails_by chances (work ∷ works) inputs [] index same done there = absurd done
-fails_by {X} chances (work ∷ works) inputs (end ∷ ended) index same done (zero, less, is) =
-    let stopped : IsUnreadAt chances work.inputs work.jobs work.job index = subst (λ (e : End). HasEnded chances work e) is done.0 in
+fails_by {X} {F} chances (work ∷ works) inputs (end ∷ ended) index same done (zero, less, is) =
+    let stopped : IsUnreadAt chances work.inputs work.jobs work.job index = subst (λ (e : End F). HasEnded chances work e) is done.0 in
     subst (λ (xs : List X). IsSomeAnd (slice_get xs index) chances.MayFail) same.0 stopped.fails
 fails_by chances (work ∷ works) inputs (end ∷ ended) index same done (suc k, less, is) = fails_by chances works inputs ended index same.1 done.1 (k, omega (arith, less), is)
 
@@ -119,14 +95,14 @@ same_inputs readers inputs jobs from zero = tt
 same_inputs readers inputs jobs from (suc some) = (refl, same_inputs readers inputs jobs (from + 1) some)
 
 -- the least place of an input that can't be read is that of the first such input
-pub first_unread : {X : Type 0} (MayBe : X → InputData → Type 0) (MayFail : X → Type 0) (readers : Readers) (inputs : List X) (jobs : ℕ) (ended : List End) (index : ℕ) → 0 < jobs
-    → (AllByRecursion IsStarted ended → HaveEnded (chances_of MayBe MayFail) (works_from inputs jobs readers 0 jobs) ended)
-    → IsLeastUnread ended index → IsFirstUnread MayBe MayFail inputs index
-first_unread {X} MayBe MayFail readers inputs jobs ended index some if_started least =
+pub first_unread : {X F : Type 0} (MayGive : X → Outcome F → Type 0) (MayFail : X → Type 0) (readers : Readers) (inputs : List X) (jobs : ℕ) (ended : List (End F)) (index : ℕ) → 0 < jobs
+    → (AllByRecursion IsStarted ended → HaveEnded (chances_of MayGive MayFail) (works_from inputs jobs readers 0 jobs) ended)
+    → IsLeastUnread ended index → IsFirstUnread MayGive MayFail inputs index
+first_unread {X} MayGive MayFail readers inputs jobs ended index some if_started least =
     let done = if_started (all_started index ended least.0) in (
-      fails_by (chances_of MayBe MayFail) (works_from inputs jobs readers 0 jobs) inputs ended index (same_inputs readers inputs jobs 0 jobs) done least.1,
-      before_turned_out MayBe inputs index
-          (λ place less within. read_at (chances_of MayBe MayFail) readers inputs jobs 0 jobs ended index place (place % jobs) done least.0 (mod_below place jobs some) less within (sym (none_before (place % jobs)))),
+      fails_by (chances_of MayGive MayFail) (works_from inputs jobs readers 0 jobs) inputs ended index (same_inputs readers inputs jobs 0 jobs) done least.1,
+      before_read MayGive inputs index
+          (λ place less within. read_at (chances_of MayGive MayFail) readers inputs jobs 0 jobs ended index place (place % jobs) done least.0 (mod_below place jobs some) less within (sym (none_before (place % jobs)))),
     )
   where
     none_before : (k : ℕ) → 0 + k ≡ k
@@ -148,12 +124,12 @@ pub no_bad_jobs_by : (inputs : ℕ) (fault : BookFault) → of_refused inputs fa
 no_bad_jobs_by inputs book.Full is = full_may_come inputs max_entries (nat_lt inputs max_entries) refl (λ (f : CollectFault). f ≡ collects.BadJobs → ⊥) (λ same. cc) (λ many same. cc) is
 no_bad_jobs_by inputs book.Memory is = cc
 
-pub fault_is : {X : Type 0} (MayBe : X → InputData → Type 0) (MayFail : X → Type 0) (readers : Readers) (inputs : List X) (jobs : ℕ) (ended : List End) (stop : Stop) → 0 < jobs
-    → (AllByRecursion IsStarted ended → HaveEnded (chances_of MayBe MayFail) (works_from inputs jobs readers 0 jobs) ended)
-    → IsWorstEnd ended stop ⊎ (stop ≡ no_memory) → IsIntoBookFault MayBe MayFail inputs (of_stop (length inputs) stop)
-fault_is MayBe MayFail readers inputs jobs ended (stops.Unread index) some done (inl least) = first_unread MayBe MayFail readers inputs jobs ended index some done least
-fault_is MayBe MayFail readers inputs jobs ended (stops.Unread index) some done (inr is) = absurd cc
-fault_is MayBe MayFail readers inputs jobs ended (stops.Refused refusal) some done worst = refused_may_come (length inputs) refusal.fault
+pub fault_is : {X F : Type 0} (MayGive : X → Outcome F → Type 0) (MayFail : X → Type 0) (readers : Readers) (inputs : List X) (jobs : ℕ) (ended : List (End F)) (stop : Stop) → 0 < jobs
+    → (AllByRecursion IsStarted ended → HaveEnded (chances_of MayGive MayFail) (works_from inputs jobs readers 0 jobs) ended)
+    → IsWorstEnd ended stop ⊎ (stop ≡ no_memory) → IsIntoBookFault MayGive MayFail inputs (of_stop (length inputs) stop)
+fault_is MayGive MayFail readers inputs jobs ended (stops.Unread index) some done (inl least) = first_unread MayGive MayFail readers inputs jobs ended index some done least
+fault_is MayGive MayFail readers inputs jobs ended (stops.Unread index) some done (inr is) = absurd cc
+fault_is MayGive MayFail readers inputs jobs ended (stops.Refused refusal) some done worst = refused_may_come (length inputs) refusal.fault
 
 abbrev collect_in : IntoBookFault → CollectFault
 collect_in (into_book.Unread index) = collects.Memory
@@ -164,19 +140,24 @@ no_bad_jobs inputs (stops.Unread index) is = cc
 no_bad_jobs inputs (stops.Refused refusal) is = no_bad_jobs_by inputs refusal.fault (ap collect_in is)
 
 -- a fault of collecting into a book tells of an input only if it is the first that can't be read
-pub unread_is : {X : Type 0} (MayBe : X → InputData → Type 0) (MayFail : X → Type 0) (inputs : List X) (fault : IntoBookFault) → IsIntoBookFault MayBe MayFail inputs fault → IsUnreadFault MayBe MayFail inputs fault
-unread_is MayBe MayFail inputs (into_book.Unread index) is = is
-unread_is MayBe MayFail inputs (into_book.Collect fault) is = tt
+pub unread_is : {X F : Type 0} (MayGive : X → Outcome F → Type 0) (MayFail : X → Type 0) (inputs : List X) (fault : IntoBookFault) → IsIntoBookFault MayGive MayFail inputs fault → IsUnreadFault MayGive MayFail inputs fault
+unread_is MayGive MayFail inputs (into_book.Unread index) is = is
+unread_is MayGive MayFail inputs (into_book.Collect fault) is = tt
 
 -- ---- inputs in memory
 
--- inputs in memory turn out to be just these inputs
-pub turned_is : {X : Type 0} (says : X → InputData) (inputs : List X) (read : List InputData) → TurnedOut (λ late input. input ≡ says late) inputs read → read ≡ map says inputs
-turned_is says [] [] turned = refl
-turned_is says [] (input ∷ read) turned = absurd turned
-turned_is says (late ∷ inputs) [] turned = absurd turned
-turned_is says (late ∷ inputs) (input ∷ read) turned =
-    ap (λ (i : InputData). i ∷ read) turned.0 ∙ ap (λ (is : List InputData). says late ∷ is) (turned_is says inputs read turned.1)
+-- outcomes of inputs are outcomes of what the inputs say
+outcomes_said : {X Y F : Type 0} (Gives : Y → Outcome F → Type 0) (says : X → Y) (inputs : List X) (outcome : ℕ → Outcome F) → AreOutcomes (λ late. Gives (says late)) inputs outcome → AreOutcomes Gives (map says inputs) outcome
+outcomes_said Gives says [] outcome each index less = absurd (omega (arith, less))
+outcomes_said Gives says (late ∷ inputs) outcome each zero less = each 0 (omega arith)
+outcomes_said Gives says (late ∷ inputs) outcome each (suc index) less =
+    outcomes_said Gives says inputs (λ place. outcome (suc place)) (λ place within. each (suc place) (omega (arith, within))) index (omega (arith, less))
+
+-- so what is collected from the inputs is collected from what they say
+pub collected_said : {X Y F : Type 0} (Gives : Y → Outcome F → Type 0) (says : X → Y) (inputs : List X) (jobs : ℕ) (last : OpData) (entries : List EntryData) (logs : List LogData) (refused : List (RefusedInput F))
+    → IsCollectedFrom (λ late. Gives (says late)) inputs jobs last entries logs refused → IsCollectedFrom Gives (map says inputs) jobs last entries logs refused
+collected_said Gives says inputs jobs last entries logs refused (outcome, outcomes, collected) =
+    (outcome, outcomes_said Gives says inputs outcome outcomes, subst (λ (n : ℕ). IsCollectedWith outcome n jobs last entries logs refused) (sym (length-map inputs says)) collected)
 
 -- there is no input in memory that can't be read
 pub no_unread : {X : Type 0} (inputs : List X) (index : ℕ) → IsSomeAnd (slice_get inputs index) (λ (late : X). ⊥) → ⊥

@@ -40,17 +40,18 @@ MayRunOut (GcovInput test text) = (length text ≤ trace.max_bytes) × IsGoodTes
 abbrev pub IsOutcomeOf : InputData → Result SubmissionData ReadFault → Type 0
 IsOutcomeOf input outcome = IsReadAs input outcome ⊎ (MayRunOut input × (outcome ≡ Err faults.Memory))
 
--- `outcome` gives the outcome of each of these inputs, by the input's place
-abbrev pub AreOutcomes : List InputData → (ℕ → Result SubmissionData ReadFault) → Type 0
-AreOutcomes inputs outcome = (index : ℕ) → index < length inputs → IsSomeAnd (slice_get inputs index) (λ input. IsOutcomeOf input (outcome index))
+-- `outcome` gives an outcome of each of these inputs, by the input's place. `Gives` says which outcomes an input may have: what it is
+-- read as, or why it is refused
+abbrev pub AreOutcomes : {X F : Type 0} → (Gives : X → Result SubmissionData F → Type 0) → List X → (ℕ → Result SubmissionData F) → Type 0
+AreOutcomes Gives inputs outcome = (index : ℕ) → index < length inputs → IsSomeAnd (slice_get inputs index) (λ input. Gives input (outcome index))
 
 -- what is submitted for an outcome: the submission that was read, or nothing
-abbrev pub submitted : Result SubmissionData ReadFault → List SubmissionData
+abbrev pub submitted : {F : Type 0} → Result SubmissionData F → List SubmissionData
 submitted (Ok submission) = submission ∷ []
 submitted (Err fault) = []
 
 -- what is refused for an outcome: nothing, or the input's place with its fault
-abbrev pub refusal : ℕ → Result SubmissionData ReadFault → List RefusedInput
+abbrev pub refusal : {F : Type 0} → ℕ → Result SubmissionData F → List (RefusedInput F)
 refusal index (Ok submission) = []
 refusal index (Err fault) = record { index = index; fault = fault } ∷ []
 
@@ -68,11 +69,11 @@ abbrev pub places_of_job : (jobs job : ℕ) → ℕ → Bool
 places_of_job jobs job index = index % jobs == job
 
 -- the submissions of those of the first `count` inputs whose places are meant
-abbrev pub submissions_of : (meant : ℕ → Bool) → (ℕ → Result SubmissionData ReadFault) → (count : ℕ) → List SubmissionData
+abbrev pub submissions_of : {F : Type 0} → (meant : ℕ → Bool) → (ℕ → Result SubmissionData F) → (count : ℕ) → List SubmissionData
 submissions_of meant outcome count = brought meant (λ index. submitted (outcome index)) count
 
 -- the refusals of those of the first `count` inputs whose places are meant
-abbrev pub refusals_of : (meant : ℕ → Bool) → (ℕ → Result SubmissionData ReadFault) → (count : ℕ) → List RefusedInput
+abbrev pub refusals_of : {F : Type 0} → (meant : ℕ → Bool) → (ℕ → Result SubmissionData F) → (count : ℕ) → List (RefusedInput F)
 refusals_of meant outcome count = brought meant (λ index. refusal index (outcome index)) count
 
 -- what a job asks at the end: job 0 the last operation, any other job nothing
@@ -80,7 +81,7 @@ abbrev pub last_of : (last : OpData) → (job : ℕ) → List OpData
 last_of last job = if job == 0 then last ∷ [] else []
 
 -- all that a job asks: it submits the submissions of its inputs, and job 0 then asks the last operation
-abbrev pub asked_by : (ℕ → Result SubmissionData ReadFault) → (count jobs : ℕ) → (last : OpData) → (job : ℕ) → List OpData
+abbrev pub asked_by : {F : Type 0} → (ℕ → Result SubmissionData F) → (count jobs : ℕ) → (last : OpData) → (job : ℕ) → List OpData
 asked_by outcome count jobs last job = map SubmitOp (submissions_of (places_of_job jobs job) outcome count) ++ last_of last job
 
 -- the operations of a log's receipts
@@ -88,7 +89,7 @@ abbrev pub ops_in : List ReceiptData → List OpData
 ops_in receipts = map (λ (r : ReceiptData). r.op) receipts
 
 -- there is one log for each job from 0 to `jobs - 1`, in order, and each has the operations that its job asks
-abbrev pub AreJobLogs : (ℕ → Result SubmissionData ReadFault) → (count jobs : ℕ) → (last : OpData) → List LogData → Type 0
+abbrev pub AreJobLogs : {F : Type 0} → (ℕ → Result SubmissionData F) → (count jobs : ℕ) → (last : OpData) → List LogData → Type 0
 AreJobLogs outcome count jobs last logs =
     (map (λ (log : LogData). log.job) logs ≡ range_with_len 0 jobs)
     × AllByRecursion (λ (log : LogData). ops_in log.receipts ≡ asked_by outcome count jobs last log.job) logs
@@ -124,17 +125,25 @@ pub record EndsWith (submissions : List SubmissionData) (last : OpData) (entries
   pub asker : entry.job ≡ 0
   pub text : IsText last → AreAgreeing submissions → entry.answer ≡ answer_of (table_of (map SubmitOp submissions)) last
 
--- what this number of jobs collects from these inputs. The outcome of each input decides what the jobs ask. Nothing is said about
--- the order in which the jobs take their turns, or about how many entries their readings count, except that a reading after a
+-- what this number of jobs collects from `count` inputs with these outcomes. The outcomes decide what the jobs ask. Nothing is said
+-- about the order in which the jobs take their turns, or about how many entries their readings count, except that a reading after a
 -- submit counts its entry. The submissions are lawful, and each reading has the totals after its number of entries
-pub record IsCollected (inputs : List InputData) (jobs : ℕ) (last : OpData) (entries : List EntryData) (logs : List LogData) (refused : List RefusedInput) : Type 0 where
-  pub outcome : ℕ → Result SubmissionData ReadFault
-  pub outcomes : AreOutcomes inputs outcome
+pub record IsCollectedWith {F : Type 0} (outcome : ℕ → Result SubmissionData F) (count jobs : ℕ) (last : OpData) (entries : List EntryData) (logs : List LogData) (refused : List (RefusedInput F)) : Type 0 where
   pub legal : IsLegal entries
   pub lawful : AreLawfulOps (ops_of entries)
   pub merge : IsMerge entries logs
   pub gathered : IsGathered entries logs
-  pub asked : AreJobLogs outcome (length inputs) jobs last logs
+  pub asked : AreJobLogs outcome count jobs last logs
   pub read : AllByRecursion (HasReadings last) logs
-  pub are_refused : refused ≡ refusals_of all_places outcome (length inputs)
-  pub ends : EndsWith (submissions_of all_places outcome (length inputs)) last entries
+  pub are_refused : refused ≡ refusals_of all_places outcome count
+  pub ends : EndsWith (submissions_of all_places outcome count) last entries
+
+-- what this number of jobs collects from these inputs: each input has an outcome that it may have, and this is collected with these
+-- outcomes
+abbrev pub IsCollectedFrom : {X F : Type 0} → (Gives : X → Result SubmissionData F → Type 0) → (inputs : List X) → (jobs : ℕ) → (last : OpData) → List EntryData → List LogData → List (RefusedInput F) → Type 0
+IsCollectedFrom {X} {F} Gives inputs jobs last entries logs refused =
+    (outcome : ℕ → Result SubmissionData F) × AreOutcomes Gives inputs outcome × IsCollectedWith outcome (length inputs) jobs last entries logs refused
+
+-- the same for inputs in memory
+abbrev pub IsCollected : (inputs : List InputData) → (jobs : ℕ) → (last : OpData) → List EntryData → List LogData → List (RefusedInput ReadFault) → Type 0
+IsCollected inputs jobs last entries logs refused = IsCollectedFrom IsOutcomeOf inputs jobs last entries logs refused

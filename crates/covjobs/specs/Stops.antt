@@ -1,6 +1,5 @@
 -- Private steps: where a worker stops, and which fault is returned for that.
 use Rattle.std.specs.Prelude.{◌≡◌, ℕ, min, if◌then◌else◌, nat_lt, Option, None, Some, Result, Ok, Err}
-use Rattle.covread.specs.declared.fault.ReadFault.{ReadFault}
 use Rattle.covbook.specs.declared.book.BookFault.{BookFault}
 use Rattle.covbook.specs.declared.book.BookFault.TheVariants as book
 use Rattle.covbook.specs.Step.{max_entries}
@@ -36,7 +35,7 @@ first_of (Some first) fault = first
 
 -- what it means to a job that an input gives no submission: its text is refused; or the input can't be read, and the job stops; or
 -- memory ran out, and the job stops there with the fault that came first
-abbrev pub of_late : (index : ℕ) → (first : Option BookFault) → LateFault → Result ReadFault Stop
+abbrev pub of_late : {F : Type 0} → (index : ℕ) → (first : Option BookFault) → LateFault F → Result F Stop
 of_late index first (late.Refused fault) = Ok fault
 of_late index first late.Unreadable = Err (stops.Unread index)
 of_late index first late.Memory = Err (stops.Refused (record { fault = first_of first book.Memory; upto = index }))

@@ -1,8 +1,7 @@
 -- One step of a worker, and what all workers have done.
-use Rattle.std.specs.Prelude.{◌≡◌, ℕ, ◌+◌, ◌<◌, ◌≤◌, Bool, true, false, IsTrue, List, [], ◌∷◌, ◌++◌, length, map, slice_get, IsSomeAnd, Result, Ok, Err}
+use Rattle.std.specs.Prelude.{◌≡◌, ◌⊎◌, ℕ, ◌+◌, ◌<◌, ◌≤◌, Bool, true, false, IsTrue, List, [], ◌∷◌, ◌++◌, length, map, slice_get, IsSomeAnd, Result, Ok, Err}
 use Rattle.std.specs.List.{AllByRecursion, Contains, flat_map}
 use Rattle.covline.specs.Row.{SubmissionData}
-use Rattle.covread.specs.declared.fault.ReadFault.{ReadFault}
 use Rattle.covbook.specs.declared.book.BookFault.{BookFault}
 use Rattle.covbook.specs.declared.reading.Reading.{Reading}
 use Rattle.covbook.specs.Gather.{LogData}
@@ -18,8 +17,8 @@ use Rattle.covlock.specs.Seat.{SeatData}
 
 -- an input is taken: its submission is appended to the operations that were asked, or its refusal to the refused inputs. `Gives`
 -- says which outcomes the input may have
-pub record Takes (Gives : Result SubmissionData ReadFault → Type 0) (index : ℕ) (asked asks : List OpData) (refused refuses : List RefusedInput) : Type 0 where
-  pub outcome : Result SubmissionData ReadFault
+pub record Takes {F : Type 0} (Gives : Result SubmissionData F → Type 0) (index : ℕ) (asked asks : List OpData) (refused refuses : List (RefusedInput F)) : Type 0 where
+  pub outcome : Result SubmissionData F
   pub is_outcome : Gives outcome
   pub submits : asks ≡ asked ++ map SubmitOp (submitted outcome)
   pub tells : refuses ≡ refused ++ refusal index outcome
@@ -38,16 +37,16 @@ ReadsOn false least readings after = after ≡ readings
 
 -- what a worker has: its seat, its receipts, the history of the latest news of its calls, whether it has a reader, what it read of
 -- the totals, and which of its inputs are refused
-pub record WorkerData : Type 0 where
+pub record WorkerData (F : Type 0) : Type 0 where
   pub seat : SeatData
   pub receipts : List ReceiptData
   pub latest : List EntryData
   pub has_reader : Bool
   pub readings : List Reading
-  pub refused : List RefusedInput
+  pub refused : List (RefusedInput F)
 
 -- what is known of a worker's calls without a history in memory
-abbrev pub kept_of : WorkerData → KeptData
+abbrev pub kept_of : {F : Type 0} → WorkerData F → KeptData
 kept_of worker = record { log = record { job = worker.seat.job; receipts = worker.receipts; readings = [] }; calls = worker.seat.calls; seen = worker.seat.seen; latest = worker.latest }
 
 -- a worker may have a reader; without readers it has none
@@ -66,117 +65,122 @@ abbrev pub work_of : {X : Type 0} → (inputs : List X) → (jobs : ℕ) → Rea
 work_of inputs jobs readers seat = record { inputs = inputs; jobs = jobs; job = seat.job; readers = readers }
 
 -- which outcomes an input may have, and whether it may turn out that it can't be read
-pub record Chances (X : Type 0) : Type 1 where
-  pub Gives : X → Result SubmissionData ReadFault → Type 0
+pub record Chances (X F : Type 0) : Type 1 where
+  pub Gives : X → Result SubmissionData F → Type 0
   pub MayFail : X → Type 0
 
 -- what a job has done with those of the first `count` inputs that are its own: its receipts are those of the submits of what was
 -- read, and the inputs that weren't accepted are refused
-pub record HasTaken {X : Type 0} (Gives : X → Result SubmissionData ReadFault → Type 0) (inputs : List X) (jobs job count : ℕ) (receipts : List ReceiptData) (refused : List RefusedInput) : Type 0 where
-  pub outcome : ℕ → Result SubmissionData ReadFault
+pub record HasTaken {X F : Type 0} (Gives : X → Result SubmissionData F → Type 0) (inputs : List X) (jobs job count : ℕ) (receipts : List ReceiptData) (refused : List (RefusedInput F)) : Type 0 where
+  pub outcome : ℕ → Result SubmissionData F
   pub outcomes : (index : ℕ) → index < count → IsTrue (places_of_job jobs job index) → IsSomeAnd (slice_get inputs index) (λ input. Gives input (outcome index))
   pub asked : ops_in receipts ≡ map SubmitOp (submissions_of (places_of_job jobs job) outcome count)
   pub are_refused : refused ≡ refusals_of (places_of_job jobs job) outcome count
 
 -- a worker has this job, and has done its work
-pub record HasDone {X : Type 0} (chances : Chances X) (work : WorkData X) (worker : WorkerData) : Type 0 where
+pub record HasDone {X F : Type 0} (chances : Chances X F) (work : WorkData X) (worker : WorkerData F) : Type 0 where
   pub own : worker.seat.job ≡ work.job
   pub taken : HasTaken chances.Gives work.inputs work.jobs work.job (length work.inputs) worker.receipts worker.refused
   pub read : HasRead worker.has_reader worker.receipts worker.readings
   pub reader : MayHaveReader work.readers worker.has_reader
 
 -- an input was read: it had an outcome
-abbrev pub HasOutcome : (Gives : Result SubmissionData ReadFault → Type 0) → Type 0
-HasOutcome Gives = (outcome : Result SubmissionData ReadFault) × Gives outcome
+abbrev pub HasOutcome : {F : Type 0} → (Gives : Result SubmissionData F → Type 0) → Type 0
+HasOutcome {F} Gives = (outcome : Result SubmissionData F) × Gives outcome
 
 -- a worker has read its inputs at all places before this one
-abbrev pub HasReadBefore : {X : Type 0} → Chances X → (inputs : List X) → (jobs job index : ℕ) → Type 0
+abbrev pub HasReadBefore : {X F : Type 0} → Chances X F → (inputs : List X) → (jobs job index : ℕ) → Type 0
 HasReadBefore chances inputs jobs job index =
     (place : ℕ) → place < index → place < length inputs → IsTrue (places_of_job jobs job place) → IsSomeAnd (slice_get inputs place) (λ input. HasOutcome (chances.Gives input))
 
 -- the input at this place is the worker's own and may fail to be read, and the worker has read its inputs before this place
-pub record IsUnreadAt {X : Type 0} (chances : Chances X) (inputs : List X) (jobs job index : ℕ) : Type 0 where
+pub record IsUnreadAt {X F : Type 0} (chances : Chances X F) (inputs : List X) (jobs job index : ℕ) : Type 0 where
   pub own : IsTrue (places_of_job jobs job index)
   pub before : HasReadBefore chances inputs jobs job index
   pub fails : IsSomeAnd (slice_get inputs index) chances.MayFail
 
--- how a worker ended: it has done its work; or one of its inputs can't be read; or it was refused something, and has read its inputs
--- before a place nevertheless
-abbrev pub HasEnded : {X : Type 0} → Chances X → WorkData X → Result WorkerData Stop → Type 0
+-- where a worker stops that was refused something: at one of its own places, or behind all inputs
+abbrev pub IsStopPlace : {X : Type 0} → (inputs : List X) → (jobs job place : ℕ) → Type 0
+IsStopPlace inputs jobs job place = IsTrue (places_of_job jobs job place) ⊎ (length inputs ≤ place)
+
+-- how a worker ended: it has done its work; or one of its inputs can't be read; or it was refused something. Then it has read its
+-- inputs before the place where it stopped nevertheless
+abbrev pub HasEnded : {X F : Type 0} → Chances X F → WorkData X → Result (WorkerData F) Stop → Type 0
 HasEnded chances work (Ok worker) = HasDone chances work worker
 HasEnded chances work (Err (stops.Unread index)) = IsUnreadAt chances work.inputs work.jobs work.job index
-HasEnded chances work (Err (stops.Refused refusal)) = HasReadBefore chances work.inputs work.jobs work.job refusal.upto
+HasEnded chances work (Err (stops.Refused refusal)) =
+    HasReadBefore chances work.inputs work.jobs work.job refusal.upto × IsStopPlace work.inputs work.jobs work.job refusal.upto
 
 -- each worker has done the work at the same place, and both lists have the same length
-abbrev pub HaveDone : {X : Type 0} → Chances X → List (WorkData X) → List WorkerData → Type 0
+abbrev pub HaveDone : {X F : Type 0} → Chances X F → List (WorkData X) → List (WorkerData F) → Type 0
 HaveDone chances [] [] = Unit {0}
 HaveDone chances (work ∷ works) (worker ∷ workers) = HasDone chances work worker × HaveDone chances works workers
 HaveDone chances works workers = ⊥
 
 -- each end is that of a worker with the work at the same place, and both lists have the same length
-abbrev pub HaveEnded : {X : Type 0} → Chances X → List (WorkData X) → List (Result WorkerData Stop) → Type 0
+abbrev pub HaveEnded : {X F : Type 0} → Chances X F → List (WorkData X) → List (Result (WorkerData F) Stop) → Type 0
 HaveEnded chances [] [] = Unit {0}
 HaveEnded chances (work ∷ works) (end ∷ ended) = HasEnded chances work end × HaveEnded chances works ended
 HaveEnded chances works ended = ⊥
 
 -- a worker was refused nothing
-abbrev pub IsUnrefused : Result WorkerData Stop → Type 0
+abbrev pub IsUnrefused : {F : Type 0} → Result (WorkerData F) Stop → Type 0
 IsUnrefused (Ok worker) = Unit {0}
 IsUnrefused (Err (stops.Unread index)) = Unit {0}
 IsUnrefused (Err (stops.Refused refusal)) = ⊥
 
 -- this isn't the end of a worker that couldn't be started, which is a refusal of memory before anything was read. A worker that
 -- runs out of memory at place 0 has the same end, but nothing needs to be known of it
-abbrev pub IsStarted : Result WorkerData Stop → Type 0
+abbrev pub IsStarted : {F : Type 0} → Result (WorkerData F) Stop → Type 0
 IsStarted (Ok worker) = Unit {0}
 IsStarted (Err (stops.Unread index)) = Unit {0}
 IsStarted (Err (stops.Refused refusal)) = 0 < refusal.upto
 
 -- if all workers were started, each has ended with the work at its place
-abbrev pub HaveEndedIfStarted : {X : Type 0} → Chances X → List (WorkData X) → List (Result WorkerData Stop) → Type 0
+abbrev pub HaveEndedIfStarted : {X F : Type 0} → Chances X F → List (WorkData X) → List (Result (WorkerData F) Stop) → Type 0
 HaveEndedIfStarted chances works ended = AllByRecursion IsStarted ended → HaveEnded chances works ended
 
 -- the first worker that was refused something has this fault: all before it ended well, or at an input that can't be read
-abbrev pub IsFirstFault : List (Result WorkerData Stop) → BookFault → Type 0
-IsFirstFault ended fault = (before : List (Result WorkerData Stop)) × (upto : ℕ) × (after : List (Result WorkerData Stop))
+abbrev pub IsFirstFault : {F : Type 0} → List (Result (WorkerData F) Stop) → BookFault → Type 0
+IsFirstFault {F} ended fault = (before : List (Result (WorkerData F) Stop)) × (upto : ℕ) × (after : List (Result (WorkerData F) Stop))
     × AllByRecursion IsUnrefused before × (ended ≡ before ++ Err (stops.Refused (record { fault = fault; upto = upto })) ∷ after)
 
 -- an end that doesn't come before this place: the worker has read its inputs before the place, and if one of its inputs can't be
 -- read, this one is at the place or after it
-abbrev pub IsNotBefore : ℕ → Result WorkerData Stop → Type 0
+abbrev pub IsNotBefore : {F : Type 0} → ℕ → Result (WorkerData F) Stop → Type 0
 IsNotBefore index (Ok worker) = Unit {0}
 IsNotBefore index (Err (stops.Unread other)) = index ≤ other
 IsNotBefore index (Err (stops.Refused refusal)) = index < refusal.upto
 
 -- this is the place of the first input that can't be read, as far as the workers know: all of them have read their inputs before it
-abbrev pub IsLeastUnread : List (Result WorkerData Stop) → ℕ → Type 0
+abbrev pub IsLeastUnread : {F : Type 0} → List (Result (WorkerData F) Stop) → ℕ → Type 0
 IsLeastUnread ended index = AllByRecursion (IsNotBefore index) ended × Contains ended (Err (stops.Unread index))
 
 -- which end of all workers is returned if not all ended well: the one at the first input that can't be read, if this input is
 -- known. Else that of the first worker that was refused something
-abbrev pub IsWorstEnd : List (Result WorkerData Stop) → Stop → Type 0
+abbrev pub IsWorstEnd : {F : Type 0} → List (Result (WorkerData F) Stop) → Stop → Type 0
 IsWorstEnd ended (stops.Unread index) = IsLeastUnread ended index
 IsWorstEnd ended (stops.Refused refusal) = IsFirstFault ended refusal.fault × ((index : ℕ) → IsLeastUnread ended index → ⊥)
 
 -- what all workers hand in: their seats, their logs, and all that they refused, in the order of the places
-abbrev pub log_of : WorkerData → LogData
+abbrev pub log_of : {F : Type 0} → WorkerData F → LogData
 log_of worker = record { job = worker.seat.job; receipts = worker.receipts; readings = worker.readings }
 
-abbrev pub seats_in : List WorkerData → List SeatData
-seats_in workers = map (λ (w : WorkerData). w.seat) workers
+abbrev pub seats_in : {F : Type 0} → List (WorkerData F) → List SeatData
+seats_in {F} workers = map (λ (w : WorkerData F). w.seat) workers
 
-abbrev pub logs_in : List WorkerData → List LogData
+abbrev pub logs_in : {F : Type 0} → List (WorkerData F) → List LogData
 logs_in workers = map log_of workers
 
-abbrev pub refused_in : List WorkerData → List RefusedInput
-refused_in workers = flat_map (λ (w : WorkerData). w.refused) workers
+abbrev pub refused_in : {F : Type 0} → List (WorkerData F) → List (RefusedInput F)
+refused_in {F} workers = flat_map (λ (w : WorkerData F). w.refused) workers
 
 -- the first worker asks an operation and reads nothing, and the others stay as they were. `end` is the number of entries up to
 -- that operation's
-pub record FirstAsks (workers after : List WorkerData) (end : ℕ) (op : OpData) : Type 0 where
-  pub first : WorkerData
-  pub next : WorkerData
-  pub others : List WorkerData
+pub record FirstAsks {F : Type 0} (workers after : List (WorkerData F)) (end : ℕ) (op : OpData) : Type 0 where
+  pub first : WorkerData F
+  pub next : WorkerData F
+  pub others : List (WorkerData F)
   pub old : workers ≡ first ∷ others
   pub new : after ≡ next ∷ others
   pub job : next.seat.job ≡ first.seat.job

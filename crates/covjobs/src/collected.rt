@@ -13,6 +13,7 @@ use covbook::laws::{a_run_goes_on, order_does_not_matter};
 use covbook::{Entries, Logs, Op, gather};
 use covline::Memory;
 use covlock::{Name, Seats, Start, open_book};
+use covread::ReadFault;
 use std::alloc::Global;
 use std::marker::Brand;
 use std::sync::Wait;
@@ -29,10 +30,10 @@ pub struct Collected {
     pub refused: Refused,
 }
 
-ghost use Rattle.std.specs.Prelude.{◌≡◌, ◌↔◌, ◌<◌, List, Err, IfOk, IfErr, map};
+ghost use Rattle.std.specs.Prelude.{◌≡◌, ◌↔◌, ◌<◌, Err, IfOk, IfErr, map};
 ghost use Rattle.covbook.specs.View.{op_data};
 ghost use Rattle.covjobs.specs.declared.collect_fault.CollectFault.TheVariants as faults;
-ghost use Rattle.covjobs.specs.Collect.{InputData, IsCollected};
+ghost use Rattle.covjobs.specs.Collect.{IsCollected, IsCollectedFrom};
 ghost use Rattle.covjobs.specs.InputView.{input_data};
 ghost use Rattle.covlock.specs.Start.{AreJobs};
 
@@ -98,14 +99,14 @@ fn lent(alloc: Global, inputs: &[Input]) -> Result<Vec<&Input>, Memory>
 }
 
 ghost use Rattle.covjobs.specs.declared.book_fault.IntoBookFault.TheVariants as into_book;
-ghost use Rattle.covjobs.specs.Late.{IsUnreadFault, TurnedOut};
+ghost use Rattle.covjobs.specs.Late.{IsUnreadFault};
 
 /// Like `collect_owned`, for inputs that are read late. The book is the one that `start` is made for.
 fn collect_named<
     R: Threads + Wait + Sync,
     G: Gate + Sync,
     L: Name + Send + Sync,
-    T: LateInput<Global> + Send,
+    T: LateInput<Global, Fault = ReadFault> + Send,
 >(
     rt: &R,
     alloc: Global,
@@ -120,8 +121,8 @@ fn collect_named<
     requires book { start.book ≡ L.book }
     requires jobs { start.jobs ≡ jobs }
     requires some { 0 < jobs }
-    ensures collected { IfOk result (λ c. (read : List InputData) × TurnedOut T.may_be inputs.items read × IsCollected read jobs (op_data last.now) c.entries c.logs c.refused) }
-    ensures unread { IfErr result (IsUnreadFault T.may_be T.may_fail inputs.items) }
+    ensures collected { IfOk result (λ c. IsCollectedFrom T.may_give inputs.items jobs (op_data last.now) c.entries c.logs c.refused) }
+    ensures unread { IfErr result (IsUnreadFault T.may_give T.may_fail inputs.items) }
     ensures jobs_are_good { result ≡ Err (into_book.Collect faults.BadJobs) → ⊥ }
 {
     let (book, seats) = open_book::<L, Global>(alloc, start)?;
@@ -167,7 +168,7 @@ fn hand_in<L: Name>(
     ensures seats { IfOk result (λ r. r.0 ≡ seats_in workers.items) }
     ensures logs { IfOk result (λ r. r.1 ≡ logs_in workers.items) }
     ensures refused { IfOk result (λ r. IsPermutation (refused_in workers.items) r.2) }
-    ensures ascending { IfOk result (λ r. IsNonDecreasingBy (λ (i : RefusedInput). i.index) r.2) }
+    ensures ascending { IfOk result (λ r. IsNonDecreasingBy (λ (i : RefusedInput ReadFault). i.index) r.2) }
 {
     let mut seats = Seats::new(alloc);
     let mut logs = Logs::new(alloc);

@@ -29,7 +29,7 @@ pub(crate) fn all_done<
     R: Threads + Wait + Sync,
     G: Gate + Sync,
     L: Name + Send + Sync,
-    T: LateInput<Global> + Send,
+    T: LateInput<Global, Fault: Send> + Send,
     K: Keep<Of = Entry> + Send,
     P: Keep<Of = Receipt> + Send,
 >(
@@ -41,11 +41,11 @@ pub(crate) fn all_done<
     jobs: u32,
     readers: Readers,
     inputs: Vec<T>,
-) -> Result<Vec<Worker<L, Global, P>>, IntoBookFault>
+) -> Result<Vec<Worker<L, Global, P, T::Fault>>, IntoBookFault>
     requires some { 0 < jobs }
     requires seats { seats ≡ first_seats jobs }
-    ensures done { IfOk result (λ workers. HaveDone (chances_of T.may_be T.may_fail) (map (work_of inputs.items jobs readers) (first_seats jobs)) workers.items) }
-    ensures unread { IfErr result (IsIntoBookFault T.may_be T.may_fail inputs.items) }
+    ensures done { IfOk result (λ workers. HaveDone (chances_of T.may_give T.may_fail) (map (work_of inputs.items jobs readers) (first_seats jobs)) workers.items) }
+    ensures unread { IfErr result (IsIntoBookFault T.may_give T.may_fail inputs.items) }
     ensures jobs_are_good { result ≡ Err (into_book.Collect faults.BadJobs) → ⊥ }
 {
     let count = inputs.len();
@@ -61,10 +61,10 @@ pub(crate) fn all_done<
 /// Returns the workers, if all of them ended well. Otherwise returns the first input that can't be read, if each job has read its
 /// own inputs before that input. Else returns the fault of the lowest-numbered job that was refused something. Returns `Memory`
 /// if there is no room for the list of workers.
-fn all_well<L: Name, P: Keep<Of = Receipt>>(
+fn all_well<L: Name, P: Keep<Of = Receipt>, F: Copy>(
     alloc: Global,
-    ended: Vec<Result<Worker<L, Global, P>, Stop>>,
-) -> Result<Vec<Worker<L, Global, P>>, Stop>
+    ended: Vec<Result<Worker<L, Global, P, F>, Stop>>,
+) -> Result<Vec<Worker<L, Global, P, F>>, Stop>
     ensures workers { IfOk result (λ workers. map Ok workers.items ≡ ended.items) }
     ensures fault { IfErr result (λ stop. IsWorstEnd ended.items stop ⊎ (stop ≡ no_memory)) }
 {

@@ -12,6 +12,7 @@ use covbook::laws::{a_run_goes_on, calls_count_a_history, order_does_not_matter}
 use covbook::{Answered, Book, BookFault, Receipt};
 use covline::Memory;
 use covlock::{Name, News, Seats, Start, open_book_keeping};
+use covread::ReadFault;
 use std::alloc::Global;
 use std::marker::Brand;
 use std::snapshot::Snapshot;
@@ -20,15 +21,15 @@ use std::thread::Threads;
 
 /// What `collect_into_book` returns.
 #[derive(Drop)]
-pub struct CollectedBook {
+pub struct CollectedBook<F: Copy = ReadFault> {
     /// The book. Its table has the counts of all inputs that were accepted. Of its history it keeps the answers: the rest exists
     /// only in proofs.
     pub book: Book<Global, Answered>,
     /// The inputs that aren't in the history, in their order.
-    pub refused: Refused,
+    pub refused: Refused<Global, F>,
 }
 
-ghost use Rattle.std.specs.Prelude.{◌≡◌, ◌↔◌, ◌<◌, List, Err, IfOk, IfErr, IsTrue, length, map};
+ghost use Rattle.std.specs.Prelude.{◌≡◌, ◌↔◌, ◌<◌, Err, IfOk, IfErr, IsTrue, length, map};
 ghost use Rattle.std.specs.List.{AllByRecursion};
 ghost use Rattle.std.specs.List.Sorted.{IsPermutation, IsNonDecreasingBy};
 ghost use Rattle.covbook.specs.Kept.{IsKeptWell, IsPrefix};
@@ -36,8 +37,7 @@ ghost use Rattle.covbook.specs.Step.{max_entries};
 ghost use Rattle.covjobs.specs.declared.book_fault.IntoBookFault.TheVariants as into_book;
 ghost use Rattle.covjobs.specs.declared.collect_fault.CollectFault.TheVariants as faults;
 ghost use Rattle.covjobs.specs.declared.refused.RefusedInput.{RefusedInput};
-ghost use Rattle.covjobs.specs.Collect.{InputData};
-ghost use Rattle.covjobs.specs.Late.{IsCollectedSoFar, IsIntoBookFault, TurnedOut};
+ghost use Rattle.covjobs.specs.Late.{IsCollectedSoFar, IsIntoBookFault};
 ghost use Rattle.covjobs.specs.Latest.{history_of};
 ghost use Rattle.covjobs.specs.Work.{kept_of, seats_in, refused_in};
 ghost use Rattle.covlock.specs.Start.{AreJobs};
@@ -53,16 +53,20 @@ ghost use Rattle.covlock.specs.Start.{AreJobs};
 /// `Unread` is returned before `Full` and `Memory`. `Full` is returned only if there are at least 1,048,576 inputs. `NotLast` is
 /// returned if a worker knows of more entries than the closed book has, or if the book is full although there are fewer inputs.
 /// Neither happens. No contract says that `Memory` is returned only if memory was refused.
-pub fn collect_into_book<R: Threads + Wait + Sync, G: Gate + Sync, T: LateInput<Global> + Send>(
+pub fn collect_into_book<
+    R: Threads + Wait + Sync,
+    G: Gate + Sync,
+    T: LateInput<Global, Fault: Send> + Send,
+>(
     rt: &R,
     alloc: Global,
     inputs: Vec<T>,
     jobs: u32,
     gate: &G,
-) -> Result<CollectedBook, IntoBookFault>
-    ensures collected { IfOk result (λ c. (read : List InputData) × TurnedOut T.may_be inputs.items read × IsCollectedSoFar read jobs c.book.entries c.refused) }
+) -> Result<CollectedBook<T::Fault>, IntoBookFault>
+    ensures collected { IfOk result (λ c. IsCollectedSoFar T.may_give inputs.items jobs c.book.entries c.refused) }
     ensures not_full { IfOk result (λ c. length c.book.entries < max_entries) }
-    ensures unread { IfErr result (IsIntoBookFault T.may_be T.may_fail inputs.items) }
+    ensures unread { IfErr result (IsIntoBookFault T.may_give T.may_fail inputs.items) }
     ensures bad { (result ≡ Err (into_book.Collect faults.BadJobs)) ↔ (AreJobs jobs → ⊥) }
 {
     let start = Start::new(alloc, jobs)?;
@@ -74,7 +78,7 @@ fn collect_named<
     R: Threads + Wait + Sync,
     G: Gate + Sync,
     L: Name + Send + Sync,
-    T: LateInput<Global> + Send,
+    T: LateInput<Global, Fault: Send> + Send,
 >(
     rt: &R,
     alloc: Global,
@@ -82,20 +86,20 @@ fn collect_named<
     jobs: u32,
     gate: &G,
     start: Start,
-) -> Result<CollectedBook, IntoBookFault>
+) -> Result<CollectedBook<T::Fault>, IntoBookFault>
     requires name { start.name ≡ L.name }
     requires parts { start.jobs ≡ L.parts }
     requires book { start.book ≡ L.book }
     requires jobs { start.jobs ≡ jobs }
     requires some { 0 < jobs }
-    ensures collected { IfOk result (λ c. (read : List InputData) × TurnedOut T.may_be inputs.items read × IsCollectedSoFar read jobs c.book.entries c.refused) }
+    ensures collected { IfOk result (λ c. IsCollectedSoFar T.may_give inputs.items jobs c.book.entries c.refused) }
     ensures not_full { IfOk result (λ c. length c.book.entries < max_entries) }
-    ensures unread { IfErr result (IsIntoBookFault T.may_be T.may_fail inputs.items) }
+    ensures unread { IfErr result (IsIntoBookFault T.may_give T.may_fail inputs.items) }
     ensures jobs_are_good { result ≡ Err (into_book.Collect faults.BadJobs) → ⊥ }
 {
     let count = inputs.len();
     let (book, seats) = open_book_keeping::<L, Global, Answered>(alloc, start)?;
-    let workers: Vec<Worker<L, Global, Snapshot<Receipt>>> = all_done(
+    let workers: Vec<Worker<L, Global, Snapshot<Receipt>, T::Fault>> = all_done(
         rt,
         alloc,
         &book,
@@ -124,14 +128,14 @@ fn collect_named<
 }
 
 /// The seats, the latest news of each job, and the refused inputs in their order.
-fn hand_in_news<L: Name>(
+fn hand_in_news<L: Name, F: Copy>(
     alloc: Global,
-    workers: Vec<Worker<L, Global, Snapshot<Receipt>>>,
-) -> Result<(Seats<L>, Vec<Option<News<L>>>, Refused), Memory>
+    workers: Vec<Worker<L, Global, Snapshot<Receipt>, F>>,
+) -> Result<(Seats<L>, Vec<Option<News<L>>>, Refused<Global, F>), Memory>
     ensures seats { IfOk result (λ r. r.0 ≡ seats_in workers.items) }
     ensures latest { IfOk result (λ r. map history_of r.1.items ≡ map (λ w. w.latest) workers.items) }
     ensures refused { IfOk result (λ r. IsPermutation (refused_in workers.items) r.2) }
-    ensures ascending { IfOk result (λ r. IsNonDecreasingBy (λ (i : RefusedInput). i.index) r.2) }
+    ensures ascending { IfOk result (λ r. IsNonDecreasingBy (λ (i : RefusedInput F). i.index) r.2) }
     ensures kept { IfOk result (λ _. AllByRecursion (λ w. IsKeptWell (kept_of w)) workers.items) }
 {
     let mut seats = Seats::new(alloc);

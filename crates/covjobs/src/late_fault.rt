@@ -1,14 +1,16 @@
 //! Why an input that is read late gives no submission.
 
 use covread::ReadFault;
+use std::fmt::Display;
 use thiserror::Error;
 
-/// Why an input gives no submission.
+/// Why an input gives no submission. `F` is the fault of a refused text.
 #[derive(Clone, Copy, Debug, PartialEq, Eq, Error)]
-pub enum LateFault {
-    /// The input's text was refused. The fault has the number of the line.
+#[error_bound(F: Display)]
+pub enum LateFault<F = ReadFault> {
+    /// The input's text was refused. A `ReadFault` has the number of the line.
     #[error("{0}")]
-    Refused(ReadFault),
+    Refused(F),
     /// The input itself can't be read.
     #[error("can't be read")]
     Unreadable,

@@ -7,33 +7,33 @@ use std::marker::Model;
 
 /// An input that was refused: its place among the inputs, counted from 0, and why.
 #[derive(Clone, Copy, Debug, PartialEq, Eq)]
-pub struct RefusedInput {
+pub struct RefusedInput<F = ReadFault> {
     pub index: usize,
-    pub fault: ReadFault,
+    pub fault: F,
 }
 
 /// A list of refused inputs. Contracts see these inputs in order.
 #[derive(Drop)]
-pub struct Refused<A: Allocator = Global> {
-    inputs: Vec<RefusedInput, A>,
+pub struct Refused<A: Allocator = Global, F: Copy = ReadFault> {
+    inputs: Vec<RefusedInput<F>, A>,
 }
 
-impl<A: Allocator> Model for Refused<A> {
+impl<A: Allocator, F: Copy> Model for Refused<A, F> {
     ghost use Rattle.std.specs.Prelude.{List};
     ghost use Rattle.covjobs.specs.declared.refused.RefusedInput.{RefusedInput};
 
-    ghost Value = { List RefusedInput };
+    ghost Value = { List (RefusedInput F) };
 
     ghost view = { λ a. a.inputs.items };
 }
 
-impl<A: Allocator> Refused<A> {
+impl<A: Allocator, F: Copy> Refused<A, F> {
     ghost use Rattle.std.specs.Prelude.{◌≡◌, ◌++◌, [], ◌∷◌, OnOk, OnErr};
     ghost use Rattle.std.specs.List.Sorted.{IsPermutation, IsNonDecreasingBy};
     ghost use Rattle.covjobs.specs.declared.refused.RefusedInput.{RefusedInput};
 
     /// The empty list. Takes no memory.
-    pub fn new(alloc: A) -> Refused<A>
+    pub fn new(alloc: A) -> Refused<A, F>
         ensures { result ≡ [] }
     {
         Refused {
@@ -42,7 +42,7 @@ impl<A: Allocator> Refused<A> {
     }
 
     /// Appends an input. On `Memory` the input is dropped and the list stays as it was.
-    pub fn push(&mut self, input: RefusedInput) -> Result<(), Memory>
+    pub fn push(&mut self, input: RefusedInput<F>) -> Result<(), Memory>
         ensures ok { OnOk result (self.new ≡ self.old ++ input ∷ []) }
         ensures err { OnErr result (self.new ≡ self.old) }
     {
@@ -51,14 +51,14 @@ impl<A: Allocator> Refused<A> {
     }
 
     /// The inputs in order.
-    pub fn get(&self) -> &[RefusedInput]
+    pub fn get(&self) -> &[RefusedInput<F>]
         ensures { result.now ≡ self.now }
     {
         self.inputs.as_slice()
     }
 
     /// Appends all inputs of another list. On `Memory` those that aren't appended yet are dropped.
-    pub(crate) fn append(&mut self, others: Refused<A>) -> Result<(), Memory>
+    pub(crate) fn append(&mut self, others: Refused<A, F>) -> Result<(), Memory>
         ensures { OnOk result (self.new ≡ self.old ++ others) }
     {
         for input in others.inputs {
@@ -70,7 +70,7 @@ impl<A: Allocator> Refused<A> {
     /// Sorts the inputs by their places.
     pub(crate) fn sort(&mut self)
         ensures same { IsPermutation self.old self.new }
-        ensures ascending { IsNonDecreasingBy (λ (r : RefusedInput). r.index) self.new }
+        ensures ascending { IsNonDecreasingBy (λ (r : RefusedInput F). r.index) self.new }
     {
         self.inputs.as_mut_slice().sort_unstable_by_key(
             |input| -> usize

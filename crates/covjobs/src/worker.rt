@@ -20,41 +20,45 @@ use std::sync::Wait;
 /// of its inputs are refused. Contracts see whole receipts, whatever is kept of them, the history of the latest news, and whether
 /// the job has a reader. The receipts are a log of that history.
 #[derive(Drop)]
-pub(crate) struct Worker<L: Name, A: Allocator = Global, P: Keep<Of = Receipt<A>> = Receipt<A>> {
+pub(crate) struct Worker<
+    L: Name,
+    A: Allocator = Global,
+    P: Keep<Of = Receipt<A>> = Receipt<A>,
+    F: Copy = ReadFault,
+> {
     seat: Seat<L>,
     receipts: Vec<P, A>,
     latest: Option<News<L>>,
     readings: Readings<A>,
-    refused: Refused<A>,
+    refused: Refused<A, F>,
     live: Option<Live<L, A>>,
 }
 
-impl<L: Name, A: Allocator, P: Keep<Of = Receipt<A>>> Model for Worker<L, A, P> {
+impl<L: Name, A: Allocator, P: Keep<Of = Receipt<A>>, F: Copy> Model for Worker<L, A, P, F> {
     ghost use Rattle.std.specs.Prelude.{[], is_some, map};
     ghost use Rattle.covbook.specs.EntryView.{receipt_data};
     ghost use Rattle.covbook.specs.Kept.{IsKept};
     ghost use Rattle.covjobs.specs.Latest.{history_of};
     ghost use Rattle.covjobs.specs.Work.{WorkerData};
 
-    ghost Value = { WorkerData };
+    ghost Value = { WorkerData F };
 
     ghost view = { λ a. record { seat = a.seat; receipts = map (λ p. receipt_data (P.shows p)) a.receipts.items; latest = history_of a.latest; has_reader = is_some a.live; readings = a.readings; refused = a.refused } };
 
     ghost invariant = { λ a. IsKept (record { job = a.seat.job; receipts = map (λ p. receipt_data (P.shows p)) a.receipts.items; readings = [] }) a.seat.calls a.seat.seen (history_of a.latest) };
 }
 
-impl<L: Name, A: Allocator + Copy, P: Keep<Of = Receipt<A>>> Worker<L, A, P> {
+impl<L: Name, A: Allocator + Copy, P: Keep<Of = Receipt<A>>, F: Copy> Worker<L, A, P, F> {
     ghost use Rattle.std.specs.Prelude.{◌≡◌, ◌++◌, [], ◌∷◌, None, Some, IfOk, IfErr, IfSome, is_some, length, map};
     ghost use Rattle.covbook.specs.Op.{SubmitOp};
     ghost use Rattle.covbook.specs.View.{op_data};
     ghost use Rattle.covjobs.specs.Collect.{ops_in, refusal, submitted, HasRead};
-    ghost use Rattle.covjobs.specs.Late.{MayGive};
     ghost use Rattle.covjobs.specs.Stops.{IsStopAt};
     ghost use Rattle.covjobs.specs.Work.{Asks, HasOutcome, ReadsOn, Takes};
     ghost use Rattle.covlock.specs.Seat.{fresh_seat};
 
     /// The job's worker, which has done nothing yet.
-    fn new(alloc: A, seat: Seat<L>, live: Option<Live<L, A>>) -> Worker<L, A, P>
+    fn new(alloc: A, seat: Seat<L>, live: Option<Live<L, A>>) -> Worker<L, A, P, F>
         requires { seat ≡ fresh_seat seat.job }
         ensures seat { result.seat ≡ seat }
         ensures receipts { result.receipts ≡ [] }
@@ -75,7 +79,7 @@ impl<L: Name, A: Allocator + Copy, P: Keep<Of = Receipt<A>>> Worker<L, A, P> {
     /// Reads the input. `first` is the first fault of a refused call or list so far. If it is `None`, submits what was read, or
     /// notes that the text is refused. Returns the first fault after this input. The input is consumed before anything is
     /// submitted.
-    fn go_on<R: Wait, G: Gate, T: LateInput<A>, K: Keep<Of = Entry<A>>>(
+    fn go_on<R: Wait, G: Gate, T: LateInput<A, Fault = F>, K: Keep<Of = Entry<A>>>(
         &mut self,
         rt: &R,
         alloc: A,
@@ -85,8 +89,8 @@ impl<L: Name, A: Allocator + Copy, P: Keep<Of = Receipt<A>>> Worker<L, A, P> {
         first: Option<BookFault>,
     ) -> Result<Option<BookFault>, Stop>
         ensures job { self.new.seat.job ≡ self.old.seat.job }
-        ensures outcome { IfOk result (λ _. HasOutcome (MayGive (T.may_be placed.input))) }
-        ensures taken { IfOk result (λ fault. fault ≡ None → (first ≡ None) × Takes (MayGive (T.may_be placed.input)) placed.index (ops_in self.old.receipts) (ops_in self.new.receipts) self.old.refused self.new.refused) }
+        ensures outcome { IfOk result (λ _. HasOutcome (T.may_give placed.input)) }
+        ensures taken { IfOk result (λ fault. fault ≡ None → (first ≡ None) × Takes (T.may_give placed.input) placed.index (ops_in self.old.receipts) (ops_in self.new.receipts) self.old.refused self.new.refused) }
         ensures kept { IfSome first (λ f. IfOk result (λ fault. fault ≡ Some f)) }
         ensures stop { IfErr result (IsStopAt placed.index (T.may_fail placed.input)) }
         ensures read { IfOk result (λ fault. fault ≡ None → HasRead self.old.has_reader self.old.receipts self.old.readings → HasRead self.new.has_reader self.new.receipts self.new.readings) }
@@ -108,7 +112,7 @@ impl<L: Name, A: Allocator + Copy, P: Keep<Of = Receipt<A>>> Worker<L, A, P> {
         book: &Shared<L, A, K>,
         gate: &G,
         index: usize,
-        outcome: Result<SubRef<A>, ReadFault>,
+        outcome: Result<SubRef<A>, F>,
     ) -> Result<(), BookFault>
         ensures job { self.new.seat.job ≡ self.old.seat.job }
         ensures submits { IfOk result (λ _. ops_in self.new.receipts ≡ ops_in self.old.receipts ++ map SubmitOp (submitted outcome)) }
@@ -123,7 +127,7 @@ impl<L: Name, A: Allocator + Copy, P: Keep<Of = Receipt<A>>> Worker<L, A, P> {
     }
 
     /// Notes that this input is refused.
-    fn refuse(&mut self, input: RefusedInput) -> Result<(), Memory>
+    fn refuse(&mut self, input: RefusedInput<F>) -> Result<(), Memory>
         ensures seat { self.new.seat ≡ self.old.seat }
         ensures receipts { self.new.receipts ≡ self.old.receipts }
         ensures reader { self.new.has_reader ≡ self.old.has_reader }
@@ -212,7 +216,7 @@ fn later<L: Name>(latest: &Option<News<L>>, news: &News<L>) -> News<L>
     }
 }
 
-impl<L: Name, A: Allocator, P: Keep<Of = Receipt<A>>> Worker<L, A, P> {
+impl<L: Name, A: Allocator, P: Keep<Of = Receipt<A>>, F: Copy> Worker<L, A, P, F> {
     ghost use Rattle.std.specs.Prelude.{◌≡◌};
     ghost use Rattle.covbook.specs.Kept.{IsKeptWell};
     ghost use Rattle.covjobs.specs.Latest.{history_of};
@@ -226,7 +230,7 @@ impl<L: Name, A: Allocator, P: Keep<Of = Receipt<A>>> Worker<L, A, P> {
     }
 
     /// The job's seat, the latest news of its calls, and which of its inputs are refused.
-    pub(crate) fn into_news(self) -> (Seat<L>, Option<News<L>>, Refused<A>)
+    pub(crate) fn into_news(self) -> (Seat<L>, Option<News<L>>, Refused<A, F>)
         ensures seat { result.0 ≡ self.seat }
         ensures latest { history_of result.1 ≡ self.latest }
         ensures refused { result.2 ≡ self.refused }
@@ -300,10 +304,10 @@ pub(crate) fn work<
     readers: Readers,
     inputs: &Snapshot<Vec<T>>,
     share: Vec<Placed<T>>,
-) -> Result<Worker<L, A, P>, Stop>
+) -> Result<Worker<L, A, P, T::Fault>, Stop>
     requires share { share.items ≡ share_of inputs.now.value.items jobs seat.job }
     requires fresh { seat ≡ fresh_seat seat.job }
-    ensures { HasEnded (chances_of T.may_be T.may_fail) (work_of inputs.now.value.items jobs readers seat) result }
+    ensures { HasEnded (chances_of T.may_give T.may_fail) (work_of inputs.now.value.items jobs readers seat) result }
 {
     let live = reader_of(rt, book, readers);
     let mut worker = Worker::new(alloc, seat, live);
@@ -321,7 +325,6 @@ pub(crate) fn work<
 }
 
 ghost use Rattle.std.specs.Prelude.{IfErr};
-ghost use Rattle.covjobs.specs.Late.{MayGive};
 ghost use Rattle.covjobs.specs.Stops.{IsStopAt, of_late};
 
 /// What the input is read as, or where the job stops. `first` is the first fault of a refused call or list.
@@ -329,8 +332,8 @@ fn outcome_of<A: Allocator, T: LateInput<A>>(
     alloc: A,
     placed: Placed<T>,
     first: Option<BookFault>,
-) -> Result<Result<SubRef<A>, ReadFault>, Stop>
-    ensures outcome { IfOk result (MayGive (T.may_be placed.input)) }
+) -> Result<Result<SubRef<A>, T::Fault>, Stop>
+    ensures outcome { IfOk result (T.may_give placed.input) }
     ensures stop { IfErr result (IsStopAt placed.index (T.may_fail placed.input)) }
 {
     let Placed { index, input } = placed;
@@ -341,7 +344,11 @@ fn outcome_of<A: Allocator, T: LateInput<A>>(
 }
 
 /// The fault of a refused text. If the input is not read at all, the job stops.
-fn refused_text(index: usize, first: Option<BookFault>, fault: LateFault) -> Result<ReadFault, Stop>
+fn refused_text<F: Copy>(
+    index: usize,
+    first: Option<BookFault>,
+    fault: LateFault<F>,
+) -> Result<F, Stop>
     ensures { result ≡ of_late index first fault }
 {
     match fault {

@@ -42,9 +42,9 @@ impl<T: LateInput<Global>> Model for WorkPromise<T> {
 }
 
 impl<L: Name, T: LateInput<Global>, P: Keep<Of = Receipt>> Promise<
-    Result<Worker<L, Global, P>, Stop>,
+    Result<Worker<L, Global, P, T::Fault>, Stop>,
 > for WorkPromise<T> {
-    ghost kept_by = { λ p r. HasEnded (chances_of T.may_be T.may_fail) p r };
+    ghost kept_by = { λ p r. HasEnded (chances_of T.may_give T.may_fail) p r };
 }
 
 /// Does the work of all seats, each with its share of the inputs, and returns how each worker ended, in the order of the seats. One
@@ -53,7 +53,7 @@ pub(crate) fn do_all_work<
     R: Threads + Wait + Sync,
     G: Gate + Sync,
     L: Name + Send + Sync,
-    T: LateInput<Global> + Send,
+    T: LateInput<Global, Fault: Send> + Send,
     K: Keep<Of = Entry> + Send,
     P: Keep<Of = Receipt> + Send,
 >(
@@ -66,10 +66,10 @@ pub(crate) fn do_all_work<
     readers: Readers,
     inputs: &Snapshot<Vec<T>>,
     shares: Vec<Vec<Placed<T>>>,
-) -> Result<Vec<Result<Worker<L, Global, P>, Stop>>, Memory>
+) -> Result<Vec<Result<Worker<L, Global, P, T::Fault>, Stop>>, Memory>
     requires shares { map (λ share. share.items) shares.items ≡ map (λ seat. share_of inputs.now.value.items jobs seat.job) seats }
     requires fresh { AllByRecursion (λ seat. seat ≡ fresh_seat seat.job) seats }
-    ensures { IfOk result (λ ended. HaveEndedIfStarted (chances_of T.may_be T.may_fail) (map (work_of inputs.now.value.items jobs readers) seats) ended.items) }
+    ensures { IfOk result (λ ended. HaveEndedIfStarted (chances_of T.may_give T.may_fail) (map (work_of inputs.now.value.items jobs readers) seats) ended.items) }
 {
     if jobs == 1 {
         return work_in_turn(rt, alloc, book, gate, seats, jobs, readers, inputs, shares);
@@ -97,10 +97,10 @@ fn work_in_turn<
     readers: Readers,
     inputs: &Snapshot<Vec<T>>,
     shares: Vec<Vec<Placed<T>>>,
-) -> Result<Vec<Result<Worker<L, Global, P>, Stop>>, Memory>
+) -> Result<Vec<Result<Worker<L, Global, P, T::Fault>, Stop>>, Memory>
     requires shares { map (λ share. share.items) shares.items ≡ map (λ seat. share_of inputs.now.value.items jobs seat.job) seats }
     requires fresh { AllByRecursion (λ seat. seat ≡ fresh_seat seat.job) seats }
-    ensures { IfOk result (λ ended. HaveEndedIfStarted (chances_of T.may_be T.may_fail) (map (work_of inputs.now.value.items jobs readers) seats) ended.items) }
+    ensures { IfOk result (λ ended. HaveEndedIfStarted (chances_of T.may_give T.may_fail) (map (work_of inputs.now.value.items jobs readers) seats) ended.items) }
 {
     let seats = seats.into_vec();
     let mut shares = shares.into_iter();
@@ -123,7 +123,7 @@ fn work_at_once<
     R: Threads + Wait + Sync,
     G: Gate + Sync,
     L: Name + Send + Sync,
-    T: LateInput<Global> + Send,
+    T: LateInput<Global, Fault: Send> + Send,
     K: Keep<Of = Entry> + Send,
     P: Keep<Of = Receipt> + Send,
 >(
@@ -136,18 +136,18 @@ fn work_at_once<
     readers: Readers,
     inputs: &Snapshot<Vec<T>>,
     shares: Vec<Vec<Placed<T>>>,
-) -> Result<Vec<Result<Worker<L, Global, P>, Stop>>, Memory>
+) -> Result<Vec<Result<Worker<L, Global, P, T::Fault>, Stop>>, Memory>
     requires shares { map (λ share. share.items) shares.items ≡ map (λ seat. share_of inputs.now.value.items jobs seat.job) seats }
     requires fresh { AllByRecursion (λ seat. seat ≡ fresh_seat seat.job) seats }
-    ensures { IfOk result (λ ended. HaveEndedIfStarted (chances_of T.may_be T.may_fail) (map (work_of inputs.now.value.items jobs readers) seats) ended.items) }
+    ensures { IfOk result (λ ended. HaveEndedIfStarted (chances_of T.may_give T.may_fail) (map (work_of inputs.now.value.items jobs readers) seats) ended.items) }
 {
     thread::scope(
         thread::scope_env(),
         rt,
-        |scope| -> Result<Vec<Result<Worker<L, Global, P>, Stop>>, Memory>
+        |scope| -> Result<Vec<Result<Worker<L, Global, P, T::Fault>, Stop>>, Memory>
             requires shares { map (λ share. share.items) shares.items ≡ map (λ seat. share_of inputs.now.value.items jobs seat.job) seats }
             requires fresh { AllByRecursion (λ seat. seat ≡ fresh_seat seat.job) seats }
-            ensures { IfOk result (λ ended. HaveEndedIfStarted (chances_of T.may_be T.may_fail) (map (work_of inputs.entry.now.value.items jobs readers) seats) ended.items) }
+            ensures { IfOk result (λ ended. HaveEndedIfStarted (chances_of T.may_give T.may_fail) (map (work_of inputs.entry.now.value.items jobs readers) seats) ended.items) }
         {
             let seats = seats.into_vec();
             let mut shares = shares.into_iter();
@@ -168,10 +168,10 @@ fn work_at_once<
                 if all_started {
                     match scope.spawn_with(
                         promise,
-                        move || -> Result<Worker<L, Global, P>, Stop>
+                        move || -> Result<Worker<L, Global, P, T::Fault>, Stop>
                             requires share { share.items ≡ share_of inputs.now.value.items jobs seat.job }
                             requires fresh { seat ≡ fresh_seat seat.job }
-                            ensures { HasEnded (chances_of T.may_be T.may_fail) (work_of inputs.entry.now.value.items jobs readers seat) result }
+                            ensures { HasEnded (chances_of T.may_give T.may_fail) (work_of inputs.entry.now.value.items jobs readers seat) result }
                         { work(rt, alloc, book, gate, seat, jobs, readers, inputs, share) },
                     ) {
                         Ok(handle) => handles.push(handle)?,
@@ -189,10 +189,10 @@ fn work_at_once<
 fn end_all<R: Threads, L: Name, T: LateInput<Global>, P: Keep<Of = Receipt>>(
     rt: &R,
     alloc: Global,
-    handles: Vec<PromisedHandle<Result<Worker<L, Global, P>, Stop>, WorkPromise<T>>>,
+    handles: Vec<PromisedHandle<Result<Worker<L, Global, P, T::Fault>, Stop>, WorkPromise<T>>>,
     all_started: bool,
-) -> Result<Vec<Result<Worker<L, Global, P>, Stop>>, Memory>
-    ensures ended { IfOk result (λ ended. IsTrue all_started → HaveEnded (chances_of T.may_be T.may_fail) (map (λ h. h.promise) handles.items) ended.items) }
+) -> Result<Vec<Result<Worker<L, Global, P, T::Fault>, Stop>>, Memory>
+    ensures ended { IfOk result (λ ended. IsTrue all_started → HaveEnded (chances_of T.may_give T.may_fail) (map (λ h. h.promise) handles.items) ended.items) }
     ensures short { IfOk result (λ ended. all_started ≡ false → Contains ended.items (Err no_memory)) }
 {
     let mut ended = join_all(rt, alloc, handles)?;
@@ -206,9 +206,9 @@ fn end_all<R: Threads, L: Name, T: LateInput<Global>, P: Keep<Of = Receipt>>(
 fn join_all<R: Threads, L: Name, T: LateInput<Global>, P: Keep<Of = Receipt>>(
     rt: &R,
     alloc: Global,
-    handles: Vec<PromisedHandle<Result<Worker<L, Global, P>, Stop>, WorkPromise<T>>>,
-) -> Result<Vec<Result<Worker<L, Global, P>, Stop>>, Memory>
-    ensures { IfOk result (λ ended. HaveEnded (chances_of T.may_be T.may_fail) (map (λ h. h.promise) handles.items) ended.items) }
+    handles: Vec<PromisedHandle<Result<Worker<L, Global, P, T::Fault>, Stop>, WorkPromise<T>>>,
+) -> Result<Vec<Result<Worker<L, Global, P, T::Fault>, Stop>>, Memory>
+    ensures { IfOk result (λ ended. HaveEnded (chances_of T.may_give T.may_fail) (map (λ h. h.promise) handles.items) ended.items) }
 {
     let mut ended = Vec::with_capacity(alloc, handles.len())?;
     for handle in handles {

@@ -1,9 +1,11 @@
 -- How a call that collects files ends, from the results of its steps.
-use Rattle.std.proofs.Common.{◌≡◌, ◌⊎◌, inl, inr, ℕ, ◌-◌, Bool, true, false, if◌then◌else◌, List, [], ◌∷◌, ◌++◌, length, slice_get, Option, Some, None, Result, Ok, Err, IfOk, flat_map, refl, sym, subst, ap, ◌∙◌, append-nil, length-append, arith}
-use Rattle.std.proofs.lemmas.List.{flat_map_more, map-append}
+use Rattle.std.proofs.Common.{◌≡◌, ◌⊎◌, inl, inr, ℕ, ◌-◌, Bool, true, false, if◌then◌else◌, List, [], ◌∷◌, ◌++◌, length, map, slice_get, Option, Some, None, Result, Ok, Err, IfOk, flat_map, refl, sym, subst, ap, ◌∙◌, append-nil, length-append, arith}
+use Rattle.std.proofs.lemmas.List.{flat_map_more, length-map, map-append}
 use Rattle.std.specs.Io.KnownBytes.{Appends}
 use Rattle.covsession.specs.Session.{said, clash_text}
 use Rattle.covsession.specs.declared.session.fault.SessionFault.TheVariants as faults
+use Rattle.covline.specs.Row.{SubmissionData}
+use Rattle.covbook.specs.Gather.{LogData}
 use Rattle.covbook.specs.Op.{OpData, SubmitOp, DropTestOp, RenameOp, ReportOp, ExtractOp, RemoveOp, SummaryOp, TextAnswer, EntryData}
 use Rattle.covstore.specs.Content.{SectionData, content_at}
 use Rattle.covstore.specs.Table.{Table}
@@ -13,12 +15,13 @@ use Rattle.covreport.specs.Choice.{ChoiceData}
 use Rattle.covreport.specs.Report.{report_text}
 use Rattle.covbook.specs.Step.{answer_of, next_entry, ops_in, table_after, table_from, table_of}
 use Rattle.covbook.specs.Texts.{IsText}
-use Rattle.covjobs.specs.Collect.{InputData, IsCollected}
-use Rattle.covjobs.specs.Late.{IsCollectedSoFar, MayCome}
+use Rattle.covjobs.specs.Collect.{IsCollectedWith}
+use Rattle.covjobs.specs.Late.{MayCome}
 use Rattle.covjobs.specs.Start.{AreJobs}
 use Rattle.covjobs.specs.declared.collect_fault.CollectFault.{CollectFault}
 use Rattle.covjobs.specs.declared.collect_fault.CollectFault.TheVariants as collects
 use Rattle.covjobs.specs.declared.refused.RefusedInput.{RefusedInput}
+use Rattle.covread.specs.declared.fault.ReadFault.{ReadFault}
 use Rattle.covcommand.specs.declared.asked.Command.{Command}
 use Rattle.covcommand.specs.declared.asked.Command.TheVariants as commands
 use Rattle.covcommand.specs.declared.asked.TotalsForm.{TotalsForm}
@@ -36,23 +39,25 @@ use Rattle.covrun.specs.declared.ending.Failure.{Failure}
 use Rattle.covrun.specs.declared.ending.Failure.TheVariants as failures
 use Rattle.covrun.specs.Ending.{EndingData, Prints, FallsShort, Unreadable, Stopped, of_collect, of_collected, complaint, complaints, refusal_line, ran_out, shortfall_status, status_of, text_in, text_at, last_text, asked_shortfalls, asked_text, list_text, unless_any, with_shortfalls}
 use Rattle.covlimit.specs.Limits.{has_limit}
-use Rattle.covrun.specs.Work.{QuestionData, Answer, ChosenReport, ChosenSummary, LimitedTotals, ChosenList, last_of, choice_of, chosen_or_all, asked_of, limits_of, summary_asked, WorkData, TaskData, Serves, Collects, Checks, task_of}
+use Rattle.covrun.specs.Work.{QuestionData, Answer, ChosenReport, ChosenSummary, LimitedTotals, ChosenList, last_of, choice_of, chosen_or_all, asked_of, limits_of, summary_asked, WorkData, TaskData, Serves, Collects, Checks, input_of, task_of}
 use Rattle.covcommand.specs.declared.asked.TextFormat.{TextFormat}
-use Rattle.covrun.proofs.Reading.{ReadTexts, texts_held}
+use Rattle.covrun.proofs.Reading.{HaveTexts, texts_held}
 
--- the texts were collected, and the call ends as `of_collected` says, or because memory ran out
-pub ends_collected : (folder : FolderData) (work : WorkData) (files : List (List ℕ)) → files ≡ work.files → (inputs : List InputData) (entries : List EntryData) (refused : List RefusedInput) (ending : EndingData)
-    → ReadTexts folder work.format files inputs → IsText (last_of work.asks) → IsCollectedSoFar inputs work.jobs entries refused
+-- the texts were collected, and the call ends as `of_collected` says, or because memory ran out. `count` is the number of files
+pub ends_collected : (folder : FolderData) (work : WorkData) (files : List (List ℕ)) → files ≡ work.files → (outcome : ℕ → Result SubmissionData ReadFault) (count : ℕ) (entries : List EntryData) (refused : List (RefusedInput ReadFault)) (ending : EndingData)
+    → HaveTexts folder work.format files outcome → count ≡ length files → IsText (last_of work.asks)
+    → ((last : OpData) → IsText last → (logs : List LogData) × IsCollectedWith outcome count work.jobs last (entries ++ next_entry entries 0 last ∷ []) logs refused)
     → (ending ≡ Stopped faults.Memory) ⊎ (ending ≡ of_collected files work.asks (entries ++ next_entry entries 0 (last_of work.asks) ∷ []) refused) → WorkEnds folder work ending
-ends_collected folder work files named inputs entries refused ending read asks collected (inl ran_out) = inl ran_out
-ends_collected folder work files named inputs entries refused ending (texts, are, from) asks collected (inr is) =
+ends_collected folder work files named outcome count entries refused ending read long asks collected (inl ran_out) = inl ran_out
+ends_collected folder work files named outcome count entries refused ending (texts, are, outcomes) long asks collected (inr is) =
     let last = collected (last_of work.asks) asks in
     let all = entries ++ next_entry entries 0 (last_of work.asks) ∷ [] in
+    let same : count ≡ length (map (input_of work.format) texts) = long ∙ sym are.0 ∙ sym (length-map texts (input_of work.format)) in
     inr (inr (
       texts,
       Ok (record { entries = all; logs = last.0; refused = refused }),
       subst (λ (fs : List (List ℕ)). AreTexts folder fs texts) named are,
-      subst (λ (xs : List InputData). IsCollected xs work.jobs (last_of work.asks) all last.0 refused) from last.1,
+      (outcome, outcomes, subst (λ (n : ℕ). IsCollectedWith outcome n work.jobs (last_of work.asks) all last.0 refused) same last.1),
       is ∙ ap (λ (fs : List (List ℕ)). of_collected fs work.asks all refused) named,
     ))
 
@@ -82,7 +87,7 @@ text_unclashed ops (DropTestOp test) asks = absurd asks
 text_unclashed ops (RenameOp old new) asks = absurd asks
 
 -- the last operation adds no complaint
-complaints_same : (files : List (List ℕ)) (refused : List RefusedInput) (entries : List EntryData) (last : OpData) → IsText last
+complaints_same : (files : List (List ℕ)) (refused : List (RefusedInput ReadFault)) (entries : List EntryData) (last : OpData) → IsText last
     → complaints files refused (entries ++ next_entry entries 0 last ∷ []) ≡ complaints files refused entries
 complaints_same files refused entries last asks =
     let entry = next_entry entries 0 last in
@@ -170,7 +175,7 @@ answer_then told_by (Ok x) ending other is follows = follows (told_by x) is
 answer_then told_by (Err e) ending other is follows = tt
 
 -- no input was refused and nothing clashed, so what is asked is answered
-pub ends_with_answer : (files : List (List ℕ)) (entries : List EntryData) (refused : List RefusedInput) (asks : QuestionData) (lines : List ℕ) (ending : EndingData) → IsText (last_of asks)
+pub ends_with_answer : (files : List (List ℕ)) (entries : List EntryData) (refused : List (RefusedInput ReadFault)) (asks : QuestionData) (lines : List ℕ) (ending : EndingData) → IsText (last_of asks)
     → ran_out refused ≡ false → lines ≡ complaints files refused entries → lines ≡ [] → ending ≡ answered asks (entries ++ next_entry entries 0 (last_of asks) ∷ [])
     → ending ≡ of_collected files asks (entries ++ next_entry entries 0 (last_of asks) ∷ []) refused
 ends_with_answer files entries refused asks lines ending is_text ran are none is =

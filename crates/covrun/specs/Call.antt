@@ -12,6 +12,7 @@ use Rattle.covjobs.specs.Start.{AreJobs}
 use Rattle.covjobs.specs.declared.collect_fault.CollectFault.{CollectFault}
 use Rattle.covjobs.specs.declared.collect_fault.CollectFault.TheVariants as collects
 use Rattle.covjobs.specs.declared.refused.RefusedInput.{RefusedInput}
+use Rattle.covread.specs.declared.fault.ReadFault.{ReadFault}
 use Rattle.covcommand.specs.Asked.{AsksFor, GoesTo, IsInBounds, rows_met}
 use Rattle.covcommand.specs.CommandLine.{covcollect}
 use Rattle.covcommand.specs.Fault.{IsFaultAmong}
@@ -48,7 +49,7 @@ IsUnreadable folder files name =
 pub record CollectedData : Type 0 where
   pub entries : List EntryData
   pub logs : List LogData
-  pub refused : List RefusedInput
+  pub refused : List (RefusedInput ReadFault)
 
 -- the result of collecting the texts. `BadJobs` is returned only if the number of jobs is out of range, and `Full` only if there
 -- are at least as many files as a full history has entries. `Gather` is never returned

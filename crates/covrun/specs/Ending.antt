@@ -18,6 +18,7 @@ use Rattle.covbook.specs.Op.{EntryData, AnswerData, AcceptedAnswer, ClashAnswer,
 use Rattle.covjobs.specs.declared.collect_fault.CollectFault.{CollectFault}
 use Rattle.covjobs.specs.declared.collect_fault.CollectFault.TheVariants as collects
 use Rattle.covjobs.specs.declared.refused.RefusedInput.{RefusedInput}
+use Rattle.covread.specs.declared.fault.ReadFault.{ReadFault}
 use Rattle.covsession.specs.Program.{fault_status, words_of_fault}
 use Rattle.covsession.specs.Session.{said, clash_text, refused_text}
 use Rattle.covsession.specs.declared.session.fault.SessionFault.{SessionFault}
@@ -83,7 +84,7 @@ of_collect (collects.Gather fault) = Ungathered
 of_collect collects.NotLast = Ungathered
 
 -- whether one of these inputs was refused because memory ran out
-abbrev pub ran_out : List RefusedInput → Bool
+abbrev pub ran_out : List (RefusedInput ReadFault) → Bool
 ran_out [] = false
 ran_out (r ∷ refused) = if is_memory r.fault then true else ran_out refused
 
@@ -93,11 +94,11 @@ name_at (Some name) = name
 name_at None = []
 
 -- the line of a refused input: its file's name, and why it is refused
-abbrev pub refusal_line : List (List ℕ) → RefusedInput → List ℕ
+abbrev pub refusal_line : List (List ℕ) → RefusedInput ReadFault → List ℕ
 refusal_line files r = name_at (slice_get files r.index) ++ codes ": " ++ refused_text r.fault
 
 -- the lines of the refused inputs, in the files' order, and then the lines of the clashes, in the history's order
-abbrev pub complaints : List (List ℕ) → List RefusedInput → List EntryData → List ℕ
+abbrev pub complaints : List (List ℕ) → List (RefusedInput ReadFault) → List EntryData → List ℕ
 complaints files refused entries = flat_map (refusal_line files) refused ++ flat_map (λ (e : EntryData). clash_text e.answer) entries
 
 abbrev pub text_in : AnswerData → List ℕ
@@ -157,7 +158,7 @@ unless_any [] ending = ending
 unless_any (b ∷ bs) ending = Refuses (b ∷ bs)
 
 -- how a call ends after collecting its files. If an input was refused because memory ran out, only that is reported
-abbrev pub of_collected : List (List ℕ) → QuestionData → List EntryData → List RefusedInput → EndingData
+abbrev pub of_collected : List (List ℕ) → QuestionData → List EntryData → List (RefusedInput ReadFault) → EndingData
 of_collected files asks entries refused =
     if ran_out refused then Stopped faults.Memory
     else unless_any (complaints files refused entries) (with_shortfalls (asked_shortfalls asks entries) (asked_text asks entries))

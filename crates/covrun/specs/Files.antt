@@ -1,8 +1,10 @@
 -- Private steps: how a file is read.
 use Rattle.std.specs.Io.KnownBytes.{Consumes, IsAtEnd}
-use Rattle.std.specs.Prelude.{◌≡◌, ◌⊎◌, ◌<◌, ◌≤◌, ℕ, suc, List, ◌++◌, length, Option}
+use Rattle.std.specs.Prelude.{◌≡◌, ◌⊎◌, ◌<◌, ◌≤◌, ℕ, suc, List, ◌++◌, length, Option, Result}
+use Rattle.covline.specs.Row.{SubmissionData}
 use Rattle.covread.specs.Outcome.{max_bytes}
-use Rattle.covjobs.specs.Collect.{InputData}
+use Rattle.covread.specs.declared.fault.ReadFault.{ReadFault}
+use Rattle.covjobs.specs.Collect.{IsOutcomeOf}
 use Rattle.covrun.specs.Folder.{FolderData, IsTextOf}
 use Rattle.covrun.specs.Work.{input_of}
 use Rattle.covsession.specs.declared.session.fault.SessionFault.{SessionFault}
@@ -38,7 +40,7 @@ abbrev pub IsUnread : FolderData → List ℕ → FileFault → Type 0
 IsUnread folder name (Unreadable file) = (file.now ≡ name) × folder.MayFail name
 IsUnread folder name Memory = Unit {0}
 
--- a file may be read as this input: the input that is made of some text of the file. `held` has the file's bytes, if they are
+-- a file may have this outcome: that of the input that is made of some text of the file. `held` has the file's bytes, if they are
 -- known
-abbrev pub MayBeRead : (held : Option (List ℕ)) → FileFormat → InputData → Type 0
-MayBeRead held format input = (text : List ℕ) × (length text ≤ suc max_bytes) × IsTextOf held text × (input ≡ input_of format text)
+abbrev pub MayHaveOutcome : (held : Option (List ℕ)) → FileFormat → Result SubmissionData ReadFault → Type 0
+MayHaveOutcome held format outcome = (text : List ℕ) × (length text ≤ suc max_bytes) × IsTextOf held text × IsOutcomeOf (input_of format text) outcome

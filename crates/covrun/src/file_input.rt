@@ -7,6 +7,7 @@ use covbook::SubRef;
 use covcommand::LcovVersion;
 use covjobs::{Input, LateFault, LateInput};
 use covline::{Bytes, Memory};
+use covread::ReadFault;
 use std::alloc::Global;
 
 /// A file of this format that is read when its turn comes.
@@ -18,12 +19,14 @@ pub(crate) struct FileInput<'a, F: Folder> {
 }
 
 impl<'a, F: Folder> LateInput<Global> for FileInput<'a, F> {
-    ghost use Rattle.covrun.specs.Files.{MayBeRead};
+    ghost use Rattle.covrun.specs.Files.{MayHaveOutcome};
     ghost use Rattle.covrun.specs.Folder.{folder_data};
 
-    ghost may_be = { λ late input. MayBeRead (F.holds late.folder.now late.name.now) late.format.now input };
+    ghost may_give = { λ late. MayHaveOutcome (F.holds late.folder.now late.name.now) late.format.now };
 
     ghost may_fail = { λ late. (folder_data (F.holds late.folder.now) (F.may_refuse late.folder.now) (F.may_open late.folder.now) F.File.left F.File.failed_reads).MayFail late.name.now };
+
+    type Fault = ReadFault;
 
     /// Reads the file, and then parses its text. Frees the text.
     fn read_late(self, alloc: Global) -> Result<SubRef, LateFault> {
@@ -38,13 +41,14 @@ impl<'a, F: Folder> LateInput<Global> for FileInput<'a, F> {
 ghost use Rattle.std.specs.Prelude.{◌≡◌, map, IfOk};
 ghost use Rattle.std.specs.List.{AllByRecursion};
 ghost use Rattle.std.specs.String.{string_bytes};
+ghost use Rattle.covjobs.specs.Collect.{IsOutcomeOf};
 ghost use Rattle.covjobs.specs.InputView.{input_data};
 ghost use Rattle.covjobs.specs.Late.{IsLateOutcome};
 ghost use Rattle.covrun.specs.Work.{input_of};
 
 /// Parses the text of a file. Frees the text.
 fn read_input(alloc: Global, format: &FileFormat, text: Bytes) -> Result<SubRef, LateFault>
-    ensures { IsLateOutcome (λ input. input ≡ input_of format.now text) ⊥ result }
+    ensures { IsLateOutcome (IsOutcomeOf (input_of format.now text)) ⊥ result }
 {
     let Ok(input) = input_for(alloc, format, text) else {
         return Err(LateFault::Memory);

@@ -9,6 +9,7 @@ use covjobs::{
     collect_into_book,
 };
 use covline::Memory;
+use covread::ReadFault;
 use std::alloc::Global;
 use std::process::Abort;
 use std::sync::Wait;
@@ -24,9 +25,11 @@ enum Late {
 }
 
 impl LateInput<Global> for Late {
-    ghost may_be = { λ late input. Unit {0} };
+    ghost may_give = { λ late outcome. Unit {0} };
 
     ghost may_fail = { λ late. Unit {0} };
+
+    type Fault = ReadFault;
 
     fn read_late(self, alloc: Global) -> Result<SubRef, LateFault> {
         match self {

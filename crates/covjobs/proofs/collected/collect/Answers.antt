@@ -1,13 +1,12 @@
-use Rattle.std.proofs.Common.{◌∙◌, List, subst}
+use Rattle.std.proofs.Common.{List, subst}
 use Rattle.covbook.specs.View.{op_data}
-use Rattle.covjobs.specs.Collect.{InputData, IsCollected}
+use Rattle.covjobs.specs.Collect.{InputData, IsCollected, IsOutcomeOf}
 use Rattle.covjobs.specs.InputView.{input_data}
-use Rattle.covjobs.proofs.Unread.{turned_is}
+use Rattle.covjobs.proofs.Unread.{collected_said}
 use Rattle.covjobs.proofs.collected.collect.Goals as goal
 
--- the inputs turned out to be just these inputs
+-- what is collected from the inputs is collected from what they say
 pub returns-in-Ok-clause-collected : goal.returns-in-Ok-clause-collected
 returns-in-Ok-clause-collected g c =
-    let t = c.in-Ok.ensures.collected in
-    subst (λ (inputs : List InputData). IsCollected inputs c.args.jobs (op_data c.args.last.now) c.in-Ok.collected.entries c.in-Ok.collected.logs c.in-Ok.collected.refused)
-    (turned_is (λ input. input_data input.now) c.in_ok-inputs.inputs.items t.0 t.1 ∙ c.in_ok-inputs.ensures) t.2
+    subst (λ (inputs : List InputData). IsCollected inputs c.args.jobs (op_data c.args.last.now) c.in-Ok.collected.entries c.in-Ok.collected.logs c.in-Ok.collected.refused) c.in_ok-inputs.ensures
+    (collected_said IsOutcomeOf (λ input. input_data input.now) c.in_ok-inputs.inputs.items c.args.jobs (op_data c.args.last.now) c.in-Ok.collected.entries c.in-Ok.collected.logs c.in-Ok.collected.refused c.in-Ok.ensures.collected)

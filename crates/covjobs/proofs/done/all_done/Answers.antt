@@ -12,7 +12,7 @@ use Rattle.covjobs.proofs.done.all_done.Goals as goal
 -- all workers ended well
 pub returns-in-Ok-clause-done : goal.returns-in-Ok-clause-done
 returns-in-Ok-clause-done g c =
-    let chances = chances_of g.T.LateInput.may_be g.T.LateInput.may_fail in
+    let chances = chances_of g.T.LateInput.may_give g.T.LateInput.may_fail in
     done_if_well chances (works_from c.args.inputs.items c.args.jobs c.args.readers 0 c.args.jobs) c.in_ok-ended.ended.items c.in-Ok.workers.items
     (ended_for_all chances c.args.readers c.args.inputs.items c.in_ok-dealt.dealt.inputs.value.items c.args.jobs c.args.seats c.in_ok-ended.ended.items
     (ap (λ (v : Vec g.row.T.Denot Global). v.items) c.in_ok-dealt.ensures.inputs) c.requires.seats c.in_ok-ended.ensures)
@@ -31,9 +31,9 @@ do_all_work-requires-clause-fresh g c κs within = all_fresh c.args.jobs c.args.
 -- the worst end of the workers
 pub returns-clause-unread : goal.returns-clause-unread
 returns-clause-unread g c =
-    let chances = chances_of g.T.LateInput.may_be g.T.LateInput.may_fail in
-    subst (λ (fault : IntoBookFault). IsIntoBookFault g.T.LateInput.may_be g.T.LateInput.may_fail c.args.inputs.items fault) (sym (c.fault_of.ensures ∙ ap (λ (count : ℕ). of_stop count c.in-Err.stop) (c.len-count.ensures ∙ c.args.inputs.ok.0)))
-    (fault_is g.T.LateInput.may_be g.T.LateInput.may_fail c.args.readers c.args.inputs.items c.args.jobs c.in_ok-ended.ended.items c.in-Err.stop c.requires.some
+    let chances = chances_of g.T.LateInput.may_give g.T.LateInput.may_fail in
+    subst (λ (fault : IntoBookFault). IsIntoBookFault g.T.LateInput.may_give g.T.LateInput.may_fail c.args.inputs.items fault) (sym (c.fault_of.ensures ∙ ap (λ (count : ℕ). of_stop count c.in-Err.stop) (c.len-count.ensures ∙ c.args.inputs.ok.0)))
+    (fault_is g.T.LateInput.may_give g.T.LateInput.may_fail c.args.readers c.args.inputs.items c.args.jobs c.in_ok-ended.ended.items c.in-Err.stop c.requires.some
     (ended_for_all chances c.args.readers c.args.inputs.items c.in_ok-dealt.dealt.inputs.value.items c.args.jobs c.args.seats c.in_ok-ended.ended.items
     (ap (λ (v : Vec g.row.T.Denot Global). v.items) c.in_ok-dealt.ensures.inputs) c.requires.seats c.in_ok-ended.ensures)
     c.in-Err.ensures.fault)

@@ -11,33 +11,33 @@ use Rattle.covjobs.proofs.done.all_well.Goals as goal
 -- one more worker ended well
 pub loop-end-preserved-in-Continue-branch-2 : goal.loop-end-preserved-in-Continue-branch-2
 loop-end-preserved-in-Continue-branch-2 g c =
-    let workers : List WorkerData = c.loop-end.workers.items in
-    let rest : List End = c.next.new.self.rest.items in
-    let left : ◌≡◌ {A = List End} c.loop-end.end-iterator.rest.items (Ok c.in-Ok.worker ∷ rest) = search rules in
-    let items : ◌≡◌ {A = List WorkerData} c.push.new.self.items (workers ++ c.in-Ok.worker ∷ []) = search rules in
-    subst (λ (ws : List WorkerData). AreSoFar ws c.loop-end.least c.loop-end.refused rest c.args.ended.items) (sym items)
+    let workers : List (WorkerData g.row.F.Denot) = c.loop-end.workers.items in
+    let rest : List (End g.row.F.Denot) = c.next.new.self.rest.items in
+    let left : ◌≡◌ {A = List (End g.row.F.Denot)} c.loop-end.end-iterator.rest.items (Ok c.in-Ok.worker ∷ rest) = search rules in
+    let items : ◌≡◌ {A = List (WorkerData g.row.F.Denot)} c.push.new.self.items (workers ++ c.in-Ok.worker ∷ []) = search rules in
+    subst (λ (ws : List (WorkerData g.row.F.Denot)). AreSoFar ws c.loop-end.least c.loop-end.refused rest c.args.ended.items) (sym items)
     (well_so_far workers c.in-Ok.worker c.loop-end.least c.loop-end.refused rest c.args.ended.items
-    (subst (λ (ends : List End). AreSoFar workers c.loop-end.least c.loop-end.refused ends c.args.ended.items) left c.loop-end.invariant))
+    (subst (λ (ends : List (End g.row.F.Denot)). AreSoFar workers c.loop-end.least c.loop-end.refused ends c.args.ended.items) left c.loop-end.invariant))
 
 -- one more worker came to an input that can't be read
 pub loop-end-preserved-in-Err-Unread : goal.loop-end-preserved-in-Err-Unread
 loop-end-preserved-in-Err-Unread g c =
-    let workers : List WorkerData = c.loop-end.workers.items in
-    let rest : List End = c.next.new.self.rest.items in
-    let left : ◌≡◌ {A = List End} c.loop-end.end-iterator.rest.items (Err (stops.Unread c.in-Err-Unread.index) ∷ rest) = search rules in
+    let workers : List (WorkerData g.row.F.Denot) = c.loop-end.workers.items in
+    let rest : List (End g.row.F.Denot) = c.next.new.self.rest.items in
+    let left : ◌≡◌ {A = List (End g.row.F.Denot)} c.loop-end.end-iterator.rest.items (Err (stops.Unread c.in-Err-Unread.index) ∷ rest) = search rules in
     subst (λ (place : ℕ). AreSoFar workers (Some place) c.loop-end.refused rest c.args.ended.items) (sym c.lesser.ensures)
     (unread_so_far workers c.loop-end.least c.loop-end.refused c.in-Err-Unread.index rest c.args.ended.items
-    (subst (λ (ends : List End). AreSoFar workers c.loop-end.least c.loop-end.refused ends c.args.ended.items) left c.loop-end.invariant))
+    (subst (λ (ends : List (End g.row.F.Denot)). AreSoFar workers c.loop-end.least c.loop-end.refused ends c.args.ended.items) left c.loop-end.invariant))
 
 -- one more worker was refused something
 pub loop-end-preserved : goal.loop-end-preserved
 loop-end-preserved g c =
-    let workers : List WorkerData = c.loop-end.workers.items in
-    let rest : List End = c.next.new.self.rest.items in
-    let left : ◌≡◌ {A = List End} c.loop-end.end-iterator.rest.items (Err (stops.Refused c.in-Err-Refused.refusal) ∷ rest) = search rules in
+    let workers : List (WorkerData g.row.F.Denot) = c.loop-end.workers.items in
+    let rest : List (End g.row.F.Denot) = c.next.new.self.rest.items in
+    let left : ◌≡◌ {A = List (End g.row.F.Denot)} c.loop-end.end-iterator.rest.items (Err (stops.Refused c.in-Err-Refused.refusal) ∷ rest) = search rules in
     subst (λ (refusal : Refusal). AreSoFar workers c.loop-end.least (Some refusal) rest c.args.ended.items) (sym c.both.ensures)
     (refused_so_far workers c.loop-end.least c.loop-end.refused c.in-Err-Refused.refusal rest c.args.ended.items
-    (subst (λ (ends : List End). AreSoFar workers c.loop-end.least c.loop-end.refused ends c.args.ended.items) left c.loop-end.invariant))
+    (subst (λ (ends : List (End g.row.F.Denot)). AreSoFar workers c.loop-end.least c.loop-end.refused ends c.args.ended.items) left c.loop-end.invariant))
 
 -- no end is left: all ended well, or this is the worst end
 pub returns-in-None-worst-clause-workers : goal.returns-in-None-worst-clause-workers

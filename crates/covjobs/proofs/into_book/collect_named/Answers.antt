@@ -1,4 +1,6 @@
+use denote.Param.Send.{sendable}
 use Rattle.std.proofs.Common.{rules, ◌∙◌, IsTrue, ℕ, List, Option, length, ap, sym, subst}
+use Rattle.std.proofs.Crossing as heap
 use Rattle.std.specs.List.{AllByRecursion}
 use Rattle.covbook.specs.declared.book.BookFault.TheVariants as book_faults
 use Rattle.covbook.specs.Kept.{IsPrefix}
@@ -32,7 +34,7 @@ returns-clause-collected g c =
       legal = c.in-Ok.ensures.history;
       lawful = c.in-Ok.ensures.lawful;
     } in
-    so_far g.T.LateInput.may_be g.T.LateInput.may_fail c.args.inputs.items c.args.jobs workers entries c.in_ok-seats.refused c.requires.some c.in_ok-workers.ensures.done closed c.in_ok-seats.ensures.refused
+    so_far g.T.LateInput.may_give g.T.LateInput.may_fail c.args.inputs.items c.args.jobs workers entries c.in_ok-seats.refused c.requires.some c.in_ok-workers.ensures.done closed c.in_ok-seats.ensures.refused
     c.in_ok-seats.ensures.ascending c.a_run_goes_on.ensures.answers c.a_run_goes_on.ensures.totals c.order_does_not_matter.ensures.texts c.calls_count_a_history.ensures.one_more c.calls_count_a_history.ensures.gathered
 
 -- no seat is missing, since each worker hands in its own
@@ -40,9 +42,16 @@ pub unreachable-requires : goal.unreachable-requires
 unreachable-requires g c =
     let workers = c.in_ok-workers.workers.items in
     let job = told_job c.in-Err._back.2 in
-    none_missing_yet (chances_of g.T.LateInput.may_be g.T.LateInput.may_fail) readers.None c.args.inputs.items c.args.jobs workers c.in_ok-workers.ensures.done job
+    none_missing_yet (chances_of g.T.LateInput.may_give g.T.LateInput.may_fail) readers.None c.args.inputs.items c.args.jobs workers c.in_ok-workers.ensures.done job
     (subst (λ (n : ℕ). IsLeastMissing n (seats_in workers) job) (c.in_ok-book.ensures.jobs ∙ c.requires.jobs)
     (subst (λ (seats : List SeatData). IsLeastMissing c.in_ok-book.book.jobs seats job) c.in_ok-seats.ensures.seats c.in-Err.ensures.seated))
+
+-- what is kept of entries and of receipts may go to another thread
+pub all_done-requires-send-K : goal.all_done-requires-send-K
+all_done-requires-send-K g c κs within = search (sendable, heap.crosses) depth 60 fits 20000
+
+pub all_done-requires-send-P : goal.all_done-requires-send-P
+all_done-requires-send-P g c κs within = search (sendable, heap.crosses) depth 60 fits 20000
 
 -- the closed book is full
 pub returns-then-is_full-clause-unread : goal.returns-then-is_full-clause-unread

@@ -3,7 +3,7 @@ use Rattle.std.proofs.lemmas.List.{nil_from_length}
 use Rattle.std.proofs.lemmas.Result.{err_from_is_err_and}
 use Rattle.covlock.specs.Seat.{SeatData}
 use Rattle.covjobs.specs.declared.shares.Placed.{Placed}
-use Rattle.covjobs.specs.Late.{MayGive, chances_of}
+use Rattle.covjobs.specs.Late.{chances_of}
 use Rattle.covjobs.specs.Work.{MayHaveReader}
 use Rattle.covjobs.proofs.GoingOn.{IsGoingOn, none_gone, one_gone, all_gone, all_read, stop_of}
 use Rattle.covjobs.proofs.Taken.{Outcome}
@@ -11,7 +11,7 @@ use Rattle.covjobs.proofs.worker.work.Goals as goal
 
 pub loop-placed-init : goal.loop-placed-init
 loop-placed-init g c =
-    let gives : g.row.T.Denot → Outcome → Type 0 = λ late. MayGive (g.T.LateInput.may_be late) in (
+    let gives : g.row.T.Denot → Outcome g.row.T-Fault.Denot → Type 0 = g.T.LateInput.may_give in (
       ap (λ (s : SeatData). s.job) c.new-worker.ensures.seat,
       none_gone gives c.args.inputs.now.value.items c.args.jobs c.args.seat.job c.into_iter-placed-iterator.result.rest.items None c.new-worker.result
           (c.into_iter-placed-iterator.ensures.into_iter_gives.0 ∙ c.requires.share) c.new-worker.ensures.receipts c.new-worker.ensures.refused c.new-worker.ensures.readings,
@@ -20,7 +20,7 @@ loop-placed-init g c =
 
 pub loop-placed-preserved : goal.loop-placed-preserved
 loop-placed-preserved g c =
-    let gives : g.row.T.Denot → Outcome → Type 0 = λ late. MayGive (g.T.LateInput.may_be late) in
+    let gives : g.row.T.Denot → Outcome g.row.T-Fault.Denot → Type 0 = g.T.LateInput.may_give in
     let inputs = c.args.inputs.now.value.items in
     let old = c.loop-placed.worker in
     let new = c.go_on.new.self in
@@ -36,7 +36,7 @@ loop-placed-preserved g c =
 -- after the loop no input of the share is left, so the worker has taken its whole share
 pub returns-in-None-first : goal.returns-in-None-first
 returns-in-None-first g c =
-    let gives : g.row.T.Denot → Outcome → Type 0 = λ late. MayGive (g.T.LateInput.may_be late) in
+    let gives : g.row.T.Denot → Outcome g.row.T-Fault.Denot → Type 0 = g.T.LateInput.may_give in
     let worker = c.loop-placed.worker in
     let rest = c.loop-placed.placed-iterator.rest in
     record {
@@ -52,18 +52,18 @@ returns-in-None-first g c =
 pub returns-in-Some-first : goal.returns-in-Some-first
 returns-in-Some-first g c =
     let rest = c.loop-placed.placed-iterator.rest in
-    all_read (chances_of g.T.LateInput.may_be g.T.LateInput.may_fail) c.args.inputs.now.value.items c.args.jobs c.args.seat.job 18446744073709551615 rest.items c.loop-placed.first c.loop-placed.worker c.loop-placed.invariant.1
-    (nil_from_length rest.items (omega (arith, c.in-None.ensures.steps.0, rest.ok.0)))
+    all_read (chances_of g.T.LateInput.may_give g.T.LateInput.may_fail) c.args.inputs.now.value.items c.args.jobs c.args.seat.job 18446744073709551615 rest.items c.loop-placed.first c.loop-placed.worker c.loop-placed.invariant.1
+    (nil_from_length rest.items (omega (arith, c.in-None.ensures.steps.0, rest.ok.0))) (omega (arith, c.args.inputs.now.value.ok.0))
 
 -- a stop while an input is read
 pub returns-in_err-first : goal.returns-in_err-first
 returns-in_err-first g c =
-    let gives : g.row.T.Denot → Outcome → Type 0 = λ late. MayGive (g.T.LateInput.may_be late) in
+    let gives : g.row.T.Denot → Outcome g.row.T-Fault.Denot → Type 0 = g.T.LateInput.may_give in
     let inputs = c.args.inputs.now.value.items in
     let old = c.loop-placed.worker in
     let rest = c.next.new.self.rest.items in
     let left : c.loop-placed.placed-iterator.rest.items ≡ c.in-Some.placed ∷ rest = search rules in
     let p = err_from_is_err_and c.from_residual.result c.from_residual.ensures.1 in
     rw (p.1, p.2)
-    (stop_of (chances_of g.T.LateInput.may_be g.T.LateInput.may_fail) c.args.readers inputs c.args.jobs c.args.seat.job c.in-Some.placed rest c.loop-placed.first old c.in_err-first.field-0.0
+    (stop_of (chances_of g.T.LateInput.may_give g.T.LateInput.may_fail) c.args.readers inputs c.args.jobs c.args.seat.job c.in-Some.placed rest c.loop-placed.first old c.in_err-first.field-0.0
     (subst (λ (share : List (Placed g.row.T.Denot)). IsGoingOn gives inputs c.args.jobs c.args.seat.job share c.loop-placed.first old) left c.loop-placed.invariant.1) c.in_err-first.ensures.stop)

@@ -1,5 +1,4 @@
 use Rattle.std.specs.Prelude.{◌≡◌}
-use Rattle.covjobs.specs.Late.{MayGive}
 use Rattle.covjobs.specs.Work.{MayHaveReader}
 use Rattle.covjobs.proofs.GoingOn.{IsGoingOn}
 use Rattle.covjobs.proofs.worker.work.Given as goal
@@ -9,5 +8,5 @@ use Rattle.covjobs.proofs.worker.work.Given as goal
 abbrev pub invariant-loop-placed : goal.invariant-loop-placed
 invariant-loop-placed g l =
     (l.worker.seat.job ≡ l.fn.seat.job)
-    × IsGoingOn (λ late. MayGive (g.T.LateInput.may_be late)) l.fn.inputs.value.items l.fn.jobs l.fn.seat.job l.placed-iterator.rest.items l.first l.worker
+    × IsGoingOn g.T.LateInput.may_give l.fn.inputs.value.items l.fn.jobs l.fn.seat.job l.placed-iterator.rest.items l.first l.worker
     × MayHaveReader l.fn.readers l.worker.has_reader

@@ -9,7 +9,7 @@ use Rattle.covjobs.proofs.workers.end_all.Goals as goal
 pub returns-clause-short : goal.returns-clause-short
 returns-clause-short g c = elim c.if-not-all_started.branch [
   | then-not-all_started+in_ok-push w ↦ λ short.
-      let more : ◌≡◌ {A = List End} w.push.new.self.items (c.in_ok-ended.ended.items ++ Err no_memory ∷ []) = search rules in
-      rw w.ended-is (rw more (Contains-push {X = End} c.in_ok-ended.ended.items (Err no_memory)))
+      let more : ◌≡◌ {A = List (End g.row.T-Fault.Denot)} w.push.new.self.items (c.in_ok-ended.ended.items ++ Err no_memory ∷ []) = search rules in
+      rw w.ended-is (rw more (Contains-push {X = End g.row.T-Fault.Denot} c.in_ok-ended.ended.items (Err no_memory)))
   | else-not-all_started w ↦ λ short. search rules
 ]

@@ -8,5 +8,5 @@ use Rattle.covjobs.proofs.workers.join_all.Goals as goal
 pub returns : goal.returns
 returns g c =
     let rest = c.loop-handle.handle-iterator.rest in
-    ended_at_end (chances_of g.T.LateInput.may_be g.T.LateInput.may_fail) (λ h. h.promise) c.args.handles.items rest.items c.loop-handle.ended.items c.loop-handle.invariant
+    ended_at_end (chances_of g.T.LateInput.may_give g.T.LateInput.may_fail) (λ h. h.promise) c.args.handles.items rest.items c.loop-handle.ended.items c.loop-handle.invariant
     (nil_from_length rest.items (omega (arith, c.in-None.ensures.steps.0, rest.ok.0)))

@@ -11,7 +11,7 @@ pub returns : goal.returns
 returns g c =
     let Work = WorkData g.row.T.Denot in
     let work : SeatData → Work = work_of c.args.inputs.now.value.items c.args.jobs c.args.readers in
-    let chances = chances_of g.T.LateInput.may_be g.T.LateInput.may_fail in
+    let chances = chances_of g.T.LateInput.may_give g.T.LateInput.may_fail in
     let rest = c.loop-seat.seat-iterator.rest in
     λ started. subst (λ (seats : List SeatData). HaveEnded chances (map work seats) c.loop-seat.ended.items)
     (c.into_iter-seat-iterator.ensures.into_iter_gives.0 ∙ c.into_vec-seats.ensures)

@@ -11,7 +11,7 @@ use Rattle.covjobs.proofs.workers.work_in_turn.Given as goal
 -- is a share for each seat that is left, and these seats have made no call
 abbrev pub invariant-loop-seat : goal.invariant-loop-seat
 invariant-loop-seat g l =
-    ((rest : List (Result WorkerData Stop)) → HaveEnded (chances_of g.T.LateInput.may_be g.T.LateInput.may_fail) (map (work_of l.inputs.value.items l.jobs l.readers) l.seat-iterator.rest.items) rest
-    → HaveEnded (chances_of g.T.LateInput.may_be g.T.LateInput.may_fail) (map (work_of l.inputs.value.items l.jobs l.readers) l.initial.seat-iterator.rest.items) (l.ended.items ++ rest))
+    ((rest : List (Result (WorkerData g.row.T-Fault.Denot) Stop)) → HaveEnded (chances_of g.T.LateInput.may_give g.T.LateInput.may_fail) (map (work_of l.inputs.value.items l.jobs l.readers) l.seat-iterator.rest.items) rest
+    → HaveEnded (chances_of g.T.LateInput.may_give g.T.LateInput.may_fail) (map (work_of l.inputs.value.items l.jobs l.readers) l.initial.seat-iterator.rest.items) (l.ended.items ++ rest))
     × (map (λ share. share.items) l.shares.rest.items ≡ map (λ seat. share_of l.inputs.value.items l.jobs seat.job) l.seat-iterator.rest.items)
     × AllByRecursion (λ seat. seat ≡ fresh_seat seat.job) l.seat-iterator.rest.items

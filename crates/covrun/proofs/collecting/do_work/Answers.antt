@@ -17,26 +17,24 @@ returns-in_default g c =
 
 pub returns-in-Ok-answer_of : goal.returns-in-Ok-answer_of
 returns-in-Ok-answer_of g c =
-    let read = c.in-Ok-collect_into_book.ensures.collected in
+    let collected = c.in-Ok-collect_into_book.ensures.collected in
+    let read = texts_read c.in-Ok.inputs.items c.args.folder.now c.args.work.now.format
+    (λ folder. folder_data (g.F.Folder.holds folder) (g.F.Folder.may_refuse folder) (g.F.Folder.may_open folder) g.F.File.Source.left g.F.File.Source.failed_reads)
+    (λ one. one.folder.now) (λ one. one.name.now) (λ one. one.format.now) _ collected.0 c.in-Ok.ensures.names c.in-Ok.ensures.own collected.1 in
     answer_told (folder_data (g.F.Folder.holds c.args.folder.now) (g.F.Folder.may_refuse c.args.folder.now) (g.F.Folder.may_open c.args.folder.now) g.F.File.Source.left g.F.File.Source.failed_reads) (work_data c.args.work.now) _ _ _ _ _ _ _
     (ends_collected (folder_data (g.F.Folder.holds c.args.folder.now) (g.F.Folder.may_refuse c.args.folder.now) (g.F.Folder.may_open c.args.folder.now) g.F.File.Source.left g.F.File.Source.failed_reads)
-    (work_data c.args.work.now) _ c.get-names.ensures read.0 _ _ _
-    (texts_read c.in-Ok.inputs.items c.args.folder.now c.args.work.now.format
-    (λ folder. folder_data (g.F.Folder.holds folder) (g.F.Folder.may_refuse folder) (g.F.Folder.may_open folder) g.F.File.Source.left g.F.File.Source.failed_reads)
-    (λ one. one.folder.now) (λ one. one.name.now) (λ one. one.format.now) _ _ c.in-Ok.ensures.names c.in-Ok.ensures.own read.1)
-    c.requires.text read.2 (inr c.in-Ok-answer_of.ensures.answer))
+    (work_data c.args.work.now) _ c.get-names.ensures collected.0 _ _ _ _ read.0 read.1 c.requires.text collected.2 (inr c.in-Ok-answer_of.ensures.answer))
     c.report_answer.ensures
 
 pub returns-in-Ok-collect_into_book : goal.returns-in-Ok-collect_into_book
 returns-in-Ok-collect_into_book g c =
-    let read = c.in-Ok-collect_into_book.ensures.collected in
+    let collected = c.in-Ok-collect_into_book.ensures.collected in
+    let read = texts_read c.in-Ok.inputs.items c.args.folder.now c.args.work.now.format
+    (λ folder. folder_data (g.F.Folder.holds folder) (g.F.Folder.may_refuse folder) (g.F.Folder.may_open folder) g.F.File.Source.left g.F.File.Source.failed_reads)
+    (λ one. one.folder.now) (λ one. one.name.now) (λ one. one.format.now) _ collected.0 c.in-Ok.ensures.names c.in-Ok.ensures.own collected.1 in
     failure_told (folder_data (g.F.Folder.holds c.args.folder.now) (g.F.Folder.may_refuse c.args.folder.now) (g.F.Folder.may_open c.args.folder.now) g.F.File.Source.left g.F.File.Source.failed_reads) (work_data c.args.work.now) _ c.in-Err.failure _
     (ends_collected (folder_data (g.F.Folder.holds c.args.folder.now) (g.F.Folder.may_refuse c.args.folder.now) (g.F.Folder.may_open c.args.folder.now) g.F.File.Source.left g.F.File.Source.failed_reads)
-    (work_data c.args.work.now) _ c.get-names.ensures read.0 _ _ _
-    (texts_read c.in-Ok.inputs.items c.args.folder.now c.args.work.now.format
-    (λ folder. folder_data (g.F.Folder.holds folder) (g.F.Folder.may_refuse folder) (g.F.Folder.may_open folder) g.F.File.Source.left g.F.File.Source.failed_reads)
-    (λ one. one.folder.now) (λ one. one.name.now) (λ one. one.format.now) _ _ c.in-Ok.ensures.names c.in-Ok.ensures.own read.1)
-    c.requires.text read.2 c.in-Err.ensures.failure)
+    (work_data c.args.work.now) _ c.get-names.ensures collected.0 _ _ _ _ read.0 read.1 c.requires.text collected.2 c.in-Err.ensures.failure)
     c.report_failure-in-Err.ensures.status _ _ _ _ _ _ _ c.report_failure-in-Err.ensures.said _
 
 pub returns-in-Err-Unread : goal.returns-in-Err-Unread

@@ -9,5 +9,5 @@ use Rattle.covjobs.proofs.refused.Refused.sort.Goals as goal
 pub returns-clause-ascending : goal.returns-clause-ascending
 returns-clause-ascending g c =
     let new = c.sort_unstable_by_key.new.self in
-    subst (λ (xs : List RefusedInput). IsNonDecreasingBy (λ (r : RefusedInput). r.index) xs) (sym (all_written c.self.inside.inputs.len new c.self.inside.inputs.items (search rules) (search rules)))
-    (IsNonDecreasingBy-from_sort_by_key (λ (r : RefusedInput). r.index) new c.sort_unstable_by_key.ensures.sorted (λ a r f k. search rules))
+    subst (λ (xs : List (RefusedInput g.row.F.Denot)). IsNonDecreasingBy (λ (r : RefusedInput g.row.F.Denot). r.index) xs) (sym (all_written c.self.inside.inputs.len new c.self.inside.inputs.items (search rules) (search rules)))
+    (IsNonDecreasingBy-from_sort_by_key (λ (r : RefusedInput g.row.F.Denot). r.index) new c.sort_unstable_by_key.ensures.sorted (λ a r f k. search rules))

@@ -23,7 +23,7 @@ returns g c =
     let all : IsTrue c.loop-seat.all_started → handled ++ map work rest.items ≡ map work c.captures.seats =
     λ started. c.loop-seat.invariant.0 started ∙ ap (λ (seats : List SeatData). map work seats) (c.into_iter-seat-iterator.ensures.into_iter_gives.0 ∙ c.into_vec-seats.ensures) in
     let none : map work rest.items ≡ [] = ap (λ (seats : List SeatData). map work seats) (nil_from_length rest.items (omega (arith, c.in-None.ensures.steps.0, rest.ok.0))) in
-    ends_if_ok (chances_of g.T.LateInput.may_be g.T.LateInput.may_fail) (λ v. v.items) c.end_all.result (map work c.captures.seats) handled (map work rest.items) c.loop-seat.all_started all none c.end_all.ensures.ended c.end_all.ensures.short
+    ends_if_ok (chances_of g.T.LateInput.may_give g.T.LateInput.may_fail) (λ v. v.items) c.end_all.result (map work c.captures.seats) handled (map work rest.items) c.loop-seat.all_started all none c.end_all.ensures.ended c.end_all.ensures.short
 
 -- the closure may go to another thread, since threads may share the book
 pub spawn_with-requires-send-F : goal.spawn_with-requires-send-F
