@@ -13,9 +13,9 @@ Without a subcommand a session is read from standard input: a command on each
 line, answered on standard output. covcollect(1) has its commands.
 
 In place of lcov's calls write (with the patterns in quotes):
-  lcov -a A.info -a B.info -o OUT    covcollect merge A.info B.info > OUT
-  lcov -e A.info '*/src/*' -o OUT    covcollect extract A.info '*/src/*' > OUT
-  lcov -r A.info '/usr/*' -o OUT     covcollect remove A.info '/usr/*' > OUT
+  lcov -a A.info -a B.info -o OUT    covcollect merge A.info B.info -o OUT
+  lcov -e A.info '*/src/*' -o OUT    covcollect extract A.info '*/src/*' -o OUT
+  lcov -r A.info '/usr/*' -o OUT     covcollect remove A.info '/usr/*' -o OUT
   lcov --summary A.info              covcollect summary A.info
   lcov --list A.info                 covcollect list A.info
 
@@ -30,7 +30,7 @@ Exit status:
   3  memory ran out, or the history is full
   4  a file was refused, or checksums clash; nothing is printed, but by check
   5  check found a file without items
-  6  summary found less hit than --fail-under-.. asks for";
+  6  summary found less hit than --fail-under-.. asks for, or nothing to hit";
 
 /// What `merge` does.
 pub(crate) const MERGE: &str = "Merges tracefiles: counts add up by test and file (lcov -a)";
@@ -40,16 +40,15 @@ pub(crate) const MERGE_END: &str = "\
 Prints the merged tracefile. In place of
   lcov -a A.info -a B.info -o OUT
 write
-  covcollect merge A.info B.info > OUT
+  covcollect merge A.info B.info -o OUT
 and where there are many files
-  covcollect merge --jobs 4 jobs/*.info > OUT
+  covcollect merge --jobs 4 jobs/*.info -o OUT
 and where LCOV 2 wrote some of them
-  covcollect merge --lcov2 A.info B.info > OUT
+  covcollect merge --lcov2 A.info B.info -o OUT
 and to leave out source files (extract --help tells of patterns)
-  covcollect merge --exclude '/usr/*' A.info B.info > OUT
-With -o the text is written to FILE instead of standard output. FILE may be one
-of the inputs:
-  covcollect merge A.info B.info -o A.info";
+  covcollect merge --exclude '/usr/*' A.info B.info -o OUT
+OUT may be one of the inputs. Don't write > OUT then: the shell empties the file
+before it is read.";
 
 /// What `summary` does.
 pub(crate) const SUMMARY: &str = "Tells how much of the code is hit (lcov --summary)";
@@ -93,9 +92,9 @@ path: * is any run of bytes, also of /, ? is one byte, [..] is one of a set. Put
 patterns in quotes, else the shell takes them for its own. In place of
   lcov -e A.info '*/src/*' -o OUT
 write
-  covcollect extract A.info '*/src/*' > OUT
+  covcollect extract A.info '*/src/*' -o OUT
 and with several patterns
-  covcollect extract A.info '*/src/*' '*/lib/*' > OUT
+  covcollect extract A.info '*/src/*' '*/lib/*' -o OUT
 and to put the result in place of the tracefile
   covcollect extract A.info '*/src/*' -o A.info";
 
@@ -109,9 +108,9 @@ path: * is any run of bytes, also of /, ? is one byte, [..] is one of a set. Put
 patterns in quotes, else the shell takes them for its own. In place of
   lcov -r A.info '/usr/*' -o OUT
 write
-  covcollect remove A.info '/usr/*' > OUT
+  covcollect remove A.info '/usr/*' -o OUT
 and with several patterns
-  covcollect remove A.info '/usr/*' '*/tests/*' > OUT
+  covcollect remove A.info '/usr/*' '*/tests/*' -o OUT
 and to put the result in place of the tracefile
   covcollect remove A.info '/usr/*' -o A.info";
 
@@ -123,7 +122,7 @@ pub(crate) const GCOV_END: &str = "\
 Prints the tracefile of annotated source, as the counts of one test. gcov writes
 it without options, or by -b -c with functions and branches:
   gcov -b -c main.gcda
-  covcollect gcov --test unit main.c.gcov > unit.info";
+  covcollect gcov --test unit main.c.gcov -o unit.info";
 
 /// What `check` does.
 pub(crate) const CHECK: &str = "Tells what is read of each file, and adds nothing up";
@@ -139,7 +138,8 @@ with tracefiles of LCOV 2
 and of what gcov wrote
   covcollect check --gcov main.c.gcov
 With both flags the files are what gcov wrote.
-The status is 4 where a file is refused, and else 5 where one has no items.";
+The status is 1 where a file can't be read, else 4 where one is refused, and
+else 5 where one has no items.";
 
 /// The help of an argument for tracefiles.
 pub(crate) const TRACEFILES: &str = "Tracefiles, read in this order";

@@ -94,9 +94,9 @@ Without a subcommand a session is read from standard input: a command on each
 line, answered on standard output. covcollect(1) has its commands.
 
 In place of lcov's calls write (with the patterns in quotes):
-  lcov -a A.info -a B.info -o OUT    covcollect merge A.info B.info > OUT
-  lcov -e A.info '*/src/*' -o OUT    covcollect extract A.info '*/src/*' > OUT
-  lcov -r A.info '/usr/*' -o OUT     covcollect remove A.info '/usr/*' > OUT
+  lcov -a A.info -a B.info -o OUT    covcollect merge A.info B.info -o OUT
+  lcov -e A.info '*/src/*' -o OUT    covcollect extract A.info '*/src/*' -o OUT
+  lcov -r A.info '/usr/*' -o OUT     covcollect remove A.info '/usr/*' -o OUT
   lcov --summary A.info              covcollect summary A.info
   lcov --list A.info                 covcollect list A.info
 
@@ -111,7 +111,7 @@ Exit status:
   3  memory ran out, or the history is full
   4  a file was refused, or checksums clash; nothing is printed, but by check
   5  check found a file without items
-  6  summary found less hit than --fail-under-.. asks for
+  6  summary found less hit than --fail-under-.. asks for, or nothing to hit
 ",
     )
 }
@@ -139,7 +139,7 @@ Options:
 Prints the tracefile of annotated source, as the counts of one test. gcov writes
 it without options, or by -b -c with functions and branches:
   gcov -b -c main.gcda
-  covcollect gcov --test unit main.c.gcov > unit.info
+  covcollect gcov --test unit main.c.gcov -o unit.info
 ",
     )
 }
@@ -170,9 +170,9 @@ path: * is any run of bytes, also of /, ? is one byte, [..] is one of a set. Put
 patterns in quotes, else the shell takes them for its own. In place of
   lcov -r A.info '/usr/*' -o OUT
 write
-  covcollect remove A.info '/usr/*' > OUT
+  covcollect remove A.info '/usr/*' -o OUT
 and with several patterns
-  covcollect remove A.info '/usr/*' '*/tests/*' > OUT
+  covcollect remove A.info '/usr/*' '*/tests/*' -o OUT
 and to put the result in place of the tracefile
   covcollect remove A.info '/usr/*' -o A.info
 ",
@@ -287,7 +287,8 @@ with tracefiles of LCOV 2
 and of what gcov wrote
   covcollect check --gcov main.c.gcov
 With both flags the files are what gcov wrote.
-The status is 4 where a file is refused, and else 5 where one has no items.
+The status is 1 where a file can't be read, else 4 where one is refused, and
+else 5 where one has no items.
 ",
     )
 }
