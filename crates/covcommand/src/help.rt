@@ -47,8 +47,9 @@ and where LCOV 2 wrote some of them
   covcollect merge --lcov2 A.info B.info -o OUT
 and to leave out source files (extract --help tells of patterns)
   covcollect merge --exclude '/usr/*' A.info B.info -o OUT
-OUT may be one of the inputs. Don't write > OUT then: the shell empties the file
-before it is read.";
+Don't write > OUT where OUT is read too: the shell empties it first. By -o it may
+be one of the inputs:
+  covcollect merge A.info B.info -o A.info";
 
 /// What `summary` does.
 pub(crate) const SUMMARY: &str = "Tells how much of the code is hit (lcov --summary)";
