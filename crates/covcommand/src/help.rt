@@ -47,8 +47,8 @@ and where LCOV 2 wrote some of them
   covcollect merge --lcov2 A.info B.info -o OUT
 and to leave out source files (extract --help tells of patterns)
   covcollect merge --exclude '/usr/*' A.info B.info -o OUT
-Don't write > OUT where OUT is read too: the shell empties it first. By -o it may
-be one of the inputs:
+Don't write > OUT where OUT is read too: the shell empties it first. By -o it
+may be one of the inputs:
   covcollect merge A.info B.info -o A.info";
 
 /// What `summary` does.
