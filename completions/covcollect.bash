@@ -54,7 +54,7 @@ _covcollect() {
         elif [[ -z $ended && ${words[i]} == -* ]]; then
             # The value of an option is a word of its own, where it isn't part of the option's.
             case ${words[i]} in
-                -j | --jobs | --include | --exclude | --test) ((i++)) ;;
+                -j | --jobs | -o | --output | --include | --exclude | --test) ((i++)) ;;
                 --fail-under-lines | --fail-under-functions | --fail-under-branches) ((i++)) ;;
             esac
             [[ $subcommand${words[i]} == check--gcov ]] && annotated=1
@@ -73,6 +73,15 @@ _covcollect() {
                 mapfile -t COMPREPLY < <(compgen -W "$((i > 64 ? 64 : i))" -- "$cur")
                 return
                 ;;
+            # The file that the text goes to.
+            merge--output | merge-o | extract--output | extract-o | remove--output | remove-o | gcov--output | gcov-o)
+                _covcollect_files "$tracefiles"
+                return
+                ;;
+            summary--output | summary-o | list--output | list-o)
+                _filedir
+                return
+                ;;
             # A pattern, the name of a test, and a threshold.
             merge--include | merge--exclude | summary--include | summary--exclude | list--include | list--exclude | gcov--test | \
                 summary--fail-under-lines | summary--fail-under-functions | summary--fail-under-branches)
@@ -83,12 +92,12 @@ _covcollect() {
             local options='-h --help'
             case $subcommand in
                 '') options+=' -V --version' ;;
-                merge | summary | list) options+=' --lcov2 -j --jobs --include --exclude' ;;&
+                merge | summary | list) options+=' -j --jobs -o --output --lcov2 --include --exclude' ;;&
                 summary | list) options+=' --json' ;;&
                 summary) options+=' --fail-under-lines --fail-under-functions --fail-under-branches' ;;
-                extract | remove) options+=' --lcov2' ;;
-                gcov) options+=' --test' ;;
-                check) options+=' --gcov --lcov2 -j --jobs' ;;
+                extract | remove) options+=' -o --output --lcov2' ;;
+                gcov) options+=' --test -o --output' ;;
+                check) options+=' -j --jobs --gcov --lcov2' ;;
             esac
             mapfile -t COMPREPLY < <(compgen -W "$options" -- "$cur")
             return

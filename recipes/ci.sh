@@ -136,14 +136,13 @@ chmod 755 "$next"
 collect() { # FILE WORDS...: runs covcollect WORDS and writes its output to FILE
     local file=$1 status=0
     shift
-    "$program" "$@" >"$next/part" || status=$?
+    "$program" "$@" >"$next/$file" || status=$?
     if [ $status -eq 4 ]; then
         say "covcollect $1: a tracefile is refused or checksums clash, see above; $output is unchanged"
     elif [ $status -ne 0 ]; then
         say "covcollect $1 failed with status $status; $output is unchanged"
     fi
     [ $status -eq 0 ] || exit $status
-    mv "$next/part" "$next/$file"
 }
 
 # The tracefiles to be merged are collected here.

@@ -1,6 +1,6 @@
 # Writes a merged tracefile as Cobertura XML, which GitLab shows in merge requests and Jenkins reads (coverage-04.dtd).
 #
-#     covcollect merge jobs/*.info > all.info
+#     covcollect merge -o all.info jobs/*.info
 #     LC_ALL=C awk -v prefix="$PWD" -f cobertura.awk all.info > cobertura.xml
 #
 # prefix=FOLDER      the folder that paths are made relative to; GitLab wants them relative to the top of the repository. Files

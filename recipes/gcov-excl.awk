@@ -2,7 +2,7 @@
 #
 #     gcov -b -c main.gcda util.gcda
 #     LC_ALL=C awk -f gcov-excl.awk main.c.gcov util.c.gcov > unit.gcov
-#     covcollect gcov --test unit unit.gcov > unit.info
+#     covcollect gcov --test unit -o unit.info unit.gcov
 #
 # LCOV_EXCL_LINE                    takes out its line: the count, the branches, and a function that starts there
 # LCOV_EXCL_START, _STOP            the same for the lines from the first marker to the line before the second

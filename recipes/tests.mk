@@ -70,8 +70,7 @@ tracefiles := $(patsubst %,$(EACH)/%.info,$(sort $(TESTS)))
 
 $(TOTAL): $(EACH)/.tests $(tracefiles)
 	@echo 'tests.mk: makes $@ (tests: $(words $(tracefiles)))' >&2
-	@$(COVCOLLECT) merge --jobs $(JOBS) -- $(tracefiles) >$@.new || { rm -f $@.new; exit 1; }
-	@mv -f $@.new $@
+	@$(COVCOLLECT) merge --jobs $(JOBS) -o $@ -- $(tracefiles)
 
 # gcov looks for the .gcno beside the .gcda, which is below GCOV_PREFIX, under the whole path of its object.
 run = $(@:.info=.run)

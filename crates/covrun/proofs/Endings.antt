@@ -1,5 +1,5 @@
 -- How a call that collects files ends, from the results of its steps.
-use Rattle.std.proofs.Common.{◌≡◌, ◌⊎◌, inl, inr, ℕ, ◌-◌, Bool, true, false, if◌then◌else◌, List, [], ◌∷◌, ◌++◌, length, slice_get, Option, Some, None, Result, Ok, Err, IfOk, flat_map, codes, refl, sym, subst, ap, ◌∙◌, append-nil, length-append, arith}
+use Rattle.std.proofs.Common.{◌≡◌, ◌⊎◌, inl, inr, ℕ, ◌-◌, Bool, true, false, if◌then◌else◌, List, [], ◌∷◌, ◌++◌, length, slice_get, Option, Some, None, Result, Ok, Err, IfOk, flat_map, refl, sym, subst, ap, ◌∙◌, append-nil, length-append, arith}
 use Rattle.std.proofs.lemmas.List.{flat_map_more, map-append}
 use Rattle.std.specs.Io.KnownBytes.{Appends}
 use Rattle.covsession.specs.Session.{said, clash_text}
@@ -264,8 +264,8 @@ failure_reported (Some name) (failures.Refused lines) status old new files print
 pub answer_printed : (lines text : List ℕ) (status : ℕ) → status ≡ shortfall_status lines → (old new : SinksData) → PutsOut text old new
     → (lines ≡ [] → (new.faults ≡ old.faults) × (new.failed_faults ≡ old.failed_faults)) → Complains lines old new
     → IsEndingPrinted (with_shortfalls lines text) status old new
-answer_printed [] text status is old new put none told = inl (is, put, none refl)
-answer_printed (b ∷ lines) text status is old new put none told = inl (is, put, told)
+answer_printed [] text status is old new put none told = inl (is, (put, (none refl).0, (none refl).1))
+answer_printed (b ∷ lines) text status is old new put none told = inl (is, (put, told))
 
 -- a write of the text failed
 pub answer_cut_short : (lines text : List ℕ) (status : ℕ) (old new : SinksData) → IsCutShort text status old new → IsEndingPrinted (with_shortfalls lines text) status old new
@@ -287,3 +287,36 @@ pub answer_unwritten : (name lines text : List ℕ) (status : ℕ) (old new : Si
     → IsEndingWritten name (with_shortfalls lines text) status old new files written
 answer_unwritten name [] text status old new files written unwritten = inr unwritten
 answer_unwritten name (b ∷ lines) text status old new files written unwritten = inr unwritten
+
+-- a failure of the work is reported
+pub failure_told : (folder : FolderData) (work : WorkData) (file : Option (List ℕ)) (failure : Failure) (status : ℕ) → WorkEnds folder work (failure_data failure)
+    → status ≡ status_of (failure_data failure)
+    → (output : Option (List ℕ)) (held failed : ℕ) (before after : Option (List ℕ)) (fails fails_after : ℕ)
+    → (fails_after ≡ fails → Appends before after (complaint (failure_data failure))) → (files : OutputFilesData)
+    → (ending : EndingData) × WorkEnds folder work ending
+    × IsEndingReported file ending status (sinks output held failed before fails) (sinks output held failed after fails_after) files files
+failure_told folder work file failure status ends is output held failed before after fails fails_after said files = (
+  failure_data failure,
+  ends,
+  failure_reported file failure status _ _ files (failure_printed failure status is output held failed before after fails fails_after said),
+)
+
+-- an answer of the work is reported, unless memory runs out
+pub answer_told : (folder : FolderData) (work : WorkData) (file : Option (List ℕ)) (answer : EndingData) (status : ℕ) (old new : SinksData) (files written : OutputFilesData)
+    → WorkEnds folder work answer
+    → (ending : EndingData) × ((ending ≡ Stopped faults.Memory) ⊎ (ending ≡ answer)) × IsEndingReported file ending status old new files written
+    → (ending : EndingData) × WorkEnds folder work ending × IsEndingReported file ending status old new files written
+answer_told folder work file answer status old new files written ends (ending, inl ran_out, told) = (ending, inl ran_out, told)
+answer_told folder work file answer status old new files written ends (ending, inr is, told) =
+    (ending, subst (λ (e : EndingData). WorkEnds folder work e) (sym is) ends, told)
+
+-- the answer of a call that names no file is printed
+pub answer_reported : (file : Option (List ℕ)) → file ≡ None → (lines shown text : List ℕ) → shown ≡ lines → (status : ℕ) (old new : SinksData) (files : OutputFilesData)
+    → IsEndingPrinted (with_shortfalls shown text) status old new
+    → (ending : EndingData) × ((ending ≡ Stopped faults.Memory) ⊎ (ending ≡ with_shortfalls lines text)) × IsEndingReported file ending status old new files files
+answer_reported file is lines shown text same status old new files printed = (
+  with_shortfalls lines text,
+  inr refl,
+  subst (λ (f : Option (List ℕ)). IsEndingReported f (with_shortfalls lines text) status old new files files) (sym is)
+      (subst (λ (ls : List ℕ). IsEndingPrinted (with_shortfalls ls text) status old new) same printed, refl),
+)

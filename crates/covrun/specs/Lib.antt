@@ -1,6 +1,7 @@
 pub mod Streams
 pub mod Printed
 pub mod Folder
+pub mod OutputFiles
 pub mod Work
 pub mod Ending
 pub mod Check

@@ -58,7 +58,7 @@ pub(crate) fn do_work<
     requires faults { E.failed_writes faults.old < 2 ^ 62 }
     ensures { (ending : EndingData)
         × WorkEnds (folder_data (F.holds folder.now) (F.may_refuse folder.now) (F.may_open folder.now) F.File.left F.File.failed_reads) (work_data work.now) ending
-        × IsEndingReported (option_map (λ name. name.now) file) ending result
+        × IsEndingReported (option_map (λ name. name.now) file.entry) ending result
         (sinks (O.written output.old) (O.held output.old) (O.failed_writes output.old) (E.written faults.old) (E.failed_writes faults.old))
         (sinks (O.written output.new) (O.held output.new) (O.failed_writes output.new) (E.written faults.new) (E.failed_writes faults.new))
         (output_files (P.finished files.old) (P.failed files.old))

@@ -36,7 +36,7 @@ pub(crate) fn report_answer<P: OutputFolder, O: Sink, E: Sink>(
     requires output { O.failed_writes output.old < 2 ^ 62 }
     requires faults { E.failed_writes faults.old < 2 ^ 62 }
     ensures { (ending : EndingData) × ((ending ≡ Stopped session_faults.Memory) ⊎ (ending ≡ ready_data answer.entry))
-        × IsEndingReported (option_map (λ name. name.now) file) ending result
+        × IsEndingReported (option_map (λ name. name.now) file.entry) ending result
         (sinks (O.written output.old) (O.held output.old) (O.failed_writes output.old) (E.written faults.old) (E.failed_writes faults.old))
         (sinks (O.written output.new) (O.held output.new) (O.failed_writes output.new) (E.written faults.new) (E.failed_writes faults.new))
         (output_files (P.finished files.old) (P.failed files.old))

@@ -1,6 +1,6 @@
 //! Where a call's text goes if the call names a file for it.
 
-ghost use Rattle.std.specs.Prelude.{◌≡◌, ℕ, ◌<◌, ◌×◌, ◌^◌, List, Option, None, Some, suc, IfOk, IfErr, OnOk, OnErr};
+ghost use Rattle.std.specs.Prelude.{◌≡◌, ℕ, ◌<◌, ◌^◌, List, Option, None, Some, suc, IfOk, IfErr, OnOk, OnErr};
 ghost use Rattle.covrun.specs.OutputFiles.{CountsFault, Finishes, IsBegun};
 
 use crate::unfinished_file::{UnfinishedFile, abandon_file, begin_file, finish_file};

@@ -5,9 +5,10 @@ ghost use Rattle.std.specs.Prelude.{◌≡◌, IfOk};
 use crate::output_folder::OutputFault;
 use covsession::{Failed, FromWrite, Sink};
 use std::alloc::{AllocError, AllocGlobal};
-use std::fs::{File, Metadata, OpenFile, OpenOptions};
+use std::fs::{Metadata, OpenFile, OpenOptions};
 use std::io;
 use std::io::ErrorKind;
+use std::os::unix::fs::OpenOptionsExt;
 use std::random::RandomSource;
 use std::rt::Files;
 
@@ -43,13 +44,17 @@ impl<F: io::Write> Sink for UnfinishedFile<F> {
 }
 
 /// Begins a file that is to get this name. If there is a file with the name, the new one gets its rights; if the name is that of a
-/// symbolic link, the link stays, and the file that it leads to is replaced. A device or a pipe isn't replaced, but written to.
+/// symbolic link, the link stays, and the file that it leads to is replaced. A device, a pipe or an open stream of the program isn't
+/// replaced, but written to.
 pub(crate) fn begin_file<R: Files + RandomSource + AllocGlobal>(
     rt: &R,
     name: &str,
 ) -> Result<UnfinishedFile<R::File>, OutputFault>
     ensures { IfOk result (λ file. ⟦<UnfinishedFile<R::File> as Sink>⟧.failed_writes file ≡ 0) }
 {
+    if is_stream(name) {
+        return begin_in_place(rt, name);
+    }
     match rt.metadata(name) {
         Ok(old) if old.is_file() => begin_instead(rt, name, &old),
         Ok(old) if old.is_dir() => Err(OutputFault::Failed),
@@ -59,7 +64,15 @@ pub(crate) fn begin_file<R: Files + RandomSource + AllocGlobal>(
     }
 }
 
-/// Begins a file that replaces the one with this name, and gets its rights.
+/// Whether the name is that of a stream that is already open. What such a stream leads to isn't replaced, even if it is a file.
+fn is_stream(name: &str) -> bool {
+    name == "/dev/stdout"
+        || name == "/dev/stderr"
+        || name.starts_with("/dev/fd/")
+        || name.starts_with("/proc/self/fd/")
+}
+
+/// Begins a file that replaces the one with this name, and gets its rights. Until it has them, nobody else can open it.
 fn begin_instead<R: Files + RandomSource + AllocGlobal>(
     rt: &R,
     name: &str,
@@ -68,7 +81,7 @@ fn begin_instead<R: Files + RandomSource + AllocGlobal>(
     ensures { IfOk result (λ file. ⟦<UnfinishedFile<R::File> as Sink>⟧.failed_writes file ≡ 0) }
 {
     let to = rt.canonicalize(rt.alloc(), name)?.into_string();
-    let unfinished = begin_beside(rt, to)?;
+    let unfinished = begin_beside(rt, to, 0o600)?;
     match keep_rights(rt, &unfinished, old) {
         Ok(()) => Ok(unfinished),
         Err(error) => {
@@ -100,18 +113,23 @@ fn begin_new<R: Files + RandomSource + AllocGlobal>(
     if rt.symlink_metadata(name).is_ok() {
         return Err(OutputFault::Failed);
     }
-    begin_beside(rt, String::from_str(rt.alloc(), name)?)
+    begin_beside(rt, String::from_str(rt.alloc(), name)?, 0o666)
 }
 
-/// Begins a file beside the one with the name `to`, which it gets once it is finished.
+/// Begins a file beside the one with the name `to`, which it gets once it is finished. `mode`: its rights, less the umask.
 fn begin_beside<R: Files + RandomSource + AllocGlobal>(
     rt: &R,
     to: String,
+    mode: u32,
 ) -> Result<UnfinishedFile<R::File>, OutputFault>
     ensures { IfOk result (λ file. ⟦<UnfinishedFile<R::File> as Sink>⟧.failed_writes file ≡ 0) }
 {
     let from = name_beside(rt, to.as_str())?;
-    let file = File::create_new(rt, from.as_str())?;
+    let file = OpenOptions::new()
+        .write(true)
+        .create_new(true)
+        .mode(mode)
+        .open(rt, from.as_str())?;
     Ok(UnfinishedFile {
         sink: FromWrite::new(file),
         rename: Some(Rename { from, to }),
@@ -130,11 +148,11 @@ fn name_beside<R: RandomSource + AllocGlobal>(rt: &R, name: &str) -> Result<Stri
     Ok(beside)
 }
 
-/// Begins to write to a device or a pipe.
+/// Begins to write to a device, a pipe or a stream. What it has already taken stays.
 fn begin_in_place<R: Files>(rt: &R, name: &str) -> Result<UnfinishedFile<R::File>, OutputFault>
     ensures { IfOk result (λ file. ⟦<UnfinishedFile<R::File> as Sink>⟧.failed_writes file ≡ 0) }
 {
-    let file = OpenOptions::new().write(true).open(rt, name)?;
+    let file = OpenOptions::new().append(true).open(rt, name)?;
     Ok(UnfinishedFile {
         sink: FromWrite::new(file),
         rename: None,

@@ -1,49 +1,61 @@
-use Rattle.std.proofs.Common.{Err, map, slice_get, refl, inl, ap, ◌∙◌}
+use Rattle.std.proofs.Common.{Err, map, slice_get, refl, inl, inr, ap, ◌∙◌}
 use Rattle.std.specs.String.{string_bytes}
 use Rattle.covjobs.specs.declared.book_fault.IntoBookFault.TheVariants as into_book
 use Rattle.covsession.specs.declared.session.fault.SessionFault.TheVariants as faults
-use Rattle.covrun.specs.Ending.{Stopped, Unreadable, name_at, of_collect}
+use Rattle.covrun.specs.Ending.{Unreadable, name_at, of_collect}
 use Rattle.covrun.specs.Folder.{folder_data}
-use Rattle.covrun.specs.View.{ending_data, work_data}
-use Rattle.covrun.proofs.Endings.{ends_collected, ends_uncollected, ends_unreadable}
+use Rattle.covrun.specs.View.{work_data}
+use Rattle.covrun.specs.declared.ending.Failure.TheVariants as failures
+use Rattle.covrun.proofs.Endings.{answer_told, ends_collected, ends_uncollected, ends_unreadable, failure_told}
 use Rattle.covrun.proofs.Reading.{may_come, texts_read, unreadable_read}
 use Rattle.covrun.proofs.collecting.do_work.Goals as goal
 
 pub returns-in_default : goal.returns-in_default
-returns-in_default g c = (Stopped faults.Memory, inl refl, c.report_ending.ensures)
+returns-in_default g c =
+    failure_told (folder_data (g.F.Folder.holds c.args.folder.now) (g.F.Folder.may_refuse c.args.folder.now) (g.F.Folder.may_open c.args.folder.now) g.F.File.Source.left g.F.File.Source.failed_reads) (work_data c.args.work.now) _ (failures.Stopped faults.Memory) _ (inl refl)
+    c.report_failure.ensures.status _ _ _ _ _ _ _ c.report_failure.ensures.said _
+
+pub returns-in-Ok-answer_of : goal.returns-in-Ok-answer_of
+returns-in-Ok-answer_of g c =
+    let read = c.in-Ok-collect_into_book.ensures.collected in
+    answer_told (folder_data (g.F.Folder.holds c.args.folder.now) (g.F.Folder.may_refuse c.args.folder.now) (g.F.Folder.may_open c.args.folder.now) g.F.File.Source.left g.F.File.Source.failed_reads) (work_data c.args.work.now) _ _ _ _ _ _ _
+    (ends_collected (folder_data (g.F.Folder.holds c.args.folder.now) (g.F.Folder.may_refuse c.args.folder.now) (g.F.Folder.may_open c.args.folder.now) g.F.File.Source.left g.F.File.Source.failed_reads)
+    (work_data c.args.work.now) _ c.get-names.ensures read.0 _ _ _
+    (texts_read c.in-Ok.inputs.items c.args.folder.now c.args.work.now.format
+    (λ folder. folder_data (g.F.Folder.holds folder) (g.F.Folder.may_refuse folder) (g.F.Folder.may_open folder) g.F.File.Source.left g.F.File.Source.failed_reads)
+    (λ one. one.folder.now) (λ one. one.name.now) (λ one. one.format.now) _ _ c.in-Ok.ensures.names c.in-Ok.ensures.own read.1)
+    c.requires.text read.2 (inr c.in-Ok-answer_of.ensures.answer))
+    c.report_answer.ensures
 
 pub returns-in-Ok-collect_into_book : goal.returns-in-Ok-collect_into_book
 returns-in-Ok-collect_into_book g c =
-    let read = c.in-Ok-collect_into_book.ensures.collected in (
-      ending_data c.ending_of_collected.result,
-      ends_collected (folder_data (g.F.Folder.holds c.args.folder.now) (g.F.Folder.may_refuse c.args.folder.now) (g.F.Folder.may_open c.args.folder.now) g.F.File.Source.left g.F.File.Source.failed_reads)
-          (work_data c.args.work.now) _ c.get-files.ensures read.0 _ _ _
-          (texts_read c.in-Ok.inputs.items c.args.folder.now c.args.work.now.format
-          (λ folder. folder_data (g.F.Folder.holds folder) (g.F.Folder.may_refuse folder) (g.F.Folder.may_open folder) g.F.File.Source.left g.F.File.Source.failed_reads)
-          (λ one. one.folder.now) (λ one. one.name.now) (λ one. one.format.now) _ _ c.in-Ok.ensures.names c.in-Ok.ensures.own read.1)
-          c.requires.text read.2 c.ending_of_collected.ensures,
-      c.report_ending-in-Ok-collect_into_book.ensures,
-    )
+    let read = c.in-Ok-collect_into_book.ensures.collected in
+    failure_told (folder_data (g.F.Folder.holds c.args.folder.now) (g.F.Folder.may_refuse c.args.folder.now) (g.F.Folder.may_open c.args.folder.now) g.F.File.Source.left g.F.File.Source.failed_reads) (work_data c.args.work.now) _ c.in-Err.failure _
+    (ends_collected (folder_data (g.F.Folder.holds c.args.folder.now) (g.F.Folder.may_refuse c.args.folder.now) (g.F.Folder.may_open c.args.folder.now) g.F.File.Source.left g.F.File.Source.failed_reads)
+    (work_data c.args.work.now) _ c.get-names.ensures read.0 _ _ _
+    (texts_read c.in-Ok.inputs.items c.args.folder.now c.args.work.now.format
+    (λ folder. folder_data (g.F.Folder.holds folder) (g.F.Folder.may_refuse folder) (g.F.Folder.may_open folder) g.F.File.Source.left g.F.File.Source.failed_reads)
+    (λ one. one.folder.now) (λ one. one.name.now) (λ one. one.format.now) _ _ c.in-Ok.ensures.names c.in-Ok.ensures.own read.1)
+    c.requires.text read.2 c.in-Err.ensures.failure)
+    c.report_failure-in-Err.ensures.status _ _ _ _ _ _ _ c.report_failure-in-Err.ensures.said _
 
 pub returns-in-Err-Unread : goal.returns-in-Err-Unread
-returns-in-Err-Unread g c = (
-  Unreadable c.file_name.result.now,
-  ends_unreadable (folder_data (g.F.Folder.holds c.args.folder.now) (g.F.Folder.may_refuse c.args.folder.now) (g.F.Folder.may_open c.args.folder.now) g.F.File.Source.left g.F.File.Source.failed_reads)
-      (work_data c.args.work.now) _ c.get-files.ensures _ _
-      (unreadable_read c.in-Ok.inputs.items c.args.folder.now c.args.work.now.format
-      (λ folder. folder_data (g.F.Folder.holds folder) (g.F.Folder.may_refuse folder) (g.F.Folder.may_open folder) g.F.File.Source.left g.F.File.Source.failed_reads)
-      (λ one. one.folder.now) (λ one. one.name.now) (λ one. one.format.now)
-      (map string_bytes c.get-files.result.now) c.in-Err-Unread.index _ c.in-Ok.ensures.names c.in-Ok.ensures.own c.in-Err-Unread.field-0-is c.in-Err-Unread.ensures.unread)
-      (ap Unreadable (c.file_name.ensures ∙ ap (λ index. name_at (slice_get (map string_bytes c.get-files.result.now) index)) c.in-Err-Unread.index-is)),
-  c.report_ending-in-Err-Unread.ensures,
-)
+returns-in-Err-Unread g c =
+    failure_told (folder_data (g.F.Folder.holds c.args.folder.now) (g.F.Folder.may_refuse c.args.folder.now) (g.F.Folder.may_open c.args.folder.now) g.F.File.Source.left g.F.File.Source.failed_reads) (work_data c.args.work.now) _ (failures.Unreadable c.file_name.result) _
+    (ends_unreadable (folder_data (g.F.Folder.holds c.args.folder.now) (g.F.Folder.may_refuse c.args.folder.now) (g.F.Folder.may_open c.args.folder.now) g.F.File.Source.left g.F.File.Source.failed_reads)
+    (work_data c.args.work.now) _ c.get-names.ensures _ _
+    (unreadable_read c.in-Ok.inputs.items c.args.folder.now c.args.work.now.format
+    (λ folder. folder_data (g.F.Folder.holds folder) (g.F.Folder.may_refuse folder) (g.F.Folder.may_open folder) g.F.File.Source.left g.F.File.Source.failed_reads)
+    (λ one. one.folder.now) (λ one. one.name.now) (λ one. one.format.now)
+    (map string_bytes c.get-names.result.now) c.in-Err-Unread.index _ c.in-Ok.ensures.names c.in-Ok.ensures.own c.in-Err-Unread.field-0-is c.in-Err-Unread.ensures.unread)
+    (ap Unreadable (c.file_name.ensures ∙ ap (λ index. name_at (slice_get (map string_bytes c.get-names.result.now) index)) c.in-Err-Unread.index-is)))
+    c.report_failure-in-Err-Unread.ensures.status _ _ _ _ _ _ _ c.report_failure-in-Err-Unread.ensures.said _
 
-pub returns-in-Err-Collect : goal.returns-in-Err-Collect
-returns-in-Err-Collect g c = (
-  ending_data c.ending_of_collect.result,
-  ends_uncollected (folder_data (g.F.Folder.holds c.args.folder.now) (g.F.Folder.may_refuse c.args.folder.now) (g.F.Folder.may_open c.args.folder.now) g.F.File.Source.left g.F.File.Source.failed_reads)
-      (work_data c.args.work.now) _ _ (λ is. (c.in-Err-Collect.ensures.bad).0 (ap (λ fault. Err fault) (c.in-Err-Collect.field-0-is ∙ ap (λ fault. into_book.Collect fault) is)))
-      (may_come c.in-Ok.inputs.items (λ one. one.name.now) _ _ _ _ c.in-Err-Collect.fault (c.in-Ok.ensures.names ∙ c.get-files.ensures) c.in-Err-Collect.field-0-is c.in-Err-Collect.ensures.unread)
-      (c.ending_of_collect.ensures ∙ ap of_collect c.in-Err-Collect.fault-is),
-  c.report_ending-in-Err-Collect.ensures,
-)
+pub returns : goal.returns
+returns g c =
+    failure_told (folder_data (g.F.Folder.holds c.args.folder.now) (g.F.Folder.may_refuse c.args.folder.now) (g.F.Folder.may_open c.args.folder.now) g.F.File.Source.left g.F.File.Source.failed_reads) (work_data c.args.work.now) _ c.failure_of_collect.result _
+    (ends_uncollected (folder_data (g.F.Folder.holds c.args.folder.now) (g.F.Folder.may_refuse c.args.folder.now) (g.F.Folder.may_open c.args.folder.now) g.F.File.Source.left g.F.File.Source.failed_reads)
+    (work_data c.args.work.now) _ _ (λ is. (c.in-Err-Collect.ensures.bad).0 (ap (λ fault. Err fault) (c.in-Err-Collect.field-0-is ∙ ap (λ fault. into_book.Collect fault) is)))
+    (may_come c.in-Ok.inputs.items (λ one. one.name.now) _ _ _ _ c.in-Err-Collect.fault (c.in-Ok.ensures.names ∙ c.get-names.ensures) c.in-Err-Collect.field-0-is c.in-Err-Collect.ensures.unread)
+    (c.failure_of_collect.ensures ∙ ap of_collect c.in-Err-Collect.fault-is))
+    c.report_failure-in-Err-Collect.ensures.status _ _ _ _ _ _ _ c.report_failure-in-Err-Collect.ensures.said _

@@ -24,8 +24,8 @@ returns-in-Ok-Check g c =
           (ap task_data (sym c.in-Ok-Check.field-0-is) ∙ c.in-Ok-Check.ensures.task) c.check_files.ensures,
     )
 
-pub returns-in-Err : goal.returns-in-Err
-returns-in-Err g c =
+pub returns : goal.returns
+returns g c =
     inl (
       refl,
       refl,
