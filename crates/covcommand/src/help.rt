@@ -138,6 +138,8 @@ with tracefiles of LCOV 2
   covcollect check --lcov2 A.info B.info
 and of what gcov wrote
   covcollect check --gcov main.c.gcov
+and where there are many files
+  covcollect check --jobs 4 jobs/*.info
 With both flags the files are what gcov wrote.
 The status is 1 where a file can't be read, else 4 where one is refused, and
 else 5 where one has no items.";

@@ -145,7 +145,7 @@ IsTaskDone folder Serves file status before after old new files written =
     old.failed_faults new.failed_faults
 IsTaskDone folder (Collects work) file status before after old new files written =
     (after ≡ before) × (ending : EndingData) × WorkEnds folder work ending × IsEndingReported file ending status old new files written
-IsTaskDone folder (Checks format names) file status before after old new files written =
+IsTaskDone folder (Checks format jobs names) file status before after old new files written =
     (after ≡ before) × (written ≡ files) × IsCheck folder format names status old new
 
 -- a command ends early, and the input isn't read; or its words are accepted, and its task is done

@@ -33,9 +33,10 @@ use std::thread::Threads;
 /// If the call names a file for its text (`--output`), the text goes into that file instead. The file is one of `files`, and gets
 /// its name once its whole text is written. If a write fails, no file has changed, unless it is a device or a stream.
 ///
-/// A call that checks files checks one after another. It writes a line to the output for each file that can be read, and
-/// complains about a file that can't be read or has no item. Its status is 1 if a file can't be read, else 4 if one is refused,
-/// else 5 if one has no item, else 0. The call ends early if a write of a line fails (1), or if memory runs out (3).
+/// A call that checks files checks as many at once as it has jobs, and reports them one after another, in their order. It writes a
+/// line to the output for each file that can be read, and complains about a file that can't be read or has no item. Its status is 1
+/// if a file can't be read, else 4 if one is refused, else 5 if one has no item, else 0. The call ends early if a write of a line
+/// fails (1), or if memory runs out (3).
 ///
 /// If the folder knows what its files hold, the call collects or checks the texts of the files that its words name.
 ///
@@ -129,9 +130,10 @@ fn run_command<
         Ok(
             Task::Check {
                 format,
+                jobs,
                 files: names,
             },
-        ) => { check_files(folder, alloc, format, names.get(), output, faults) }
+        ) => { check_files(rt, folder, alloc, format, jobs, names.get(), output, faults) }
         Err(fault) => report_failure(failure_of_work(fault), faults),
     }
 }
