@@ -67,7 +67,7 @@ _covcollect() {
 
     if [[ -z $ended ]]; then
         case $subcommand$prev in
-            merge--jobs | merge-j | summary--jobs | summary-j | list--jobs | list-j)
+            merge--jobs | merge-j | summary--jobs | summary-j | list--jobs | list-j | check--jobs | check-j)
                 # The number of processors, of which 64 can be used.
                 i=$(nproc 2>/dev/null)
                 mapfile -t COMPREPLY < <(compgen -W "$((i > 64 ? 64 : i))" -- "$cur")
@@ -97,7 +97,7 @@ _covcollect() {
                 summary) options+=' --fail-under-lines --fail-under-functions --fail-under-branches' ;;
                 extract | remove) options+=' -o --output --lcov2' ;;
                 gcov) options+=' --test -o --output' ;;
-                check) options+=' --gcov --lcov2' ;;
+                check) options+=' -j --jobs --gcov --lcov2' ;;
             esac
             mapfile -t COMPREPLY < <(compgen -W "$options" -- "$cur")
             return

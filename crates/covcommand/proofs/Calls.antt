@@ -61,6 +61,10 @@ pub check_lcov2_taken : takes covcollect (codes "covcollect" ∷ codes "check" �
 unfolding clap_on_literals
 check_lcov2_taken = refl
 
+pub check_jobs_taken : takes covcollect (codes "covcollect" ∷ codes "check" ∷ codes "--jobs" ∷ codes "64" ∷ codes "--lcov2" ∷ codes "a.info" ∷ codes "b.info" ∷ []) ≡ true
+unfolding clap_on_literals
+check_jobs_taken = refl
+
 pub short_jobs_taken : takes covcollect (codes "covcollect" ∷ codes "merge" ∷ codes "-j" ∷ codes "4" ∷ codes "a.info" ∷ []) ≡ true
 unfolding clap_on_literals
 short_jobs_taken = refl
@@ -121,29 +125,33 @@ gcov_output_taken = refl
 abbrev rows_for : List Text → List Row
 rows_for words = rows_met (subcommand_of covcollect words)
 
-pub tracefile_asked : AsksFor (subcommand_of covcollect (codes "covcollect" ∷ codes "check" ∷ codes "a.info" ∷ [])) (Check (format.Tracefile One) (codes "a.info" ∷ []))
+pub tracefile_asked : AsksFor (subcommand_of covcollect (codes "covcollect" ∷ codes "check" ∷ codes "a.info" ∷ [])) (Check (format.Tracefile One) 1 (codes "a.info" ∷ []))
 unfolding clap_on_literals
-tracefile_asked = (rows_for (codes "covcollect" ∷ codes "check" ∷ codes "a.info" ∷ []), refl, (refl, refl), refl)
+tracefile_asked = (rows_for (codes "covcollect" ∷ codes "check" ∷ codes "a.info" ∷ []), refl, (refl, refl), (codes "1", refl, refl), refl)
 
-pub before_asked : AsksFor (subcommand_of covcollect (codes "covcollect" ∷ codes "check" ∷ codes "--gcov" ∷ codes "a.c.gcov" ∷ [])) (Check format.Gcov (codes "a.c.gcov" ∷ []))
+pub before_asked : AsksFor (subcommand_of covcollect (codes "covcollect" ∷ codes "check" ∷ codes "--gcov" ∷ codes "a.c.gcov" ∷ [])) (Check format.Gcov 1 (codes "a.c.gcov" ∷ []))
 unfolding clap_on_literals
-before_asked = (rows_for (codes "covcollect" ∷ codes "check" ∷ codes "--gcov" ∷ codes "a.c.gcov" ∷ []), refl, refl, refl)
+before_asked = (rows_for (codes "covcollect" ∷ codes "check" ∷ codes "--gcov" ∷ codes "a.c.gcov" ∷ []), refl, refl, (codes "1", refl, refl), refl)
 
-pub after_asked : AsksFor (subcommand_of covcollect (codes "covcollect" ∷ codes "check" ∷ codes "a.c.gcov" ∷ codes "--gcov" ∷ [])) (Check format.Gcov (codes "a.c.gcov" ∷ []))
+pub after_asked : AsksFor (subcommand_of covcollect (codes "covcollect" ∷ codes "check" ∷ codes "a.c.gcov" ∷ codes "--gcov" ∷ [])) (Check format.Gcov 1 (codes "a.c.gcov" ∷ []))
 unfolding clap_on_literals
-after_asked = (rows_for (codes "covcollect" ∷ codes "check" ∷ codes "a.c.gcov" ∷ codes "--gcov" ∷ []), refl, refl, refl)
+after_asked = (rows_for (codes "covcollect" ∷ codes "check" ∷ codes "a.c.gcov" ∷ codes "--gcov" ∷ []), refl, refl, (codes "1", refl, refl), refl)
 
-pub name_asked : AsksFor (subcommand_of covcollect (codes "covcollect" ∷ codes "check" ∷ codes "--" ∷ codes "--gcov" ∷ [])) (Check (format.Tracefile One) (codes "--gcov" ∷ []))
+pub name_asked : AsksFor (subcommand_of covcollect (codes "covcollect" ∷ codes "check" ∷ codes "--" ∷ codes "--gcov" ∷ [])) (Check (format.Tracefile One) 1 (codes "--gcov" ∷ []))
 unfolding clap_on_literals
-name_asked = (rows_for (codes "covcollect" ∷ codes "check" ∷ codes "--" ∷ codes "--gcov" ∷ []), refl, (refl, refl), refl)
+name_asked = (rows_for (codes "covcollect" ∷ codes "check" ∷ codes "--" ∷ codes "--gcov" ∷ []), refl, (refl, refl), (codes "1", refl, refl), refl)
 
-pub lcov2_asked : AsksFor (subcommand_of covcollect (codes "covcollect" ∷ codes "check" ∷ codes "--lcov2" ∷ codes "a.info" ∷ [])) (Check (format.Tracefile Two) (codes "a.info" ∷ []))
+pub lcov2_asked : AsksFor (subcommand_of covcollect (codes "covcollect" ∷ codes "check" ∷ codes "--lcov2" ∷ codes "a.info" ∷ [])) (Check (format.Tracefile Two) 1 (codes "a.info" ∷ []))
 unfolding clap_on_literals
-lcov2_asked = (rows_for (codes "covcollect" ∷ codes "check" ∷ codes "--lcov2" ∷ codes "a.info" ∷ []), refl, (refl, refl), refl)
+lcov2_asked = (rows_for (codes "covcollect" ∷ codes "check" ∷ codes "--lcov2" ∷ codes "a.info" ∷ []), refl, (refl, refl), (codes "1", refl, refl), refl)
 
-pub both_asked : AsksFor (subcommand_of covcollect (codes "covcollect" ∷ codes "check" ∷ codes "--gcov" ∷ codes "--lcov2" ∷ codes "a.c.gcov" ∷ [])) (Check format.Gcov (codes "a.c.gcov" ∷ []))
+pub both_asked : AsksFor (subcommand_of covcollect (codes "covcollect" ∷ codes "check" ∷ codes "--gcov" ∷ codes "--lcov2" ∷ codes "a.c.gcov" ∷ [])) (Check format.Gcov 1 (codes "a.c.gcov" ∷ []))
 unfolding clap_on_literals
-both_asked = (rows_for (codes "covcollect" ∷ codes "check" ∷ codes "--gcov" ∷ codes "--lcov2" ∷ codes "a.c.gcov" ∷ []), refl, refl, refl)
+both_asked = (rows_for (codes "covcollect" ∷ codes "check" ∷ codes "--gcov" ∷ codes "--lcov2" ∷ codes "a.c.gcov" ∷ []), refl, refl, (codes "1", refl, refl), refl)
+
+pub jobs_asked : AsksFor (subcommand_of covcollect (codes "covcollect" ∷ codes "check" ∷ codes "-j" ∷ codes "3" ∷ codes "--gcov" ∷ codes "a.c.gcov" ∷ codes "b.c.gcov" ∷ [])) (Check format.Gcov 3 (codes "a.c.gcov" ∷ codes "b.c.gcov" ∷ []))
+unfolding clap_on_literals
+jobs_asked = (rows_for (codes "covcollect" ∷ codes "check" ∷ codes "-j" ∷ codes "3" ∷ codes "--gcov" ∷ codes "a.c.gcov" ∷ codes "b.c.gcov" ∷ []), refl, refl, (codes "3", refl, refl), refl)
 
 pub merge_filter_asked : AsksFor (subcommand_of covcollect (codes "covcollect" ∷ codes "merge" ∷ codes "--include" ∷ codes "b" ∷ codes "--exclude" ∷ codes "x" ∷ codes "--include=a" ∷ codes "--exclude" ∷ codes "y" ∷ codes "f" ∷ []))
     (Merge One 1 (record { includes = codes "b" ∷ codes "a" ∷ []; excludes = codes "x" ∷ codes "y" ∷ [] }) (codes "f" ∷ []))
@@ -232,9 +240,9 @@ unfolding clap_on_literals
 name_output_asked = ((rows_for (codes "covcollect" ∷ codes "extract" ∷ codes "f" ∷ codes "--" ∷ codes "-o" ∷ []), refl, refl, refl), refl)
 
 pub check_output_asked : AsksForAll (subcommand_of covcollect (codes "covcollect" ∷ codes "check" ∷ codes "f" ∷ []))
-    (record { command = Check (format.Tracefile One) (codes "f" ∷ []); output = None })
+    (record { command = Check (format.Tracefile One) 1 (codes "f" ∷ []); output = None })
 unfolding clap_on_literals
-check_output_asked = ((rows_for (codes "covcollect" ∷ codes "check" ∷ codes "f" ∷ []), refl, (refl, refl), refl), refl)
+check_output_asked = ((rows_for (codes "covcollect" ∷ codes "check" ∷ codes "f" ∷ []), refl, (refl, refl), (codes "1", refl, refl), refl), refl)
 
 pub jobs_refused : fault_of covcollect (codes "covcollect" ∷ codes "merge" ∷ codes "--jobs" ∷ codes "65" ∷ codes "a.info" ∷ []) ≡ kind.ValueValidation ∷ []
 unfolding clap_on_literals
@@ -255,6 +263,10 @@ gcov_refused = refl
 pub check_refused : fault_of covcollect (codes "covcollect" ∷ codes "check" ∷ codes "--gcov" ∷ []) ≡ kind.MissingRequiredArgument ∷ []
 unfolding clap_on_literals
 check_refused = refl
+
+pub check_jobs_refused : fault_of covcollect (codes "covcollect" ∷ codes "check" ∷ codes "-j" ∷ codes "65" ∷ codes "a.info" ∷ []) ≡ kind.ValueValidation ∷ []
+unfolding clap_on_literals
+check_jobs_refused = refl
 
 pub twice_refused : fault_of covcollect (codes "covcollect" ∷ codes "check" ∷ codes "--gcov" ∷ codes "--gcov" ∷ codes "a.c.gcov" ∷ []) ≡ kind.ArgumentConflict ∷ []
 unfolding clap_on_literals

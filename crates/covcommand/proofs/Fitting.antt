@@ -254,15 +254,16 @@ gcov_leaves words none =
 check_leaves : Leaves (built_below check) HasCheck
 check_leaves words none =
     let each : EachKeeps RowsFit (built_below check).rules =
-    (several_keeps (codes "FILE") 1 (refl, refl), (flag_keeps (codes "gcov") 2 refl, (flag_keeps (codes "lcov2") 2 refl, (help_keeps 2, tt)))) in
+    (several_keeps (codes "FILE") 1 (refl, refl), (jobs_keeps 2, (flag_keeps (codes "gcov") 2 refl, (flag_keeps (codes "lcov2") 2 refl, (help_keeps 2, tt))))) in
     let defaults : EachDefaultFits (built_below check).rules =
-    (tt, (unset_fits (codes "gcov") refl, (unset_fits (codes "lcov2") refl, (tt, tt)))) in
+    (tt, (one_job_fits, (unset_fits (codes "gcov") refl, (unset_fits (codes "lcov2") refl, (tt, tt))))) in
     of_left _ (left_after (built_below check) words each defaults none)
   where
     of_left : (rows : List Row) → Left (built_below check) rows → HasCheck rows
     of_left rows left = (
       flag_left left (codes "gcov") refl refl,
       flag_left left (codes "lcov2") refl refl,
+      has_jobs rows (row_left left (codes "jobs") refl),
       some_left left (codes "FILE") (wanted _ _ _ left.none).0,
     )
 

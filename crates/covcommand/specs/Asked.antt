@@ -78,8 +78,8 @@ AsksFor met (Remove version names) = (rows : List Row) × (met ≡ Some (codes "
 AsksFor met (Gcov test names) = (rows : List Row) × (met ≡ Some (codes "gcov", rows))
     × (first_of (codes "test") rows ≡ Some test)
     × (names ≡ values_of (codes "FILE") rows)
-AsksFor met (Check how names) = (rows : List Row) × (met ≡ Some (codes "check", rows))
-    × IsFormatOf rows how × (names ≡ values_of (codes "FILE") rows)
+AsksFor met (Check how jobs names) = (rows : List Row) × (met ≡ Some (codes "check", rows))
+    × IsFormatOf rows how × IsNumberOf rows jobs × (names ≡ values_of (codes "FILE") rows)
 
 -- the word that clap found for `--output`, as it is, and `None` if the option isn't given
 abbrev pub IsOutputOf : List Row → Option (String Global) → Type 0
@@ -95,7 +95,7 @@ GoesTo rows (commands.List version jobs filter form names) output = IsOutputOf r
 GoesTo rows (Extract version names) output = IsOutputOf rows output
 GoesTo rows (Remove version names) output = IsOutputOf rows output
 GoesTo rows (Gcov test names) output = IsOutputOf rows output
-GoesTo rows (Check how names) output = output ≡ None
+GoesTo rows (Check how jobs names) output = output ≡ None
 
 -- the rows of the subcommand that clap reads from the words of a call, and none for a session
 abbrev pub rows_met : Option (Text × List Row) → List Row
@@ -105,7 +105,7 @@ rows_met met = option_map_or (λ subcommand. subcommand.1) met []
 abbrev pub AsksForAll : Option (Text × List Row) → Asked → Type 0
 AsksForAll met asked = AsksFor met asked.command × GoesTo (rows_met met) asked.command asked.output
 
--- `merge`, `summary` and `list` have 1 to 64 jobs. Each subcommand has at least one name, and `extract` and `remove` have at
+-- `merge`, `summary`, `list` and `check` have 1 to 64 jobs. Each subcommand has at least one name, and `extract` and `remove` have at
 -- least two
 abbrev pub IsInBounds : Command → Type 0
 IsInBounds Session = Unit {0}
@@ -115,4 +115,4 @@ IsInBounds (commands.List version jobs filter form names) = (1 ≤ jobs) × (job
 IsInBounds (Extract version names) = 2 ≤ length names
 IsInBounds (Remove version names) = 2 ≤ length names
 IsInBounds (Gcov test names) = 1 ≤ length names
-IsInBounds (Check how names) = 1 ≤ length names
+IsInBounds (Check how jobs names) = (1 ≤ jobs) × (jobs ≤ 64) × (1 ≤ length names)

@@ -115,7 +115,7 @@ abbrev pub gcov : App
 gcov = with_rule (with_rule (with_rule (new_app (codes "gcov")) (several (codes "FILE"))) test) output
 
 abbrev pub check : App
-check = with_rule (with_rule (with_rule (new_app (codes "check")) (several (codes "FILE"))) annotated) lcov2
+check = with_rule (with_rule (with_rule (with_rule (new_app (codes "check")) (several (codes "FILE"))) jobs) annotated) lcov2
 
 -- the program, which has a version and no subcommand `help`
 abbrev pub program : App

@@ -40,7 +40,7 @@ HasFiltering rows = HasFlag (codes "lcov2") rows × HasFilter rows
 
 -- clap found what `check` requires
 abbrev pub HasCheck : List Row → Type 0
-HasCheck rows = HasFlag (codes "gcov") rows × HasFlag (codes "lcov2") rows × HasSome (codes "FILE") rows
+HasCheck rows = HasFlag (codes "gcov") rows × HasFlag (codes "lcov2") rows × HasJobs rows × HasSome (codes "FILE") rows
 
 -- clap found for the arguments of the subcommand of this name what the subcommand requires
 pub record Fits (name : Text) (rows : List Row) : Type 0 where

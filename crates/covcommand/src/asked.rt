@@ -81,6 +81,8 @@ pub enum Command {
     Check {
         /// How the files are read.
         format: TextFormat,
+        /// How many files are read at once, from 1 to 64.
+        jobs: u32,
         /// The files' paths, at least one.
         names: Names,
     },

@@ -127,6 +127,7 @@ fn check<'a>(alloc: Global) -> Result<Command<'a>, AllocError>
         .after_help(help::CHECK_END);
     check
         .arg(several(alloc, "FILE", help::CHECKED))?
+        .arg(jobs(alloc))?
         .arg(annotated(alloc))?
         .arg(lcov2(alloc))
 }

@@ -47,8 +47,8 @@ and where LCOV 2 wrote some of them
   covcollect merge --lcov2 A.info B.info -o OUT
 and to leave out source files (extract --help tells of patterns)
   covcollect merge --exclude '/usr/*' A.info B.info -o OUT
-Don't write > OUT where OUT is read too: the shell empties it first. By -o it may
-be one of the inputs:
+Don't write > OUT where OUT is read too: the shell empties it first. By -o it
+may be one of the inputs:
   covcollect merge A.info B.info -o A.info";
 
 /// What `summary` does.
@@ -138,6 +138,8 @@ with tracefiles of LCOV 2
   covcollect check --lcov2 A.info B.info
 and of what gcov wrote
   covcollect check --gcov main.c.gcov
+and where there are many files
+  covcollect check --jobs 4 jobs/*.info
 With both flags the files are what gcov wrote.
 The status is 1 where a file can't be read, else 4 where one is refused, and
 else 5 where one has no items.";

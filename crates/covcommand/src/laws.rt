@@ -28,6 +28,7 @@ pub fn calls_are_taken()
     ensures extract_lcov2 { takes covcollect (codes "covcollect" ∷ codes "extract" ∷ codes "--lcov2" ∷ codes "a.info" ∷ codes "*.c" ∷ []) ≡ true }
     ensures remove_lcov2 { takes covcollect (codes "covcollect" ∷ codes "remove" ∷ codes "--lcov2" ∷ codes "a.info" ∷ codes "*.c" ∷ []) ≡ true }
     ensures check_lcov2 { takes covcollect (codes "covcollect" ∷ codes "check" ∷ codes "--lcov2" ∷ codes "a.info" ∷ []) ≡ true }
+    ensures check_jobs { takes covcollect (codes "covcollect" ∷ codes "check" ∷ codes "--jobs" ∷ codes "64" ∷ codes "--lcov2" ∷ codes "a.info" ∷ codes "b.info" ∷ []) ≡ true }
     ensures short_jobs { takes covcollect (codes "covcollect" ∷ codes "merge" ∷ codes "-j" ∷ codes "4" ∷ codes "a.info" ∷ []) ≡ true }
     ensures summary_jobs { takes covcollect (codes "covcollect" ∷ codes "summary" ∷ codes "--jobs" ∷ codes "4" ∷ codes "a.info" ∷ []) ≡ true }
     ensures merge_filters { takes covcollect (codes "covcollect" ∷ codes "merge" ∷ codes "--include" ∷ codes "*.c" ∷ codes "--include" ∷ codes "*.h" ∷ codes "--exclude" ∷ codes "*.t" ∷ codes "a.info" ∷ []) ≡ true }
@@ -48,17 +49,19 @@ pub fn calls_are_taken()
 /// without it they are tracefiles, with `--lcov2` also those of LCOV 2. After `--`, the word `--gcov` is the name of a file.
 pub fn checks_by_their_words()
     ensures tracefile { AsksFor (subcommand_of covcollect (codes "covcollect" ∷ codes "check" ∷ codes "a.info" ∷ []))
-        (Check (format.Tracefile One) (codes "a.info" ∷ [])) }
+        (Check (format.Tracefile One) 1 (codes "a.info" ∷ [])) }
     ensures before { AsksFor (subcommand_of covcollect (codes "covcollect" ∷ codes "check" ∷ codes "--gcov" ∷ codes "a.c.gcov" ∷ []))
-        (Check format.Gcov (codes "a.c.gcov" ∷ [])) }
+        (Check format.Gcov 1 (codes "a.c.gcov" ∷ [])) }
     ensures after { AsksFor (subcommand_of covcollect (codes "covcollect" ∷ codes "check" ∷ codes "a.c.gcov" ∷ codes "--gcov" ∷ []))
-        (Check format.Gcov (codes "a.c.gcov" ∷ [])) }
+        (Check format.Gcov 1 (codes "a.c.gcov" ∷ [])) }
     ensures name { AsksFor (subcommand_of covcollect (codes "covcollect" ∷ codes "check" ∷ codes "--" ∷ codes "--gcov" ∷ []))
-        (Check (format.Tracefile One) (codes "--gcov" ∷ [])) }
+        (Check (format.Tracefile One) 1 (codes "--gcov" ∷ [])) }
     ensures lcov2 { AsksFor (subcommand_of covcollect (codes "covcollect" ∷ codes "check" ∷ codes "--lcov2" ∷ codes "a.info" ∷ []))
-        (Check (format.Tracefile Two) (codes "a.info" ∷ [])) }
+        (Check (format.Tracefile Two) 1 (codes "a.info" ∷ [])) }
     ensures both { AsksFor (subcommand_of covcollect (codes "covcollect" ∷ codes "check" ∷ codes "--gcov" ∷ codes "--lcov2" ∷ codes "a.c.gcov" ∷ []))
-        (Check format.Gcov (codes "a.c.gcov" ∷ [])) }
+        (Check format.Gcov 1 (codes "a.c.gcov" ∷ [])) }
+    ensures jobs { AsksFor (subcommand_of covcollect (codes "covcollect" ∷ codes "check" ∷ codes "-j" ∷ codes "3" ∷ codes "--gcov" ∷ codes "a.c.gcov" ∷ codes "b.c.gcov" ∷ []))
+        (Check format.Gcov 3 (codes "a.c.gcov" ∷ codes "b.c.gcov" ∷ [])) }
 {}
 
 /// What calls of `merge` and `summary` ask for by `--include` and `--exclude`: all patterns of each, in their order. Without these
@@ -110,7 +113,7 @@ pub fn outputs_by_their_words()
     ensures name { AsksForAll (subcommand_of covcollect (codes "covcollect" ∷ codes "extract" ∷ codes "f" ∷ codes "--" ∷ codes "-o" ∷ []))
         (record { command = Extract One (codes "f" ∷ codes "-o" ∷ []); output = None }) }
     ensures check { AsksForAll (subcommand_of covcollect (codes "covcollect" ∷ codes "check" ∷ codes "f" ∷ []))
-        (record { command = Check (format.Tracefile One) (codes "f" ∷ []); output = None }) }
+        (record { command = Check (format.Tracefile One) 1 (codes "f" ∷ []); output = None }) }
 {}
 
 /// Calls that are refused, with clap's kind of error for each. The program takes `--version`, but its subcommands don't.
@@ -125,6 +128,8 @@ pub fn calls_are_refused()
         ≡ kind.MissingRequiredArgument ∷ [] }
     ensures check { fault_of covcollect (codes "covcollect" ∷ codes "check" ∷ codes "--gcov" ∷ [])
         ≡ kind.MissingRequiredArgument ∷ [] }
+    ensures check_jobs { fault_of covcollect (codes "covcollect" ∷ codes "check" ∷ codes "-j" ∷ codes "65" ∷ codes "a.info" ∷ [])
+        ≡ kind.ValueValidation ∷ [] }
     ensures twice { fault_of covcollect (codes "covcollect" ∷ codes "check" ∷ codes "--gcov" ∷ codes "--gcov" ∷ codes "a.c.gcov" ∷ [])
         ≡ kind.ArgumentConflict ∷ [] }
     ensures gcov_lcov2 { fault_of covcollect (codes "covcollect" ∷ codes "gcov" ∷ codes "--lcov2" ∷ codes "--test=" ∷ codes "a.c.gcov" ∷ [])

@@ -123,6 +123,7 @@ fn command_from(alloc: Global, name: &str, found: &ArgMatches<'_>) -> Result<Com
         }),
         _ => Ok(Command::Check {
             format: format_of(found),
+            jobs: jobs_of(found),
             names: files_of(alloc, found)?,
         }),
     }

@@ -100,13 +100,17 @@ fn command_in_words(alloc: Global, command: &Command) -> Result<String, Fail> {
             let test: String = String::from_utf8_lossy(alloc, test.get())?;
             with_names(format!(in alloc; "gcov ({test})")?, names)
         }
-        Command::Check { format, names } => {
+        Command::Check {
+            format,
+            jobs,
+            names,
+        } => {
             let format = match format {
                 TextFormat::Tracefile(LcovVersion::One) => "tracefile 1",
                 TextFormat::Tracefile(LcovVersion::Two) => "tracefile 2",
                 TextFormat::Gcov => "gcov",
             };
-            with_names(format!(in alloc; "check ({format})")?, names)
+            with_names(format!(in alloc; "check ({format} {jobs})")?, names)
         }
     }
 }

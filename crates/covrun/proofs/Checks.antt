@@ -1,7 +1,8 @@
 -- Files that are checked one after another: what was reported for the first ones, and for one more.
-use Rattle.std.proofs.Common.{◌≡◌, inl, inr, ℕ, suc, ◌+◌, ◌<◌, ◌≤◌, Bool, true, false, ◌||◌, if◌then◌else◌, List, [], ◌∷◌, ◌++◌, length, get_or, take, drop, map, Option, Result, Ok, Err, refl, sym, ap, ◌∙◌, subst, arith, length-append}
-use Rattle.std.proofs.KnownBytes.{Appends-trans}
-use Rattle.std.proofs.lemmas.List.{take_more, map-append, take-append-drop, drop_more, flat_map_more}
+use Rattle.std.proofs.Common.{◌≡◌, inl, inr, ℕ, suc, ◌+◌, ◌<◌, ◌≤◌, Bool, true, false, ◌||◌, if◌then◌else◌, List, [], ◌∷◌, ◌++◌, length, get_or, take, drop, map, Option, Result, Ok, Err, IfOk, IfErr, refl, sym, ap, ◌∙◌, ◌^◌, subst, codes, arith, append-nil, append_assoc, length-append}
+use Rattle.std.proofs.KnownBytes.{Appends-nil, Appends-trans}
+use Rattle.std.proofs.lemmas.List.{drop_more, flat_map_more, length-map, length-take, map-append, take-append-drop, take_all, take_more}
+use Rattle.std.proofs.lemmas.List.Concat.{flat_map-append}
 use Rattle.std.proofs.lemmas.List.Folds.{list_any-append}
 use Rattle.std.specs.Io.KnownBytes.{Appends}
 use Rattle.std.specs.List.{flat_map, list_any, zip}
@@ -25,12 +26,13 @@ use Rattle.covsession.specs.Session.{said}
 use Rattle.covsession.specs.declared.session.fault.SessionFault.{SessionFault}
 use Rattle.covsession.specs.declared.session.fault.SessionFault.TheVariants as faults
 use Rattle.covrun.specs.Check.{OutcomeData, Unread, Refused, Held, IsOutcome, IsCheck, EndsWithin, has_item, outcome_line, outcome_complaint, check_lines, check_complaints, is_unread, is_refused, is_empty}
-use Rattle.covrun.specs.Checked.{AnswersText, ReportsFile, Says, TellsEach, TellsOne, TellsText, verdict_of, worse, worst_of}
+use Rattle.covrun.specs.Checked.{AnswersText, AreExamined, IsExamined, IsReportOf, IsTextExamined, Reports, ReportsFile, Says, TellsEach, TellsExamined, TellsOne, complaint_by, verdict_of, worse, worst_of}
 use Rattle.covrun.specs.Folder.{FolderData, IsTextOf}
 use Rattle.covrun.specs.Streams.{SinksData}
 use Rattle.covrun.specs.declared.check_verdict.CheckVerdict.{CheckVerdict}
 use Rattle.covrun.specs.declared.check_verdict.CheckVerdict.TheVariants as verdicts
-use Rattle.covrun.proofs.Places.{pairs_front, pairs_more, zip_front, zip_next}
+use Rattle.covrun.specs.declared.file_report.FileReport.{FileReport}
+use Rattle.covrun.proofs.Places.{pairs_both, pairs_front, pairs_more, zip_both, zip_front, zip_next}
 
 -- ---- the result of checking a text
 
@@ -74,6 +76,14 @@ each_next told files rest outcomes file outcome same =
     flat_map_more (λ (f : List ℕ × OutcomeData). told f.0 f.1) [] (zip files outcomes) (file, outcome)
     ∙ ap (flat_map (λ (f : List ℕ × OutcomeData). told f.0 f.1)) (sym (zip_next files rest outcomes file outcome same))
 
+-- what is reported for some files, followed by what is reported for more files, is what is reported for all of them
+each_both : (told : List ℕ → OutcomeData → List ℕ) (files more : List (List ℕ)) (outcomes others : List OutcomeData) → length outcomes ≡ length files
+    → flat_map (λ (f : List ℕ × OutcomeData). told f.0 f.1) (zip files outcomes) ++ flat_map (λ (f : List ℕ × OutcomeData). told f.0 f.1) (zip more others)
+    ≡ flat_map (λ (f : List ℕ × OutcomeData). told f.0 f.1) (zip (files ++ more) (outcomes ++ others))
+each_both told files more outcomes others same =
+    sym (ap (flat_map (λ (f : List ℕ × OutcomeData). told f.0 f.1)) (zip_both files more outcomes others same)
+    ∙ flat_map-append (λ (f : List ℕ × OutcomeData). told f.0 f.1) (zip files outcomes) (zip more others))
+
 -- this outcome is possible for this file
 abbrev becomes : FolderData → TextFormat → List ℕ × OutcomeData → Type 0
 becomes folder format f = IsOutcome folder format f.0 f.1
@@ -85,25 +95,85 @@ line_told file outcome = outcome_line (shown_name file) outcome
 abbrev complaint_told : List ℕ → OutcomeData → List ℕ
 complaint_told file outcome = outcome_complaint (shown_name file) outcome
 
--- if the file may have this text, a report on the file with this text is a report on the file
-told_as : (folder : FolderData) (format : TextFormat) (file text : List ℕ) → length text ≤ suc max_bytes → IsTextOf (folder.holds file) text
-    → (answer : Result CheckVerdict SessionFault) (b d : SinksData) → TellsText format (shown_name file) text answer b d → TellsOne folder format file answer b d
-told_as folder format file text short fits answer b d (inl ran_out) = inl ran_out
-told_as folder format file text short fits answer b d (inr (Unread, none, told)) = absurd none
-told_as folder format file text short fits answer b d (inr (Refused fault, is, told)) = inr (Refused fault, (text, short, fits, is), told)
-told_as folder format file text short fits answer b d (inr (Held summary, is, told)) = inr (Held summary, (text, short, fits, is), told)
+-- ---- what comes of examining a file
+
+-- a text that is read is reported by what it holds
+pub examined_summary : (format : TextFormat) (shown text : List ℕ) (summary : TextSummary) → AnswersText format text (Ok summary)
+    → (result : Result FileReport SessionFault) → IfOk result (IsReportOf shown (Held summary)) → IfErr result (λ fault. fault ≡ faults.Memory)
+    → IsTextExamined format shown text result
+examined_summary format shown text summary (inl ran_out) result reported ended = absurd cc
+examined_summary format shown text summary (inr is) (Ok report) reported ended = (Held summary, is, reported)
+examined_summary format shown text summary (inr is) (Err fault) reported ended = ended
+
+-- a text that is refused is reported by why
+pub examined_refusal : (format : TextFormat) (shown text : List ℕ) (why : ReadFault) → AnswersText format text (Err why) → (why ≡ reads.Memory → ⊥)
+    → (result : Result FileReport SessionFault) → IfOk result (IsReportOf shown (Refused why)) → IfErr result (λ fault. fault ≡ faults.Memory)
+    → IsTextExamined format shown text result
+examined_refusal format shown text why (inl ran_out) other result reported ended = absurd (other (ap fault_of_text ran_out))
+  where
+    fault_of_text : Result TextSummary ReadFault → ReadFault
+    fault_of_text (Ok summary) = reads.Memory
+    fault_of_text (Err fault) = fault
+examined_refusal format shown text why (inr is) other (Ok report) reported ended = (Refused why, is, reported)
+examined_refusal format shown text why (inr is) other (Err fault) reported ended = ended
+
+-- if the file may have this text, what comes of examining the file with this text comes of examining the file
+examined_as : (folder : FolderData) (format : TextFormat) (file text : List ℕ) → length text ≤ suc max_bytes → IsTextOf (folder.holds file) text
+    → (result : Result FileReport SessionFault) → IsTextExamined format (shown_name file) text result → IsExamined folder format file result
+examined_as folder format file text short fits (Ok report) (Unread, none, is) = absurd none
+examined_as folder format file text short fits (Ok report) (Refused fault, may, is) = (Refused fault, (text, short, fits, may), is)
+examined_as folder format file text short fits (Ok report) (Held summary, may, is) = (Held summary, (text, short, fits, may), is)
+examined_as folder format file text short fits (Err fault) ran_out = ran_out
 
 -- the same for the file's shown name
-pub told_text : (folder : FolderData) (format : TextFormat) (file shown text : List ℕ) → shown ≡ shown_name file → length text ≤ suc max_bytes → IsTextOf (folder.holds file) text
-    → (answer : Result CheckVerdict SessionFault) (b d : SinksData) → TellsText format shown text answer b d → TellsOne folder format file answer b d
-told_text folder format file shown text is short fits answer b d told =
-    told_as folder format file text short fits answer b d (subst (λ (name : List ℕ). TellsText format name text answer b d) is told)
+pub examined_text : (folder : FolderData) (format : TextFormat) (file shown text : List ℕ) → shown ≡ shown_name file → length text ≤ suc max_bytes → IsTextOf (folder.holds file) text
+    → (result : Result FileReport SessionFault) → IsTextExamined format shown text result → IsExamined folder format file result
+examined_text folder format file shown text is short fits result examined =
+    examined_as folder format file text short fits result (subst (λ (name : List ℕ). IsTextExamined format name text result) is examined)
 
--- a file that can't be read is reported by its complaint alone
-pub told_unread : (folder : FolderData) (format : TextFormat) (file shown : List ℕ) → shown ≡ shown_name file → folder.MayFail file
-    → (answer : Result CheckVerdict SessionFault) (b d : SinksData) → ReportsFile shown Unread answer b d → TellsOne folder format file answer b d
-told_unread folder format file shown is may answer b d told =
-    inr (Unread, may, subst (λ (name : List ℕ). ReportsFile name Unread answer b d) is told)
+-- a file that can't be read is reported as such
+pub examined_unread : (folder : FolderData) (format : TextFormat) (file shown : List ℕ) → shown ≡ shown_name file → folder.MayFail file
+    → (report : FileReport) → IsReportOf shown Unread report → IsExamined folder format file (Ok report)
+examined_unread folder format file shown is may report reported =
+    (Unread, may, subst (λ (name : List ℕ). IsReportOf name Unread report) is reported)
+
+-- a verdict tells the same complaint as the outcome
+complaint_same : (shown : List ℕ) (outcome : OutcomeData) → complaint_by (verdict_of outcome) shown ≡ outcome_complaint shown outcome
+complaint_same shown Unread = refl
+complaint_same shown (Refused fault) = refl
+complaint_same shown (Held summary) = by_item (has_item summary)
+  where
+    by_item : (some : Bool) → complaint_by (if some then verdicts.Fine else verdicts.Empty) shown ≡ (if some then [] else shown ++ said (codes ": no items"))
+    by_item true = refl
+    by_item false = refl
+
+-- the report on an outcome is written as the outcome is reported
+written_report : (shown : List ℕ) (outcome : OutcomeData) (report : FileReport) (answer : Result CheckVerdict SessionFault) (b d : SinksData) → IsReportOf shown outcome report
+    → Reports report.line.items (complaint_by report.verdict report.shown) report.verdict answer b d → ReportsFile shown outcome answer b d
+written_report shown outcome report answer b d (name_is, line_is, verdict_is) told =
+    let words : complaint_by report.verdict report.shown ≡ outcome_complaint shown outcome
+    = ap (complaint_by report.verdict) name_is ∙ ap (λ (v : CheckVerdict). complaint_by v shown) verdict_is ∙ complaint_same shown outcome in
+    subst (λ (v : CheckVerdict). Reports (outcome_line shown outcome) (outcome_complaint shown outcome) v answer b d) verdict_is
+    (subst (λ (ws : List ℕ). Reports (outcome_line shown outcome) ws report.verdict answer b d) words
+    (subst (λ (line : List ℕ). Reports line (complaint_by report.verdict report.shown) report.verdict answer b d) line_is told))
+
+-- what was examined is reported
+pub told_one : (folder : FolderData) (format : TextFormat) (file : List ℕ) (result : Result FileReport SessionFault) (answer : Result CheckVerdict SessionFault) (b d : SinksData)
+    → IsExamined folder format file result → TellsExamined result answer b d → TellsOne folder format file answer b d
+told_one folder format file (Ok report) answer b d (outcome, may, is) told = inr (outcome, may, written_report (shown_name file) outcome report answer b d is told)
+told_one folder format file (Err fault) answer b d ran_out (ended, unchanged) = inl (ended ∙ ap Err ran_out, unchanged)
+
+-- what came of examining the file at this index
+pub examined_at : (folder : FolderData) (format : TextFormat) (files : List (List ℕ)) (results seen : List (Result FileReport SessionFault)) (i : ℕ) (result : Result FileReport SessionFault)
+    → AreExamined folder format files results → seen ≡ results → i < length seen → result ≡ get_or seen i result
+    → (i < length files) × IsExamined folder format (get_or files i []) result
+examined_at folder format files results seen i result (same, each) seen_is within is =
+    let as_many : length seen ≡ length results = ap (λ (rs : List (Result FileReport SessionFault)). length rs) seen_is in
+    let inside : i < length files = omega (arith, within, as_many, same) in (
+      inside,
+      subst (IsExamined folder format (get_or files i []))
+          (sym (is ∙ ap (λ (rs : List (Result FileReport SessionFault)). get_or rs i result) seen_is)) (each i inside [] result),
+    )
 
 -- ---- the worst verdict
 
@@ -142,6 +212,26 @@ worst_next outcomes outcome =
     (rw (list_any-append is_refused outcomes (outcome ∷ []))
     (rw (list_any-append is_empty outcomes (outcome ∷ []))
     (worst_with (list_any is_unread outcomes) (list_any is_refused outcomes) (list_any is_empty outcomes) outcome)))
+
+worse_of : (u r e u' r' e' : Bool) → worst (u || u') (r || r') (e || e') ≡ worse (worst u r e) (worst u' r' e')
+worse_of true r e u' r' e' = refl
+worse_of false true e true r' e' = refl
+worse_of false true e false true e' = refl
+worse_of false true e false false true = refl
+worse_of false true e false false false = refl
+worse_of false false true true r' e' = refl
+worse_of false false true false true e' = refl
+worse_of false false true false false true = refl
+worse_of false false true false false false = refl
+worse_of false false false u' r' e' = refl
+
+worst_both : (outcomes more : List OutcomeData) → worst_of (outcomes ++ more) ≡ worse (worst_of outcomes) (worst_of more)
+worst_both outcomes more =
+    rw (list_any-append is_unread outcomes more)
+    (rw (list_any-append is_refused outcomes more)
+    (rw (list_any-append is_empty outcomes more)
+    (worse_of (list_any is_unread outcomes) (list_any is_refused outcomes) (list_any is_empty outcomes)
+    (list_any is_unread more) (list_any is_refused more) (list_any is_empty more))))
 
 -- ---- the streams
 
@@ -195,10 +285,11 @@ told_next folder format files file so_far verdict a b d (outcomes, all, (same, i
 told_without_room : (folder : FolderData) (format : TextFormat) (files rest : List (List ℕ)) (file : List ℕ) (so_far : CheckVerdict) (a b d : SinksData)
     → TellsEach folder format files (Ok so_far) a b → d ≡ b → TellsEach folder format (files ++ file ∷ rest) (Err faults.Memory) a d
 told_without_room folder format files rest file so_far a b d (outcomes, all, (same, is, lines, good, sent, says)) unchanged =
-    let front : zip (files ++ file ∷ rest) outcomes ≡ zip files outcomes = zip_front files (file ∷ rest) outcomes same in
+    let few : length outcomes ≤ length files = omega (arith, same) in
+    let front : zip (files ++ file ∷ rest) outcomes ≡ zip files outcomes = zip_front files (file ∷ rest) outcomes few in
     subst (λ (s : SinksData). TellsEach folder format (files ++ file ∷ rest) (Err faults.Memory) a s) (sym unchanged) (
       outcomes,
-      pairs_front (becomes folder format) files (file ∷ rest) outcomes same all,
+      pairs_front (becomes folder format) files (file ∷ rest) outcomes few all,
       (
         omega (arith, same, length-append files (file ∷ rest)),
         subst (Appends a.output b.output) (ap (flat_map (λ (f : List ℕ × OutcomeData). outcome_line (shown_name f.0) f.1)) (sym front)) lines,
@@ -245,34 +336,232 @@ told_until folder format files rest file so_far faults.Read a b d before (inr (o
 told_until folder format files rest file so_far faults.Full a b d before (inl (ran_out, unchanged)) = absurd cc
 told_until folder format files rest file so_far faults.Full a b d before (inr (outcome, fits, none)) = absurd none
 
--- ---- the files as a slice of names
+-- ---- the files by their indexes
+
+-- nothing is reported yet
+pub told_start : (folder : FolderData) (format : TextFormat) (a : SinksData) → TellsEach folder format [] (Ok verdicts.Fine) a a
+told_start folder format a = (
+  [],
+  tt,
+  (refl, refl, Appends-nil a.output, refl, (λ none. none), ((λ good. Appends-nil a.faults), omega arith, omega arith)),
+)
+
+-- memory ran out before the first file was reported
+pub told_nothing : (folder : FolderData) (format : TextFormat) (files : List (List ℕ)) (a : SinksData) → 0 < length files → TellsEach folder format files (Err faults.Memory) a a
+told_nothing folder format [] a some = absurd (omega (arith, some))
+told_nothing folder format (file ∷ rest) a some = told_without_room folder format [] rest file verdicts.Fine a a a (told_start folder format a) refl
+
+-- few writes failed
+pub told_few : (folder : FolderData) (format : TextFormat) (files : List (List ℕ)) (so_far : CheckVerdict) (a b : SinksData)
+    → TellsEach folder format files (Ok so_far) a b → (b.failed_output ≡ a.failed_output) × (b.failed_faults ≤ a.failed_faults + length files)
+told_few folder format files so_far a b (outcomes, all, (same, is, lines, good, sent, (complained, grew, few))) = (good, omega (arith, same, few))
+
+-- few writes to the stream for faults failed, if there are `count` files, and the first `i` are reported
+pub told_few_of : (folder : FolderData) (format : TextFormat) (files : List (List ℕ)) (i count : ℕ) (so_far : CheckVerdict) (a b : SinksData)
+    → TellsEach folder format (take i files) (Ok so_far) a b → length files ≡ count → a.failed_faults + count < 2 ^ 63 → b.failed_faults < 2 ^ 63
+told_few_of folder format files i count so_far a b told many room =
+    omega (arith, (told_few folder format (take i files) so_far a b told).1, length-take i files, many, room)
+
+-- all files are reported, if as many are as there are results
+pub told_whole : (folder : FolderData) (format : TextFormat) (files : List (List ℕ)) (results seen : List (Result FileReport SessionFault)) (i : ℕ) (so_far : CheckVerdict) (a b : SinksData)
+    → AreExamined folder format files results → seen ≡ results → length seen ≤ i → TellsEach folder format (take i files) (Ok so_far) a b
+    → TellsEach folder format files (Ok so_far) a b
+told_whole folder format files results seen i so_far a b (same, each) seen_is ended told =
+    let as_many : length seen ≡ length results = ap (λ (rs : List (Result FileReport SessionFault)). length rs) seen_is in
+    let all : length files ≤ i = omega (arith, as_many, same, ended) in
+    subst (λ (fs : List (List ℕ)). TellsEach folder format fs (Ok so_far) a b) (take_all i files all) told
 
 -- the next file is reported
-pub told_more : {X : Type 0} (folder : FolderData) (name : X → List ℕ) (format : TextFormat) (files : List X) (i : ℕ) (default : X) → i < length files
-    → (file : List ℕ) → file ≡ name (get_or files i default) → (so_far verdict after : CheckVerdict) → after ≡ worse so_far verdict → (a b d : SinksData)
-    → TellsEach folder format (map name (take i files)) (Ok so_far) a b → TellsOne folder format file (Ok verdict) b d
-    → TellsEach folder format (map name (take (i + 1) files)) (Ok after) a d
-told_more folder name format files i default within file is so_far verdict after worse_is a b d before next =
-    let more : map name (take (i + 1) files) ≡ map name (take i files) ++ file ∷ []
-    = ap (map name) (take_more files i default within) ∙ map-append name (take i files) (get_or files i default ∷ [])
-    ∙ ap (λ (f : List ℕ). map name (take i files) ++ f ∷ []) (sym is) in
-    subst (λ (fs : List (List ℕ)). TellsEach folder format fs (Ok after) a d) (sym more)
-    (subst (λ (v : CheckVerdict). TellsEach folder format (map name (take i files) ++ file ∷ []) (Ok v) a d) (sym worse_is)
-    (told_next folder format (map name (take i files)) file so_far verdict a b d before next))
+pub told_more : (folder : FolderData) (format : TextFormat) (files : List (List ℕ)) (i : ℕ) → i < length files
+    → (so_far verdict after : CheckVerdict) → after ≡ worse so_far verdict → (a b d : SinksData)
+    → TellsEach folder format (take i files) (Ok so_far) a b → TellsOne folder format (get_or files i []) (Ok verdict) b d
+    → TellsEach folder format (take (i + 1) files) (Ok after) a d
+told_more folder format files i within so_far verdict after worse_is a b d before next =
+    subst (λ (fs : List (List ℕ)). TellsEach folder format fs (Ok after) a d) (sym (take_more files i [] within))
+    (subst (λ (v : CheckVerdict). TellsEach folder format (take i files ++ get_or files i [] ∷ []) (Ok v) a d) (sym worse_is)
+    (told_next folder format (take i files) (get_or files i []) so_far verdict a b d before next))
 
--- a fault came at the next file of the slice, so no later file is reported
-pub told_last : {X : Type 0} (folder : FolderData) (name : X → List ℕ) (format : TextFormat) (files : List X) (i : ℕ) (default : X) → i < length files
-    → (file : List ℕ) → file ≡ name (get_or files i default) → (so_far : CheckVerdict) (fault : SessionFault) (a b d : SinksData)
-    → TellsEach folder format (map name (take i files)) (Ok so_far) a b → TellsOne folder format file (Err fault) b d
-    → TellsEach folder format (map name files) (Err fault) a d
-told_last {X} folder name format files i default within file is so_far fault a b d before next =
-    let cut : map name files ≡ map name (take i files) ++ map name (drop i files)
-    = ap (map name) (sym (take-append-drop i files)) ∙ map-append name (take i files) (drop i files) in
-    let rest : map name (drop i files) ≡ file ∷ map name (drop (i + 1) files)
-    = ap (map name) (drop_more files i default within) ∙ ap (λ (x : List ℕ). x ∷ map name (drop (i + 1) files)) (sym is) in
-    subst (λ (fs : List (List ℕ)). TellsEach folder format fs (Err fault) a d)
-    (sym (cut ∙ ap (λ (xs : List (List ℕ)). map name (take i files) ++ xs) rest))
-    (told_until folder format (map name (take i files)) (map name (drop (i + 1) files)) file so_far fault a b d before next)
+-- a fault came at the next file, so no later file is reported
+pub told_last : (folder : FolderData) (format : TextFormat) (files : List (List ℕ)) (i : ℕ) → i < length files → (so_far : CheckVerdict) (fault : SessionFault) (a b d : SinksData)
+    → TellsEach folder format (take i files) (Ok so_far) a b → TellsOne folder format (get_or files i []) (Err fault) b d
+    → TellsEach folder format files (Err fault) a d
+told_last folder format files i within so_far fault a b d before next =
+    let cut : files ≡ take i files ++ get_or files i [] ∷ drop (i + 1) files
+    = sym (take-append-drop i files) ∙ ap (λ (fs : List (List ℕ)). take i files ++ fs) (drop_more files i [] within) in
+    subst (λ (fs : List (List ℕ)). TellsEach folder format fs (Err fault) a d) (sym cut)
+    (told_until folder format (take i files) (drop (i + 1) files) (get_or files i []) so_far fault a b d before next)
+
+-- ---- one more round
+
+-- some files are reported, and then those of a round
+pub told_round : (folder : FolderData) (format : TextFormat) (files round : List (List ℕ)) (so_far verdict : CheckVerdict) (a b d : SinksData)
+    → TellsEach folder format files (Ok so_far) a b → TellsEach folder format round (Ok verdict) b d
+    → TellsEach folder format (files ++ round) (Ok (worse so_far verdict)) a d
+told_round folder format files round so_far verdict a b d (outcomes, all, (same, is, lines, good, sent, says)) (more, all', (same', is', lines', good', sent', says')) =
+    let longer : length (outcomes ++ more) ≡ length outcomes + length more = length-append outcomes more in (
+      outcomes ++ more,
+      pairs_both (becomes folder format) files round outcomes more same all all',
+      (
+        omega (arith, longer, same, same', length-append files round),
+        ap (λ (v : CheckVerdict). worse v verdict) is ∙ ap (worse (worst_of outcomes)) is' ∙ sym (worst_both outcomes more),
+        subst (Appends a.output d.output) (each_both line_told files round outcomes more same)
+            (Appends-trans a.output b.output d.output _ _ lines lines'),
+        good' ∙ good,
+        λ none. sent' (sent none),
+        subst (λ (n : ℕ). Says n (check_complaints (files ++ round) (outcomes ++ more)) a d) (sym longer)
+            (subst (λ (ws : List ℕ). Says (length outcomes + length more) ws a d) (each_both complaint_told files round outcomes more same)
+            (says_next (length outcomes) (length more) _ _ a b d says says')),
+      ),
+    )
+
+-- a fault came within the round
+told_within : (folder : FolderData) (format : TextFormat) (files round : List (List ℕ)) (so_far : CheckVerdict) (fault : SessionFault) (a b d : SinksData)
+    → TellsEach folder format files (Ok so_far) a b → TellsEach folder format round (Err fault) b d
+    → TellsEach folder format (files ++ round) (Err fault) a d
+told_within folder format files round so_far faults.Write a b d (outcomes, all, (same, is, lines, good, sent, says)) (more, all', (within, failed, says')) =
+    let longer : length (outcomes ++ more) ≡ length outcomes + length more = length-append outcomes more in (
+      outcomes ++ more,
+      pairs_both (becomes folder format) files round outcomes more same all all',
+      (
+        record {
+          earlier = files ++ within.earlier;
+          file = within.file;
+          later = within.later;
+          files_are = ap (λ (fs : List (List ℕ)). files ++ fs) within.files_are ∙ sym (append_assoc files within.earlier (within.file ∷ within.later));
+          before = outcomes ++ within.before;
+          last = within.last;
+          outcomes_are = ap (λ (os : List OutcomeData). outcomes ++ os) within.outcomes_are ∙ sym (append_assoc outcomes within.before (within.last ∷ []));
+          each = omega (arith, same, within.each, length-append outcomes within.before, length-append files within.earlier);
+          between = within.between;
+          whole = subst (Appends a.output within.between) (each_both line_told files within.earlier outcomes within.before same)
+              (Appends-trans a.output b.output within.between _ _ lines within.whole);
+          part = within.part;
+        },
+        failed ∙ ap suc good,
+        subst (λ (n : ℕ). Says n (check_complaints (files ++ round) (outcomes ++ more)) a d) (sym longer)
+            (subst (λ (ws : List ℕ). Says (length outcomes + length more) ws a d) (each_both complaint_told files round outcomes more same)
+            (says_next (length outcomes) (length more) _ _ a b d says says')),
+      ),
+    )
+told_within folder format files round so_far faults.Memory a b d (outcomes, all, (same, is, lines, good, sent, says)) (more, all', (some, lines', good', says')) =
+    let longer : length (outcomes ++ more) ≡ length outcomes + length more = length-append outcomes more in (
+      outcomes ++ more,
+      pairs_both (becomes folder format) files round outcomes more same all all',
+      (
+        omega (arith, longer, same, some, length-append files round),
+        subst (Appends a.output d.output) (each_both line_told files round outcomes more same)
+            (Appends-trans a.output b.output d.output _ _ lines lines'),
+        good' ∙ good,
+        subst (λ (n : ℕ). Says n (check_complaints (files ++ round) (outcomes ++ more)) a d) (sym longer)
+            (subst (λ (ws : List ℕ). Says (length outcomes + length more) ws a d) (each_both complaint_told files round outcomes more same)
+            (says_next (length outcomes) (length more) _ _ a b d says says')),
+      ),
+    )
+told_within folder format files round so_far faults.Read a b d before (more, all, none) = absurd none
+told_within folder format files round so_far faults.Full a b d before (more, all, none) = absurd none
+
+-- what is reported of outcomes is the same if files without an outcome follow
+each_front : (told : List ℕ → OutcomeData → List ℕ) (files later : List (List ℕ)) (outcomes : List OutcomeData) → length outcomes ≤ length files
+    → flat_map (λ (f : List ℕ × OutcomeData). told f.0 f.1) (zip files outcomes)
+    ≡ flat_map (λ (f : List ℕ × OutcomeData). told f.0 f.1) (zip (files ++ later) outcomes)
+each_front told files later outcomes few =
+    ap (flat_map (λ (f : List ℕ × OutcomeData). told f.0 f.1)) (sym (zip_front files later outcomes few))
+
+-- after a fault no later file is checked
+told_before : (folder : FolderData) (format : TextFormat) (files later : List (List ℕ)) (fault : SessionFault) (a d : SinksData)
+    → TellsEach folder format files (Err fault) a d → TellsEach folder format (files ++ later) (Err fault) a d
+told_before folder format files later faults.Write a d (outcomes, all, (within, failed, says)) =
+    let few : length outcomes ≤ length files = omega (
+      arith,
+      within.each,
+      ap (λ (os : List OutcomeData). length os) within.outcomes_are,
+      ap (λ (fs : List (List ℕ)). length fs) within.files_are,
+      length-append within.before (within.last ∷ []),
+      length-append within.earlier (within.file ∷ within.later),
+    ) in (
+      outcomes,
+      pairs_front (becomes folder format) files later outcomes few all,
+      (
+        record {
+          earlier = within.earlier;
+          file = within.file;
+          later = within.later ++ later;
+          files_are = ap (λ (fs : List (List ℕ)). fs ++ later) within.files_are ∙ append_assoc within.earlier (within.file ∷ within.later) later;
+          before = within.before;
+          last = within.last;
+          outcomes_are = within.outcomes_are;
+          each = within.each;
+          between = within.between;
+          whole = within.whole;
+          part = within.part;
+        },
+        failed,
+        subst (λ (ws : List ℕ). Says (length outcomes) ws a d) (each_front complaint_told files later outcomes few) says,
+      ),
+    )
+told_before folder format files later faults.Memory a d (outcomes, all, (some, lines, good, says)) =
+    let few : length outcomes ≤ length files = omega (arith, some) in (
+      outcomes,
+      pairs_front (becomes folder format) files later outcomes few all,
+      (
+        omega (arith, some, length-append files later),
+        subst (Appends a.output d.output) (each_front line_told files later outcomes few) lines,
+        good,
+        subst (λ (ws : List ℕ). Says (length outcomes) ws a d) (each_front complaint_told files later outcomes few) says,
+      ),
+    )
+told_before folder format files later faults.Read a d (outcomes, all, none) = absurd none
+told_before folder format files later faults.Full a d (outcomes, all, none) = absurd none
+
+-- a fault came within the round, so no later round is checked
+pub told_last_round : (folder : FolderData) (format : TextFormat) (all files round later : List (List ℕ)) → all ≡ files ++ round ++ later
+    → (so_far : CheckVerdict) (fault : SessionFault) (a b d : SinksData)
+    → TellsEach folder format files (Ok so_far) a b → TellsEach folder format round (Err fault) b d
+    → TellsEach folder format all (Err fault) a d
+told_last_round folder format all files round later is so_far fault a b d before ended =
+    subst (λ (fs : List (List ℕ)). TellsEach folder format fs (Err fault) a d) (sym is)
+    (told_before folder format (files ++ round) later fault a d (told_within folder format files round so_far fault a b d before ended))
+
+-- the same with the verdict that the code has
+pub told_round_as : (folder : FolderData) (format : TextFormat) (files round : List (List ℕ)) (so_far verdict after : CheckVerdict) → after ≡ worse so_far verdict → (a b d : SinksData)
+    → TellsEach folder format files (Ok so_far) a b → TellsEach folder format round (Ok verdict) b d
+    → TellsEach folder format (files ++ round) (Ok after) a d
+told_round_as folder format files round so_far verdict after is a b d before next =
+    subst (λ (v : CheckVerdict). TellsEach folder format (files ++ round) (Ok v) a d) (sym is) (told_round folder format files round so_far verdict a b d before next)
+
+-- ---- the files as a slice that rounds are cut from
+
+-- the files before the next round, its files, and those after it
+pub cut_round : {X : Type 0} (name : X → List ℕ) (all left round later : List X) (before : List (List ℕ)) → round ++ later ≡ left → map name all ≡ before ++ map name left
+    → map name all ≡ before ++ map name round ++ map name later
+cut_round name all left round later before cut is =
+    is ∙ ap (λ (xs : List _). before ++ map name xs) (sym cut) ∙ ap (λ (fs : List (List ℕ)). before ++ fs) (map-append name round later)
+    ∙ sym (append_assoc before (map name round) (map name later))
+
+-- few writes failed, and few files are left
+pub few_left : {X : Type 0} (name : X → List ℕ) (all left round later : List X) (before : List (List ℕ)) → round ++ later ≡ left → map name all ≡ before ++ map name left
+    → (failed first : ℕ) → failed ≤ first + length before → length all < 2 ^ 62 → first < 2 ^ 62 → failed + length round < 2 ^ 63
+few_left name all left round later before cut is failed first few short room =
+    let parts : length (map name all) ≡ length (before ++ map name round ++ map name later)
+    = ap (λ (fs : List (List ℕ)). length fs) (cut_round name all left round later before cut is) in
+    omega (
+      arith,
+      few,
+      short,
+      room,
+      parts,
+      length-append (before ++ map name round) (map name later),
+      length-append before (map name round),
+      length-map all name,
+      length-map round name,
+    )
+
+-- no file is left
+pub told_to_end : {X : Type 0} (folder : FolderData) (name : X → List ℕ) (format : TextFormat) (all left : List X) (before : List (List ℕ)) (so_far : CheckVerdict) (a b : SinksData)
+    → length left ≡ 0 → map name all ≡ before ++ map name left → TellsEach folder format before (Ok so_far) a b → TellsEach folder format (map name all) (Ok so_far) a b
+told_to_end folder name format all [] before so_far a b none is told =
+    subst (λ (fs : List (List ℕ)). TellsEach folder format fs (Ok so_far) a b) (sym (is ∙ append-nil before)) told
+told_to_end folder name format all (x ∷ left) before so_far a b none is told = absurd (omega (arith, none))
 
 -- ---- the end
 

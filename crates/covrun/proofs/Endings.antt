@@ -190,7 +190,7 @@ ends_with_answer files entries refused asks lines ending is_text ran are none is
 abbrev AsksText : TaskData → Type 0
 AsksText Serves = Unit {0}
 AsksText (Collects work) = IsText (last_of work.asks)
-AsksText (Checks format files) = Unit {0}
+AsksText (Checks format jobs files) = Unit {0}
 
 report_or_chosen : (choice : Option ChoiceData) → IsText (last_of (asked_of ReportOp ChosenReport choice))
 report_or_chosen None = tt
@@ -217,7 +217,7 @@ asks_text_of (commands.List version jobs filter form names) = tt
 asks_text_of (commands.Extract version names) = tt
 asks_text_of (commands.Remove version names) = tt
 asks_text_of (commands.Gcov test names) = tt
-asks_text_of (commands.Check format names) = tt
+asks_text_of (commands.Check format jobs names) = tt
 
 -- the last operation of each subcommand that collects files asks for a text
 pub asks_text : (command : Command) (work : WorkData) → Collects work ≡ task_of command → IsText (last_of work.asks)
@@ -233,9 +233,9 @@ told_work folder work task file named ending status before after old new files w
     (unread, ending, ends, subst (λ (f : Option (List ℕ)). IsEndingReported f ending status old new files written) same told)
 
 -- if files were checked, the task of a check is done
-pub told_check : (folder : FolderData) (format : TextFormat) (names named : List (List ℕ)) (task : TaskData) (file : Option (List ℕ)) (status : ℕ) (before after : SourceData) (old new : SinksData) (files : OutputFilesData)
-    → after ≡ before → named ≡ names → Checks format names ≡ task → IsCheck folder format named status old new → IsTaskDone folder task file status before after old new files files
-told_check folder format names named task file status before after old new files unread same is checked =
+pub told_check : (folder : FolderData) (format : TextFormat) (jobs : ℕ) (names named : List (List ℕ)) (task : TaskData) (file : Option (List ℕ)) (status : ℕ) (before after : SourceData) (old new : SinksData) (files : OutputFilesData)
+    → after ≡ before → named ≡ names → Checks format jobs names ≡ task → IsCheck folder format named status old new → IsTaskDone folder task file status before after old new files files
+told_check folder format jobs names named task file status before after old new files unread same is checked =
     subst (λ (t : TaskData). IsTaskDone folder t file status before after old new files files) is
     (unread, refl, subst (λ (ns : List (List ℕ)). IsCheck folder format ns status old new) same checked)
 

@@ -30,7 +30,7 @@ use Rattle.covrun.specs.Work.{WorkData, TaskData, Serves, Collects, Checks, last
 use Rattle.covrun.specs.Check.{IsCheck}
 use Rattle.covlist.specs.Shown.{shown_name}
 use Rattle.covrun.specs.Folder.{FolderData, AreTextsOf}
-use Rattle.covrun.specs.OutputFiles.{OutputFilesData, Finishes}
+use Rattle.covrun.specs.OutputFiles.{OutputFilesData, Finishes, file_of}
 use Rattle.covrun.specs.Streams.{SourceData, SinksData, Complains, Withholds, Delivers, DeliversAndComplains}
 
 -- there is one text for each file. A text has at most one byte more than the limit. If the folder knows a file's bytes, the
@@ -100,12 +100,14 @@ IsEndingPrinted ending status old new = (status ≡ status_of ending) × Withhol
 
 -- the text went into a file of this name, which was finished
 abbrev pub IsWritten : (name text : List ℕ) → OutputFilesData → OutputFilesData → Type 0
-IsWritten name text files after = Finishes name text files.finished after.finished × (after.failed ≡ files.failed)
+IsWritten name text files after =
+    Finishes name text files.finished after.finished × (after.begun ≡ files.begun) × (after.failed ≡ files.failed)
 
 -- the file of this name couldn't be written. No file was finished, and the failure is reported
 abbrev pub IsUnwritten : (name : List ℕ) → (status : ℕ) → SinksData → SinksData → OutputFilesData → OutputFilesData → Type 0
 IsUnwritten name status old new files after =
-    (status ≡ 1) × (after.finished ≡ files.finished) × (after.failed ≡ suc files.failed) × Withholds old new
+    (status ≡ 1) × (after.finished ≡ files.finished) × (after.begun ≡ files.begun) × (after.failed ≡ suc files.failed)
+    × Withholds old new
     × Complains (shown_name name ++ said (codes ": can't write")) old new
 
 -- how an ending is reported if the call names a file for its text: the text goes into the file instead of to the output. For an
@@ -143,7 +145,7 @@ IsTaskDone folder Serves file status before after old new files written =
     old.failed_faults new.failed_faults
 IsTaskDone folder (Collects work) file status before after old new files written =
     (after ≡ before) × (ending : EndingData) × WorkEnds folder work ending × IsEndingReported file ending status old new files written
-IsTaskDone folder (Checks format names) file status before after old new files written =
+IsTaskDone folder (Checks format jobs names) file status before after old new files written =
     (after ≡ before) × (written ≡ files) × IsCheck folder format names status old new
 
 -- a command ends early, and the input isn't read; or its words are accepted, and its task is done
@@ -156,7 +158,7 @@ IsCommandDone folder command file status before after old new files written =
 -- reported, and the input isn't read
 abbrev pub IsCallDone : FolderData → Result Asked CommandFault → (status : ℕ) → (before after : SourceData) → SinksData → SinksData → OutputFilesData → OutputFilesData → Type 0
 IsCallDone folder (Ok asked) status before after old new files written =
-    IsCommandDone folder asked.command (option_map string_bytes asked.output) status before after old new files written
+    IsCommandDone folder asked.command (file_of (option_map string_bytes asked.output)) status before after old new files written
 IsCallDone folder (Err fault) status before after old new files written =
     (after ≡ before) × (written ≡ files) × IsEndingPrinted (of_line fault) status old new
 

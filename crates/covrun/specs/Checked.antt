@@ -1,13 +1,14 @@
 -- Private steps: what a check of files has reported so far.
 use Rattle.std.specs.Io.KnownBytes.{Appends}
 use Rattle.std.specs.List.{list_any}
-use Rattle.std.specs.Prelude.{◌≡◌, ◌⊎◌, ◌<◌, ◌≤◌, ◌+◌, ℕ, suc, List, length, if◌then◌else◌, Result, Ok, Err}
+use Rattle.std.specs.Prelude.{◌≡◌, ◌⊎◌, ◌<◌, ◌≤◌, ◌+◌, ℕ, suc, List, [], ◌++◌, codes, length, get_or, if◌then◌else◌, Result, Ok, Err}
 use Rattle.covcheck.specs.declared.text_summary.TextSummary.{TextSummary}
 use Rattle.covcommand.specs.declared.asked.TextFormat.{TextFormat}
 use Rattle.covlist.specs.Shown.{shown_name}
 use Rattle.covread.specs.declared.fault.ReadFault.{ReadFault}
 use Rattle.covread.specs.declared.fault.ReadFault.TheVariants as reads
 use Rattle.covsession.specs.Fault.{HasBegun}
+use Rattle.covsession.specs.Session.{said}
 use Rattle.covsession.specs.declared.session.fault.SessionFault.{SessionFault}
 use Rattle.covsession.specs.declared.session.fault.SessionFault.TheVariants as faults
 use Rattle.covrun.specs.Check.{OutcomeData, Unread, Refused, Held, IsTextOutcome, IsOutcome, AreOutcomes, EndsWithin, has_item, outcome_line, outcome_complaint, check_lines, check_complaints, is_unread, is_refused, is_empty}
@@ -15,6 +16,7 @@ use Rattle.covrun.specs.Folder.{FolderData}
 use Rattle.covrun.specs.Streams.{SinksData, Complains}
 use Rattle.covrun.specs.declared.check_verdict.CheckVerdict.{CheckVerdict}
 use Rattle.covrun.specs.declared.check_verdict.CheckVerdict.TheVariants as verdicts
+use Rattle.covrun.specs.declared.file_report.FileReport.{FileReport}
 
 -- what checking a text may return: its outcome, or `Memory`
 abbrev pub AnswersText : TextFormat → List ℕ → Result TextSummary ReadFault → Type 0
@@ -59,17 +61,33 @@ abbrev pub Says : (most : ℕ) → List ℕ → SinksData → SinksData → Type
 Says most words old new =
     Complains words old new × (old.failed_faults ≤ new.failed_faults) × (new.failed_faults ≤ old.failed_faults + most)
 
--- how the outcome of a file with this shown name is reported. If memory ran out, nothing was written
+-- the complaint about a file of this shown name, by its verdict
+abbrev pub complaint_by : CheckVerdict → (shown : List ℕ) → List ℕ
+complaint_by verdicts.Fine shown = []
+complaint_by verdicts.Empty shown = shown ++ said (codes ": no items")
+complaint_by verdicts.Refused shown = []
+complaint_by verdicts.Unreadable shown = shown ++ said (codes ": can't read")
+
+-- how a file is reported: by this line, by these words of complaint, and by its verdict. If memory ran out, nothing was written
+abbrev pub Reports : (line words : List ℕ) → CheckVerdict → Result CheckVerdict SessionFault → SinksData → SinksData → Type 0
+Reports line words verdict (Ok told) old new =
+    (told ≡ verdict) × Appends old.output new.output line
+    × (new.failed_output ≡ old.failed_output) × (old.held ≡ 0 → new.held ≡ 0) × Says 1 words old new
+Reports line words verdict (Err faults.Write) old new =
+    HasBegun old.output new.output line × (new.failed_output ≡ suc old.failed_output) × Says 1 words old new
+Reports line words verdict (Err faults.Memory) old new = new ≡ old
+Reports line words verdict (Err faults.Read) old new = ⊥
+Reports line words verdict (Err faults.Full) old new = ⊥
+
+-- how the outcome of a file with this shown name is reported
 abbrev pub ReportsFile : (shown : List ℕ) → OutcomeData → Result CheckVerdict SessionFault → SinksData → SinksData → Type 0
-ReportsFile shown outcome (Ok verdict) old new =
-    (verdict ≡ verdict_of outcome) × Appends old.output new.output (outcome_line shown outcome)
-    × (new.failed_output ≡ old.failed_output) × (old.held ≡ 0 → new.held ≡ 0) × Says 1 (outcome_complaint shown outcome) old new
-ReportsFile shown outcome (Err faults.Write) old new =
-    HasBegun old.output new.output (outcome_line shown outcome)
-    × (new.failed_output ≡ suc old.failed_output) × Says 1 (outcome_complaint shown outcome) old new
-ReportsFile shown outcome (Err faults.Memory) old new = new ≡ old
-ReportsFile shown outcome (Err faults.Read) old new = ⊥
-ReportsFile shown outcome (Err faults.Full) old new = ⊥
+ReportsFile shown outcome answer old new =
+    Reports (outcome_line shown outcome) (outcome_complaint shown outcome) (verdict_of outcome) answer old new
+
+-- the report on a file with this shown name and this outcome
+abbrev pub IsReportOf : (shown : List ℕ) → OutcomeData → FileReport → Type 0
+IsReportOf shown outcome report =
+    (report.shown ≡ shown) × (report.line.items ≡ outcome_line shown outcome) × (report.verdict ≡ verdict_of outcome)
 
 -- the outcome of a file that has this text
 abbrev pub IsOutcomeOfText : TextFormat → (text : List ℕ) → OutcomeData → Type 0
@@ -77,11 +95,29 @@ IsOutcomeOfText format text Unread = ⊥
 IsOutcomeOfText format text (Refused fault) = IsTextOutcome format text (Err fault)
 IsOutcomeOfText format text (Held summary) = IsTextOutcome format text (Ok summary)
 
--- how a file with this shown name and this text is reported. If memory ran out, nothing was written
-abbrev pub TellsText : TextFormat → (shown text : List ℕ) → Result CheckVerdict SessionFault → SinksData → SinksData → Type 0
-TellsText format shown text answer old new =
-    ((answer ≡ Err faults.Memory) × (new ≡ old))
-    ⊎ ((outcome : OutcomeData) × IsOutcomeOfText format text outcome × ReportsFile shown outcome answer old new)
+-- what comes of examining a file with this shown name and this text: a report on its outcome, unless memory ran out
+abbrev pub IsTextExamined : TextFormat → (shown text : List ℕ) → Result FileReport SessionFault → Type 0
+IsTextExamined format shown text (Ok report) =
+    (outcome : OutcomeData) × IsOutcomeOfText format text outcome × IsReportOf shown outcome report
+IsTextExamined format shown text (Err fault) = fault ≡ faults.Memory
+
+-- what comes of examining a file: a report on an outcome that is possible for the file, unless memory ran out
+abbrev pub IsExamined : FolderData → TextFormat → (file : List ℕ) → Result FileReport SessionFault → Type 0
+IsExamined folder format file (Ok report) =
+    (outcome : OutcomeData) × IsOutcome folder format file outcome × IsReportOf (shown_name file) outcome report
+IsExamined folder format file (Err fault) = fault ≡ faults.Memory
+
+-- what comes of examining files: of each file at its index
+abbrev pub AreExamined : FolderData → TextFormat → (files : List (List ℕ)) → List (Result FileReport SessionFault) → Type 0
+AreExamined folder format files results =
+    (length results ≡ length files) × ((index : ℕ) → index < length files → (file : List ℕ) (result : Result FileReport SessionFault)
+    → IsExamined folder format (get_or files index file) (get_or results index result))
+
+-- how the report of a file that was examined is written. If memory ran out, nothing is written
+abbrev pub TellsExamined : Result FileReport SessionFault → Result CheckVerdict SessionFault → SinksData → SinksData → Type 0
+TellsExamined (Ok report) answer old new =
+    Reports report.line.items (complaint_by report.verdict report.shown) report.verdict answer old new
+TellsExamined (Err fault) answer old new = (answer ≡ Err fault) × (new ≡ old)
 
 -- how one file is reported. If memory ran out, nothing was written
 abbrev pub TellsOne : FolderData → TextFormat → (file : List ℕ) → Result CheckVerdict SessionFault → SinksData → SinksData → Type 0

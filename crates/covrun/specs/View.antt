@@ -26,7 +26,7 @@ work_data work = record { files = work.files; format = work.format; jobs = work.
 abbrev pub task_data : Task → TaskData
 task_data tasks.Session = Serves
 task_data (tasks.Collect work) = Collects (work_data work)
-task_data (tasks.Check format files) = Checks format files
+task_data (tasks.Check format jobs files) = Checks format jobs files
 
 abbrev pub ready_data : ReadyAnswer → EndingData
 ready_data answer = with_shortfalls answer.shortfalls answer.text

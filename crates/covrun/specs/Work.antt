@@ -83,11 +83,11 @@ summary_asked forms.Json limits choice = LimitedTotals forms.Json (chosen_or_all
 abbrev pub filtering : LcovVersion → (List (List ℕ) → OpData) → List (List ℕ) → WorkData
 filtering version op names = record { files = take 1 names; format = Tracefile version; jobs = 1; asks = Answer (op (drop 1 names)) }
 
--- what a call has to do: a session; or to collect files and then answer what is asked; or to check files one by one
+-- what a call has to do: a session; or to collect files and then answer what is asked; or to check files, each by itself
 pub data TaskData : Type 0 where
   Serves : TaskData
   Collects : (work : WorkData) → TaskData
-  Checks : (format : TextFormat) → (files : List (List ℕ)) → TaskData
+  Checks : (format : TextFormat) → (jobs : ℕ) → (files : List (List ℕ)) → TaskData
 
 -- what each subcommand has to do; a call without a subcommand is a session
 abbrev pub task_of : Command → TaskData
@@ -101,7 +101,7 @@ task_of (ListFiles version jobs filter form names) =
 task_of (Extract version names) = Collects (filtering version ExtractOp names)
 task_of (Remove version names) = Collects (filtering version RemoveOp names)
 task_of (Gcov test names) = Collects (record { files = names; format = GcovOutput test; jobs = 1; asks = Answer ReportOp })
-task_of (Check format names) = Checks format names
+task_of (Check format jobs names) = Checks format jobs names
 
 -- a file's text as an input of collecting: a tracefile of this version of lcov, or gcov's text of this test
 abbrev pub input_of : FileFormat → List ℕ → InputData
@@ -159,7 +159,7 @@ AreTaken (ListFiles version jobs filter form names) = IsFilter filter
 AreTaken (Extract version names) = ArePatterns (drop 1 names)
 AreTaken (Remove version names) = ArePatterns (drop 1 names)
 AreTaken (Gcov test names) = IsGoodTest test
-AreTaken (Check format names) = Unit {0}
+AreTaken (Check format jobs names) = Unit {0}
 
 -- a pattern, a limit or the test's name is refused for this reason
 abbrev pub AreRefused : Command → ArgumentFault → Type 0
@@ -170,4 +170,4 @@ AreRefused (ListFiles version jobs filter form names) fault = IsFilterFault filt
 AreRefused (Extract version names) fault = IsPatternFault (drop 1 names) fault
 AreRefused (Remove version names) fault = IsPatternFault (drop 1 names) fault
 AreRefused (Gcov test names) fault = IsTestFault test fault
-AreRefused (Check format names) fault = ⊥
+AreRefused (Check format jobs names) fault = ⊥

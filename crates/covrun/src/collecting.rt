@@ -1,6 +1,6 @@
 //! A subcommand's work: collects its files, decides how the call ends, and reports that.
 
-ghost use Rattle.std.specs.Prelude.{◌≡◌, ◌⊎◌, ◌<◌, ◌^◌, ◌++◌, [], ◌∷◌, map, option_map, slice_get, IfOk, OnOk, IfErr};
+ghost use Rattle.std.specs.Prelude.{◌≡◌, ◌⊎◌, ◌<◌, ◌^◌, ◌++◌, [], ◌∷◌, None, map, option_map, slice_get, IfOk, OnOk, IfErr};
 ghost use Rattle.std.specs.List.{flat_map};
 ghost use Rattle.std.specs.String.{string_bytes};
 ghost use Rattle.covbook.specs.EntryView.{entry_data};
@@ -53,6 +53,7 @@ pub(crate) fn do_work<
     faults: &mut E,
 ) -> u8
     requires text { IsText (last_of (question_data work.now.asks)) }
+    requires begun { P.begun files.old ≡ None }
     requires files { P.failed files.old < 2 ^ 62 }
     requires output { O.failed_writes output.old < 2 ^ 62 }
     requires faults { E.failed_writes faults.old < 2 ^ 62 }
@@ -61,8 +62,8 @@ pub(crate) fn do_work<
         × IsEndingReported (option_map (λ name. name.now) file.entry) ending result
         (sinks (O.written output.old) (O.held output.old) (O.failed_writes output.old) (E.written faults.old) (E.failed_writes faults.old))
         (sinks (O.written output.new) (O.held output.new) (O.failed_writes output.new) (E.written faults.new) (E.failed_writes faults.new))
-        (output_files (P.finished files.old) (P.failed files.old))
-        (output_files (P.finished files.new) (P.failed files.new)) }
+        (output_files (P.finished files.old) (P.begun files.old) (P.failed files.old))
+        (output_files (P.finished files.new) (P.begun files.new) (P.failed files.new)) }
 {
     let names = work.files.get();
     let Ok(inputs) = file_inputs(folder, alloc, &work.format, names) else {

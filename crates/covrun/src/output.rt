@@ -1,7 +1,7 @@
 //! How a call's ending is reported: its text goes to the output or into a file, its complaint goes to the stream for faults, and
 //! the exit status is returned.
 
-ghost use Rattle.std.specs.Prelude.{◌≡◌, ◌⊎◌, ◌<◌, ◌≤◌, ◌^◌, ◌++◌, ℕ, List, Option, [], codes, option_map, IfErr, IfOk, OnOk, OnErr, suc};
+ghost use Rattle.std.specs.Prelude.{◌≡◌, ◌⊎◌, ◌<◌, ◌≤◌, ◌^◌, ◌++◌, ℕ, List, Option, None, [], codes, option_map, IfErr, IfOk, OnOk, OnErr, suc};
 ghost use Rattle.std.specs.Io.KnownBytes.{Appends};
 ghost use Rattle.covlist.specs.Shown.{shown_name};
 ghost use Rattle.covsession.specs.Fault.{HasBegun};
@@ -32,6 +32,7 @@ pub(crate) fn report_answer<P: OutputFolder, O: Sink, E: Sink>(
     output: &mut O,
     faults: &mut E,
 ) -> u8
+    requires begun { P.begun files.old ≡ None }
     requires files { P.failed files.old < 2 ^ 62 }
     requires output { O.failed_writes output.old < 2 ^ 62 }
     requires faults { E.failed_writes faults.old < 2 ^ 62 }
@@ -39,8 +40,8 @@ pub(crate) fn report_answer<P: OutputFolder, O: Sink, E: Sink>(
         × IsEndingReported (option_map (λ name. name.now) file.entry) ending result
         (sinks (O.written output.old) (O.held output.old) (O.failed_writes output.old) (E.written faults.old) (E.failed_writes faults.old))
         (sinks (O.written output.new) (O.held output.new) (O.failed_writes output.new) (E.written faults.new) (E.failed_writes faults.new))
-        (output_files (P.finished files.old) (P.failed files.old))
-        (output_files (P.finished files.new) (P.failed files.new)) }
+        (output_files (P.finished files.old) (P.begun files.old) (P.failed files.old))
+        (output_files (P.finished files.new) (P.begun files.new) (P.failed files.new)) }
 {
     let ReadyAnswer { text, shortfalls } = answer;
     match file {
@@ -77,14 +78,15 @@ fn write_answer<P: OutputFolder, E: Sink>(
     files: &mut P,
     faults: &mut E,
 ) -> u8
+    requires begun { P.begun files.old ≡ None }
     requires files { P.failed files.old < 2 ^ 62 }
     requires faults { E.failed_writes faults.old < 2 ^ 62 }
     ensures { (ending : EndingData) × ((ending ≡ Stopped session_faults.Memory) ⊎ (ending ≡ with_shortfalls shortfalls.now text.entry))
         × ((output : Option (List ℕ)) (held failed : ℕ) → IsEndingWritten name.now ending result
         (sinks output held failed (E.written faults.old) (E.failed_writes faults.old))
         (sinks output held failed (E.written faults.new) (E.failed_writes faults.new))
-        (output_files (P.finished files.old) (P.failed files.old))
-        (output_files (P.finished files.new) (P.failed files.new))) }
+        (output_files (P.finished files.old) (P.begun files.old) (P.failed files.old))
+        (output_files (P.finished files.new) (P.begun files.new) (P.failed files.new))) }
 {
     let Ok(unwritten) = unwritten_line(alloc, name) else {
         return report_failure(Failure::Stopped(SessionFault::Memory), faults);

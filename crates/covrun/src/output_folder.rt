@@ -1,9 +1,10 @@
 //! Where a call's text goes if the call names a file for it.
 
-ghost use Rattle.std.specs.Prelude.{◌≡◌, ℕ, ◌<◌, ◌^◌, List, Option, None, Some, suc, IfOk, IfErr, OnOk, OnErr};
-ghost use Rattle.covrun.specs.OutputFiles.{CountsFault, Finishes, IsBegun};
+ghost use Rattle.std.specs.Prelude.{◌≡◌, ℕ, ◌<◌, ◌^◌, ◌≤◌, List, Option, None, Some, suc, option_map, IfOk, IfErr, OnOk, OnErr};
+ghost use Rattle.covrun.specs.OutputFiles.{CountsFault, Finishes, IsEmptyIfKnown};
 
 use crate::unfinished_file::{UnfinishedFile, abandon_file, begin_file, finish_file};
+use covreport::Noted;
 use covsession::Sink;
 use std::alloc::AllocGlobal;
 use std::random::RandomSource;
@@ -21,10 +22,13 @@ pub enum OutputFault {
 /// Writes files, each of them whole or not at all.
 ///
 /// A file is begun, its bytes are written, and then it is finished. It gets its name only when it is finished. Until then, a file
-/// that had the name before stays as it was.
+/// that had the name before stays as it was. Devices and streams are written to at once. One file is begun at a time.
 pub trait OutputFolder {
     // The files that were finished, in order, each with its name and its text, if they are known.
     ghost finished: { Self → Option (List (List ℕ × List ℕ)) };
+
+    // The name of the file that is begun, and neither finished nor abandoned.
+    ghost begun: { Self → Option (List ℕ) };
 
     // How many files couldn't be written.
     ghost failed: { Self → ℕ };
@@ -34,25 +38,33 @@ pub trait OutputFolder {
 
     /// Begins a file that is to get this name.
     fn begin(&mut self, name: &str) -> Result<Self::File, OutputFault>
-        requires { failed self.old < 2 ^ 63 }
+        requires free { begun self.old ≡ None }
+        requires few { failed self.old < 2 ^ 63 }
         ensures same { finished self.new ≡ finished self.old }
-        ensures begun { IfOk result (λ file. IsBegun (finished self.old) (Self.File.written file)) }
+        ensures begun { OnOk result (begun self.new ≡ Some name.now) }
+        ensures none { OnErr result (begun self.new ≡ None) }
+        ensures empty { IfOk result (λ file. IsEmptyIfKnown (finished self.old) (Self.File.written file)) }
         ensures fresh { IfOk result (λ file. Self.File.failed_writes file ≡ 0) }
         ensures good { OnOk result (failed self.new ≡ failed self.old) }
         ensures counted { IfErr result (λ fault. CountsFault fault (failed self.old) (failed self.new)) };
 
-    /// Finishes a file that was begun for this name: the file gets the name. A fault drops the file.
-    fn finish(&mut self, name: &str, file: Self::File) -> Result<(), OutputFault>
-        requires { failed self.old < 2 ^ 63 }
-        ensures finished { OnOk result ((text : List ℕ) → Self.File.written file ≡ Some text → Finishes name.now text (finished self.old) (finished self.new)) }
+    /// Finishes the file that is begun: it gets its name. All its bytes have to be written and flushed. A fault drops the file.
+    fn finish(&mut self, file: Self::File) -> Result<(), OutputFault>
+        requires good { Self.File.failed_writes file ≡ 0 }
+        requires sent { Self.File.held file ≡ 0 }
+        requires few { failed self.old < 2 ^ 63 }
+        ensures finished { OnOk result ((name text : List ℕ) → begun self.old ≡ Some name → Self.File.written file ≡ Some text → Finishes name text (finished self.old) (finished self.new)) }
         ensures same { OnErr result (finished self.new ≡ finished self.old) }
+        ensures none { begun self.new ≡ None }
         ensures good { OnOk result (failed self.new ≡ failed self.old) }
         ensures counted { IfErr result (λ fault. CountsFault fault (failed self.old) (failed self.new)) };
 
-    /// Drops a file to which a write failed.
+    /// Drops the file that is begun, to which a write failed.
     fn abandon(&mut self, file: Self::File)
-        requires { failed self.old < 2 ^ 63 }
+        requires failed { 1 ≤ Self.File.failed_writes file }
+        requires few { failed self.old < 2 ^ 63 }
         ensures same { finished self.new ≡ finished self.old }
+        ensures none { begun self.new ≡ None }
         ensures counted { failed self.new ≡ suc (failed self.old) };
 }
 
@@ -63,21 +75,29 @@ pub trait OutputFolder {
 #[derive(Drop)]
 pub struct IntoFiles<'a, R> {
     rt: &'a R,
+    // The name of the file that is begun. It exists only in proofs.
+    begun: Option<Noted>,
     failed: u64,
 }
 
 impl<'a, R: Files + RandomSource + AllocGlobal> IntoFiles<'a, R> {
     /// The files of this runtime, as an output folder.
     pub fn new(rt: &'a R) -> IntoFiles<'a, R>
-        ensures { ⟦<IntoFiles<'a, R> as OutputFolder>⟧.failed result ≡ 0 }
+        ensures failed { ⟦<IntoFiles<'a, R> as OutputFolder>⟧.failed result ≡ 0 }
+        ensures begun { ⟦<IntoFiles<'a, R> as OutputFolder>⟧.begun result ≡ None }
     {
-        IntoFiles { rt, failed: 0 }
+        IntoFiles {
+            rt,
+            begun: None,
+            failed: 0,
+        }
     }
 
     /// Counts a file that couldn't be written.
     fn count(&mut self, fault: OutputFault)
         requires { self.old.failed < 2 ^ 63 }
-        ensures { CountsFault fault self.old.failed self.new.failed }
+        ensures counted { CountsFault fault self.old.failed self.new.failed }
+        ensures begun { self.new.begun ≡ self.old.begun }
     {
         match fault {
             OutputFault::Failed => self.failed += 1,
@@ -89,13 +109,18 @@ impl<'a, R: Files + RandomSource + AllocGlobal> IntoFiles<'a, R> {
 impl<'a, R: Files + RandomSource + AllocGlobal> OutputFolder for IntoFiles<'a, R> {
     ghost finished = { λ _. None };
 
+    ghost begun = { λ f. option_map (λ name. name.bytes) f.begun };
+
     ghost failed = { λ f. f.failed };
 
     type File = UnfinishedFile<R::File>;
 
     fn begin(&mut self, name: &str) -> Result<UnfinishedFile<R::File>, OutputFault> {
         match begin_file(self.rt, name) {
-            Ok(file) => Ok(file),
+            Ok(file) => {
+                self.begun = Some(Noted::none().and(name.as_bytes()));
+                Ok(file)
+            }
             Err(fault) => {
                 self.count(fault);
                 Err(fault)
@@ -103,7 +128,8 @@ impl<'a, R: Files + RandomSource + AllocGlobal> OutputFolder for IntoFiles<'a, R
         }
     }
 
-    fn finish(&mut self, _name: &str, file: UnfinishedFile<R::File>) -> Result<(), OutputFault> {
+    fn finish(&mut self, file: UnfinishedFile<R::File>) -> Result<(), OutputFault> {
+        self.begun = None;
         match finish_file(self.rt, file) {
             Ok(()) => Ok(()),
             Err(fault) => {
@@ -115,6 +141,7 @@ impl<'a, R: Files + RandomSource + AllocGlobal> OutputFolder for IntoFiles<'a, R
 
     fn abandon(&mut self, file: UnfinishedFile<R::File>) {
         abandon_file(self.rt, file);
+        self.begun = None;
         self.failed += 1;
     }
 }

@@ -1,10 +1,10 @@
 //! The program as a function.
 
-ghost use Rattle.std.specs.Prelude.{◌≡◌, ◌<◌, ◌^◌, map, option_map};
+ghost use Rattle.std.specs.Prelude.{◌≡◌, ◌<◌, ◌^◌, None, map, option_map};
 ghost use Rattle.std.specs.String.{string_bytes};
 ghost use Rattle.covrun.specs.Call.{of_line, IsCall, IsEndingPrinted, IsCommandDone};
 ghost use Rattle.covrun.specs.Folder.{folder_data};
-ghost use Rattle.covrun.specs.OutputFiles.{output_files};
+ghost use Rattle.covrun.specs.OutputFiles.{file_of, is_output as is_output_name, output_files};
 ghost use Rattle.covrun.specs.Streams.{sinks, source};
 
 use crate::checked::check_files;
@@ -31,11 +31,12 @@ use std::thread::Threads;
 /// the text.
 ///
 /// If the call names a file for its text (`--output`), the text goes into that file instead. The file is one of `files`, and gets
-/// its name once its whole text is written. If a write fails, no file has changed.
+/// its name once its whole text is written. If a write fails, no file has changed, unless it is a device or a stream.
 ///
-/// A call that checks files checks one after another. It writes a line to the output for each file that can be read, and
-/// complains about a file that can't be read or has no item. Its status is 1 if a file can't be read, else 4 if one is refused,
-/// else 5 if one has no item, else 0. The call ends early if a write of a line fails (1), or if memory runs out (3).
+/// A call that checks files checks as many at once as it has jobs, and reports them one after another, in their order. It writes a
+/// line to the output for each file that can be read, and complains about a file that can't be read or has no item. Its status is 1
+/// if a file can't be read, else 4 if one is refused, else 5 if one has no item, else 0. The call ends early if a write of a line
+/// fails (1), or if memory runs out (3).
 ///
 /// If the folder knows what its files hold, the call collects or checks the texts of the files that its words name.
 ///
@@ -59,6 +60,7 @@ pub fn run<
 ) -> u8
     requires reads { I.reads input.old < 2 ^ 62 }
     requires failed_reads { I.failed_reads input.old < 2 ^ 62 }
+    requires begun { P.begun files.old ≡ None }
     requires failed_files { P.failed files.old < 2 ^ 62 }
     requires failed_writes { O.failed_writes output.old < 2 ^ 62 }
     requires failed_words { E.failed_writes faults.old < 2 ^ 62 }
@@ -66,8 +68,8 @@ pub fn run<
         (map string_bytes words.now) result (source (I.left input.old) (I.reads input.old) (I.failed_reads input.old)) (source (I.left input.new) (I.reads input.new) (I.failed_reads input.new))
         (sinks (O.written output.old) (O.held output.old) (O.failed_writes output.old) (E.written faults.old) (E.failed_writes faults.old))
         (sinks (O.written output.new) (O.held output.new) (O.failed_writes output.new) (E.written faults.new) (E.failed_writes faults.new))
-        (output_files (P.finished files.old) (P.failed files.old))
-        (output_files (P.finished files.new) (P.failed files.new)) }
+        (output_files (P.finished files.old) (P.begun files.old) (P.failed files.old))
+        (output_files (P.finished files.new) (P.begun files.new) (P.failed files.new)) }
 {
     let alloc = rt.alloc();
     match command(alloc, words) {
@@ -96,15 +98,16 @@ fn run_command<
 ) -> u8
     requires reads { I.reads input.old < 2 ^ 62 }
     requires failed_reads { I.failed_reads input.old < 2 ^ 62 }
+    requires begun { P.begun files.old ≡ None }
     requires failed_files { P.failed files.old < 2 ^ 62 }
     requires failed_writes { O.failed_writes output.old < 2 ^ 62 }
     requires failed_words { E.failed_writes faults.old < 2 ^ 62 }
     ensures { IsCommandDone (folder_data (F.holds folder.now) (F.may_refuse folder.now) (F.may_open folder.now) F.File.left F.File.failed_reads)
-        asked.command (option_map string_bytes asked.output) result (source (I.left input.old) (I.reads input.old) (I.failed_reads input.old)) (source (I.left input.new) (I.reads input.new) (I.failed_reads input.new))
+        asked.command (file_of (option_map string_bytes asked.output)) result (source (I.left input.old) (I.reads input.old) (I.failed_reads input.old)) (source (I.left input.new) (I.reads input.new) (I.failed_reads input.new))
         (sinks (O.written output.old) (O.held output.old) (O.failed_writes output.old) (E.written faults.old) (E.failed_writes faults.old))
         (sinks (O.written output.new) (O.held output.new) (O.failed_writes output.new) (E.written faults.new) (E.failed_writes faults.new))
-        (output_files (P.finished files.old) (P.failed files.old))
-        (output_files (P.finished files.new) (P.failed files.new)) }
+        (output_files (P.finished files.old) (P.begun files.old) (P.failed files.old))
+        (output_files (P.finished files.new) (P.begun files.new) (P.failed files.new)) }
 {
     let Asked {
         command,
@@ -127,21 +130,30 @@ fn run_command<
         Ok(
             Task::Check {
                 format,
+                jobs,
                 files: names,
             },
-        ) => { check_files(folder, alloc, format, names.get(), output, faults) }
+        ) => { check_files(rt, folder, alloc, format, jobs, names.get(), output, faults) }
         Err(fault) => report_failure(failure_of_work(fault), faults),
     }
 }
 
-/// The name of the file, if there is one.
+/// The name of the file, if there is one, and it isn't standard output.
 fn name_of(file: &Option<String>) -> Option<&str>
-    ensures { option_map (λ name. name.now) result ≡ option_map string_bytes file.now }
+    ensures { option_map (λ name. name.now) result ≡ file_of (option_map string_bytes file.now) }
 {
     match file {
-        Some(name) => Some(name.as_str()),
-        None => None,
+        Some(name) if !is_output(name.as_str()) => Some(name.as_str()),
+        _ => None,
     }
+}
+
+/// Whether this is a name of standard output. To open such a name would make another stream of the same file, which has a place of
+/// its own in the file.
+fn is_output(name: &str) -> bool
+    ensures { result ≡ is_output_name name.now }
+{
+    name == "/dev/stdout" || name == "/dev/fd/1" || name == "/proc/self/fd/1"
 }
 
 /// Reports why the call's words can't be read, and returns the exit status, as `run` does for words that form no command.

@@ -5,10 +5,10 @@ ghost use Rattle.std.specs.Prelude.{◌≡◌, IfOk};
 use crate::output_folder::OutputFault;
 use covsession::{Failed, FromWrite, Sink};
 use std::alloc::{AllocError, AllocGlobal};
-use std::fs::{Metadata, OpenFile, OpenOptions};
+use std::fs::{Metadata, OpenFile, OpenOptions, Permissions};
 use std::io;
 use std::io::ErrorKind;
-use std::os::unix::fs::OpenOptionsExt;
+use std::os::unix::fs::{MetadataExt, OpenOptionsExt, PermissionsExt};
 use std::random::RandomSource;
 use std::rt::Files;
 
@@ -43,7 +43,7 @@ impl<F: io::Write> Sink for UnfinishedFile<F> {
     }
 }
 
-/// Begins a file that is to get this name. If there is a file with the name, the new one gets its rights; if the name is that of a
+/// Begins a file that is to get this name. If there is a file with the name, the new one gets its rights. If the name is that of a
 /// symbolic link, the link stays, and the file that it leads to is replaced. A device, a pipe or an open stream of the program isn't
 /// replaced, but written to.
 pub(crate) fn begin_file<R: Files + RandomSource + AllocGlobal>(
@@ -52,6 +52,9 @@ pub(crate) fn begin_file<R: Files + RandomSource + AllocGlobal>(
 ) -> Result<UnfinishedFile<R::File>, OutputFault>
     ensures { IfOk result (λ file. ⟦<UnfinishedFile<R::File> as Sink>⟧.failed_writes file ≡ 0) }
 {
+    if name.is_empty() {
+        return Err(OutputFault::Failed);
+    }
     if is_stream(name) {
         return begin_in_place(rt, name);
     }
@@ -66,10 +69,7 @@ pub(crate) fn begin_file<R: Files + RandomSource + AllocGlobal>(
 
 /// Whether the name is that of a stream that is already open. What such a stream leads to isn't replaced, even if it is a file.
 fn is_stream(name: &str) -> bool {
-    name == "/dev/stdout"
-        || name == "/dev/stderr"
-        || name.starts_with("/dev/fd/")
-        || name.starts_with("/proc/self/fd/")
+    name == "/dev/stderr" || name.starts_with("/dev/fd/") || name.starts_with("/proc/self/fd/")
 }
 
 /// Begins a file that replaces the one with this name, and gets its rights. Until it has them, nobody else can open it.
@@ -80,27 +80,48 @@ fn begin_instead<R: Files + RandomSource + AllocGlobal>(
 ) -> Result<UnfinishedFile<R::File>, OutputFault>
     ensures { IfOk result (λ file. ⟦<UnfinishedFile<R::File> as Sink>⟧.failed_writes file ≡ 0) }
 {
-    let to = rt.canonicalize(rt.alloc(), name)?.into_string();
-    let unfinished = begin_beside(rt, to, 0o600)?;
-    match keep_rights(rt, &unfinished, old) {
-        Ok(()) => Ok(unfinished),
+    let rename = rename_to(rt, name_behind(rt, name)?)?;
+    let file = create(rt, &rename, 0o600)?;
+    match keep_rights(rt, &rename, &file, old) {
+        Ok(()) => Ok(unfinished(file, Some(rename))),
         Err(error) => {
-            abandon_file(rt, unfinished);
+            let _ = rt.remove_file(rename.from.as_str());
             Err(OutputFault::from(error))
         }
     }
 }
 
-/// Gives the unfinished file the rights of this other file.
+/// The name of the file that a symbolic link leads to; for any other name, the name itself.
+fn name_behind<R: Files + AllocGlobal>(rt: &R, name: &str) -> Result<String, OutputFault> {
+    if rt.symlink_metadata(name)?.is_symlink() {
+        Ok(rt.canonicalize(rt.alloc(), name)?.into_string())
+    } else {
+        Ok(String::from_str(rt.alloc(), name)?)
+    }
+}
+
+/// Gives the file the rights of this other file, and its owner and group, if the caller may. If the group can't be kept, the file
+/// gives its group no rights.
 fn keep_rights<R: Files>(
     rt: &R,
-    unfinished: &UnfinishedFile<R::File>,
+    rename: &Rename,
+    file: &R::File,
     old: &Metadata,
 ) -> io::Result<()> {
-    match &unfinished.rename {
-        Some(rename) => rt.set_permissions(rename.from.as_str(), old.permissions()),
-        None => Ok(()),
+    let made = file.metadata()?;
+    let mut mode = old.permissions().mode() & 0o777;
+    if made.gid() != old.gid()
+        && rt
+            .lchown(rename.from.as_str(), None, Some(old.gid()))
+            .is_err()
+    {
+        mode &= 0o707;
     }
+    if made.uid() != old.uid() {
+        // Only root may. For anyone else the file is the caller's.
+        let _ = rt.lchown(rename.from.as_str(), Some(old.uid()), None);
+    }
+    file.set_permissions(Permissions::from_mode(mode))
 }
 
 /// Begins a file whose name no file has. A symbolic link that leads nowhere isn't replaced: that is a fault.
@@ -113,27 +134,34 @@ fn begin_new<R: Files + RandomSource + AllocGlobal>(
     if rt.symlink_metadata(name).is_ok() {
         return Err(OutputFault::Failed);
     }
-    begin_beside(rt, String::from_str(rt.alloc(), name)?, 0o666)
+    let rename = rename_to(rt, String::from_str(rt.alloc(), name)?)?;
+    let file = create(rt, &rename, 0o666)?;
+    Ok(unfinished(file, Some(rename)))
 }
 
-/// Begins a file beside the one with the name `to`, which it gets once it is finished. `mode`: its rights, less the umask.
-fn begin_beside<R: Files + RandomSource + AllocGlobal>(
-    rt: &R,
-    to: String,
-    mode: u32,
-) -> Result<UnfinishedFile<R::File>, OutputFault>
-    ensures { IfOk result (λ file. ⟦<UnfinishedFile<R::File> as Sink>⟧.failed_writes file ≡ 0) }
-{
+/// The names of a file that is made beside the one with the name `to`, which it gets once it is finished.
+fn rename_to<R: RandomSource + AllocGlobal>(rt: &R, to: String) -> Result<Rename, OutputFault> {
     let from = name_beside(rt, to.as_str())?;
-    let file = OpenOptions::new()
+    Ok(Rename { from, to })
+}
+
+/// Makes the file, which has these rights, less the umask.
+fn create<R: Files>(rt: &R, rename: &Rename, mode: u32) -> io::Result<R::File> {
+    OpenOptions::new()
         .write(true)
         .create_new(true)
         .mode(mode)
-        .open(rt, from.as_str())?;
-    Ok(UnfinishedFile {
+        .open(rt, rename.from.as_str())
+}
+
+/// A file that isn't finished, and to which nothing is written yet.
+fn unfinished<F: io::Write>(file: F, rename: Option<Rename>) -> UnfinishedFile<F>
+    ensures { ⟦<UnfinishedFile<F> as Sink>⟧.failed_writes result ≡ 0 }
+{
+    UnfinishedFile {
         sink: FromWrite::new(file),
-        rename: Some(Rename { from, to }),
-    })
+        rename,
+    }
 }
 
 /// A name in the same folder that no file has: `name`, followed by random digits and `.part`.
@@ -153,10 +181,7 @@ fn begin_in_place<R: Files>(rt: &R, name: &str) -> Result<UnfinishedFile<R::File
     ensures { IfOk result (λ file. ⟦<UnfinishedFile<R::File> as Sink>⟧.failed_writes file ≡ 0) }
 {
     let file = OpenOptions::new().append(true).open(rt, name)?;
-    Ok(UnfinishedFile {
-        sink: FromWrite::new(file),
-        rename: None,
-    })
+    Ok(unfinished(file, None))
 }
 
 /// Gives the file its name, once all its bytes are on the disk. If that fails, the file is removed.

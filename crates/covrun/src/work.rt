@@ -35,10 +35,12 @@ pub(crate) enum Task {
     Session,
     /// Collects files, and prints what is asked of them.
     Collect(Work),
-    /// Checks files one by one.
+    /// Checks files, each by itself.
     Check {
         /// How the files are read.
         format: TextFormat,
+        /// The number of jobs.
+        jobs: u32,
         /// The files' paths.
         files: Names,
     },
@@ -96,7 +98,7 @@ ghost use Rattle.covline.specs.Lawful.{IsGoodTest};
 ghost use Rattle.covreport.specs.ChoiceView.{choice_data};
 ghost use Rattle.covrun.specs.View.{question_data, task_data};
 ghost use Rattle.covlimit.specs.LimitsView.{limits_data};
-ghost use Rattle.covrun.specs.Work.{choice_of, limits_of, task_of, ArePatterns, AreRates, AreTaken, Collects, IsFilter, IsRateIfAny};
+ghost use Rattle.covrun.specs.Work.{choice_of, limits_of, task_of, ArePatterns, AreRates, AreTaken, Checks, Collects, IsFilter, IsRateIfAny};
 ghost use Rattle.covrun.specs.WorkFault.{IsRefusal, IsFilterRefusal, IsLimitRefusal, IsPatternRefusal, IsTestRefusal};
 ghost use Rattle.covrun.specs.declared.argument_fault.ArgumentFault.TheVariants as arguments;
 ghost use Rattle.covrun.specs.declared.work.FileFormat.TheVariants.{Tracefile};
@@ -160,10 +162,11 @@ pub(crate) fn task_for(alloc: Global, command: Command) -> Result<Task, WorkFaul
                 asks: Question::Answer(Op::Report),
             }))
         }
-        Command::Check { format, names } => Ok(Task::Check {
+        Command::Check {
             format,
-            files: names,
-        }),
+            jobs,
+            names,
+        } => Ok(check_of(format, jobs, names)),
     }
 }
 
@@ -177,6 +180,17 @@ fn over_tracefiles(files: Names, version: LcovVersion, jobs: u32, asks: Question
         jobs,
         asks,
     })
+}
+
+/// The task of checking these files.
+fn check_of(format: TextFormat, jobs: u32, files: Names) -> Task
+    ensures { task_data result ≡ Checks format jobs files }
+{
+    Task::Check {
+        format,
+        jobs,
+        files,
+    }
 }
 
 /// The source files that a filter chooses, or `None` if it has no patterns.

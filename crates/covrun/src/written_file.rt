@@ -1,6 +1,6 @@
 //! A text that is written into a file.
 
-ghost use Rattle.std.specs.Prelude.{◌≡◌, ◌<◌, ◌^◌, IfErr, OnOk, OnErr};
+ghost use Rattle.std.specs.Prelude.{◌≡◌, ◌<◌, ◌^◌, None, IfErr, OnOk, OnErr};
 ghost use Rattle.covrun.specs.OutputFiles.{CountsFault, Finishes};
 
 use crate::output_folder::{OutputFault, OutputFolder};
@@ -12,15 +12,17 @@ pub(crate) fn write_file<P: OutputFolder>(
     text: ReadyText<'_>,
     files: &mut P,
 ) -> Result<(), OutputFault>
-    requires { P.failed files.old < 2 ^ 62 }
+    requires free { P.begun files.old ≡ None }
+    requires few { P.failed files.old < 2 ^ 62 }
     ensures finished { OnOk result (Finishes name.now text.entry (P.finished files.old) (P.finished files.new)) }
+    ensures none { P.begun files.new ≡ None }
     ensures good { OnOk result (P.failed files.new ≡ P.failed files.old) }
     ensures same { OnErr result (P.finished files.new ≡ P.finished files.old) }
     ensures counted { IfErr result (λ fault. CountsFault fault (P.failed files.old) (P.failed files.new)) }
 {
     let mut file = files.begin(name)?;
     match text.print(&mut file) {
-        Ok(()) => files.finish(name, file),
+        Ok(()) => files.finish(file),
         Err(_) => {
             files.abandon(file);
             Err(OutputFault::Failed)

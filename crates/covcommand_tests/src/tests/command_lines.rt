@@ -39,11 +39,11 @@ covcollect gcov --test= main.c.gcov => gcov () [main.c.gcov]
 covcollect merge -- --jobs 4 => merge (1 1) [--jobs] [4]
 covcollect extract a.info -- -x => extract (1) [a.info] [-x]
 covcollect merge merge => merge (1 1) [merge]
-covcollect check b.info a.info => check (tracefile 1) [b.info] [a.info]
-covcollect check --gcov main.c.gcov util.c.gcov => check (gcov) [main.c.gcov] [util.c.gcov]
-covcollect check main.c.gcov --gcov util.c.gcov => check (gcov) [main.c.gcov] [util.c.gcov]
-covcollect check -- --gcov => check (tracefile 1) [--gcov]
-covcollect check gcov => check (tracefile 1) [gcov]
+covcollect check b.info a.info => check (tracefile 1 1) [b.info] [a.info]
+covcollect check --gcov main.c.gcov util.c.gcov => check (gcov 1) [main.c.gcov] [util.c.gcov]
+covcollect check main.c.gcov --gcov util.c.gcov => check (gcov 1) [main.c.gcov] [util.c.gcov]
+covcollect check -- --gcov => check (tracefile 1 1) [--gcov]
+covcollect check gcov => check (tracefile 1 1) [gcov]
 ",
     )
 }
@@ -78,6 +78,15 @@ covcollect list --jobs 2 a.info => list (1 2) [a.info]
 covcollect list -j 64 b.info a.info => list (1 64) [b.info] [a.info]
 covcollect list --jobs 65 a.info => 2 2 error: invalid value '65' for '--jobs <N>': 65 is not in 1..=64
 covcollect list -j 2 --jobs 3 a.info => 2 2 error: the argument '--jobs <N>' cannot be used multiple times
+covcollect check --jobs 2 a.info => check (tracefile 1 2) [a.info]
+covcollect check a.info -j3 --lcov2 b.info => check (tracefile 2 3) [a.info] [b.info]
+covcollect check --jobs=64 --gcov main.c.gcov => check (gcov 64) [main.c.gcov]
+covcollect check -- -j 2 => check (tracefile 1 1) [-j] [2]
+covcollect check -j 0 a.info => 2 2 error: invalid value '0' for '--jobs <N>': 0 is not in 1..=64
+covcollect check --jobs 65 a.info => 2 2 error: invalid value '65' for '--jobs <N>': 65 is not in 1..=64
+covcollect check -j 2 --jobs 3 a.info => 2 2 error: the argument '--jobs <N>' cannot be used multiple times
+covcollect check a.info -j => 2 2 error: a value is required for '--jobs <N>' but none was supplied
+covcollect check -j 2 => 2 2 error: the following required arguments were not provided:
 covcollect extract -j 2 a.info '*.c' => 2 2 error: unexpected argument '-j' found
 ",
     )
@@ -102,10 +111,10 @@ covcollect extract --lcov2 a.info '*/src/*' => extract (2) [a.info] [*/src/*]
 covcollect extract a.info '*/src/*' '*.h' --lcov2 => extract (2) [a.info] [*/src/*] [*.h]
 covcollect remove --lcov2 a.info '/usr/*' => remove (2) [a.info] [/usr/*]
 covcollect remove a.info --lcov2 '/usr/*' => remove (2) [a.info] [/usr/*]
-covcollect check --lcov2 b.info a.info => check (tracefile 2) [b.info] [a.info]
-covcollect check a.info --lcov2 => check (tracefile 2) [a.info]
-covcollect check --gcov --lcov2 main.c.gcov => check (gcov) [main.c.gcov]
-covcollect check --lcov2 main.c.gcov --gcov => check (gcov) [main.c.gcov]
+covcollect check --lcov2 b.info a.info => check (tracefile 2 1) [b.info] [a.info]
+covcollect check a.info --lcov2 => check (tracefile 2 1) [a.info]
+covcollect check --gcov --lcov2 main.c.gcov => check (gcov 1) [main.c.gcov]
+covcollect check --lcov2 main.c.gcov --gcov => check (gcov 1) [main.c.gcov]
 covcollect gcov --lcov2 --test unit main.c.gcov => 2 2 error: unexpected argument '--lcov2' found
 covcollect merge --lcov2 --lcov2 a.info => 2 2 error: the argument '--lcov2' cannot be used multiple times
 covcollect check --lcov2 a.info --lcov2 => 2 2 error: the argument '--lcov2' cannot be used multiple times
@@ -308,7 +317,6 @@ covcollect check => 2 2 error: the following required arguments were not provide
 covcollect check --gcov => 2 2 error: the following required arguments were not provided:
 covcollect check --gcov --gcov main.c.gcov => 2 2 error: the argument '--gcov' cannot be used multiple times
 covcollect check --gcov=true main.c.gcov => 2 2 error: unexpected value 'true' for '--gcov' found; no more were expected
-covcollect check --jobs 2 a.info => 2 2 error: unexpected argument '--jobs' found
 covcollect merge --gcov a.info => 2 2 error: unexpected argument '--gcov' found
 covcollect -a a.info => 2 2 error: unexpected argument '-a' found
 covcollect bogus => 2 2 error: unrecognized subcommand 'bogus'

@@ -274,9 +274,10 @@ Arguments:
   <FILE>...  Tracefiles, looked at in this order
 
 Options:
-      --gcov   The files are what gcov wrote, and not tracefiles
-      --lcov2  Tracefiles of LCOV 2 are read too
-  -h, --help   Print help
+  -j, --jobs <N>  Files read at once, from 1 to 64 [default: 1]
+      --gcov      The files are what gcov wrote, and not tracefiles
+      --lcov2     Tracefiles of LCOV 2 are read too
+  -h, --help      Print help
 
 Prints a line for each file: how many sections, items and odd lines it has, how
 many lines are skipped since their key isn't read, and the first of these. Of a
@@ -286,6 +287,8 @@ with tracefiles of LCOV 2
   covcollect check --lcov2 A.info B.info
 and of what gcov wrote
   covcollect check --gcov main.c.gcov
+and where there are many files
+  covcollect check --jobs 4 jobs/*.info
 With both flags the files are what gcov wrote.
 The status is 1 where a file can't be read, else 4 where one is refused, and
 else 5 where one has no items.
@@ -309,7 +312,7 @@ fn examples_are_taken(rt: HostRuntime) -> Result<(), Fail> {
     check_examples(&rt, "covcollect extract --help", 3)?;
     check_examples(&rt, "covcollect remove --help", 3)?;
     check_examples(&rt, "covcollect gcov --help", 1)?;
-    check_examples(&rt, "covcollect check --help", 3)
+    check_examples(&rt, "covcollect check --help", 4)
 }
 
 /// Checks how many calls of the program the help has as examples, and that each is taken.

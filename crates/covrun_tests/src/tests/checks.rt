@@ -243,6 +243,75 @@ $ 4 covcollect check /dev/zero
     )
 }
 
+/// With several jobs the files are reported as with one: each once, in their order, with the same status. A round of files may be
+/// a whole one, the last of several, or larger than the number of files.
+#[test]
+fn files_checked_at_once(rt: HostRuntime) -> Result<(), Fail> {
+    play(
+        &rt,
+        process::id(rt.process()),
+        "\
+SF:/a.c
+DA:1,1
+DA:2,0
+end_of_record
+SF:/b.c
+DA:7,3
+end_of_record
+@ two.info
+SF:/a.c
+DA:1,1
+@ cut.info
+@ empty
+SF:/a.c
+DA:1,1
+end_of_record
+@ unit.info
+> ~/two.info: sections 2 items 3 odd 0 skipped 0
+> ~/cut.info: refused OpenEnd
+> ~/empty: sections 0 items 0 odd 0 skipped 0
+> ~/unit.info: sections 1 items 1 odd 0 skipped 0
+! ~/empty: no items
+! ~/none.info: can't read
+$ 1 covcollect check -j 3 ~/two.info ~/cut.info ~/empty ~/none.info ~/unit.info
+> ~/two.info: sections 2 items 3 odd 0 skipped 0
+> ~/cut.info: refused OpenEnd
+> ~/empty: sections 0 items 0 odd 0 skipped 0
+> ~/unit.info: sections 1 items 1 odd 0 skipped 0
+! ~/empty: no items
+! ~/none.info: can't read
+$ 1 covcollect check ~/two.info ~/cut.info ~/empty ~/none.info ~/unit.info
+> ~/two.info: sections 2 items 3 odd 0 skipped 0
+> ~/cut.info: refused OpenEnd
+> ~/empty: sections 0 items 0 odd 0 skipped 0
+> ~/unit.info: sections 1 items 1 odd 0 skipped 0
+! ~/empty: no items
+! ~/none.info: can't read
+$ 1 covcollect check --jobs 64 ~/two.info ~/cut.info ~/empty ~/none.info ~/unit.info
+! ~/none.info: can't read
+! ~/empty: no items
+! ~: can't read
+> ~/unit.info: sections 1 items 1 odd 0 skipped 0
+> ~/empty: sections 0 items 0 odd 0 skipped 0
+> ~/two.info: sections 2 items 3 odd 0 skipped 0
+$ 1 covcollect check -j 2 ~/none.info ~/unit.info ~/empty ~ ~/two.info
+> ~/unit.info: sections 1 items 1 odd 0 skipped 0
+> ~/two.info: sections 2 items 3 odd 0 skipped 0
+> ~/unit.info: sections 1 items 1 odd 0 skipped 0
+> ~/cut.info: refused OpenEnd
+$ 4 covcollect check -j 3 ~/unit.info ~/two.info ~/unit.info ~/cut.info
+> ~/two.info: sections 2 items 3 odd 0 skipped 0
+> ~/unit.info: sections 1 items 1 odd 0 skipped 0
+$ 0 covcollect check -j 2 ~/two.info ~/unit.info
+! ~/empty: no items
+> ~/empty: sections 0 items 0 odd 0 skipped 0
+> ~/two.info: sections 2 items 3 odd 0 skipped 0
+> ~/unit.info: sections 1 items 1 odd 0 skipped 0
+$ 5 covcollect check -j 4 ~/empty ~/two.info ~/unit.info
+",
+    )
+}
+
 /// Checks what a check writes of a file of this text whose name has a line feed and an escape byte, and of one that isn't there
 /// and whose name has a tab, a carriage return and the byte 127.
 fn check_names<R: AllocGlobal + Threads + Wait + Abort + Sync>(

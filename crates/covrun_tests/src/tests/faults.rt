@@ -183,17 +183,22 @@ fn a_closed_output(rt: HostRuntime) -> Result<(), Fail> {
     )
 }
 
-/// If the line of a file can't be written, a check reports its complaints about this file and those before it, and checks no file
-/// after it.
+/// If the line of a file can't be written, a check reports its complaints about this file and those before it, and tells of no
+/// file after it.
 #[test]
 fn a_check_with_a_closed_output(rt: HostRuntime) -> Result<(), Fail> {
-    for takes in [false, true] {
-        check_closed(
-            &rt,
-            "covcollect check /tmp/covrun_tests-none /dev/null /tmp/covrun_tests-none",
-            takes,
-            "/tmp/covrun_tests-none: can't read\n/dev/null: no items\nwrite fault\n",
-        )?;
+    for asked in [
+        "covcollect check /tmp/covrun_tests-none /dev/null /tmp/covrun_tests-none",
+        "covcollect check -j 3 /tmp/covrun_tests-none /dev/null /tmp/covrun_tests-none",
+    ] {
+        for takes in [false, true] {
+            check_closed(
+                &rt,
+                asked,
+                takes,
+                "/tmp/covrun_tests-none: can't read\n/dev/null: no items\nwrite fault\n",
+            )?;
+        }
     }
     Ok(())
 }

@@ -98,6 +98,13 @@ fn a_folder_of_one_file(rt: HostRuntime) -> Result<(), Fail> {
         "covcollect check b.info a.info",
         "a.info: sections 1 items 1 odd 0 skipped 0\n",
         "b.info: can't read\n",
+    )?;
+    check_over(
+        &rt,
+        &folder,
+        "covcollect check -j 2 b.info a.info",
+        "a.info: sections 1 items 1 odd 0 skipped 0\n",
+        "b.info: can't read\n",
     )
 }
 

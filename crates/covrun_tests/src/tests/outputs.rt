@@ -1,6 +1,6 @@
 //! Calls whose text goes into a file (`--output`).
 
-ghost use Rattle.std.specs.Prelude.{◌≡◌, ◌<◌, ◌^◌, None, Some, map};
+ghost use Rattle.std.specs.Prelude.{◌≡◌, ◌<◌, ◌^◌, None, Some, map, option_map};
 ghost use Rattle.std.specs.String.{string_bytes};
 
 use super::folders::OneFile;
@@ -23,6 +23,8 @@ pub(super) struct NoFiles {
 impl OutputFolder for NoFiles {
     ghost finished = { λ _. None };
 
+    ghost begun = { λ _. None };
+
     ghost failed = { λ f. f.failed };
 
     type File = FromWrite<Vec<u8>>;
@@ -32,7 +34,7 @@ impl OutputFolder for NoFiles {
         Err(OutputFault::Failed)
     }
 
-    fn finish(&mut self, _name: &str, _file: FromWrite<Vec<u8>>) -> Result<(), OutputFault> {
+    fn finish(&mut self, _file: FromWrite<Vec<u8>>) -> Result<(), OutputFault> {
         self.failed += 1;
         Err(OutputFault::Failed)
     }
@@ -55,28 +57,38 @@ struct Shelf {
     alloc: Global,
     room: u64,
     files: Vec<Kept>,
+    begun: Option<String>,
     failed: u64,
 }
 
 impl OutputFolder for Shelf {
     ghost finished = { λ s. Some (map (λ k. (string_bytes k.name, k.text.items)) s.files.items) };
 
+    ghost begun = { λ s. option_map string_bytes s.begun };
+
     ghost failed = { λ s. s.failed };
 
     type File = FromWrite<Vec<u8>>;
 
-    fn begin(&mut self, _name: &str) -> Result<FromWrite<Vec<u8>>, OutputFault> {
-        Ok(FromWrite::new(Vec::new(self.alloc)))
+    fn begin(&mut self, name: &str) -> Result<FromWrite<Vec<u8>>, OutputFault> {
+        match String::from_str(self.alloc, name) {
+            Ok(name) => {
+                self.begun = Some(name);
+                Ok(FromWrite::new(Vec::new(self.alloc)))
+            }
+            Err(_) => Err(OutputFault::Memory),
+        }
     }
 
-    fn finish(&mut self, name: &str, file: FromWrite<Vec<u8>>) -> Result<(), OutputFault> {
+    fn finish(&mut self, file: FromWrite<Vec<u8>>) -> Result<(), OutputFault> {
+        let begun = self.begun.take();
         if self.room == 0 {
             self.failed += 1;
             return Err(OutputFault::Failed);
         }
         self.room -= 1;
-        let Ok(name) = String::from_str(self.alloc, name) else {
-            return Err(OutputFault::Memory);
+        let Some(name) = begun else {
+            return Ok(());
         };
         let text = file.into_inner();
         match self.files.push(Kept { name, text }) {
@@ -86,6 +98,7 @@ impl OutputFolder for Shelf {
     }
 
     fn abandon(&mut self, _file: FromWrite<Vec<u8>>) {
+        self.begun = None;
         self.failed += 1;
     }
 }
@@ -96,7 +109,8 @@ fn call_onto<R: AllocGlobal + Threads + Wait + Abort + Sync, P: OutputFolder>(
     asked: &str,
     files: &mut P,
 ) -> Result<(u8, Vec<u8>), Fail>
-    requires { P.failed files.old < 2 ^ 62 }
+    requires begun { P.begun files.old ≡ None }
+    requires few { P.failed files.old < 2 ^ 62 }
 {
     let words = words_of(rt.alloc(), asked, "")?;
     let folder = OneFile {
@@ -126,12 +140,14 @@ fn call_onto<R: AllocGlobal + Threads + Wait + Abort + Sync, P: OutputFolder>(
 
 /// A shelf that takes so many files.
 fn shelf_of(alloc: Global, room: u64) -> Shelf
-    ensures { result.failed ≡ 0 }
+    ensures failed { result.failed ≡ 0 }
+    ensures begun { result.begun ≡ None }
 {
     Shelf {
         alloc,
         room,
         files: Vec::new(alloc),
+        begun: None,
         failed: 0,
     }
 }
@@ -139,11 +155,14 @@ fn shelf_of(alloc: Global, room: u64) -> Shelf
 /// The text goes into the file that the call names, and nowhere else. Rates below their limits are told after that.
 #[test]
 fn a_text_goes_onto_a_shelf(rt: HostRuntime) -> Result<(), Fail> {
-    let mut files = shelf_of(rt.alloc(), 2);
+    let mut files = shelf_of(rt.alloc(), 1);
     let (status, faults) = call_onto(&rt, "covcollect merge a.info -o b.info", &mut files)?;
     check_text(&rt, "merge", faults.as_slice(), "")?;
     assert_eq!(rt; status, 0);
-    let asked = "covcollect summary --fail-under-lines 60 --output=s.txt a.info";
+    let text = "TN:\nSF:/src/a.c\nDA:1,2\nDA:2,0\nLF:2\nLH:1\nend_of_record\n";
+    check_shelf(&rt, &files, "b.info", text)?;
+    let mut files = shelf_of(rt.alloc(), 1);
+    let asked = "covcollect summary --json --fail-under-lines 60 --output=s.txt a.info";
     let (status, faults) = call_onto(&rt, asked, &mut files)?;
     check_text(
         &rt,
@@ -152,14 +171,22 @@ fn a_text_goes_onto_a_shelf(rt: HostRuntime) -> Result<(), Fail> {
         "lines: 1 of 2 is below 60%\n",
     )?;
     assert_eq!(rt; status, 6);
-    let [merged, summary] = files.files.as_slice() else {
-        panic!(rt; "there aren't two files");
+    let text = "{\"lines\":{\"found\":2,\"hit\":1},...\n";
+    check_shelf(&rt, &files, "s.txt", text)
+}
+
+/// Checks that the shelf has one file, with this name and this text.
+fn check_shelf(
+    rt: &(impl Abort + AllocGlobal),
+    files: &Shelf,
+    name: &str,
+    text: &str,
+) -> Result<(), Fail> {
+    let [kept] = files.files.as_slice() else {
+        panic!(rt; "{name}: there isn't one file");
     };
-    assert_eq!(rt; merged.name.as_str(), "b.info");
-    let text = "TN:\nSF:/src/a.c\nDA:1,2\nDA:2,0\nLF:2\nLH:1\nend_of_record\n";
-    check_text(&rt, "b.info", merged.text.as_slice(), text)?;
-    assert_eq!(rt; summary.name.as_str(), "s.txt");
-    Ok(())
+    assert_eq!(rt; kept.name.as_str(), name);
+    check_text(rt, name, kept.text.as_slice(), text)
 }
 
 /// A file that can't be begun or finished is told by its shown name. Rates below their limits aren't told then.
@@ -215,6 +242,8 @@ impl Sink for Short {
 /// An output folder whose files fail while they are written. It counts those that are abandoned.
 #[derive(Drop)]
 struct Shorts {
+    alloc: Global,
+    begun: Option<String>,
     abandoned: u64,
     failed: u64,
 }
@@ -222,19 +251,29 @@ struct Shorts {
 impl OutputFolder for Shorts {
     ghost finished = { λ _. None };
 
+    ghost begun = { λ s. option_map string_bytes s.begun };
+
     ghost failed = { λ s. s.failed };
 
     type File = Short;
 
-    fn begin(&mut self, _name: &str) -> Result<Short, OutputFault> {
-        Ok(Short { left: 0, failed: 0 })
+    fn begin(&mut self, name: &str) -> Result<Short, OutputFault> {
+        match String::from_str(self.alloc, name) {
+            Ok(name) => {
+                self.begun = Some(name);
+                Ok(Short { left: 0, failed: 0 })
+            }
+            Err(_) => Err(OutputFault::Memory),
+        }
     }
 
-    fn finish(&mut self, _name: &str, _file: Short) -> Result<(), OutputFault> {
+    fn finish(&mut self, _file: Short) -> Result<(), OutputFault> {
+        self.begun = None;
         Ok(())
     }
 
     fn abandon(&mut self, _file: Short) {
+        self.begun = None;
         self.abandoned = self.abandoned.saturating_add(1);
         self.failed += 1;
     }
@@ -244,6 +283,8 @@ impl OutputFolder for Shorts {
 #[test]
 fn a_write_to_a_file_fails(rt: HostRuntime) -> Result<(), Fail> {
     let mut files = Shorts {
+        alloc: rt.alloc(),
+        begun: None,
         abandoned: 0,
         failed: 0,
     };
@@ -304,6 +345,15 @@ $ 1 covcollect merge -o ~ ~/a.info
 ! /dev/full: can't write
 $ 1 covcollect merge -o /dev/full ~/a.info
 $ 0 covcollect merge -o /dev/null ~/a.info
+! : can't write
+$ 1 covcollect merge --output= ~/a.info
+> TN:
+> SF:/src/a.c
+> DA:1,4
+> LF:1
+> LH:1
+> end_of_record
+$ 0 covcollect merge -o /dev/stdout ~/a.info
 & 3
 ",
     )

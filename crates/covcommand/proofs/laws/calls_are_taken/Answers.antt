@@ -1,4 +1,4 @@
-use Rattle.covcommand.proofs.Calls.{session_taken, merge_taken, summary_taken, extract_taken, remove_taken, gcov_taken, check_taken, merge_lcov2_taken, summary_lcov2_taken, extract_lcov2_taken, remove_lcov2_taken, check_lcov2_taken, short_jobs_taken, summary_jobs_taken, merge_filters_taken, summary_filters_taken, list_taken, list_options_taken, summary_json_taken, summary_limits_taken, merge_output_taken, summary_output_taken, list_output_taken, extract_output_taken, remove_output_taken, gcov_output_taken}
+use Rattle.covcommand.proofs.Calls.{session_taken, merge_taken, summary_taken, extract_taken, remove_taken, gcov_taken, check_taken, merge_lcov2_taken, summary_lcov2_taken, extract_lcov2_taken, remove_lcov2_taken, check_lcov2_taken, check_jobs_taken, short_jobs_taken, summary_jobs_taken, merge_filters_taken, summary_filters_taken, list_taken, list_options_taken, summary_json_taken, summary_limits_taken, merge_output_taken, summary_output_taken, list_output_taken, extract_output_taken, remove_output_taken, gcov_output_taken}
 use Rattle.covcommand.proofs.laws.calls_are_taken.Goals as goal
 
 pub returns : goal.returns
@@ -15,6 +15,7 @@ returns c = record {
   extract_lcov2 = extract_lcov2_taken;
   remove_lcov2 = remove_lcov2_taken;
   check_lcov2 = check_lcov2_taken;
+  check_jobs = check_jobs_taken;
   short_jobs = short_jobs_taken;
   summary_jobs = summary_jobs_taken;
   merge_filters = merge_filters_taken;

@@ -1,4 +1,4 @@
-use Rattle.std.proofs.Common.{ℕ, List, inl, inr, refl, subst, ◌∙◌}
+use Rattle.std.proofs.Common.{ℕ, List, inl, inr, refl, sym, subst, ◌∙◌}
 use Rattle.std.specs.Io.KnownBytes.{Appends}
 use Rattle.covsession.specs.declared.session.fault.SessionFault.TheVariants as session_faults
 use Rattle.covrun.specs.Ending.{Stopped, with_shortfalls}
@@ -21,7 +21,7 @@ returns-in-Ok-write_file g c = (
   with_shortfalls c.args.shortfalls.now c.args.text,
   inr refl,
   λ output held failed.
-      answer_written c.args.name.now c.args.shortfalls.now c.args.text _ c.say_shortfalls.ensures.status _ _ (c.in-Ok-write_file.ensures.finished, c.in-Ok-write_file.ensures.good)
+      answer_written c.args.name.now c.args.shortfalls.now c.args.text _ c.say_shortfalls.ensures.status _ _ (c.in-Ok-write_file.ensures.finished, c.write_file.ensures.none ∙ sym c.requires.begun, c.in-Ok-write_file.ensures.good)
       output held failed _ _ _ _ c.say_shortfalls.ensures.none c.say_shortfalls.ensures.said,
 )
 
@@ -33,6 +33,7 @@ returns-in-Err-Failed g c = (
       answer_unwritten c.args.name.now c.args.shortfalls.now c.args.text _ _ _ _ _ (
         c.complain.ensures.status,
         c.in-Err-Failed.ensures.same,
+        c.write_file.ensures.none ∙ sym c.requires.begun,
         subst (λ (fault : OutputFault). CountsFault fault (g.P.OutputFolder.failed c.args.files.now) (g.P.OutputFolder.failed c.write_file.new.files)) c.in-Err-Failed.field-0-is c.in-Err-Failed.ensures.counted,
         (refl, refl, refl),
         λ good. subst (λ (words : List ℕ). Appends (g.E.Sink.written c.args.faults.now) (g.E.Sink.written c.complain.new.faults) words) (c.get.ensures ∙ c.in-Ok.ensures) (c.complain.ensures.said good),
@@ -47,6 +48,6 @@ returns g c =
       inl refl,
       λ output held failed. (
         failure_printed (failures.Stopped session_faults.Memory) _ c.report_failure-in-Err-Memory.ensures.status output held failed _ _ _ _ c.report_failure-in-Err-Memory.ensures.said,
-        λ k. output_files (c.in-Err-Memory.ensures.same k) (counted k),
+        λ k. output_files (c.in-Err-Memory.ensures.same k) ((c.write_file.ensures.none ∙ sym c.requires.begun) k) (counted k),
       ),
     )

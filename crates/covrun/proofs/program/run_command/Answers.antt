@@ -20,7 +20,7 @@ pub returns-in-Ok-Check : goal.returns-in-Ok-Check
 returns-in-Ok-Check g c =
     inr (
       c.in-Ok-Check.ensures.taken,
-      told_check (folder_data (g.F.Folder.holds c.args.folder.now) (g.F.Folder.may_refuse c.args.folder.now) (g.F.Folder.may_open c.args.folder.now) g.F.File.Source.left g.F.File.Source.failed_reads) _ _ _ _ _ _ _ _ _ _ _ refl c.get.ensures
+      told_check (folder_data (g.F.Folder.holds c.args.folder.now) (g.F.Folder.may_refuse c.args.folder.now) (g.F.Folder.may_open c.args.folder.now) g.F.File.Source.left g.F.File.Source.failed_reads) _ _ _ _ _ _ _ _ _ _ _ _ refl c.get.ensures
           (ap task_data (sym c.in-Ok-Check.field-0-is) ∙ c.in-Ok-Check.ensures.task) c.check_files.ensures,
     )
 

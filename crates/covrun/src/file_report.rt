@@ -1,0 +1,208 @@
+//! What is reported about one checked file.
+
+ghost use Rattle.std.specs.Prelude.{◌≡◌, ◌<◌, ◌≤◌, ◌^◌, ◌++◌, [], codes, IfOk, IfErr, OnOk, OnErr, suc};
+ghost use Rattle.std.specs.Io.KnownBytes.{Appends};
+ghost use Rattle.covlist.specs.Shown.{shown_name as shown_name_of};
+ghost use Rattle.covrun.specs.Check.{Unread, Refused, Held};
+ghost use Rattle.covrun.specs.Checked.{complaint_by, verdict_of_summary, AnswersText, IsExamined, IsTextExamined, IsReportOf, Reports};
+ghost use Rattle.covrun.specs.Folder.{folder_data};
+ghost use Rattle.covrun.specs.Streams.{sinks};
+ghost use Rattle.covsession.specs.Fault.{HasBegun};
+ghost use Rattle.covsession.specs.declared.session.fault.SessionFault.TheVariants as session_faults;
+
+use crate::check_verdict::CheckVerdict;
+use crate::files::{FileFault, file_text};
+use crate::folder::Folder;
+use crate::output::{put_out, say};
+use covcheck::{TextSummary, check_gcov, check_lcov2, check_trace, summary_line};
+use covcommand::{LcovVersion, TextFormat};
+use covline::Bytes;
+use covlist::put_shown_name;
+use covread::ReadFault;
+use covsession::{SessionFault, Sink, refused_line};
+use std::alloc::Global;
+
+/// What is reported about a checked file. Writing it takes no memory.
+#[derive(Drop)]
+pub(crate) struct FileReport {
+    /// The file's name as it is shown.
+    shown: Bytes,
+    /// The line for the output. It is empty if the file can't be read.
+    line: Vec<u8>,
+    /// The verdict. It decides what is complained about.
+    verdict: CheckVerdict,
+}
+
+impl FileReport {
+    /// Writes the complaint and then the line, and returns the verdict.
+    pub(crate) fn write<O: Sink, E: Sink>(
+        &self,
+        output: &mut O,
+        faults: &mut E,
+    ) -> Result<CheckVerdict, SessionFault>
+        requires output { O.failed_writes output.old < 2 ^ 62 }
+        requires faults { E.failed_writes faults.old < 2 ^ 63 }
+        ensures { Reports self.now.line.items (complaint_by self.now.verdict self.now.shown) self.now.verdict result
+            (sinks (O.written output.old) (O.held output.old) (O.failed_writes output.old) (E.written faults.old) (E.failed_writes faults.old))
+            (sinks (O.written output.new) (O.held output.new) (O.failed_writes output.new) (E.written faults.new) (E.failed_writes faults.new)) }
+    {
+        complain(self.verdict, self.shown.get(), faults);
+        put_line(self.line.as_slice(), output)?;
+        Ok(self.verdict)
+    }
+}
+
+/// Complains about a file that can't be read or has no item.
+fn complain<E: Sink>(verdict: CheckVerdict, shown: &[u8], faults: &mut E)
+    requires { E.failed_writes faults.old < 2 ^ 63 }
+    ensures said { E.failed_writes faults.new ≡ E.failed_writes faults.old
+        → Appends (E.written faults.old) (E.written faults.new) (complaint_by verdict shown.now) }
+    ensures grows { E.failed_writes faults.old ≤ E.failed_writes faults.new }
+    ensures few { E.failed_writes faults.new ≤ suc (E.failed_writes faults.old) }
+{
+    match verdict {
+        CheckVerdict::Unreadable => say(shown, b": can't read\n", faults),
+        CheckVerdict::Empty => say(shown, b": no items\n", faults),
+        CheckVerdict::Fine | CheckVerdict::Refused => {}
+    }
+}
+
+/// Puts out the line, unless it is empty.
+fn put_line<O: Sink>(line: &[u8], output: &mut O) -> Result<(), SessionFault>
+    requires { O.failed_writes output.old < 2 ^ 62 }
+    ensures written { OnOk result (Appends (O.written output.old) (O.written output.new) line.now) }
+    ensures sent { OnOk result (O.held output.old ≡ 0 → O.held output.new ≡ 0) }
+    ensures good { OnOk result (O.failed_writes output.new ≡ O.failed_writes output.old) }
+    ensures failed { OnErr result (O.failed_writes output.new ≡ suc (O.failed_writes output.old)) }
+    ensures begun { OnErr result (HasBegun (O.written output.old) (O.written output.new) line.now) }
+    ensures fault { IfErr result (λ fault. fault ≡ session_faults.Write) }
+{
+    if line.is_empty() {
+        return Ok(());
+    }
+    put_out(line, output)?;
+    Ok(())
+}
+
+/// Reads a file, checks it, and returns what has to be reported. The file's text is freed.
+pub(crate) fn examine<F: Folder>(
+    folder: &F,
+    alloc: Global,
+    format: TextFormat,
+    name: &str,
+) -> Result<FileReport, SessionFault>
+    ensures { IsExamined (folder_data (F.holds folder.now) (F.may_refuse folder.now) (F.may_open folder.now) F.File.left F.File.failed_reads) format name.now result }
+{
+    let shown = shown_name(alloc, name.as_bytes())?;
+    match file_text(folder, alloc, name) {
+        Ok(text) => report_on_text(alloc, format, shown, text.get()),
+        Err(FileFault::Unreadable(_)) => Ok(report_on_unread(alloc, shown)),
+        Err(FileFault::Memory) => Err(SessionFault::Memory),
+    }
+}
+
+/// The report on a file with this shown name that can't be read.
+fn report_on_unread(alloc: Global, shown: Bytes) -> FileReport
+    ensures { IsReportOf shown Unread result }
+{
+    FileReport {
+        shown,
+        line: Vec::new(alloc),
+        verdict: CheckVerdict::Unreadable,
+    }
+}
+
+/// The report on a file with this shown name and this text.
+fn report_on_text(
+    alloc: Global,
+    format: TextFormat,
+    shown: Bytes,
+    text: &[u8],
+) -> Result<FileReport, SessionFault>
+    ensures { IsTextExamined format shown text.now result }
+{
+    match answer(alloc, format, text) {
+        Ok(summary) => report_on_summary(alloc, shown, &summary),
+        Err(ReadFault::Memory) => Err(SessionFault::Memory),
+        Err(fault) => report_on_refusal(alloc, shown, fault),
+    }
+}
+
+/// What the text holds in this format, or why it is refused.
+fn answer(alloc: Global, format: TextFormat, text: &[u8]) -> Result<TextSummary<'_>, ReadFault>
+    ensures { AnswersText format text.now result }
+{
+    match format {
+        TextFormat::Tracefile(LcovVersion::One) => check_trace(alloc, text),
+        TextFormat::Tracefile(LcovVersion::Two) => check_lcov2(alloc, text),
+        TextFormat::Gcov => check_gcov(alloc, text),
+    }
+}
+
+/// The report on a file with this shown name and this summary.
+fn report_on_summary(
+    alloc: Global,
+    shown: Bytes,
+    summary: &TextSummary<'_>,
+) -> Result<FileReport, SessionFault>
+    ensures report { IfOk result (IsReportOf shown (Held summary.now)) }
+    ensures fault { IfErr result (λ fault. fault ≡ session_faults.Memory) }
+{
+    let told = summary_line(alloc, summary)?;
+    let line = line_of_file(alloc, shown.get(), told.as_slice())?;
+    Ok(FileReport {
+        shown,
+        line,
+        verdict: verdict_on(summary),
+    })
+}
+
+/// The verdict on a file with this summary.
+fn verdict_on(summary: &TextSummary<'_>) -> CheckVerdict
+    ensures { result ≡ verdict_of_summary summary.now }
+{
+    if summary.has_item() {
+        CheckVerdict::Fine
+    } else {
+        CheckVerdict::Empty
+    }
+}
+
+/// The report on a file with this shown name whose text is refused.
+fn report_on_refusal(
+    alloc: Global,
+    shown: Bytes,
+    fault: ReadFault,
+) -> Result<FileReport, SessionFault>
+    ensures report { IfOk result (IsReportOf shown (Refused fault)) }
+    ensures fault { IfErr result (λ fault. fault ≡ session_faults.Memory) }
+{
+    let told = refused_line(alloc, fault)?;
+    let line = line_of_file(alloc, shown.get(), told.as_slice())?;
+    Ok(FileReport {
+        shown,
+        line,
+        verdict: CheckVerdict::Refused,
+    })
+}
+
+/// The line `told`, with the shown name of its file and a colon in front.
+fn line_of_file(alloc: Global, shown: &[u8], told: &[u8]) -> Result<Vec<u8>, SessionFault>
+    ensures line { IfOk result (λ line. line.items ≡ shown.now ++ codes ": " ++ told.now) }
+    ensures fault { IfErr result (λ fault. fault ≡ session_faults.Memory) }
+{
+    let mut line = Vec::from_slice(alloc, shown)?;
+    line.extend_from_slice(b": ")?;
+    line.extend_from_slice(told)?;
+    Ok(line)
+}
+
+/// The name of a file as it is shown, with its control bytes in hexadecimal digits.
+fn shown_name(alloc: Global, name: &[u8]) -> Result<Bytes, SessionFault>
+    ensures name { IfOk result (λ shown. shown ≡ shown_name_of name.now) }
+    ensures fault { IfErr result (λ fault. fault ≡ session_faults.Memory) }
+{
+    let mut shown = Bytes::new(alloc);
+    put_shown_name(name, &mut shown)?;
+    Ok(shown)
+}
