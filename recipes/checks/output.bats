@@ -119,6 +119,11 @@ onto_disk() { # HOW
         call "$COVCOLLECT" merge -o new077 a.info a.info
         holds "merge -o: rights of an old file, $mask" [ "$status:$(rights new077)" = 0:$mask ]
     done
+    for mask in 4755 2755 6711; do
+        chmod $mask new077
+        call "$COVCOLLECT" merge -o new077 a.info a.info
+        holds "merge -o: rights of an old file, $mask: no set-id bits" [ "$status:$(rights new077)" = 0:${mask#?} ]
+    done
     mkdir folder
     cp a.info folder/real
     chmod 640 folder/real
@@ -158,8 +163,15 @@ onto_disk() { # HOW
     says "$work/err" 'merge -o: control bytes of its name are shown' "no\\x0afolder/x\\x1b: can't write"
 }
 
+# A call that writes the sum of 1.info and 2.info, between two lines.
+around() { # OPTION...
+    echo before
+    "$COVCOLLECT" merge "$@" "$work/1.info" "$work/2.info" 3>&- 4>&-
+    echo after
+}
+
 @test "devices and pipes" {
-    local device program=$COVCOLLECT as=()
+    local device name program=$COVCOLLECT as=()
     texts
     # As root, a wrong program would take the machine's devices away.
     ! open_up || as=("${nobody[@]}")
@@ -174,11 +186,31 @@ onto_disk() { # HOW
     holds 'merge -o /dev/full: is still a device' [ -c /dev/full ]
     "$COVCOLLECT" merge -o /dev/stdout "$work/1.info" "$work/2.info" 3>&- 4>&- | cat >piped
     same "$work/3.info" piped 'merge -o /dev/stdout: into a pipe'
-    echo before >log
-    "$COVCOLLECT" merge -o /dev/stdout "$work/1.info" "$work/2.info" >>log 3>&- 4>&-
-    { echo before; cat "$work/3.info"; } >wanted
-    same wanted log 'merge -o /dev/stdout >> FILE: the text follows what is there'
-    rm log wanted
+    # Standard output itself, as without -o.
+    { echo before; cat "$work/3.info"; echo after; } >wanted
+    for name in /dev/stdout /dev/fd/1 /proc/self/fd/1; do
+        around -o $name >log
+        same wanted log "merge -o $name > FILE: the text is between what stands before and after"
+        echo begin >log
+        around -o $name >>log
+        { echo begin; cat wanted; } >more
+        same more log "merge -o $name >> FILE: the same, after what is there"
+        around -o $name >log 2>&1
+        same wanted log "merge -o $name > FILE 2>&1: as the first"
+        call bash -c 'exec "$COVCOLLECT" merge -o "$1" "$2" >/dev/full' - $name "$work/1.info"
+        ended 1 "merge -o $name: a full disk"
+        says "$work/err" "merge -o $name: is told as without -o" 'write fault'
+    done
+    # Other streams are opened anew, and the text follows what is there.
+    for name in /dev/stderr /dev/fd/2 /proc/self/fd/2; do
+        around -o $name >>log.err 2>&1
+        same wanted log.err "merge -o $name >> FILE 2>&1: the text is between what stands before and after"
+        { echo before >&2; "$COVCOLLECT" merge -o $name "$work/1.info" "$work/2.info" 3>&- 4>&-; } 2>log
+        head -n -1 wanted >more
+        same more log "merge -o $name 2> FILE: the text follows what is there"
+        rm log.err
+    done
+    rm log more wanted
     mkfifo fifo
     daemon dd status=none if=fifo of=given bs=100
     call timeout 20 "$COVCOLLECT" merge -o fifo "$work/1.info" "$work/2.info"
@@ -195,7 +227,7 @@ onto_disk() { # HOW
 }
 
 @test "folders and files of others" {
-    local program
+    local program group old new name
     open_up || { not_tried 'merge -o: files of other users, which only root can make'; return 0; }
     small a 1 >a.info
     small b 1 >b.info
@@ -229,6 +261,36 @@ onto_disk() { # HOW
     same wanted theirs/a.info 'merge -o: is replaced'
     holds 'merge -o: with its rights, by a file of the caller' [ "$(stat -c %a:%U theirs/a.info)" = 400:nobody ]
     only 'merge -o: and nothing else is there' theirs a.info
+    # The group stays if the caller is in it; if not, the new group has no rights.
+    for group in nogroup:664:664 users:664:664 users:640:640 root:664:604 root:640:600 root:777:707; do
+        IFS=: read -r group old new <<<"$group"
+        install -o root -g "$group" -m "$old" a.info theirs/a.info
+        call setpriv --reuid=nobody --regid=nogroup --groups=users "$program" merge -o theirs/a.info a.info b.info
+        ended 0 "merge -o: a file of the group $group, rights $old"
+        [ "$group" != root ] || group=nogroup
+        holds "merge -o: then it is of $group, rights $new" [ "$(stat -c %a:%U:%G theirs/a.info)" = "$new:nobody:$group" ]
+    done
+    # As root, owner and group stay.
+    install -o nobody -g users -m 640 a.info theirs/a.info
+    call "$program" merge -o theirs/a.info a.info b.info
+    same wanted theirs/a.info "merge -o: root writes another one's file"
+    holds 'merge -o: it keeps owner, group and rights' [ "$(stat -c %a:%U:%G theirs/a.info)" = 640:nobody:users ]
+    ln -s theirs/a.info link
+    chmod 600 theirs/a.info
+    call "$program" merge -o link a.info b.info
+    holds 'merge -o: the same by a link' [ "$(stat -c %a:%U:%G theirs/a.info)" = 600:nobody:users ]
+    only 'merge -o: and nothing else is there' theirs a.info
+    # A name is used as it is given: the folders above the working folder need not be searched.
+    mkdir above above/here
+    cp a.info b.info above/here
+    chown -R nobody:nogroup above/here
+    chmod 700 above
+    for name in a.info new.info new.info; do
+        call bash -c 'cd above/here && exec "$@"' - "${nobody[@]}" "$program" merge -o $name "$PWD/a.info" b.info
+        ended 0 "merge -o: $name, below a folder that may not be searched"
+        same wanted above/here/$name 'merge -o: it is written'
+    done
+    only 'merge -o: and nothing else is there' above/here a.info b.info new.info
 }
 
 @test "a full disk" {
