@@ -213,7 +213,7 @@ fn check_number<R: Files<File: Send, Dir: Send> + AllocGlobal + Abort + Clone + 
     let mut number: usize = 0;
     for entry in fs::read_dir(rt, folder)? {
         drop(entry?);
-        number += 1;
+        number = number.saturating_add(1);
     }
     let given = format!(in rt.alloc(); "{number}")?;
     assert!(rt; given.as_str() == wanted, "there are {given} files");
