@@ -95,7 +95,7 @@ onto_disk() { # HOW
     call "$COVCOLLECT" check -o a.info a.info
     ended 2 'check -o'
     text 1 >"$work/large.info"
-    call bash -c 'ulimit -v 8000; exec "$COVCOLLECT" merge -o a.info "$1"' - "$work/large.info"
+    call bash -c 'ulimit -v 6000; exec "$COVCOLLECT" merge -o a.info "$1"' - "$work/large.info"
     ended 3 'merge -o: no memory'
     call "$COVCOLLECT" merge -o new.info a.info cut.info
     ended 4 'merge -o: the same for a new file'
