@@ -193,8 +193,8 @@ around() { # OPTION...
         same wanted log "merge -o $name > FILE: the text is between what stands before and after"
         echo begin >log
         around -o $name >>log
-        { echo begin; cat wanted; } >more
-        same more log "merge -o $name >> FILE: the same, after what is there"
+        { echo begin; cat wanted; } >longer
+        same longer log "merge -o $name >> FILE: the same, after what is there"
         around -o $name >log 2>&1
         same wanted log "merge -o $name > FILE 2>&1: as the first"
         call bash -c 'exec "$COVCOLLECT" merge -o "$1" "$2" >/dev/full' - $name "$work/1.info"
@@ -206,11 +206,11 @@ around() { # OPTION...
         around -o $name >>log.err 2>&1
         same wanted log.err "merge -o $name >> FILE 2>&1: the text is between what stands before and after"
         { echo before >&2; "$COVCOLLECT" merge -o $name "$work/1.info" "$work/2.info" 3>&- 4>&-; } 2>log
-        head -n -1 wanted >more
-        same more log "merge -o $name 2> FILE: the text follows what is there"
+        head -n -1 wanted >longer
+        same longer log "merge -o $name 2> FILE: the text follows what is there"
         rm log.err
     done
-    rm log more wanted
+    rm log longer wanted
     mkfifo fifo
     daemon dd status=none if=fifo of=given bs=100
     call timeout 20 "$COVCOLLECT" merge -o fifo "$work/1.info" "$work/2.info"
