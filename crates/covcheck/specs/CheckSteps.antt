@@ -1,14 +1,6 @@
--- Definitions for the private steps of a check: which lines aren't read in each format, and what follows the beginning of a line.
+-- Private steps of a check: what follows the beginning of a line.
 use Rattle.std.specs.Prelude.{ℕ, if◌then◌else◌, List, [], ◌∷◌}
-use Rattle.covcheck.specs.declared.format.Format.{Format}
-use Rattle.covcheck.specs.declared.format.Format.TheVariants as formats
-use Rattle.covcheck.specs.Skipped.{is_cut, IsSkippedGcov, IsSkippedLcov2, IsSkippedRecord}
-
--- the lines that aren't read in a text of this format
-abbrev pub IsSkippedIn : Format → List ℕ → Type 0
-IsSkippedIn formats.Trace = IsSkippedRecord
-IsSkippedIn formats.Lcov2 = IsSkippedLcov2
-IsSkippedIn formats.Gcov = IsSkippedGcov
+use Rattle.covcheck.specs.Skipped.{is_cut}
 
 -- what follows the colons, spaces and tabs at the front
 abbrev pub after_cuts : List ℕ → List ℕ

@@ -3,6 +3,8 @@ use Rattle.std.specs.Prelude.{◌≡◌, ◌≢◌, ◌⊎◌, ℕ, Bool, ◌||�
 use Rattle.covline.specs.Spells.{Begins, BeginsWithOneOf, Spells, Skip}
 use Rattle.covlcov2.specs.Spells.{Lcov2Spells, Plain}
 use Rattle.covread.specs.Gcov.{IsShapeOf, Other}
+use Rattle.covcheck.specs.declared.format.Format.{Format}
+use Rattle.covcheck.specs.declared.format.Format.TheVariants as formats
 
 -- a line of a tracefile that isn't read: it isn't empty, and begins neither with one of the twelve keys nor with
 -- `end_of_record`
@@ -27,6 +29,12 @@ IsSkippedLcov2 line = (line ≢ []) × Lcov2Spells line (Plain Skip) × ¬ IsOfL
 -- a line of gcov's text that isn't read: it isn't empty, and has none of the known shapes
 abbrev pub IsSkippedGcov : List ℕ → Type 0
 IsSkippedGcov line = (line ≢ []) × IsShapeOf line Other
+
+-- the lines that aren't read in a text of this format
+abbrev pub IsSkippedIn : Format → List ℕ → Type 0
+IsSkippedIn formats.Trace = IsSkippedRecord
+IsSkippedIn formats.Lcov2 = IsSkippedLcov2
+IsSkippedIn formats.Gcov = IsSkippedGcov
 
 -- `those` are the elements of the list for which `holds` is true, in their order
 abbrev pub AreAllThat : {X : Type 0} → (X → Type 0) → List X → List X → Type 0

@@ -8,8 +8,7 @@ ghost use Rattle.covread.specs.Outcome.{Answers, GrowsLate, IsOutcome};
 ghost use Rattle.covread.specs.GcovOutcome as gcov;
 ghost use Rattle.covlcov2.specs.Outcome as lcov2;
 ghost use Rattle.covcheck.specs.TextSummary.{Holds, Tells};
-ghost use Rattle.covcheck.specs.Skipped.{IsSkippedGcov, IsSkippedLcov2, IsSkippedRecord};
-ghost use Rattle.covcheck.specs.CheckSteps.{IsSkippedIn};
+ghost use Rattle.covcheck.specs.Skipped.{IsSkippedGcov, IsSkippedIn, IsSkippedLcov2, IsSkippedRecord};
 
 use crate::format::Format;
 use crate::skipped_lines::skipped_lines_in;
@@ -65,8 +64,9 @@ pub fn check_gcov<'a, A: Allocator + Copy>(
     Ok(summary_of(&submission, text, Format::Gcov))
 }
 
-/// The summary of a text that was read as this submission.
-fn summary_of<'a, A: Allocator>(
+/// The summary of a text that was read as this submission. Whether the text is read as this submission isn't checked. Takes no
+/// memory.
+pub fn summary_of<'a, A: Allocator>(
     submission: &Submission<A>,
     text: &'a [u8],
     format: Format,

@@ -3,8 +3,7 @@
 ghost use Rattle.std.specs.Prelude.{◌≡◌, ◌++◌, ◌↔◌, IsTrue, IfSome, codes};
 ghost use Rattle.covline.specs.Spells.{line_data, Begins, HasKey, Skip, Spells};
 ghost use Rattle.covlcov2.specs.Spells.{lcov2_data, Lcov2Spells, Plain};
-ghost use Rattle.covcheck.specs.Skipped.{IsOfLcov2Alone, IsOnConditions, IsSkippedLcov2, IsSkippedRecord};
-ghost use Rattle.covcheck.specs.CheckSteps.{IsSkippedIn};
+ghost use Rattle.covcheck.specs.Skipped.{IsOfLcov2Alone, IsOnConditions, IsSkippedIn, IsSkippedLcov2, IsSkippedRecord};
 
 use covlcov2::{Lcov2Line, read_lcov2_line};
 use covline::{TraceLine, read_line, strip_key};
@@ -12,7 +11,7 @@ use covread::fits_no_shape;
 
 /// How a text is read.
 #[derive(Clone, Copy)]
-pub(crate) enum Format {
+pub enum Format {
     /// As a tracefile.
     Trace,
     /// As a tracefile of LCOV 2.

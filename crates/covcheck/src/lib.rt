@@ -24,7 +24,8 @@ mod skipped_lines;
 mod start;
 mod text_summary;
 
-pub use check::{check_gcov, check_lcov2, check_trace};
+pub use check::{check_gcov, check_lcov2, check_trace, summary_of};
+pub use format::Format;
 pub use laws::{a_beginning_is_one_word, skipped_lines_are_unique};
 pub use output::summary_line;
 pub use text_summary::{SkippedLine, TextSummary};

@@ -2,8 +2,7 @@
 
 ghost use Rattle.std.specs.Prelude.{◌≡◌, ℕ, List, length, None, Some, IfSome, MatchOption};
 ghost use Rattle.covcheck.specs.TextSummary.{AreLinesThat, IsFirstOf};
-ghost use Rattle.covcheck.specs.Skipped.{start_of};
-ghost use Rattle.covcheck.specs.CheckSteps.{IsSkippedIn};
+ghost use Rattle.covcheck.specs.Skipped.{start_of, IsSkippedIn};
 
 use crate::format::Format;
 use crate::start::start_of;

@@ -25,6 +25,7 @@ IsLateOutcome MayGive MayFail (Err (late.Refused fault)) = MayGive (Err fault)
 IsLateOutcome MayGive MayFail (Err late.Unreadable) = MayFail
 IsLateOutcome MayGive MayFail (Err late.Memory) = Unit {0}
 
+-- the outcomes that an input may have, and whether it may fail, as `Chances`
 abbrev pub chances_of : {X F : Type 0} → (MayGive : X → Result SubmissionData F → Type 0) → (MayFail : X → Type 0) → Chances X F
 chances_of MayGive MayFail = record { Gives = MayGive; MayFail = MayFail }
 

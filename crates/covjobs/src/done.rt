@@ -61,7 +61,7 @@ pub(crate) fn all_done<
 /// Returns the workers, if all of them ended well. Otherwise returns the first input that can't be read, if each job has read its
 /// own inputs before that input. Else returns the fault of the lowest-numbered job that was refused something. Returns `Memory`
 /// if there is no room for the list of workers.
-fn all_well<L: Name, P: Keep<Of = Receipt>, F: Copy>(
+fn all_well<L: Name, P: Keep<Of = Receipt>, F: Drop>(
     alloc: Global,
     ended: Vec<Result<Worker<L, Global, P, F>, Stop>>,
 ) -> Result<Vec<Worker<L, Global, P, F>>, Stop>

@@ -21,7 +21,7 @@ use std::thread::Threads;
 
 /// What `collect_into_book` returns.
 #[derive(Drop)]
-pub struct CollectedBook<F: Copy = ReadFault> {
+pub struct CollectedBook<F: Drop = ReadFault> {
     /// The book. Its table has the counts of all inputs that were accepted. Of its history it keeps the answers: the rest exists
     /// only in proofs.
     pub book: Book<Global, Answered>,
@@ -128,7 +128,7 @@ fn collect_named<
 }
 
 /// The seats, the latest news of each job, and the refused inputs in their order.
-fn hand_in_news<L: Name, F: Copy>(
+fn hand_in_news<L: Name, F: Drop>(
     alloc: Global,
     workers: Vec<Worker<L, Global, Snapshot<Receipt>, F>>,
 ) -> Result<(Seats<L>, Vec<Option<News<L>>>, Refused<Global, F>), Memory>

@@ -20,7 +20,7 @@ pub trait LateInput<A: Allocator>: Drop {
     ghost may_fail: { Self → Type 0 };
 
     /// Why the input's text is refused.
-    type Fault: Copy;
+    type Fault: Drop;
 
     /// Reads the input. Returns what it holds, ready to be submitted.
     fn read_late(self, alloc: A) -> Result<SubRef<A>, LateFault<Self::Fault>>

@@ -14,11 +14,11 @@ pub struct RefusedInput<F = ReadFault> {
 
 /// A list of refused inputs. Contracts see these inputs in order.
 #[derive(Drop)]
-pub struct Refused<A: Allocator = Global, F: Copy = ReadFault> {
+pub struct Refused<A: Allocator = Global, F: Drop = ReadFault> {
     inputs: Vec<RefusedInput<F>, A>,
 }
 
-impl<A: Allocator, F: Copy> Model for Refused<A, F> {
+impl<A: Allocator, F: Drop> Model for Refused<A, F> {
     ghost use Rattle.std.specs.Prelude.{List};
     ghost use Rattle.covjobs.specs.declared.refused.RefusedInput.{RefusedInput};
 
@@ -27,7 +27,7 @@ impl<A: Allocator, F: Copy> Model for Refused<A, F> {
     ghost view = { λ a. a.inputs.items };
 }
 
-impl<A: Allocator, F: Copy> Refused<A, F> {
+impl<A: Allocator, F: Drop> Refused<A, F> {
     ghost use Rattle.std.specs.Prelude.{◌≡◌, ◌++◌, [], ◌∷◌, OnOk, OnErr};
     ghost use Rattle.std.specs.List.Sorted.{IsPermutation, IsNonDecreasingBy};
     ghost use Rattle.covjobs.specs.declared.refused.RefusedInput.{RefusedInput};

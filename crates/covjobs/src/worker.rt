@@ -24,7 +24,7 @@ pub(crate) struct Worker<
     L: Name,
     A: Allocator = Global,
     P: Keep<Of = Receipt<A>> = Receipt<A>,
-    F: Copy = ReadFault,
+    F: Drop = ReadFault,
 > {
     seat: Seat<L>,
     receipts: Vec<P, A>,
@@ -34,7 +34,7 @@ pub(crate) struct Worker<
     live: Option<Live<L, A>>,
 }
 
-impl<L: Name, A: Allocator, P: Keep<Of = Receipt<A>>, F: Copy> Model for Worker<L, A, P, F> {
+impl<L: Name, A: Allocator, P: Keep<Of = Receipt<A>>, F: Drop> Model for Worker<L, A, P, F> {
     ghost use Rattle.std.specs.Prelude.{[], is_some, map};
     ghost use Rattle.covbook.specs.EntryView.{receipt_data};
     ghost use Rattle.covbook.specs.Kept.{IsKept};
@@ -48,7 +48,7 @@ impl<L: Name, A: Allocator, P: Keep<Of = Receipt<A>>, F: Copy> Model for Worker<
     ghost invariant = { λ a. IsKept (record { job = a.seat.job; receipts = map (λ p. receipt_data (P.shows p)) a.receipts.items; readings = [] }) a.seat.calls a.seat.seen (history_of a.latest) };
 }
 
-impl<L: Name, A: Allocator + Copy, P: Keep<Of = Receipt<A>>, F: Copy> Worker<L, A, P, F> {
+impl<L: Name, A: Allocator + Copy, P: Keep<Of = Receipt<A>>, F: Drop> Worker<L, A, P, F> {
     ghost use Rattle.std.specs.Prelude.{◌≡◌, ◌++◌, [], ◌∷◌, None, Some, IfOk, IfErr, IfSome, is_some, length, map};
     ghost use Rattle.covbook.specs.Op.{SubmitOp};
     ghost use Rattle.covbook.specs.View.{op_data};
@@ -216,7 +216,7 @@ fn later<L: Name>(latest: &Option<News<L>>, news: &News<L>) -> News<L>
     }
 }
 
-impl<L: Name, A: Allocator, P: Keep<Of = Receipt<A>>, F: Copy> Worker<L, A, P, F> {
+impl<L: Name, A: Allocator, P: Keep<Of = Receipt<A>>, F: Drop> Worker<L, A, P, F> {
     ghost use Rattle.std.specs.Prelude.{◌≡◌};
     ghost use Rattle.covbook.specs.Kept.{IsKeptWell};
     ghost use Rattle.covjobs.specs.Latest.{history_of};
@@ -344,7 +344,7 @@ fn outcome_of<A: Allocator, T: LateInput<A>>(
 }
 
 /// The fault of a refused text. If the input is not read at all, the job stops.
-fn refused_text<F: Copy>(
+fn refused_text<F: Drop>(
     index: usize,
     first: Option<BookFault>,
     fault: LateFault<F>,

@@ -21,7 +21,9 @@ use Rattle.covjobs.specs.Start.{AreJobs}
 use Rattle.covjobs.specs.declared.collect_fault.CollectFault.{CollectFault}
 use Rattle.covjobs.specs.declared.collect_fault.CollectFault.TheVariants as collects
 use Rattle.covjobs.specs.declared.refused.RefusedInput.{RefusedInput}
-use Rattle.covread.specs.declared.fault.ReadFault.{ReadFault}
+use Rattle.covcommand.specs.declared.asked.Strictness.{Strictness}
+use Rattle.covrun.specs.declared.text_fault.TextFault.{TextFault}
+use Rattle.covrun.proofs.Strict.{are_collected}
 use Rattle.covcommand.specs.declared.asked.Command.{Command}
 use Rattle.covcommand.specs.declared.asked.Command.TheVariants as commands
 use Rattle.covcommand.specs.declared.asked.TotalsForm.{TotalsForm}
@@ -37,17 +39,17 @@ use Rattle.covrun.specs.Streams.{SourceData, SinksData, Complains, PutsOut, sink
 use Rattle.covrun.specs.View.{failure_data}
 use Rattle.covrun.specs.declared.ending.Failure.{Failure}
 use Rattle.covrun.specs.declared.ending.Failure.TheVariants as failures
-use Rattle.covrun.specs.Ending.{EndingData, Prints, FallsShort, Unreadable, Stopped, of_collect, of_collected, complaint, complaints, refusal_line, ran_out, shortfall_status, status_of, text_in, text_at, last_text, asked_shortfalls, asked_text, list_text, unless_any, with_shortfalls}
+use Rattle.covrun.specs.Ending.{EndingData, Prints, FallsShort, Unreadable, Stopped, Refuses, IsUnclean, strict_lines, of_collect, of_collected, complaint, complaints, refusal_line, ran_out, shortfall_status, status_of, text_in, text_at, last_text, asked_shortfalls, asked_text, list_text, unless_any, with_shortfalls}
 use Rattle.covlimit.specs.Limits.{has_limit}
 use Rattle.covrun.specs.Work.{QuestionData, Answer, ChosenReport, ChosenSummary, LimitedTotals, ChosenList, last_of, choice_of, chosen_or_all, asked_of, limits_of, summary_asked, WorkData, TaskData, Serves, Collects, Checks, input_of, task_of}
 use Rattle.covcommand.specs.declared.asked.TextFormat.{TextFormat}
 use Rattle.covrun.proofs.Reading.{HaveTexts, texts_held}
 
 -- the texts were collected, and the call ends as `of_collected` says, or because memory ran out. `count` is the number of files
-pub ends_collected : (folder : FolderData) (work : WorkData) (files : List (List ℕ)) → files ≡ work.files → (outcome : ℕ → Result SubmissionData ReadFault) (count : ℕ) (entries : List EntryData) (refused : List (RefusedInput ReadFault)) (ending : EndingData)
-    → HaveTexts folder work.format files outcome → count ≡ length files → IsText (last_of work.asks)
+pub ends_collected : (folder : FolderData) (work : WorkData) (files : List (List ℕ)) → files ≡ work.files → (outcome : ℕ → Result SubmissionData TextFault) (count : ℕ) (entries : List EntryData) (refused : List (RefusedInput TextFault)) (ending : EndingData)
+    → HaveTexts folder work.format work.strictness files outcome → count ≡ length files → IsText (last_of work.asks)
     → ((last : OpData) → IsText last → (logs : List LogData) × IsCollectedWith outcome count work.jobs last (entries ++ next_entry entries 0 last ∷ []) logs refused)
-    → (ending ≡ Stopped faults.Memory) ⊎ (ending ≡ of_collected files work.asks (entries ++ next_entry entries 0 (last_of work.asks) ∷ []) refused) → WorkEnds folder work ending
+    → (ending ≡ Stopped faults.Memory) ⊎ (ending ≡ of_collected files work.strictness work.asks (entries ++ next_entry entries 0 (last_of work.asks) ∷ []) refused) → WorkEnds folder work ending
 ends_collected folder work files named outcome count entries refused ending read long asks collected (inl ran_out) = inl ran_out
 ends_collected folder work files named outcome count entries refused ending (texts, are, outcomes) long asks collected (inr is) =
     let last = collected (last_of work.asks) asks in
@@ -57,8 +59,9 @@ ends_collected folder work files named outcome count entries refused ending (tex
       texts,
       Ok (record { entries = all; logs = last.0; refused = refused }),
       subst (λ (fs : List (List ℕ)). AreTexts folder fs texts) named are,
-      (outcome, outcomes, subst (λ (n : ℕ). IsCollectedWith outcome n work.jobs (last_of work.asks) all last.0 refused) same last.1),
-      is ∙ ap (λ (fs : List (List ℕ)). of_collected fs work.asks all refused) named,
+      are_collected work.strictness (map (input_of work.format) texts) work.jobs (last_of work.asks) all last.0 refused outcome outcomes
+          (subst (λ (n : ℕ). IsCollectedWith outcome n work.jobs (last_of work.asks) all last.0 refused) same last.1),
+      is ∙ ap (λ (fs : List (List ℕ)). of_collected fs work.strictness work.asks all refused) named,
     ))
 
 -- the texts weren't collected, and the call ends with the ending for the fault
@@ -87,7 +90,7 @@ text_unclashed ops (DropTestOp test) asks = absurd asks
 text_unclashed ops (RenameOp old new) asks = absurd asks
 
 -- the last operation adds no complaint
-complaints_same : (files : List (List ℕ)) (refused : List (RefusedInput ReadFault)) (entries : List EntryData) (last : OpData) → IsText last
+complaints_same : (files : List (List ℕ)) (refused : List (RefusedInput TextFault)) (entries : List EntryData) (last : OpData) → IsText last
     → complaints files refused (entries ++ next_entry entries 0 last ∷ []) ≡ complaints files refused entries
 complaints_same files refused entries last asks =
     let entry = next_entry entries 0 last in
@@ -130,7 +133,7 @@ table_stays entries op asks =
     ap table_of (map-append (λ (e : EntryData). e.op) entries (next_entry entries 0 op ∷ [])) ∙ tables_append [] (ops_in entries) op ∙ text_leaves (table_of (ops_in entries)) op asks
 
 -- the sections of the table are the same after the last operation
-sections_stay : (entries : List EntryData) (op : OpData) → IsText op → (sections : List SectionData) → sections ≡ content_at (table_of (ops_in entries))
+pub sections_stay : (entries : List EntryData) (op : OpData) → IsText op → (sections : List SectionData) → sections ≡ content_at (table_of (ops_in entries))
     → sections ≡ content_at (table_of (ops_in (entries ++ next_entry entries 0 op ∷ [])))
 sections_stay entries op asks sections are = are ∙ ap content_at (sym (table_stays entries op asks))
 
@@ -174,15 +177,56 @@ pub answer_then : {X E : Type 0} (told_by : X → EndingData) (result : Result X
 answer_then told_by (Ok x) ending other is follows = follows (told_by x) is
 answer_then told_by (Err e) ending other is follows = tt
 
--- no input was refused and nothing clashed, so what is asked is answered
-pub ends_with_answer : (files : List (List ℕ)) (entries : List EntryData) (refused : List (RefusedInput ReadFault)) (asks : QuestionData) (lines : List ℕ) (ending : EndingData) → IsText (last_of asks)
-    → ran_out refused ≡ false → lines ≡ complaints files refused entries → lines ≡ [] → ending ≡ answered asks (entries ++ next_entry entries 0 (last_of asks) ∷ [])
-    → ending ≡ of_collected files asks (entries ++ next_entry entries 0 (last_of asks) ∷ []) refused
-ends_with_answer files entries refused asks lines ending is_text ran are none is =
+-- a call that has no such lines ends as it does without them
+unless_none : (report : List ℕ → EndingData) (lines : List ℕ) (ending other : EndingData) → lines ≡ [] → ending ≡ other → ending ≡ unless_any report lines other
+unless_none report [] ending other none is = is
+unless_none report (b ∷ lines) ending other none is = absurd cc
+
+unless_some : (report : List ℕ → EndingData) (lines : List ℕ) (other : EndingData) → (lines ≡ [] → ⊥) → report lines ≡ unless_any report lines other
+unless_some report [] other some = absurd (some refl)
+unless_some report (b ∷ lines) other some = refl
+
+-- memory didn't run out for an input
+ends_unless : (files : List (List ℕ)) (strictness : Strictness) (asks : QuestionData) (all : List EntryData) (refused : List (RefusedInput TextFault)) (ending : EndingData) → ran_out refused ≡ false
+    → ending ≡ unless_any Refuses (complaints files refused all) (unless_any IsUnclean (strict_lines files strictness asks all refused) (answered asks all))
+    → ending ≡ of_collected files strictness asks all refused
+ends_unless files strictness asks all refused ending ran is =
+    is ∙ ap (λ (b : Bool). if b then Stopped faults.Memory
+    else unless_any Refuses (complaints files refused all) (unless_any IsUnclean (strict_lines files strictness asks all refused) (answered asks all))) (sym ran)
+
+-- texts have a fault, or something clashed
+pub ends_refused : (files : List (List ℕ)) (strictness : Strictness) (entries : List EntryData) (refused : List (RefusedInput TextFault)) (asks : QuestionData) (lines : List ℕ) → IsText (last_of asks)
+    → ran_out refused ≡ false → lines ≡ complaints files refused entries → (lines ≡ [] → ⊥)
+    → Refuses lines ≡ of_collected files strictness asks (entries ++ next_entry entries 0 (last_of asks) ∷ []) refused
+ends_refused files strictness entries refused asks lines is_text ran are some =
     let all = entries ++ next_entry entries 0 (last_of asks) ∷ [] in
-    let unrefused : [] ≡ complaints files refused all = sym none ∙ are ∙ sym (complaints_same files refused entries (last_of asks) is_text) in
-    (λ k. unless_any (unrefused k) (is k))
-    ∙ ap (λ (b : Bool). if b then Stopped faults.Memory else unless_any (complaints files refused all) (answered asks all)) (sym ran)
+    let told : lines ≡ complaints files refused all = are ∙ sym (complaints_same files refused entries (last_of asks) is_text) in
+    ends_unless files strictness asks all refused (Refuses lines) ran
+    (unless_some Refuses lines (unless_any IsUnclean (strict_lines files strictness asks all refused) (answered asks all)) some
+    ∙ ap (λ (ls : List ℕ). unless_any Refuses ls (unless_any IsUnclean (strict_lines files strictness asks all refused) (answered asks all))) told)
+
+-- texts aren't clean, or patterns match no file
+pub ends_unclean : (files : List (List ℕ)) (strictness : Strictness) (entries : List EntryData) (refused : List (RefusedInput TextFault)) (asks : QuestionData) (lines unclean : List ℕ) → IsText (last_of asks)
+    → ran_out refused ≡ false → lines ≡ complaints files refused entries → lines ≡ []
+    → unclean ≡ strict_lines files strictness asks (entries ++ next_entry entries 0 (last_of asks) ∷ []) refused → (unclean ≡ [] → ⊥)
+    → IsUnclean unclean ≡ of_collected files strictness asks (entries ++ next_entry entries 0 (last_of asks) ∷ []) refused
+ends_unclean files strictness entries refused asks lines unclean is_text ran are none told some =
+    let all = entries ++ next_entry entries 0 (last_of asks) ∷ [] in
+    ends_unless files strictness asks all refused (IsUnclean unclean) ran
+    (unless_none Refuses (complaints files refused all) _ _ (complaints_same files refused entries (last_of asks) is_text ∙ sym are ∙ none)
+    (unless_some IsUnclean unclean (answered asks all) some ∙ ap (λ (ls : List ℕ). unless_any IsUnclean ls (answered asks all)) told))
+
+-- no input was refused and nothing clashed, so what is asked is answered
+pub ends_with_answer : (files : List (List ℕ)) (strictness : Strictness) (entries : List EntryData) (refused : List (RefusedInput TextFault)) (asks : QuestionData) (lines unclean : List ℕ) (ending : EndingData) → IsText (last_of asks)
+    → ran_out refused ≡ false → lines ≡ complaints files refused entries → lines ≡ []
+    → unclean ≡ strict_lines files strictness asks (entries ++ next_entry entries 0 (last_of asks) ∷ []) refused → unclean ≡ []
+    → ending ≡ answered asks (entries ++ next_entry entries 0 (last_of asks) ∷ [])
+    → ending ≡ of_collected files strictness asks (entries ++ next_entry entries 0 (last_of asks) ∷ []) refused
+ends_with_answer files strictness entries refused asks lines unclean ending is_text ran are none told clean is =
+    let all = entries ++ next_entry entries 0 (last_of asks) ∷ [] in
+    ends_unless files strictness asks all refused ending ran
+    (unless_none Refuses (complaints files refused all) _ _ (complaints_same files refused entries (last_of asks) is_text ∙ sym are ∙ none)
+    (unless_none IsUnclean (strict_lines files strictness asks all refused) _ _ (sym told ∙ clean) is))
 
 -- ---- what the subcommands ask
 
@@ -190,7 +234,7 @@ ends_with_answer files entries refused asks lines ending is_text ran are none is
 abbrev AsksText : TaskData → Type 0
 AsksText Serves = Unit {0}
 AsksText (Collects work) = IsText (last_of work.asks)
-AsksText (Checks format jobs files) = Unit {0}
+AsksText (Checks format strictness jobs files) = Unit {0}
 
 report_or_chosen : (choice : Option ChoiceData) → IsText (last_of (asked_of ReportOp ChosenReport choice))
 report_or_chosen None = tt
@@ -209,19 +253,19 @@ totals_are_text : (form : TotalsForm) (limits : LimitsData) (choice : Option Cho
 totals_are_text forms.Words limits choice = words_are_text limits choice (has_limit limits)
 totals_are_text forms.Json limits choice = tt
 
-asks_text_of : (command : Command) → AsksText (task_of command)
-asks_text_of commands.Session = tt
-asks_text_of (commands.Merge version jobs filter names) = report_or_chosen (choice_of filter)
-asks_text_of (commands.Summary version jobs filter form limits names) = totals_are_text form (limits_of limits) (choice_of filter)
-asks_text_of (commands.List version jobs filter form names) = tt
-asks_text_of (commands.Extract version names) = tt
-asks_text_of (commands.Remove version names) = tt
-asks_text_of (commands.Gcov test names) = tt
-asks_text_of (commands.Check format jobs names) = tt
+asks_text_of : (command : Command) (strictness : Strictness) → AsksText (task_of command strictness)
+asks_text_of commands.Session strictness = tt
+asks_text_of (commands.Merge version jobs filter names) strictness = report_or_chosen (choice_of filter)
+asks_text_of (commands.Summary version jobs filter form limits names) strictness = totals_are_text form (limits_of limits) (choice_of filter)
+asks_text_of (commands.List version jobs filter form names) strictness = tt
+asks_text_of (commands.Extract version names) strictness = tt
+asks_text_of (commands.Remove version names) strictness = tt
+asks_text_of (commands.Gcov test names) strictness = tt
+asks_text_of (commands.Check format jobs names) strictness = tt
 
 -- the last operation of each subcommand that collects files asks for a text
-pub asks_text : (command : Command) (work : WorkData) → Collects work ≡ task_of command → IsText (last_of work.asks)
-asks_text command work is = subst AsksText (sym is) (asks_text_of command)
+pub asks_text : (command : Command) (strictness : Strictness) (work : WorkData) → Collects work ≡ task_of command strictness → IsText (last_of work.asks)
+asks_text command strictness work is = subst AsksText (sym is) (asks_text_of command strictness)
 
 -- ---- how a call ends
 
@@ -233,11 +277,11 @@ told_work folder work task file named ending status before after old new files w
     (unread, ending, ends, subst (λ (f : Option (List ℕ)). IsEndingReported f ending status old new files written) same told)
 
 -- if files were checked, the task of a check is done
-pub told_check : (folder : FolderData) (format : TextFormat) (jobs : ℕ) (names named : List (List ℕ)) (task : TaskData) (file : Option (List ℕ)) (status : ℕ) (before after : SourceData) (old new : SinksData) (files : OutputFilesData)
-    → after ≡ before → named ≡ names → Checks format jobs names ≡ task → IsCheck folder format named status old new → IsTaskDone folder task file status before after old new files files
-told_check folder format jobs names named task file status before after old new files unread same is checked =
+pub told_check : (folder : FolderData) (format : TextFormat) (strictness : Strictness) (jobs : ℕ) (names named : List (List ℕ)) (task : TaskData) (file : Option (List ℕ)) (status : ℕ) (before after : SourceData) (old new : SinksData) (files : OutputFilesData)
+    → after ≡ before → named ≡ names → Checks format strictness jobs names ≡ task → IsCheck folder format strictness named status old new → IsTaskDone folder task file status before after old new files files
+told_check folder format strictness jobs names named task file status before after old new files unread same is checked =
     subst (λ (t : TaskData). IsTaskDone folder t file status before after old new files files) is
-    (unread, refl, subst (λ (ns : List (List ℕ)). IsCheck folder format ns status old new) same checked)
+    (unread, refl, subst (λ (ns : List (List ℕ)). IsCheck folder format strictness ns status old new) same checked)
 
 -- if the work doesn't begin, the call ends early
 pub stops_early : (command : Command) (fault : WorkFault) (ending : EndingData) → ending ≡ of_work fault → IsRefusal command fault → StopsEarly command ending
@@ -254,6 +298,7 @@ failure_printed (failures.Unreadable name) status is output held failed before a
 failure_printed (failures.Stopped fault) status is output held failed before after fails fails_after said = (is, (refl, refl, refl), said)
 failure_printed failures.Ungathered status is output held failed before after fails fails_after said = (is, (refl, refl, refl), said)
 failure_printed (failures.Refused lines) status is output held failed before after fails fails_after said = (is, (refl, refl, refl), said)
+failure_printed (failures.Unclean lines) status is output held failed before after fails fails_after said = (is, (refl, refl, refl), said)
 
 -- a failure writes no file
 pub failure_reported : (file : Option (List ℕ)) (failure : Failure) (status : ℕ) (old new : SinksData) (files : OutputFilesData)
@@ -264,6 +309,7 @@ failure_reported (Some name) (failures.Unreadable file) status old new files pri
 failure_reported (Some name) (failures.Stopped fault) status old new files printed = (printed, refl)
 failure_reported (Some name) failures.Ungathered status old new files printed = (printed, refl)
 failure_reported (Some name) (failures.Refused lines) status old new files printed = (printed, refl)
+failure_reported (Some name) (failures.Unclean lines) status old new files printed = (printed, refl)
 
 -- a text was printed, and what is said of its rates after it
 pub answer_printed : (lines text : List ℕ) (status : ℕ) → status ≡ shortfall_status lines → (old new : SinksData) → PutsOut text old new

@@ -1,5 +1,6 @@
 pub mod Blocks
 pub mod Checks
+pub mod Strict
 pub mod Endings
 pub mod Folders
 pub mod Patterns

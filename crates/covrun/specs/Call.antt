@@ -6,18 +6,19 @@ use Rattle.clap.specs.Words.{subcommand_of, takes, fault_of}
 use Rattle.covread.specs.Outcome.{max_bytes}
 use Rattle.covbook.specs.Op.{EntryData}
 use Rattle.covbook.specs.Gather.{LogData}
-use Rattle.covjobs.specs.Collect.{IsCollected}
 use Rattle.covjobs.specs.Late.{MayCome}
 use Rattle.covjobs.specs.Start.{AreJobs}
 use Rattle.covjobs.specs.declared.collect_fault.CollectFault.{CollectFault}
 use Rattle.covjobs.specs.declared.collect_fault.CollectFault.TheVariants as collects
 use Rattle.covjobs.specs.declared.refused.RefusedInput.{RefusedInput}
-use Rattle.covread.specs.declared.fault.ReadFault.{ReadFault}
-use Rattle.covcommand.specs.Asked.{AsksFor, GoesTo, IsInBounds, rows_met}
+use Rattle.covrun.specs.Strict.{AreCollected}
+use Rattle.covrun.specs.declared.text_fault.TextFault.{TextFault}
+use Rattle.covcommand.specs.Asked.{AsksFor, GoesTo, HasStrictness, IsInBounds, rows_met}
 use Rattle.covcommand.specs.CommandLine.{covcollect}
 use Rattle.covcommand.specs.Fault.{IsFaultAmong}
 use Rattle.covcommand.specs.declared.asked.Asked.{Asked}
 use Rattle.covcommand.specs.declared.asked.Command.{Command}
+use Rattle.covcommand.specs.declared.asked.Strictness.{Strictness}
 use Rattle.covcommand.specs.declared.fault.CommandFault.{CommandFault}
 use Rattle.covcommand.specs.declared.fault.CommandFault.TheVariants as line
 use Rattle.covsession.specs.Fault.{HasBegun, calls}
@@ -49,17 +50,18 @@ IsUnreadable folder files name =
 pub record CollectedData : Type 0 where
   pub entries : List EntryData
   pub logs : List LogData
-  pub refused : List (RefusedInput ReadFault)
+  pub refused : List (RefusedInput TextFault)
 
 -- the result of collecting the texts. `BadJobs` is returned only if the number of jobs is out of range, and `Full` only if there
 -- are at least as many files as a full history has entries. `Gather` is never returned
 abbrev pub IsAnswer : WorkData → List (List ℕ) → Result CollectedData CollectFault → Type 0
-IsAnswer work texts (Ok c) = IsCollected (map (input_of work.format) texts) work.jobs (last_of work.asks) c.entries c.logs c.refused
+IsAnswer work texts (Ok c) =
+    AreCollected work.strictness (map (input_of work.format) texts) work.jobs (last_of work.asks) c.entries c.logs c.refused
 IsAnswer work texts (Err fault) = (fault ≡ collects.BadJobs → AreJobs work.jobs → ⊥) × MayCome (length work.files) fault
 
 -- the ending of a call whose collecting had this result
 abbrev pub ending_of : WorkData → Result CollectedData CollectFault → EndingData
-ending_of work (Ok c) = of_collected work.files work.asks c.entries c.refused
+ending_of work (Ok c) = of_collected work.files work.strictness work.asks c.entries c.refused
 ending_of work (Err fault) = of_collect fault
 
 -- how a call that collects files ends: memory ran out; or a file can't be read; or the ending is that of collecting texts of the
@@ -126,9 +128,10 @@ abbrev pub IsEndingReported : (file : Option (List ℕ)) → EndingData → (sta
 IsEndingReported None ending status old new files after = IsEndingPrinted ending status old new × (after ≡ files)
 IsEndingReported (Some name) ending status old new files after = IsEndingWritten name ending status old new files after
 
--- what covcommand makes of the words: this command and the file for its text, or this fault
+-- what covcommand makes of the words: this command, its strictness and the file for its text, or this fault
 pub record AreParsed (words : List (List ℕ)) (parsed : Result Asked CommandFault) : Type 0 where
   pub asks : IfOk parsed (λ asked. AsksFor (subcommand_of covcollect words) asked.command)
+  pub strictness : IfOk parsed (λ asked. HasStrictness (rows_met (subcommand_of covcollect words)) asked.command asked.strictness)
   pub output : IfOk parsed (λ asked. GoesTo (rows_met (subcommand_of covcollect words)) asked.command asked.output)
   pub bounds : IfOk parsed (λ asked. IsInBounds asked.command)
   pub fits : IfOk parsed (λ asked. fault_of covcollect words ≡ [])
@@ -145,20 +148,20 @@ IsTaskDone folder Serves file status before after old new files written =
     old.failed_faults new.failed_faults
 IsTaskDone folder (Collects work) file status before after old new files written =
     (after ≡ before) × (ending : EndingData) × WorkEnds folder work ending × IsEndingReported file ending status old new files written
-IsTaskDone folder (Checks format jobs names) file status before after old new files written =
-    (after ≡ before) × (written ≡ files) × IsCheck folder format names status old new
+IsTaskDone folder (Checks format strictness jobs names) file status before after old new files written =
+    (after ≡ before) × (written ≡ files) × IsCheck folder format strictness names status old new
 
 -- a command ends early, and the input isn't read; or its words are accepted, and its task is done
-abbrev pub IsCommandDone : FolderData → Command → (file : Option (List ℕ)) → (status : ℕ) → (before after : SourceData) → SinksData → SinksData → OutputFilesData → OutputFilesData → Type 0
-IsCommandDone folder command file status before after old new files written =
+abbrev pub IsCommandDone : FolderData → Command → Strictness → (file : Option (List ℕ)) → (status : ℕ) → (before after : SourceData) → SinksData → SinksData → OutputFilesData → OutputFilesData → Type 0
+IsCommandDone folder command strictness file status before after old new files written =
     ((after ≡ before) × (written ≡ files) × (ending : EndingData) × StopsEarly command ending × IsEndingPrinted ending status old new)
-    ⊎ (AreTaken command × IsTaskDone folder (task_of command) file status before after old new files written)
+    ⊎ (AreTaken command × IsTaskDone folder (task_of command strictness) file status before after old new files written)
 
 -- what a call does after its words are parsed. If they form a command, the command is done. If they form none, the fault is
 -- reported, and the input isn't read
 abbrev pub IsCallDone : FolderData → Result Asked CommandFault → (status : ℕ) → (before after : SourceData) → SinksData → SinksData → OutputFilesData → OutputFilesData → Type 0
 IsCallDone folder (Ok asked) status before after old new files written =
-    IsCommandDone folder asked.command (file_of (option_map string_bytes asked.output)) status before after old new files written
+    IsCommandDone folder asked.command asked.strictness (file_of (option_map string_bytes asked.output)) status before after old new files written
 IsCallDone folder (Err fault) status before after old new files written =
     (after ≡ before) × (written ≡ files) × IsEndingPrinted (of_line fault) status old new
 

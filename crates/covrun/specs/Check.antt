@@ -7,6 +7,8 @@ use Rattle.covcheck.specs.Skipped.{IsSkippedGcov, IsSkippedLcov2, IsSkippedRecor
 use Rattle.covcheck.specs.SummaryLine.{summary_text}
 use Rattle.covcheck.specs.declared.text_summary.TextSummary.{TextSummary}
 use Rattle.covcommand.specs.declared.asked.LcovVersion.TheVariants as versions
+use Rattle.covcommand.specs.declared.asked.Strictness.{Strictness}
+use Rattle.covcommand.specs.declared.asked.Strictness.TheVariants.{Lenient, Strict}
 use Rattle.covcommand.specs.declared.asked.TextFormat.{TextFormat}
 use Rattle.covcommand.specs.declared.asked.TextFormat.TheVariants.{Tracefile, Gcov}
 use Rattle.covline.specs.Row.{SubmissionData}
@@ -20,6 +22,7 @@ use Rattle.covsession.specs.Program.{fault_status, words_of_fault}
 use Rattle.covsession.specs.Session.{said, refused_text}
 use Rattle.covsession.specs.declared.session.fault.SessionFault.TheVariants as faults
 use Rattle.covrun.specs.Folder.{FolderData, IsTextOf}
+use Rattle.covrun.specs.Strict.{is_clean}
 use Rattle.covrun.specs.Streams.{SinksData, Complains}
 
 -- the outcome for a file: it can't be read; or its text is refused; or its text is read, and holds this
@@ -64,19 +67,30 @@ outcome_line shown (Held summary) = shown ++ codes ": " ++ summary_text summary
 abbrev pub has_item : TextSummary → Bool
 has_item summary = nat_lt 0 summary.items
 
--- the complaint about a file of this shown name: it can't be read, or it has no items
-abbrev pub outcome_complaint : (shown : List ℕ) → OutcomeData → List ℕ
-outcome_complaint shown Unread = shown ++ said (codes ": can't read")
-outcome_complaint shown (Refused fault) = []
-outcome_complaint shown (Held summary) = if has_item summary then [] else shown ++ said (codes ": no items")
+-- a check accepts a text that holds this: it has an item, or for a strict check, it is clean
+abbrev pub is_accepted : Strictness → TextSummary → Bool
+is_accepted Lenient summary = has_item summary
+is_accepted Strict summary = is_clean summary
+
+-- what is said of a file of this shown name if its text isn't accepted: that it has no items, or for a strict check, what it holds
+abbrev pub unaccepted_text : Strictness → (shown : List ℕ) → TextSummary → List ℕ
+unaccepted_text Lenient shown summary = shown ++ said (codes ": no items")
+unaccepted_text Strict shown summary = outcome_line shown (Held summary)
+
+-- the complaint about a file of this shown name: it can't be read, or its text isn't accepted
+abbrev pub outcome_complaint : Strictness → (shown : List ℕ) → OutcomeData → List ℕ
+outcome_complaint strictness shown Unread = shown ++ said (codes ": can't read")
+outcome_complaint strictness shown (Refused fault) = []
+outcome_complaint strictness shown (Held summary) = if is_accepted strictness summary then [] else unaccepted_text strictness shown summary
 
 -- the lines that report the files, in the files' order. The control bytes of their names are shown in hexadecimal digits
 abbrev pub check_lines : List (List ℕ) → List OutcomeData → List ℕ
 check_lines files outcomes = flat_map (λ (f : List ℕ × OutcomeData). outcome_line (shown_name f.0) f.1) (zip files outcomes)
 
 -- the complaints about the files, in the files' order
-abbrev pub check_complaints : List (List ℕ) → List OutcomeData → List ℕ
-check_complaints files outcomes = flat_map (λ (f : List ℕ × OutcomeData). outcome_complaint (shown_name f.0) f.1) (zip files outcomes)
+abbrev pub check_complaints : Strictness → List (List ℕ) → List OutcomeData → List ℕ
+check_complaints strictness files outcomes =
+    flat_map (λ (f : List ℕ × OutcomeData). outcome_complaint strictness (shown_name f.0) f.1) (zip files outcomes)
 
 abbrev pub is_unread : OutcomeData → Bool
 is_unread Unread = true
@@ -88,36 +102,36 @@ is_refused Unread = false
 is_refused (Refused fault) = true
 is_refused (Held summary) = false
 
-abbrev pub is_empty : OutcomeData → Bool
-is_empty Unread = false
-is_empty (Refused fault) = false
-is_empty (Held summary) = if has_item summary then false else true
+abbrev pub is_unaccepted : Strictness → OutcomeData → Bool
+is_unaccepted strictness Unread = false
+is_unaccepted strictness (Refused fault) = false
+is_unaccepted strictness (Held summary) = if is_accepted strictness summary then false else true
 
--- 1 if a file can't be read; else 4 if a text is refused; else 5 if a text has no item; else 0
-abbrev pub check_status : List OutcomeData → ℕ
-check_status outcomes =
+-- 1 if a file can't be read; else 4 if a text is refused; else 5 if a text isn't accepted; else 0
+abbrev pub check_status : Strictness → List OutcomeData → ℕ
+check_status strictness outcomes =
     if list_any is_unread outcomes then 1
     else if list_any is_refused outcomes then 4
-    else if list_any is_empty outcomes then 5 else 0
+    else if list_any (is_unaccepted strictness) outcomes then 5 else 0
 
 -- all files were checked: the output has their lines and holds nothing back, the stream for faults has the complaints, and the
 -- status is that of the worst outcome
-pub record IsWholeCheck (files : List (List ℕ)) (outcomes : List OutcomeData) (status : ℕ) (old new : SinksData) : Type 0 where
+pub record IsWholeCheck (strictness : Strictness) (files : List (List ℕ)) (outcomes : List OutcomeData) (status : ℕ) (old new : SinksData) : Type 0 where
   pub all : length outcomes ≡ length files
-  pub ends : status ≡ check_status outcomes
+  pub ends : status ≡ check_status strictness outcomes
   pub lines : Appends old.output new.output (check_lines files outcomes)
   pub sent : old.held ≡ 0 → new.held ≡ 0
   pub written : new.failed_output ≡ old.failed_output
-  pub complaints : Complains (check_complaints files outcomes) old new
+  pub complaints : Complains (check_complaints strictness files outcomes) old new
 
 -- memory ran out before all files were checked. The lines and complaints of the first files were written, and then the line
 -- `out of memory`
-pub record IsCheckWithoutRoom (files : List (List ℕ)) (outcomes : List OutcomeData) (status : ℕ) (old new : SinksData) : Type 0 where
+pub record IsCheckWithoutRoom (strictness : Strictness) (files : List (List ℕ)) (outcomes : List OutcomeData) (status : ℕ) (old new : SinksData) : Type 0 where
   pub some : length outcomes < length files
   pub ends : status ≡ fault_status faults.Memory
   pub lines : Appends old.output new.output (check_lines files outcomes)
   pub written : new.failed_output ≡ old.failed_output
-  pub complaints : Complains (check_complaints files outcomes ++ said (words_of_fault faults.Memory)) old new
+  pub complaints : Complains (check_complaints strictness files outcomes ++ said (words_of_fault faults.Memory)) old new
 
 -- the output ends within the line of the last checked file: it has the whole lines of the files before that file, and a beginning
 -- of that file's line
@@ -136,15 +150,15 @@ pub record EndsWithin (files : List (List ℕ)) (outcomes : List OutcomeData) (o
 
 -- the output line about one file couldn't be written. No later file was checked, and the failed write is the last thing
 -- reported
-pub record IsCheckCutShort (files : List (List ℕ)) (outcomes : List OutcomeData) (status : ℕ) (old new : SinksData) : Type 0 where
+pub record IsCheckCutShort (strictness : Strictness) (files : List (List ℕ)) (outcomes : List OutcomeData) (status : ℕ) (old new : SinksData) : Type 0 where
   pub lines : EndsWithin files outcomes old new
   pub ends : status ≡ fault_status faults.Write
   pub failed : new.failed_output ≡ suc old.failed_output
-  pub complaints : Complains (check_complaints files outcomes ++ said (words_of_fault faults.Write)) old new
+  pub complaints : Complains (check_complaints strictness files outcomes ++ said (words_of_fault faults.Write)) old new
 
 -- files are checked one after another: all of them, or the first ones until memory ran out or a write failed
-abbrev pub IsCheck : FolderData → TextFormat → (files : List (List ℕ)) → (status : ℕ) → SinksData → SinksData → Type 0
-IsCheck folder format files status old new =
+abbrev pub IsCheck : FolderData → TextFormat → Strictness → (files : List (List ℕ)) → (status : ℕ) → SinksData → SinksData → Type 0
+IsCheck folder format strictness files status old new =
     (outcomes : List OutcomeData) × AreOutcomes folder format files outcomes
-    × (IsWholeCheck files outcomes status old new
-    ⊎ (IsCheckWithoutRoom files outcomes status old new ⊎ IsCheckCutShort files outcomes status old new))
+    × (IsWholeCheck strictness files outcomes status old new
+    ⊎ (IsCheckWithoutRoom strictness files outcomes status old new ⊎ IsCheckCutShort strictness files outcomes status old new))

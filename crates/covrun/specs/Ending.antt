@@ -18,20 +18,25 @@ use Rattle.covbook.specs.Op.{EntryData, AnswerData, AcceptedAnswer, ClashAnswer,
 use Rattle.covjobs.specs.declared.collect_fault.CollectFault.{CollectFault}
 use Rattle.covjobs.specs.declared.collect_fault.CollectFault.TheVariants as collects
 use Rattle.covjobs.specs.declared.refused.RefusedInput.{RefusedInput}
-use Rattle.covread.specs.declared.fault.ReadFault.{ReadFault}
+use Rattle.covcommand.specs.declared.asked.Strictness.{Strictness}
+use Rattle.covlist.specs.Shown.{shown_name}
 use Rattle.covsession.specs.Program.{fault_status, words_of_fault}
 use Rattle.covsession.specs.Session.{said, clash_text, refused_text}
 use Rattle.covsession.specs.declared.session.fault.SessionFault.{SessionFault}
 use Rattle.covsession.specs.declared.session.fault.SessionFault.TheVariants as faults
 use Rattle.covrun.specs.declared.argument_fault.ArgumentFault.{ArgumentFault}
 use Rattle.covrun.specs.declared.argument_fault.ArgumentFault.TheVariants as arguments
+use Rattle.covrun.specs.declared.text_fault.TextFault.{TextFault}
+use Rattle.covrun.specs.declared.text_fault.TextFault.TheVariants.{Faulty, Unclean}
+use Rattle.covrun.specs.Strict.{unmatched_lines}
 use Rattle.covrun.specs.Work.{QuestionData, Answer, ChosenReport, ChosenSummary, LimitedTotals, ChosenList}
 
 -- how a call ends. `Prints`: it prints the text that was asked for, help or the version. `FallsShort`: it prints the text that
 -- was asked for, and these lines say which rates are below their limits. `BadLine`: the words don't fit the command line.
 -- `BadWords`: the patterns, the limits, the test's name or the number of jobs are refused. `Unreadable`: this file can't be read.
 -- `Stopped`: memory ran out, or the history was full. `Ungathered`: collecting ended in `Gather` or `NotLast`, which no run meets.
--- `Refuses`: texts were refused or clashed, and these lines report them
+-- `Refuses`: texts were refused or clashed, and these lines report them. `IsUnclean`: the call is strict, and these lines report
+-- texts that aren't clean, or patterns that match no file
 pub data EndingData : Type 0 where
   Prints : (text : List ℕ) → EndingData
   FallsShort : (text : List ℕ) → (lines : List ℕ) → EndingData
@@ -41,6 +46,7 @@ pub data EndingData : Type 0 where
   Stopped : (fault : SessionFault) → EndingData
   Ungathered : EndingData
   Refuses : (lines : List ℕ) → EndingData
+  IsUnclean : (lines : List ℕ) → EndingData
 
 abbrev pub status_of : EndingData → ℕ
 status_of (Prints text) = 0
@@ -51,6 +57,7 @@ status_of (BadWords fault) = 2
 status_of (Stopped fault) = fault_status fault
 status_of Ungathered = 3
 status_of (Refuses lines) = 4
+status_of (IsUnclean lines) = 5
 
 -- the exit status of a call that prints its text: 6 if there are lines that say which rates are below their limits
 abbrev pub shortfall_status : (lines : List ℕ) → ℕ
@@ -74,6 +81,7 @@ complaint (Unreadable name) = name ++ said (codes ": can't read")
 complaint (Stopped fault) = said (words_of_fault fault)
 complaint Ungathered = said (codes "gather")
 complaint (Refuses lines) = lines
+complaint (IsUnclean lines) = lines
 
 -- the ending for a fault of collecting
 abbrev pub of_collect : CollectFault → EndingData
@@ -83,22 +91,40 @@ of_collect collects.Memory = Stopped faults.Memory
 of_collect (collects.Gather fault) = Ungathered
 of_collect collects.NotLast = Ungathered
 
+-- whether the text wasn't read because memory ran out
+abbrev pub has_run_out : TextFault → Bool
+has_run_out (Faulty fault) = is_memory fault
+has_run_out (Unclean line) = false
+
 -- whether one of these inputs was refused because memory ran out
-abbrev pub ran_out : List (RefusedInput ReadFault) → Bool
+abbrev pub ran_out : List (RefusedInput TextFault) → Bool
 ran_out [] = false
-ran_out (r ∷ refused) = if is_memory r.fault then true else ran_out refused
+ran_out (r ∷ refused) = if has_run_out r.fault then true else ran_out refused
 
 -- the name of the file at an index, or no bytes if there is no such file
 abbrev pub name_at : Option (List ℕ) → List ℕ
 name_at (Some name) = name
 name_at None = []
 
--- the line of a refused input: its file's name, and why it is refused
-abbrev pub refusal_line : List (List ℕ) → RefusedInput ReadFault → List ℕ
-refusal_line files r = name_at (slice_get files r.index) ++ codes ": " ++ refused_text r.fault
+-- the line about a text with a fault: its file's name, and the fault
+abbrev pub faulty_line : (name : List ℕ) → TextFault → List ℕ
+faulty_line name (Faulty fault) = name ++ codes ": " ++ refused_text fault
+faulty_line name (Unclean line) = []
 
--- the lines of the refused inputs, in the files' order, and then the lines of the clashes, in the history's order
-abbrev pub complaints : List (List ℕ) → List (RefusedInput ReadFault) → List EntryData → List ℕ
+-- the line about a text that isn't clean: its file's name as it is shown, and what the text holds
+abbrev pub unclean_line : (name : List ℕ) → TextFault → List ℕ
+unclean_line name (Faulty fault) = []
+unclean_line name (Unclean line) = shown_name name ++ codes ": " ++ line.items
+
+-- the lines about a refused input
+abbrev pub refusal_line : List (List ℕ) → RefusedInput TextFault → List ℕ
+refusal_line files r = faulty_line (name_at (slice_get files r.index)) r.fault
+
+abbrev pub strict_line : List (List ℕ) → RefusedInput TextFault → List ℕ
+strict_line files r = unclean_line (name_at (slice_get files r.index)) r.fault
+
+-- the lines of the texts with a fault, in the files' order, and then the lines of the clashes, in the history's order
+abbrev pub complaints : List (List ℕ) → List (RefusedInput TextFault) → List EntryData → List ℕ
 complaints files refused entries = flat_map (refusal_line files) refused ++ flat_map (λ (e : EntryData). clash_text e.answer) entries
 
 abbrev pub text_in : AnswerData → List ℕ
@@ -152,13 +178,26 @@ abbrev pub with_shortfalls : (lines : List ℕ) → (text : List ℕ) → Ending
 with_shortfalls [] text = Prints text
 with_shortfalls (b ∷ bs) text = FallsShort text (b ∷ bs)
 
--- if there are no lines, the call ends like this. Otherwise the lines are the complaint
-abbrev pub unless_any : (lines : List ℕ) → EndingData → EndingData
-unless_any [] ending = ending
-unless_any (b ∷ bs) ending = Refuses (b ∷ bs)
+-- these lines, or the others if there are none
+abbrev pub or_else : (lines others : List ℕ) → List ℕ
+or_else [] others = others
+or_else (b ∷ bs) others = b ∷ bs
 
--- how a call ends after collecting its files. If an input was refused because memory ran out, only that is reported
-abbrev pub of_collected : List (List ℕ) → QuestionData → List EntryData → List (RefusedInput ReadFault) → EndingData
-of_collected files asks entries refused =
+-- the lines of the texts that aren't clean, in the files' order; if there are none, those about patterns that match no file in the
+-- table after the entries
+abbrev pub strict_lines : List (List ℕ) → Strictness → QuestionData → List EntryData → List (RefusedInput TextFault) → List ℕ
+strict_lines files strictness asks entries refused =
+    or_else (flat_map (strict_line files) refused) (unmatched_lines strictness asks (content_at (table_of (ops_in entries))))
+
+-- if there are no lines, the call ends like this. Otherwise the lines are reported
+abbrev pub unless_any : (report : List ℕ → EndingData) → (lines : List ℕ) → EndingData → EndingData
+unless_any report [] ending = ending
+unless_any report (b ∷ bs) ending = report (b ∷ bs)
+
+-- how a call ends after collecting its files. If an input was refused because memory ran out, only that is reported. Otherwise texts
+-- with a fault and clashes are reported before texts that aren't clean, and these before patterns that match no file
+abbrev pub of_collected : List (List ℕ) → Strictness → QuestionData → List EntryData → List (RefusedInput TextFault) → EndingData
+of_collected files strictness asks entries refused =
     if ran_out refused then Stopped faults.Memory
-    else unless_any (complaints files refused entries) (with_shortfalls (asked_shortfalls asks entries) (asked_text asks entries))
+    else unless_any Refuses (complaints files refused entries)
+    (unless_any IsUnclean (strict_lines files strictness asks entries refused) (with_shortfalls (asked_shortfalls asks entries) (asked_text asks entries)))

@@ -3,10 +3,11 @@ use Rattle.std.specs.Io.KnownBytes.{Consumes, IsAtEnd}
 use Rattle.std.specs.Prelude.{◌≡◌, ◌⊎◌, ◌<◌, ◌≤◌, ℕ, suc, List, ◌++◌, length, Option, Result}
 use Rattle.covline.specs.Row.{SubmissionData}
 use Rattle.covread.specs.Outcome.{max_bytes}
-use Rattle.covread.specs.declared.fault.ReadFault.{ReadFault}
-use Rattle.covjobs.specs.Collect.{IsOutcomeOf}
+use Rattle.covcommand.specs.declared.asked.Strictness.{Strictness}
 use Rattle.covrun.specs.Folder.{FolderData, IsTextOf}
+use Rattle.covrun.specs.Strict.{IsOutcomeFor}
 use Rattle.covrun.specs.Work.{input_of}
+use Rattle.covrun.specs.declared.text_fault.TextFault.{TextFault}
 use Rattle.covsession.specs.declared.session.fault.SessionFault.{SessionFault}
 use Rattle.covsession.specs.declared.session.fault.SessionFault.TheVariants as faults
 use Rattle.covrun.specs.declared.files.FileFault.{FileFault}
@@ -42,5 +43,6 @@ IsUnread folder name Memory = Unit {0}
 
 -- a file may have this outcome: that of the input that is made of some text of the file. `held` has the file's bytes, if they are
 -- known
-abbrev pub MayHaveOutcome : (held : Option (List ℕ)) → FileFormat → Result SubmissionData ReadFault → Type 0
-MayHaveOutcome held format outcome = (text : List ℕ) × (length text ≤ suc max_bytes) × IsTextOf held text × IsOutcomeOf (input_of format text) outcome
+abbrev pub MayHaveOutcome : (held : Option (List ℕ)) → FileFormat → Strictness → Result SubmissionData TextFault → Type 0
+MayHaveOutcome held format strictness outcome =
+    (text : List ℕ) × (length text ≤ suc max_bytes) × IsTextOf held text × IsOutcomeFor strictness (input_of format text) outcome

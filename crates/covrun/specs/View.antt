@@ -3,7 +3,7 @@ use Rattle.covbook.specs.View.{op_data}
 use Rattle.covreport.specs.ChoiceView.{choice_data}
 use Rattle.covlimit.specs.LimitsView.{limits_data}
 use Rattle.covrun.specs.Work.{QuestionData, Answer, ChosenReport, ChosenSummary, LimitedTotals, ChosenList, WorkData, TaskData, Serves, Collects, Checks}
-use Rattle.covrun.specs.Ending.{EndingData, BadWords, Unreadable, Stopped, Ungathered, Refuses, with_shortfalls}
+use Rattle.covrun.specs.Ending.{EndingData, BadWords, Unreadable, Stopped, Ungathered, Refuses, IsUnclean, with_shortfalls}
 use Rattle.covrun.specs.declared.question.Question.{Question}
 use Rattle.covrun.specs.declared.question.Question.TheVariants as questions
 use Rattle.covrun.specs.declared.work.Work.{Work}
@@ -21,12 +21,12 @@ question_data (questions.LimitedTotals form choice limits) = LimitedTotals form 
 question_data (questions.ChosenList form choice) = ChosenList form (choice_data choice)
 
 abbrev pub work_data : Work → WorkData
-work_data work = record { files = work.files; format = work.format; jobs = work.jobs; asks = question_data work.asks }
+work_data work = record { files = work.files; format = work.format; strictness = work.strictness; jobs = work.jobs; asks = question_data work.asks }
 
 abbrev pub task_data : Task → TaskData
 task_data tasks.Session = Serves
 task_data (tasks.Collect work) = Collects (work_data work)
-task_data (tasks.Check format jobs files) = Checks format jobs files
+task_data (tasks.Check format strictness jobs files) = Checks format strictness jobs files
 
 abbrev pub ready_data : ReadyAnswer → EndingData
 ready_data answer = with_shortfalls answer.shortfalls answer.text
@@ -37,3 +37,4 @@ failure_data (failures.Unreadable name) = Unreadable name.now
 failure_data (failures.Stopped fault) = Stopped fault
 failure_data failures.Ungathered = Ungathered
 failure_data (failures.Refused lines) = Refuses lines.items
+failure_data (failures.Unclean lines) = IsUnclean lines

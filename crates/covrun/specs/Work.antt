@@ -13,6 +13,7 @@ use Rattle.covcommand.specs.declared.asked.Limits.{Limits}
 use Rattle.covcommand.specs.declared.asked.TotalsForm.{TotalsForm}
 use Rattle.covcommand.specs.declared.asked.TotalsForm.TheVariants as forms
 use Rattle.covcommand.specs.declared.asked.SourceFilter.{SourceFilter}
+use Rattle.covcommand.specs.declared.asked.Strictness.{Strictness}
 use Rattle.covcommand.specs.declared.asked.LcovVersion.{LcovVersion}
 use Rattle.covcommand.specs.declared.asked.LcovVersion.TheVariants as versions
 use Rattle.covcommand.specs.declared.asked.TextFormat.{TextFormat}
@@ -39,11 +40,12 @@ last_of (ChosenSummary choice) = SummaryOp
 last_of (LimitedTotals form choice limits) = SummaryOp
 last_of (ChosenList form choice) = SummaryOp
 
--- what a subcommand that collects files has to do. `files`: the files to read. `format`: what they are. `jobs`: the number of
--- jobs. `asks`: what is asked after all files are collected
+-- what a subcommand that collects files has to do. `files`: the files to read. `format`: what they are. `strictness`: what is
+-- refused. `jobs`: the number of jobs. `asks`: what is asked after all files are collected
 pub record WorkData : Type 0 where
   pub files : List (List ℕ)
   pub format : FileFormat
+  pub strictness : Strictness
   pub jobs : ℕ
   pub asks : QuestionData
 
@@ -80,28 +82,30 @@ summary_asked forms.Words limits choice = words_asked limits choice
 summary_asked forms.Json limits choice = LimitedTotals forms.Json (chosen_or_all choice) limits
 
 -- the work of `extract` and `remove`: the first name is the tracefile's, and the other names are patterns
-abbrev pub filtering : LcovVersion → (List (List ℕ) → OpData) → List (List ℕ) → WorkData
-filtering version op names = record { files = take 1 names; format = Tracefile version; jobs = 1; asks = Answer (op (drop 1 names)) }
+abbrev pub filtering : LcovVersion → Strictness → (List (List ℕ) → OpData) → List (List ℕ) → WorkData
+filtering version strictness op names =
+    record { files = take 1 names; format = Tracefile version; strictness = strictness; jobs = 1; asks = Answer (op (drop 1 names)) }
 
 -- what a call has to do: a session; or to collect files and then answer what is asked; or to check files, each by itself
 pub data TaskData : Type 0 where
   Serves : TaskData
   Collects : (work : WorkData) → TaskData
-  Checks : (format : TextFormat) → (jobs : ℕ) → (files : List (List ℕ)) → TaskData
+  Checks : (format : TextFormat) → (strictness : Strictness) → (jobs : ℕ) → (files : List (List ℕ)) → TaskData
 
 -- what each subcommand has to do; a call without a subcommand is a session
-abbrev pub task_of : Command → TaskData
-task_of Session = Serves
-task_of (Merge version jobs filter names) =
-    Collects (record { files = names; format = Tracefile version; jobs = jobs; asks = asked_of ReportOp ChosenReport (choice_of filter) })
-task_of (Summary version jobs filter form limits names) =
-    Collects (record { files = names; format = Tracefile version; jobs = jobs; asks = summary_asked form (limits_of limits) (choice_of filter) })
-task_of (ListFiles version jobs filter form names) =
-    Collects (record { files = names; format = Tracefile version; jobs = jobs; asks = ChosenList form (chosen_or_all (choice_of filter)) })
-task_of (Extract version names) = Collects (filtering version ExtractOp names)
-task_of (Remove version names) = Collects (filtering version RemoveOp names)
-task_of (Gcov test names) = Collects (record { files = names; format = GcovOutput test; jobs = 1; asks = Answer ReportOp })
-task_of (Check format jobs names) = Checks format jobs names
+abbrev pub task_of : Command → Strictness → TaskData
+task_of Session strictness = Serves
+task_of (Merge version jobs filter names) strictness =
+    Collects (record { files = names; format = Tracefile version; strictness = strictness; jobs = jobs; asks = asked_of ReportOp ChosenReport (choice_of filter) })
+task_of (Summary version jobs filter form limits names) strictness =
+    Collects (record { files = names; format = Tracefile version; strictness = strictness; jobs = jobs; asks = summary_asked form (limits_of limits) (choice_of filter) })
+task_of (ListFiles version jobs filter form names) strictness =
+    Collects (record { files = names; format = Tracefile version; strictness = strictness; jobs = jobs; asks = ChosenList form (chosen_or_all (choice_of filter)) })
+task_of (Extract version names) strictness = Collects (filtering version strictness ExtractOp names)
+task_of (Remove version names) strictness = Collects (filtering version strictness RemoveOp names)
+task_of (Gcov test names) strictness =
+    Collects (record { files = names; format = GcovOutput test; strictness = strictness; jobs = 1; asks = Answer ReportOp })
+task_of (Check format jobs names) strictness = Checks format strictness jobs names
 
 -- a file's text as an input of collecting: a tracefile of this version of lcov, or gcov's text of this test
 abbrev pub input_of : FileFormat → List ℕ → InputData

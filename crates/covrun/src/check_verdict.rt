@@ -3,10 +3,10 @@
 /// The verdict on a checked file, which decides the exit status.
 #[derive(Clone, Copy)]
 pub(crate) enum CheckVerdict {
-    /// The file is read, and has an item.
+    /// The file is read, and accepted.
     Fine,
-    /// The file is read, and has no item.
-    Empty,
+    /// The file is read, and not accepted: it has no item, or for a strict check, it isn't clean.
+    Unaccepted,
     /// The file's text is refused.
     Refused,
     /// The file can't be read.
@@ -25,7 +25,7 @@ impl CheckVerdict {
             (CheckVerdict::Unreadable, _) | (_, CheckVerdict::Unreadable) =>
                 CheckVerdict::Unreadable,
             (CheckVerdict::Refused, _) | (_, CheckVerdict::Refused) => CheckVerdict::Refused,
-            (CheckVerdict::Empty, _) | (_, CheckVerdict::Empty) => CheckVerdict::Empty,
+            (CheckVerdict::Unaccepted, _) | (_, CheckVerdict::Unaccepted) => CheckVerdict::Unaccepted,
             (CheckVerdict::Fine, CheckVerdict::Fine) => CheckVerdict::Fine,
         }
     }
@@ -38,7 +38,7 @@ impl CheckVerdict {
             CheckVerdict::Fine => 0,
             CheckVerdict::Unreadable => 1,
             CheckVerdict::Refused => 4,
-            CheckVerdict::Empty => 5,
+            CheckVerdict::Unaccepted => 5,
         }
     }
 }

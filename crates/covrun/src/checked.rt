@@ -11,7 +11,7 @@ use crate::check_verdict::CheckVerdict;
 use crate::file_report::{FileReport, examine};
 use crate::folder::Folder;
 use crate::output::say;
-use covcommand::TextFormat;
+use covcommand::{Strictness, TextFormat};
 use covsession::{SessionFault, Sink, line_of, status_of};
 use std::alloc::{AllocError, Global};
 use std::thread;
@@ -24,6 +24,7 @@ pub(crate) fn check_files<R: Threads + Sync, F: Folder<File: Send> + Sync, O: Si
     folder: &F,
     alloc: Global,
     format: TextFormat,
+    strictness: Strictness,
     jobs: u32,
     files: &[String],
     output: &mut O,
@@ -31,11 +32,11 @@ pub(crate) fn check_files<R: Threads + Sync, F: Folder<File: Send> + Sync, O: Si
 ) -> u8
     requires output { O.failed_writes output.old < 2 ^ 62 }
     requires faults { E.failed_writes faults.old < 2 ^ 62 }
-    ensures { IsCheck (folder_data (F.holds folder.now) (F.may_refuse folder.now) (F.may_open folder.now) F.File.left F.File.failed_reads) format (map string_bytes files.now) result
+    ensures { IsCheck (folder_data (F.holds folder.now) (F.may_refuse folder.now) (F.may_open folder.now) F.File.left F.File.failed_reads) format strictness (map string_bytes files.now) result
         (sinks (O.written output.old) (O.held output.old) (O.failed_writes output.old) (E.written faults.old) (E.failed_writes faults.old))
         (sinks (O.written output.new) (O.held output.new) (O.failed_writes output.new) (E.written faults.new) (E.failed_writes faults.new)) }
 {
-    match check_each(rt, folder, alloc, format, jobs, files, output, faults) {
+    match check_each(rt, folder, alloc, format, strictness, jobs, files, output, faults) {
         Ok(worst) => worst.status(),
         Err(fault) => {
             say(b"", line_of(fault), faults);
@@ -50,6 +51,7 @@ fn check_each<R: Threads + Sync, F: Folder<File: Send> + Sync, O: Sink, E: Sink>
     folder: &F,
     alloc: Global,
     format: TextFormat,
+    strictness: Strictness,
     jobs: u32,
     files: &[String],
     output: &mut O,
@@ -57,7 +59,7 @@ fn check_each<R: Threads + Sync, F: Folder<File: Send> + Sync, O: Sink, E: Sink>
 ) -> Result<CheckVerdict, SessionFault>
     requires output { O.failed_writes output.old < 2 ^ 62 }
     requires faults { E.failed_writes faults.old < 2 ^ 62 }
-    ensures { TellsEach (folder_data (F.holds folder.now) (F.may_refuse folder.now) (F.may_open folder.now) F.File.left F.File.failed_reads) format (map string_bytes files.now) result
+    ensures { TellsEach (folder_data (F.holds folder.now) (F.may_refuse folder.now) (F.may_open folder.now) F.File.left F.File.failed_reads) format strictness (map string_bytes files.now) result
         (sinks (O.written output.old) (O.held output.old) (O.failed_writes output.old) (E.written faults.old) (E.failed_writes faults.old))
         (sinks (O.written output.new) (O.held output.new) (O.failed_writes output.new) (E.written faults.new) (E.failed_writes faults.new)) }
 {
@@ -65,7 +67,7 @@ fn check_each<R: Threads + Sync, F: Folder<File: Send> + Sync, O: Sink, E: Sink>
     let mut left = files;
     while !left.is_empty() {
         let (round, later) = next_round(jobs, left);
-        let verdict = check_round(rt, folder, alloc, format, round, output, faults)?;
+        let verdict = check_round(rt, folder, alloc, format, strictness, round, output, faults)?;
         worst = worst.or(verdict);
         left = later;
     }
@@ -88,6 +90,7 @@ fn check_round<R: Threads + Sync, F: Folder<File: Send> + Sync, O: Sink, E: Sink
     folder: &F,
     alloc: Global,
     format: TextFormat,
+    strictness: Strictness,
     files: &[String],
     output: &mut O,
     faults: &mut E,
@@ -95,11 +98,11 @@ fn check_round<R: Threads + Sync, F: Folder<File: Send> + Sync, O: Sink, E: Sink
     requires some { 0 < length files.now }
     requires output { O.failed_writes output.old < 2 ^ 62 }
     requires faults { E.failed_writes faults.old + length files.now < 2 ^ 63 }
-    ensures { TellsEach (folder_data (F.holds folder.now) (F.may_refuse folder.now) (F.may_open folder.now) F.File.left F.File.failed_reads) format (map string_bytes files.now) result
+    ensures { TellsEach (folder_data (F.holds folder.now) (F.may_refuse folder.now) (F.may_open folder.now) F.File.left F.File.failed_reads) format strictness (map string_bytes files.now) result
         (sinks (O.written output.old) (O.held output.old) (O.failed_writes output.old) (E.written faults.old) (E.failed_writes faults.old))
         (sinks (O.written output.new) (O.held output.new) (O.failed_writes output.new) (E.written faults.new) (E.failed_writes faults.new)) }
 {
-    let reports = examine_at_once(rt, folder, alloc, format, files)?;
+    let reports = examine_at_once(rt, folder, alloc, format, strictness, files)?;
     let mut worst = CheckVerdict::Fine;
     for report in reports.as_slice() {
         let verdict = write_report(report, output, faults)?;
@@ -115,15 +118,16 @@ fn examine_at_once<R: Threads + Sync, F: Folder<File: Send> + Sync>(
     folder: &F,
     alloc: Global,
     format: TextFormat,
+    strictness: Strictness,
     files: &[String],
 ) -> Result<Vec<Result<FileReport, SessionFault>>, AllocError>
-    ensures { IfOk result (λ reports. AreExamined (folder_data (F.holds folder.now) (F.may_refuse folder.now) (F.may_open folder.now) F.File.left F.File.failed_reads) format (map string_bytes files.now) reports.items) }
+    ensures { IfOk result (λ reports. AreExamined (folder_data (F.holds folder.now) (F.may_refuse folder.now) (F.may_open folder.now) F.File.left F.File.failed_reads) format strictness (map string_bytes files.now) reports.items) }
 {
     thread::map_indices(
         rt,
         alloc,
         files.len(),
-        &|index| examine(folder, alloc, format, files[index].as_str()),
+        &|index| examine(folder, alloc, format, strictness, files[index].as_str()),
     )
 }
 

@@ -10,7 +10,10 @@ ghost use Rattle.covbook.specs.View.{answer_data};
 ghost use Rattle.covsession.specs.Session.{clash_text};
 ghost use Rattle.covsession.specs.declared.session.fault.SessionFault.TheVariants as session_faults;
 ghost use Rattle.covrun.specs.Call.{IsEndingReported, WorkEnds};
-ghost use Rattle.covrun.specs.Ending.{EndingData, Stopped, of_collected, asked_shortfalls, asked_text, complaints, refusal_line, ran_out, name_at, with_shortfalls};
+ghost use Rattle.covbook.specs.Step.{ops_in, table_of};
+ghost use Rattle.covstore.specs.Content.{content_at};
+ghost use Rattle.covrun.specs.Ending.{EndingData, Stopped, of_collected, asked_shortfalls, asked_text, complaints, faulty_line, refusal_line, ran_out, name_at, strict_line, strict_lines as strict_lines_of, unclean_line, with_shortfalls};
+ghost use Rattle.covrun.specs.Strict.{unmatched_lines as unmatched_lines_of};
 ghost use Rattle.covrun.specs.Folder.{folder_data};
 ghost use Rattle.covrun.specs.OutputFiles.{output_files};
 ghost use Rattle.covrun.specs.Streams.{sinks};
@@ -24,10 +27,13 @@ use crate::output::{report_answer, report_failure};
 use crate::output_folder::OutputFolder;
 use crate::question::Question;
 use crate::ready_text::ReadyText;
+use crate::text_fault::TextFault;
 use crate::work::Work;
 use covbook::{Answer, Answered};
+use covcommand::Strictness;
 use covjobs::{CollectedBook, IntoBookFault, NoGate, RefusedInput, collect_into_book};
-use covline::Bytes;
+use covline::{Bytes, Memory};
+use covlist::put_shown_name;
 use covsession::{SessionFault, Sink, clash_line, refused_line};
 use std::alloc::Global;
 use std::sync::Wait;
@@ -66,11 +72,11 @@ pub(crate) fn do_work<
         (output_files (P.finished files.new) (P.begun files.new) (P.failed files.new)) }
 {
     let names = work.files.get();
-    let Ok(inputs) = file_inputs(folder, alloc, &work.format, names) else {
+    let Ok(inputs) = file_inputs(folder, alloc, &work.format, work.strictness, names) else {
         return report_failure(Failure::Stopped(SessionFault::Memory), faults);
     };
     match collect_into_book(rt, alloc, inputs, work.jobs, &NoGate) {
-        Ok(collected) => match answer_of(alloc, names, &work.asks, &collected) {
+        Ok(collected) => match answer_of(alloc, names, work.strictness, &work.asks, &collected) {
             Ok(answer) => report_answer(alloc, answer, file, files, output, faults),
             Err(failure) => report_failure(failure, faults),
         },
@@ -86,32 +92,36 @@ pub(crate) fn do_work<
 fn answer_of<'a>(
     alloc: Global,
     files: &[String],
+    strictness: Strictness,
     asks: &Question,
-    collected: &'a CollectedBook,
+    collected: &'a CollectedBook<TextFault>,
 ) -> Result<ReadyAnswer<'a>, Failure<'a>>
     requires { IsText (last_of (question_data asks.now)) }
-    ensures answer { IfOk result (λ answer. ready_data answer ≡ of_collected (map string_bytes files.now) (question_data asks.now)
+    ensures answer { IfOk result (λ answer. ready_data answer ≡ of_collected (map string_bytes files.now) strictness (question_data asks.now)
         (collected.now.book.entries ++ next_entry collected.now.book.entries 0 (last_of (question_data asks.now)) ∷ []) collected.now.refused) }
     ensures failure { IfErr result (λ failure. (failure_data failure ≡ Stopped session_faults.Memory)
-        ⊎ (failure_data failure ≡ of_collected (map string_bytes files.now) (question_data asks.now)
+        ⊎ (failure_data failure ≡ of_collected (map string_bytes files.now) strictness (question_data asks.now)
         (collected.now.book.entries ++ next_entry collected.now.book.entries 0 (last_of (question_data asks.now)) ∷ []) collected.now.refused)) }
 {
     if has_run_out(collected.refused.get()) {
         return Err(Failure::Stopped(SessionFault::Memory));
     }
     let lines = complaint_lines(alloc, files, collected)?;
-    if lines.is_empty() {
-        Ok(answered(alloc, asks, collected)?)
-    } else {
-        Err(Failure::Refused(lines))
+    if !lines.is_empty() {
+        return Err(Failure::Refused(lines));
     }
+    let lines = strict_lines(alloc, files, strictness, asks, collected)?;
+    if !lines.get().is_empty() {
+        return Err(Failure::Unclean(lines));
+    }
+    Ok(answered(alloc, asks, collected)?)
 }
 
 /// The answer to what is asked, with the lines on rates that are below their limits.
 fn answered<'a>(
     alloc: Global,
     asks: &Question,
-    collected: &'a CollectedBook,
+    collected: &'a CollectedBook<TextFault>,
 ) -> Result<ReadyAnswer<'a>, SessionFault>
     requires { IsText (last_of (question_data asks.now)) }
     ensures answer { IfOk result (λ answer. ready_data answer ≡ with_shortfalls
@@ -124,11 +134,11 @@ fn answered<'a>(
     Ok(ReadyAnswer { text, shortfalls })
 }
 
-/// The lines of the refused inputs, and then of the clashes.
+/// The lines of the texts with a fault, and then of the clashes.
 fn complaint_lines(
     alloc: Global,
     files: &[String],
-    collected: &CollectedBook,
+    collected: &CollectedBook<TextFault>,
 ) -> Result<Vec<u8>, SessionFault>
     ensures lines { IfOk result (λ lines. lines.items ≡ complaints (map string_bytes files.now) collected.now.refused collected.now.book.entries) }
     ensures fault { IfErr result (λ fault. fault ≡ session_faults.Memory) }
@@ -140,7 +150,7 @@ fn complaint_lines(
 }
 
 /// Whether an input was refused because memory ran out.
-fn has_run_out(refused: &[RefusedInput]) -> bool
+fn has_run_out(refused: &[RefusedInput<TextFault>]) -> bool
     ensures { result ≡ ran_out refused.now }
 {
     for input in refused {
@@ -151,18 +161,18 @@ fn has_run_out(refused: &[RefusedInput]) -> bool
     false
 }
 
-/// Appends the line of each refused input, with its file's name in front.
+/// Appends the line of each text with a fault, with its file's name in front.
 fn add_refusals(
     alloc: Global,
     files: &[String],
-    refused: &[RefusedInput],
+    refused: &[RefusedInput<TextFault>],
     lines: &mut Vec<u8>,
 ) -> Result<(), SessionFault>
     ensures added { OnOk result (lines.new.items ≡ lines.old.items ++ flat_map (refusal_line (map string_bytes files.now)) refused.now) }
     ensures fault { IfErr result (λ fault. fault ≡ session_faults.Memory) }
 {
     for input in refused {
-        add_refusal(alloc, files, *input, lines)?;
+        add_refusal(alloc, file_name(files, input.index), &input.fault, lines)?;
     }
     Ok(())
 }
@@ -177,19 +187,22 @@ fn file_name(files: &[String], index: usize) -> &str
     }
 }
 
-/// Appends the line of a refused input.
+/// Appends the line about a text of the file of this name, if the text has a fault.
 fn add_refusal(
     alloc: Global,
-    files: &[String],
-    input: RefusedInput,
+    name: &str,
+    fault: &TextFault,
     lines: &mut Vec<u8>,
 ) -> Result<(), SessionFault>
-    ensures added { OnOk result (lines.new.items ≡ lines.old.items ++ refusal_line (map string_bytes files.now) input) }
+    ensures added { OnOk result (lines.new.items ≡ lines.old.items ++ faulty_line name.now fault.now) }
     ensures fault { IfErr result (λ fault. fault ≡ session_faults.Memory) }
 {
-    lines.extend_from_slice(file_name(files, input.index).as_bytes())?;
+    let TextFault::Faulty(fault) = fault else {
+        return Ok(());
+    };
+    lines.extend_from_slice(name.as_bytes())?;
     lines.extend_from_slice(b": ")?;
-    let line = refused_line(alloc, input.fault)?;
+    let line = refused_line(alloc, *fault)?;
     lines.extend_from_slice(line.as_slice())?;
     Ok(())
 }
@@ -213,5 +226,73 @@ fn add_clash(alloc: Global, answer: &Answer, lines: &mut Vec<u8>) -> Result<(), 
 {
     let text = clash_line(alloc, answer)?;
     lines.extend_from_slice(text.as_slice())?;
+    Ok(())
+}
+
+/// What a strict call reports: the lines of the texts that aren't clean. If there are none, the lines about patterns that match no
+/// file.
+fn strict_lines(
+    alloc: Global,
+    files: &[String],
+    strictness: Strictness,
+    asks: &Question,
+    collected: &CollectedBook<TextFault>,
+) -> Result<Bytes, SessionFault>
+    requires { IsText (last_of (question_data asks.now)) }
+    ensures lines { IfOk result (λ lines. lines ≡ strict_lines_of (map string_bytes files.now) strictness (question_data asks.now)
+        (collected.now.book.entries ++ next_entry collected.now.book.entries 0 (last_of (question_data asks.now)) ∷ []) collected.now.refused) }
+    ensures fault { IfErr result (λ fault. fault ≡ session_faults.Memory) }
+{
+    let mut lines = Bytes::new(alloc);
+    add_unclean(files, collected.refused.get(), &mut lines)?;
+    if lines.get().is_empty() {
+        lines = unmatched_lines(alloc, strictness, asks, collected)?;
+    }
+    Ok(lines)
+}
+
+/// The lines about patterns that match no file, if the call is strict.
+fn unmatched_lines(
+    alloc: Global,
+    strictness: Strictness,
+    asks: &Question,
+    collected: &CollectedBook<TextFault>,
+) -> Result<Bytes, Memory>
+    requires { IsText (last_of (question_data asks.now)) }
+    ensures { IfOk result (λ lines. lines ≡ unmatched_lines_of strictness (question_data asks.now)
+        (content_at (table_of (ops_in (collected.now.book.entries ++ next_entry collected.now.book.entries 0 (last_of (question_data asks.now)) ∷ []))))) }
+{
+    let mut lines = Bytes::new(alloc);
+    match strictness {
+        Strictness::Lenient => {}
+        Strictness::Strict => asks.add_unmatched(collected.book.store(), &mut lines)?,
+    }
+    Ok(lines)
+}
+
+/// Appends the line of each text that isn't clean, with its file's name in front.
+fn add_unclean(
+    files: &[String],
+    refused: &[RefusedInput<TextFault>],
+    lines: &mut Bytes,
+) -> Result<(), Memory>
+    ensures { OnOk result (lines.new ≡ lines.old ++ flat_map (strict_line (map string_bytes files.now)) refused.now) }
+{
+    for input in refused {
+        add_if_unclean(file_name(files, input.index), &input.fault, lines)?;
+    }
+    Ok(())
+}
+
+/// Appends the line about a text of the file of this name, if the text isn't clean.
+fn add_if_unclean(name: &str, fault: &TextFault, lines: &mut Bytes) -> Result<(), Memory>
+    ensures { OnOk result (lines.new ≡ lines.old ++ unclean_line name.now fault.now) }
+{
+    let TextFault::Unclean(line) = fault else {
+        return Ok(());
+    };
+    put_shown_name(name.as_bytes(), lines)?;
+    lines.append(b": ")?;
+    lines.append(line.as_slice())?;
     Ok(())
 }

@@ -34,6 +34,8 @@ pub(crate) enum Failure<'a> {
     Ungathered,
     /// Texts were refused or clashed. These lines report them.
     Refused(Vec<u8>),
+    /// The call is strict. These lines report texts that aren't clean, or patterns that match no file.
+    Unclean(Bytes),
 }
 
 /// Why a call has no answer if its texts weren't collected.

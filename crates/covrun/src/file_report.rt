@@ -3,8 +3,10 @@
 ghost use Rattle.std.specs.Prelude.{◌≡◌, ◌<◌, ◌≤◌, ◌^◌, ◌++◌, [], codes, IfOk, IfErr, OnOk, OnErr, suc};
 ghost use Rattle.std.specs.Io.KnownBytes.{Appends};
 ghost use Rattle.covlist.specs.Shown.{shown_name as shown_name_of};
-ghost use Rattle.covrun.specs.Check.{Unread, Refused, Held};
-ghost use Rattle.covrun.specs.Checked.{complaint_by, verdict_of_summary, AnswersText, IsExamined, IsTextExamined, IsReportOf, Reports};
+ghost use Rattle.covrun.specs.Check.{Unread, Refused, Held, is_accepted as is_accepted_summary, outcome_line, unaccepted_text};
+ghost use Rattle.covrun.specs.Checked.{AnswersText, IsExamined, IsTextExamined, IsReportOf, Reports};
+ghost use Rattle.covcheck.specs.declared.text_summary.TextSummary.{TextSummary as TextSummaryData};
+ghost use Rattle.covcommand.specs.declared.asked.Strictness.{Strictness as StrictnessData};
 ghost use Rattle.covrun.specs.Folder.{folder_data};
 ghost use Rattle.covrun.specs.Streams.{sinks};
 ghost use Rattle.covsession.specs.Fault.{HasBegun};
@@ -15,7 +17,8 @@ use crate::files::{FileFault, file_text};
 use crate::folder::Folder;
 use crate::output::{put_out, say};
 use covcheck::{TextSummary, check_gcov, check_lcov2, check_trace, summary_line};
-use covcommand::{LcovVersion, TextFormat};
+use crate::strict::is_clean;
+use covcommand::{LcovVersion, Strictness, TextFormat};
 use covline::Bytes;
 use covlist::put_shown_name;
 use covread::ReadFault;
@@ -25,11 +28,11 @@ use std::alloc::Global;
 /// What is reported about a checked file. Writing it takes no memory.
 #[derive(Drop)]
 pub(crate) struct FileReport {
-    /// The file's name as it is shown.
-    shown: Bytes,
     /// The line for the output. It is empty if the file can't be read.
     line: Vec<u8>,
-    /// The verdict. It decides what is complained about.
+    /// The complaint. It is empty if there is none.
+    complaint: Vec<u8>,
+    /// The verdict.
     verdict: CheckVerdict,
 }
 
@@ -42,28 +45,26 @@ impl FileReport {
     ) -> Result<CheckVerdict, SessionFault>
         requires output { O.failed_writes output.old < 2 ^ 62 }
         requires faults { E.failed_writes faults.old < 2 ^ 63 }
-        ensures { Reports self.now.line.items (complaint_by self.now.verdict self.now.shown) self.now.verdict result
+        ensures { Reports self.now.line.items self.now.complaint.items self.now.verdict result
             (sinks (O.written output.old) (O.held output.old) (O.failed_writes output.old) (E.written faults.old) (E.failed_writes faults.old))
             (sinks (O.written output.new) (O.held output.new) (O.failed_writes output.new) (E.written faults.new) (E.failed_writes faults.new)) }
     {
-        complain(self.verdict, self.shown.get(), faults);
+        complain(self.complaint.as_slice(), faults);
         put_line(self.line.as_slice(), output)?;
         Ok(self.verdict)
     }
 }
 
-/// Complains about a file that can't be read or has no item.
-fn complain<E: Sink>(verdict: CheckVerdict, shown: &[u8], faults: &mut E)
+/// Writes the complaint, unless it is empty.
+fn complain<E: Sink>(complaint: &[u8], faults: &mut E)
     requires { E.failed_writes faults.old < 2 ^ 63 }
     ensures said { E.failed_writes faults.new ≡ E.failed_writes faults.old
-        → Appends (E.written faults.old) (E.written faults.new) (complaint_by verdict shown.now) }
+        → Appends (E.written faults.old) (E.written faults.new) complaint.now }
     ensures grows { E.failed_writes faults.old ≤ E.failed_writes faults.new }
     ensures few { E.failed_writes faults.new ≤ suc (E.failed_writes faults.old) }
 {
-    match verdict {
-        CheckVerdict::Unreadable => say(shown, b": can't read\n", faults),
-        CheckVerdict::Empty => say(shown, b": no items\n", faults),
-        CheckVerdict::Fine | CheckVerdict::Refused => {}
+    if !complaint.is_empty() {
+        say(complaint, b"", faults);
     }
 }
 
@@ -89,40 +90,43 @@ pub(crate) fn examine<F: Folder>(
     folder: &F,
     alloc: Global,
     format: TextFormat,
+    strictness: Strictness,
     name: &str,
 ) -> Result<FileReport, SessionFault>
-    ensures { IsExamined (folder_data (F.holds folder.now) (F.may_refuse folder.now) (F.may_open folder.now) F.File.left F.File.failed_reads) format name.now result }
+    ensures { IsExamined (folder_data (F.holds folder.now) (F.may_refuse folder.now) (F.may_open folder.now) F.File.left F.File.failed_reads) format strictness name.now result }
 {
     let shown = shown_name(alloc, name.as_bytes())?;
     match file_text(folder, alloc, name) {
-        Ok(text) => report_on_text(alloc, format, shown, text.get()),
-        Err(FileFault::Unreadable(_)) => Ok(report_on_unread(alloc, shown)),
+        Ok(text) => report_on_text(alloc, format, strictness, shown.get(), text.get()),
+        Err(FileFault::Unreadable(_)) => report_on_unread(alloc, shown.get()),
         Err(FileFault::Memory) => Err(SessionFault::Memory),
     }
 }
 
 /// The report on a file with this shown name that can't be read.
-fn report_on_unread(alloc: Global, shown: Bytes) -> FileReport
-    ensures { IsReportOf shown Unread result }
+fn report_on_unread(alloc: Global, shown: &[u8]) -> Result<FileReport, SessionFault>
+    ensures report { (strictness : StrictnessData) → IfOk result (IsReportOf strictness shown.now Unread) }
+    ensures fault { IfErr result (λ fault. fault ≡ session_faults.Memory) }
 {
-    FileReport {
-        shown,
+    Ok(FileReport {
         line: Vec::new(alloc),
+        complaint: joined(alloc, shown, b": can't read\n")?,
         verdict: CheckVerdict::Unreadable,
-    }
+    })
 }
 
 /// The report on a file with this shown name and this text.
 fn report_on_text(
     alloc: Global,
     format: TextFormat,
-    shown: Bytes,
+    strictness: Strictness,
+    shown: &[u8],
     text: &[u8],
 ) -> Result<FileReport, SessionFault>
-    ensures { IsTextExamined format shown text.now result }
+    ensures { IsTextExamined format strictness shown.now text.now result }
 {
     match answer(alloc, format, text) {
-        Ok(summary) => report_on_summary(alloc, shown, &summary),
+        Ok(summary) => report_on_summary(alloc, strictness, shown, &summary),
         Err(ReadFault::Memory) => Err(SessionFault::Memory),
         Err(fault) => report_on_refusal(alloc, shown, fault),
     }
@@ -142,46 +146,70 @@ fn answer(alloc: Global, format: TextFormat, text: &[u8]) -> Result<TextSummary<
 /// The report on a file with this shown name and this summary.
 fn report_on_summary(
     alloc: Global,
-    shown: Bytes,
+    strictness: Strictness,
+    shown: &[u8],
     summary: &TextSummary<'_>,
 ) -> Result<FileReport, SessionFault>
-    ensures report { IfOk result (IsReportOf shown (Held summary.now)) }
+    ensures report { IfOk result (IsReportOf strictness shown.now (Held summary.now)) }
     ensures fault { IfErr result (λ fault. fault ≡ session_faults.Memory) }
 {
     let told = summary_line(alloc, summary)?;
-    let line = line_of_file(alloc, shown.get(), told.as_slice())?;
+    let line = line_of_file(alloc, shown, told.as_slice())?;
+    if is_accepted(strictness, summary) {
+        return Ok(FileReport {
+            line,
+            complaint: Vec::new(alloc),
+            verdict: CheckVerdict::Fine,
+        });
+    }
+    let complaint = unaccepted(alloc, strictness, shown, line.as_slice())?;
     Ok(FileReport {
-        shown,
         line,
-        verdict: verdict_on(summary),
+        complaint,
+        verdict: CheckVerdict::Unaccepted,
     })
 }
 
-/// The verdict on a file with this summary.
-fn verdict_on(summary: &TextSummary<'_>) -> CheckVerdict
-    ensures { result ≡ verdict_of_summary summary.now }
+/// Whether a check accepts a text with this summary.
+fn is_accepted(strictness: Strictness, summary: &TextSummary<'_>) -> bool
+    ensures { result ≡ is_accepted_summary strictness summary.now }
 {
-    if summary.has_item() {
-        CheckVerdict::Fine
-    } else {
-        CheckVerdict::Empty
+    match strictness {
+        Strictness::Lenient => summary.has_item(),
+        Strictness::Strict => is_clean(summary),
+    }
+}
+
+/// What is said of a file of this shown name whose text isn't accepted. `line` is the line for the output.
+fn unaccepted(
+    alloc: Global,
+    strictness: Strictness,
+    shown: &[u8],
+    line: &[u8],
+) -> Result<Vec<u8>, SessionFault>
+    ensures text { (summary : TextSummaryData) → line.now ≡ outcome_line shown.now (Held summary) → IfOk result (λ text. text.items ≡ unaccepted_text strictness shown.now summary) }
+    ensures fault { IfErr result (λ fault. fault ≡ session_faults.Memory) }
+{
+    match strictness {
+        Strictness::Lenient => joined(alloc, shown, b": no items\n"),
+        Strictness::Strict => joined(alloc, line, b""),
     }
 }
 
 /// The report on a file with this shown name whose text is refused.
 fn report_on_refusal(
     alloc: Global,
-    shown: Bytes,
+    shown: &[u8],
     fault: ReadFault,
 ) -> Result<FileReport, SessionFault>
-    ensures report { IfOk result (IsReportOf shown (Refused fault)) }
+    ensures report { (strictness : StrictnessData) → IfOk result (IsReportOf strictness shown.now (Refused fault)) }
     ensures fault { IfErr result (λ fault. fault ≡ session_faults.Memory) }
 {
     let told = refused_line(alloc, fault)?;
-    let line = line_of_file(alloc, shown.get(), told.as_slice())?;
+    let line = line_of_file(alloc, shown, told.as_slice())?;
     Ok(FileReport {
-        shown,
         line,
+        complaint: Vec::new(alloc),
         verdict: CheckVerdict::Refused,
     })
 }
@@ -195,6 +223,16 @@ fn line_of_file(alloc: Global, shown: &[u8], told: &[u8]) -> Result<Vec<u8>, Ses
     line.extend_from_slice(b": ")?;
     line.extend_from_slice(told)?;
     Ok(line)
+}
+
+/// The first text and then the other.
+fn joined(alloc: Global, first: &[u8], then: &[u8]) -> Result<Vec<u8>, SessionFault>
+    ensures text { IfOk result (λ text. text.items ≡ first.now ++ then.now) }
+    ensures fault { IfErr result (λ fault. fault ≡ session_faults.Memory) }
+{
+    let mut text = Vec::from_slice(alloc, first)?;
+    text.extend_from_slice(then)?;
+    Ok(text)
 }
 
 /// The name of a file as it is shown, with its control bytes in hexadecimal digits.

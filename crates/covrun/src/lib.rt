@@ -48,6 +48,8 @@ mod output_folder;
 mod program;
 mod question;
 mod ready_text;
+mod strict;
+mod text_fault;
 mod unfinished_file;
 mod work;
 mod written_file;

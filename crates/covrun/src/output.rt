@@ -135,6 +135,7 @@ pub(crate) fn report_failure<E: Sink>(failure: Failure<'_>, faults: &mut E) -> u
         Failure::Stopped(fault) => complain(b"", line_of(fault), status_of(fault), faults),
         Failure::Ungathered => complain(b"", b"gather\n", 3, faults),
         Failure::Refused(lines) => complain(b"", lines.as_slice(), 4, faults),
+        Failure::Unclean(lines) => complain(b"", lines.get(), 5, faults),
     }
 }
 

@@ -24,8 +24,8 @@ use std::thread::Threads;
 ///
 /// A call that collects files looks for faults in this order, given here with their exit statuses: the command line (2); the
 /// patterns, then the limits, or the test's name of `gcov` (2); the first file that can't be read (1); a fault of collecting (3),
-/// such as a full history; a text for which memory ran out (3); refused texts and clashes (4); a failed write of the text (1);
-/// rates below their limits (6). `out of memory` (3) may end the call at any point before the first byte of its text. Only help,
+/// such as a full history; a text for which memory ran out (3); refused texts and clashes (4); if the call is strict, texts that
+/// aren't clean (5), and then patterns that match no file (5); a failed write of the text (1); rates below their limits (6). `out of memory` (3) may end the call at any point before the first byte of its text. Only help,
 /// the version, or the text that is asked for goes to the output, and the text only after all faults but the last two are ruled
 /// out. The answer of a call that collects is written in blocks while it is made. If a write fails, the output has a beginning of
 /// the text.
@@ -34,8 +34,9 @@ use std::thread::Threads;
 /// its name once its whole text is written. If a write fails, no file has changed, unless it is a device or a stream.
 ///
 /// A call that checks files checks as many at once as it has jobs, and reports them one after another, in their order. It writes a
-/// line to the output for each file that can be read, and complains about a file that can't be read or has no item. Its status is 1
-/// if a file can't be read, else 4 if one is refused, else 5 if one has no item, else 0. The call ends early if a write of a line
+/// line to the output for each file that can be read, and complains about a file that can't be read or has no item, or if the call is
+/// strict, isn't clean. Its status is 1 if a file can't be read, else 4 if one is refused, else 5 if one has no item or isn't clean,
+/// else 0. The call ends early if a write of a line
 /// fails (1), or if memory runs out (3).
 ///
 /// If the folder knows what its files hold, the call collects or checks the texts of the files that its words name.
@@ -103,7 +104,7 @@ fn run_command<
     requires failed_writes { O.failed_writes output.old < 2 ^ 62 }
     requires failed_words { E.failed_writes faults.old < 2 ^ 62 }
     ensures { IsCommandDone (folder_data (F.holds folder.now) (F.may_refuse folder.now) (F.may_open folder.now) F.File.left F.File.failed_reads)
-        asked.command (file_of (option_map string_bytes asked.output)) result (source (I.left input.old) (I.reads input.old) (I.failed_reads input.old)) (source (I.left input.new) (I.reads input.new) (I.failed_reads input.new))
+        asked.command asked.strictness (file_of (option_map string_bytes asked.output)) result (source (I.left input.old) (I.reads input.old) (I.failed_reads input.old)) (source (I.left input.new) (I.reads input.new) (I.failed_reads input.new))
         (sinks (O.written output.old) (O.held output.old) (O.failed_writes output.old) (E.written faults.old) (E.failed_writes faults.old))
         (sinks (O.written output.new) (O.held output.new) (O.failed_writes output.new) (E.written faults.new) (E.failed_writes faults.new))
         (output_files (P.finished files.old) (P.begun files.old) (P.failed files.old))
@@ -111,9 +112,10 @@ fn run_command<
 {
     let Asked {
         command,
+        strictness,
         output: file,
     } = asked;
-    match task_for(alloc, command) {
+    match task_for(alloc, command, strictness) {
         Ok(Task::Session) => run_session(alloc, input, output, faults),
         Ok(Task::Collect(work)) => {
             do_work(
@@ -130,10 +132,11 @@ fn run_command<
         Ok(
             Task::Check {
                 format,
+                strictness,
                 jobs,
                 files: names,
             },
-        ) => { check_files(rt, folder, alloc, format, jobs, names.get(), output, faults) }
+        ) => { check_files(rt, folder, alloc, format, strictness, jobs, names.get(), output, faults) }
         Err(fault) => report_failure(failure_of_work(fault), faults),
     }
 }

@@ -9,6 +9,8 @@ ghost use Rattle.covbook.specs.Step.{next_entry};
 ghost use Rattle.covrun.specs.Ending.{asked_text, totals_text as totals_text_of};
 ghost use Rattle.covrun.specs.Work.{ChosenList};
 
+use crate::strict::{add_unmatched_of_choice, add_unmatched_of_op};
+use crate::text_fault::TextFault;
 use covbook::Op;
 use covcommand::TotalsForm;
 use covjobs::CollectedBook;
@@ -16,7 +18,7 @@ use covlimit::{Limits, shortfall_lines};
 use covline::{Bytes, Memory};
 use covlist::{list_json, list_table, summary_json};
 use covreport::{Choice, Printing, chosen_totals, summary_text};
-use covstore::Totals;
+use covstore::{Store, Totals};
 use std::alloc::Global;
 
 /// What is asked, and printed, after all files are collected.
@@ -42,12 +44,14 @@ pub(crate) enum Question {
 }
 
 impl Question {
-    ghost use Rattle.std.specs.Prelude.{◌≡◌, ◌++◌, [], ◌∷◌, option_map, IfOk};
+    ghost use Rattle.std.specs.List.{flat_map};
+    ghost use Rattle.std.specs.Prelude.{◌≡◌, ◌++◌, [], ◌∷◌, option_map, IfOk, OnOk};
     ghost use Rattle.covbook.specs.Op.{ReportOp, SummaryOp};
     ghost use Rattle.covbook.specs.Step.{next_entry};
     ghost use Rattle.covbook.specs.Texts.{IsText};
     ghost use Rattle.covlimit.specs.LimitsView.{limits_data};
     ghost use Rattle.covrun.specs.Ending.{asked_shortfalls, asked_text};
+    ghost use Rattle.covrun.specs.Strict.{asked_patterns, unmatched_line};
     ghost use Rattle.covrun.specs.View.{question_data};
     ghost use Rattle.covrun.specs.Work.{ChosenList, ChosenReport, ChosenSummary, asked_of, chosen_or_all, last_of, summary_asked, words_asked};
 
@@ -106,7 +110,7 @@ impl Question {
     pub(crate) fn printing<'b>(
         &self,
         alloc: Global,
-        collected: &'b CollectedBook,
+        collected: &'b CollectedBook<TextFault>,
     ) -> Result<Printing<'b>, Memory>
         requires { IsText (last_of (question_data self.now)) }
         ensures { IfOk result (λ text. text ≡ asked_text (question_data self.now)
@@ -138,7 +142,7 @@ impl Question {
     pub(crate) fn shortfalls(
         &self,
         alloc: Global,
-        collected: &CollectedBook,
+        collected: &CollectedBook<TextFault>,
     ) -> Result<Bytes, Memory>
         ensures { IfOk result (λ lines. lines ≡ asked_shortfalls (question_data self.now)
             (collected.now.book.entries ++ next_entry collected.now.book.entries 0 (last_of (question_data self.now)) ∷ [])) }
@@ -149,6 +153,19 @@ impl Question {
                 shortfall_lines(alloc, limits, &totals)
             }
             _ => Ok(Bytes::new(alloc)),
+        }
+    }
+
+    /// Appends the lines about the patterns of what is asked that match no file of the store.
+    pub(crate) fn add_unmatched(&self, store: &Store, lines: &mut Bytes) -> Result<(), Memory>
+        ensures { OnOk result (lines.new ≡ lines.old ++ flat_map (unmatched_line store.now.sections) (asked_patterns (question_data self.now))) }
+    {
+        match self {
+            Question::Answer(op) => add_unmatched_of_op(op, store, lines),
+            Question::ChosenReport(choice)
+            | Question::ChosenSummary(choice)
+            | Question::LimitedTotals { choice, .. }
+            | Question::ChosenList { choice, .. } => add_unmatched_of_choice(choice, store, lines),
         }
     }
 }
@@ -169,7 +186,7 @@ fn list_text(
     alloc: Global,
     form: TotalsForm,
     choice: &Choice,
-    collected: &CollectedBook,
+    collected: &CollectedBook<TextFault>,
 ) -> Result<Bytes, Memory>
     ensures { IfOk result (λ text. text ≡ asked_text (ChosenList form (choice_data choice.now))
         (collected.now.book.entries ++ next_entry collected.now.book.entries 0 SummaryOp ∷ [])) }

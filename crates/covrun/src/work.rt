@@ -3,7 +3,15 @@
 use crate::argument_fault::ArgumentFault;
 use crate::question::Question;
 use covbook::Op;
-use covcommand::{Command, LcovVersion, Limits as LimitWords, Names, SourceFilter, TextFormat};
+use covcommand::{
+    Command,
+    LcovVersion,
+    Limits as LimitWords,
+    Names,
+    SourceFilter,
+    Strictness,
+    TextFormat,
+};
 use covlimit::{Limits, Rate};
 use covline::{Bytes, Memory, good_test};
 use covreport::{Choice, PatternFault, Patterns};
@@ -18,12 +26,13 @@ pub(crate) enum FileFormat {
     GcovOutput(Bytes),
 }
 
-/// What a subcommand that collects files has to do. `files`: the files to read. `format`: what they are. `jobs`: the number of
-/// jobs. `asks`: what is asked after all files are collected.
+/// What a subcommand that collects files has to do. `files`: the files to read. `format`: what they are. `strictness`: what is
+/// refused. `jobs`: the number of jobs. `asks`: what is asked after all files are collected.
 #[derive(Drop)]
 pub(crate) struct Work {
     pub(crate) files: Names,
     pub(crate) format: FileFormat,
+    pub(crate) strictness: Strictness,
     pub(crate) jobs: u32,
     pub(crate) asks: Question,
 }
@@ -39,6 +48,8 @@ pub(crate) enum Task {
     Check {
         /// How the files are read.
         format: TextFormat,
+        /// Which texts aren't accepted.
+        strictness: Strictness,
         /// The number of jobs.
         jobs: u32,
         /// The files' paths.
@@ -105,8 +116,12 @@ ghost use Rattle.covrun.specs.declared.work.FileFormat.TheVariants.{Tracefile};
 ghost use Rattle.covrun.specs.declared.work.WorkFault.TheVariants as faults;
 
 /// Checks the command's patterns, limits and test name, and returns what the command has to do.
-pub(crate) fn task_for(alloc: Global, command: Command) -> Result<Task, WorkFault>
-    ensures task { IfOk result (λ task. task_data task ≡ task_of command) }
+pub(crate) fn task_for(
+    alloc: Global,
+    command: Command,
+    strictness: Strictness,
+) -> Result<Task, WorkFault>
+    ensures task { IfOk result (λ task. task_data task ≡ task_of command strictness) }
     ensures taken { IfOk result (λ _. AreTaken command) }
     ensures refused { IfErr result (IsRefusal command) }
 {
@@ -119,7 +134,7 @@ pub(crate) fn task_for(alloc: Global, command: Command) -> Result<Task, WorkFaul
             names,
         } => {
             let report = Question::report(chosen_files(alloc, &filter)?);
-            Ok(over_tracefiles(names, version, jobs, report))
+            Ok(over_tracefiles(names, version, strictness, jobs, report))
         }
         Command::Summary {
             version,
@@ -131,7 +146,7 @@ pub(crate) fn task_for(alloc: Global, command: Command) -> Result<Task, WorkFaul
         } => {
             let choice = chosen_files(alloc, &filter)?;
             let summary = Question::summary(form, rates(limits)?, choice);
-            Ok(over_tracefiles(names, version, jobs, summary))
+            Ok(over_tracefiles(names, version, strictness, jobs, summary))
         }
         Command::List {
             version,
@@ -141,23 +156,24 @@ pub(crate) fn task_for(alloc: Global, command: Command) -> Result<Task, WorkFaul
             names,
         } => {
             let list = Question::list(form, chosen_files(alloc, &filter)?);
-            Ok(over_tracefiles(names, version, jobs, list))
+            Ok(over_tracefiles(names, version, strictness, jobs, list))
         }
         Command::Extract { version, names } => {
             let (files, patterns) = split(alloc, &names)?;
             let extract = Question::Answer(Op::Extract(patterns));
-            Ok(over_tracefiles(files, version, 1, extract))
+            Ok(over_tracefiles(files, version, strictness, 1, extract))
         }
         Command::Remove { version, names } => {
             let (files, patterns) = split(alloc, &names)?;
             let remove = Question::Answer(Op::Remove(patterns));
-            Ok(over_tracefiles(files, version, 1, remove))
+            Ok(over_tracefiles(files, version, strictness, 1, remove))
         }
         Command::Gcov { test, names } => {
             test_name(&test)?;
             Ok(Task::Collect(Work {
                 files: names,
                 format: FileFormat::GcovOutput(test),
+                strictness,
                 jobs: 1,
                 asks: Question::Answer(Op::Report),
             }))
@@ -166,28 +182,36 @@ pub(crate) fn task_for(alloc: Global, command: Command) -> Result<Task, WorkFaul
             format,
             jobs,
             names,
-        } => Ok(check_of(format, jobs, names)),
+        } => Ok(check_of(format, strictness, jobs, names)),
     }
 }
 
 /// The task of collecting these tracefiles.
-fn over_tracefiles(files: Names, version: LcovVersion, jobs: u32, asks: Question) -> Task
-    ensures { task_data result ≡ Collects (record { files = files; format = Tracefile version; jobs = jobs; asks = question_data asks }) }
+fn over_tracefiles(
+    files: Names,
+    version: LcovVersion,
+    strictness: Strictness,
+    jobs: u32,
+    asks: Question,
+) -> Task
+    ensures { task_data result ≡ Collects (record { files = files; format = Tracefile version; strictness = strictness; jobs = jobs; asks = question_data asks }) }
 {
     Task::Collect(Work {
         files,
         format: FileFormat::Tracefile(version),
+        strictness,
         jobs,
         asks,
     })
 }
 
 /// The task of checking these files.
-fn check_of(format: TextFormat, jobs: u32, files: Names) -> Task
-    ensures { task_data result ≡ Checks format jobs files }
+fn check_of(format: TextFormat, strictness: Strictness, jobs: u32, files: Names) -> Task
+    ensures { task_data result ≡ Checks format strictness jobs files }
 {
     Task::Check {
         format,
+        strictness,
         jobs,
         files,
     }

@@ -1,7 +1,7 @@
 use Rattle.std.proofs.Common.{ℕ, ◌+◌, List, length, ap, subst, arith}
 use Rattle.std.specs.List.{enumerate_from}
 use Rattle.covline.specs.Lines.{lines_of}
-use Rattle.covcheck.specs.CheckSteps.{IsSkippedIn}
+use Rattle.covcheck.specs.Skipped.{IsSkippedIn}
 use Rattle.covcheck.proofs.Passing.{Line, Passing, passing_skipped, passing_ends}
 use Rattle.covcheck.proofs.skipped_lines.skipped_lines_in.Goals as goal
 

@@ -1,7 +1,7 @@
 use Rattle.std.proofs.Common.{◌≡◌, ◌+◌, ◌≤◌, length}
 use Rattle.std.specs.List.{enumerate_from}
 use Rattle.covline.specs.Lines.{lines_of}
-use Rattle.covcheck.specs.CheckSteps.{IsSkippedIn}
+use Rattle.covcheck.specs.Skipped.{IsSkippedIn}
 use Rattle.covcheck.proofs.Passing.{Line, Passing}
 use Rattle.covcheck.proofs.skipped_lines.skipped_lines_in.Given as goal
 

@@ -52,7 +52,7 @@ returns-in-None-first g c =
 pub returns-in-Some-first : goal.returns-in-Some-first
 returns-in-Some-first g c =
     let rest = c.loop-placed.placed-iterator.rest in
-    all_read (chances_of g.T.LateInput.may_give g.T.LateInput.may_fail) c.args.inputs.now.value.items c.args.jobs c.args.seat.job 18446744073709551615 rest.items c.loop-placed.first c.loop-placed.worker c.loop-placed.invariant.1
+    all_read (chances_of g.T.LateInput.may_give g.T.LateInput.may_fail) c.args.inputs.now.value.items c.args.jobs c.args.seat.job _ rest.items c.loop-placed.first c.loop-placed.worker c.loop-placed.invariant.1
     (nil_from_length rest.items (omega (arith, c.in-None.ensures.steps.0, rest.ok.0))) (omega (arith, c.args.inputs.now.value.ok.0))
 
 -- a stop while an input is read

@@ -10,7 +10,7 @@ abbrev pub invariant-loop-left : goal.invariant-loop-left
 invariant-loop-left g l =
     (before : List (List ℕ)) × (map string_bytes l.files ≡ before ++ map string_bytes l.left)
     × TellsEach (folder_data (g.F.Folder.holds l.folder) (g.F.Folder.may_refuse l.folder) (g.F.Folder.may_open l.folder) g.F.File.Source.left g.F.File.Source.failed_reads)
-    l.format before (Ok l.worst)
+    l.format l.strictness before (Ok l.worst)
     (sinks (g.O.Sink.written l.initial.output) (g.O.Sink.held l.initial.output) (g.O.Sink.failed_writes l.initial.output) (g.E.Sink.written l.initial.faults) (g.E.Sink.failed_writes l.initial.faults))
     (sinks (g.O.Sink.written l.output) (g.O.Sink.held l.output) (g.O.Sink.failed_writes l.output) (g.E.Sink.written l.faults) (g.E.Sink.failed_writes l.faults))
 

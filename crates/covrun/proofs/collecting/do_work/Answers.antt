@@ -18,9 +18,9 @@ returns-in_default g c =
 pub returns-in-Ok-answer_of : goal.returns-in-Ok-answer_of
 returns-in-Ok-answer_of g c =
     let collected = c.in-Ok-collect_into_book.ensures.collected in
-    let read = texts_read c.in-Ok.inputs.items c.args.folder.now c.args.work.now.format
+    let read = texts_read c.in-Ok.inputs.items c.args.folder.now c.args.work.now.format c.args.work.now.strictness
     (λ folder. folder_data (g.F.Folder.holds folder) (g.F.Folder.may_refuse folder) (g.F.Folder.may_open folder) g.F.File.Source.left g.F.File.Source.failed_reads)
-    (λ one. one.folder.now) (λ one. one.name.now) (λ one. one.format.now) _ collected.0 c.in-Ok.ensures.names c.in-Ok.ensures.own collected.1 in
+    (λ one. one.folder.now) (λ one. one.name.now) (λ one. one.format.now) (λ one. one.strictness) _ collected.0 c.in-Ok.ensures.names c.in-Ok.ensures.own collected.1 in
     answer_told (folder_data (g.F.Folder.holds c.args.folder.now) (g.F.Folder.may_refuse c.args.folder.now) (g.F.Folder.may_open c.args.folder.now) g.F.File.Source.left g.F.File.Source.failed_reads) (work_data c.args.work.now) _ _ _ _ _ _ _
     (ends_collected (folder_data (g.F.Folder.holds c.args.folder.now) (g.F.Folder.may_refuse c.args.folder.now) (g.F.Folder.may_open c.args.folder.now) g.F.File.Source.left g.F.File.Source.failed_reads)
     (work_data c.args.work.now) _ c.get-names.ensures collected.0 _ _ _ _ read.0 read.1 c.requires.text collected.2 (inr c.in-Ok-answer_of.ensures.answer))
@@ -29,9 +29,9 @@ returns-in-Ok-answer_of g c =
 pub returns-in-Ok-collect_into_book : goal.returns-in-Ok-collect_into_book
 returns-in-Ok-collect_into_book g c =
     let collected = c.in-Ok-collect_into_book.ensures.collected in
-    let read = texts_read c.in-Ok.inputs.items c.args.folder.now c.args.work.now.format
+    let read = texts_read c.in-Ok.inputs.items c.args.folder.now c.args.work.now.format c.args.work.now.strictness
     (λ folder. folder_data (g.F.Folder.holds folder) (g.F.Folder.may_refuse folder) (g.F.Folder.may_open folder) g.F.File.Source.left g.F.File.Source.failed_reads)
-    (λ one. one.folder.now) (λ one. one.name.now) (λ one. one.format.now) _ collected.0 c.in-Ok.ensures.names c.in-Ok.ensures.own collected.1 in
+    (λ one. one.folder.now) (λ one. one.name.now) (λ one. one.format.now) (λ one. one.strictness) _ collected.0 c.in-Ok.ensures.names c.in-Ok.ensures.own collected.1 in
     failure_told (folder_data (g.F.Folder.holds c.args.folder.now) (g.F.Folder.may_refuse c.args.folder.now) (g.F.Folder.may_open c.args.folder.now) g.F.File.Source.left g.F.File.Source.failed_reads) (work_data c.args.work.now) _ c.in-Err.failure _
     (ends_collected (folder_data (g.F.Folder.holds c.args.folder.now) (g.F.Folder.may_refuse c.args.folder.now) (g.F.Folder.may_open c.args.folder.now) g.F.File.Source.left g.F.File.Source.failed_reads)
     (work_data c.args.work.now) _ c.get-names.ensures collected.0 _ _ _ _ read.0 read.1 c.requires.text collected.2 c.in-Err.ensures.failure)
@@ -42,9 +42,9 @@ returns-in-Err-Unread g c =
     failure_told (folder_data (g.F.Folder.holds c.args.folder.now) (g.F.Folder.may_refuse c.args.folder.now) (g.F.Folder.may_open c.args.folder.now) g.F.File.Source.left g.F.File.Source.failed_reads) (work_data c.args.work.now) _ (failures.Unreadable c.file_name.result) _
     (ends_unreadable (folder_data (g.F.Folder.holds c.args.folder.now) (g.F.Folder.may_refuse c.args.folder.now) (g.F.Folder.may_open c.args.folder.now) g.F.File.Source.left g.F.File.Source.failed_reads)
     (work_data c.args.work.now) _ c.get-names.ensures _ _
-    (unreadable_read c.in-Ok.inputs.items c.args.folder.now c.args.work.now.format
+    (unreadable_read c.in-Ok.inputs.items c.args.folder.now c.args.work.now.format c.args.work.now.strictness
     (λ folder. folder_data (g.F.Folder.holds folder) (g.F.Folder.may_refuse folder) (g.F.Folder.may_open folder) g.F.File.Source.left g.F.File.Source.failed_reads)
-    (λ one. one.folder.now) (λ one. one.name.now) (λ one. one.format.now)
+    (λ one. one.folder.now) (λ one. one.name.now) (λ one. one.format.now) (λ one. one.strictness)
     (map string_bytes c.get-names.result.now) c.in-Err-Unread.index _ c.in-Ok.ensures.names c.in-Ok.ensures.own c.in-Err-Unread.field-0-is c.in-Err-Unread.ensures.unread)
     (ap Unreadable (c.file_name.ensures ∙ ap (λ index. name_at (slice_get (map string_bytes c.get-names.result.now) index)) c.in-Err-Unread.index-is)))
     c.report_failure-in-Err-Unread.ensures.status _ _ _ _ _ _ _ c.report_failure-in-Err-Unread.ensures.said _

@@ -6,7 +6,7 @@ use Rattle.covrun.proofs.program.run_command.Goals as goal
 
 pub do_work-requires-clause-text : goal.do_work-requires-clause-text
 do_work-requires-clause-text g c κs within =
-    asks_text c.args.asked.command (work_data c.in-Ok-Collect.work) (ap task_data (sym c.in-Ok-Collect.field-0-is) ∙ c.in-Ok-Collect.ensures.task)
+    asks_text c.args.asked.command c.args.asked.strictness (work_data c.in-Ok-Collect.work) (ap task_data (sym c.in-Ok-Collect.field-0-is) ∙ c.in-Ok-Collect.ensures.task)
 
 pub returns-in-Ok-Collect : goal.returns-in-Ok-Collect
 returns-in-Ok-Collect g c =
@@ -20,7 +20,7 @@ pub returns-in-Ok-Check : goal.returns-in-Ok-Check
 returns-in-Ok-Check g c =
     inr (
       c.in-Ok-Check.ensures.taken,
-      told_check (folder_data (g.F.Folder.holds c.args.folder.now) (g.F.Folder.may_refuse c.args.folder.now) (g.F.Folder.may_open c.args.folder.now) g.F.File.Source.left g.F.File.Source.failed_reads) _ _ _ _ _ _ _ _ _ _ _ _ refl c.get.ensures
+      told_check (folder_data (g.F.Folder.holds c.args.folder.now) (g.F.Folder.may_refuse c.args.folder.now) (g.F.Folder.may_open c.args.folder.now) g.F.File.Source.left g.F.File.Source.failed_reads) _ _ _ _ _ _ _ _ _ _ _ _ _ refl c.get.ensures
           (ap task_data (sym c.in-Ok-Check.field-0-is) ∙ c.in-Ok-Check.ensures.task) c.check_files.ensures,
     )
 

@@ -1,0 +1,118 @@
+//! What a strict call refuses beside texts with a fault.
+
+ghost use Rattle.std.specs.Prelude.{◌≡◌, ◌++◌, IfOk, IfErr, OnOk};
+ghost use Rattle.std.specs.List.{flat_map};
+ghost use Rattle.covcheck.specs.SummaryLine.{summary_text};
+ghost use Rattle.covjobs.specs.InputView.{input_data};
+ghost use Rattle.covjobs.specs.Late.{IsLateOutcome};
+ghost use Rattle.covreport.specs.ChoiceView.{choice_data};
+ghost use Rattle.covbook.specs.View.{op_data};
+ghost use Rattle.covrun.specs.Strict.{HoldsIn, IsStrictOutcome, is_clean as is_clean_summary, is_matched, patterns_of_choice, patterns_of_op, unmatched_line};
+
+use crate::text_fault::TextFault;
+use covbook::{Op, SubRef};
+use covcheck::{Format, TextSummary, summary_line, summary_of};
+use covjobs::{Input, LateFault};
+use covline::{Bytes, Memory, Submission};
+use covlist::put_shown_name;
+use covreport::{Choice, Patterns, matches};
+use covstore::Store;
+use std::alloc::Global;
+
+/// Reads an input for a strict call. A text that isn't clean is refused, with the line that says what it holds.
+pub(crate) fn read_strictly(alloc: Global, input: &Input) -> Result<SubRef, LateFault<TextFault>>
+    ensures { IsLateOutcome (IsStrictOutcome (input_data input.now)) ⊥ result }
+{
+    let submission = match input.read(alloc) {
+        Ok(submission) => submission,
+        Err(fault) => return Err(LateFault::Refused(TextFault::Faulty(fault))),
+    };
+    let summary = summary_of_input(input, submission.get());
+    if is_clean(&summary) {
+        return Ok(submission);
+    }
+    match summary_line(alloc, &summary) {
+        Ok(line) => Err(LateFault::Refused(TextFault::Unclean(line))),
+        Err(_) => Err(LateFault::Memory),
+    }
+}
+
+/// What the input's text holds, which was read as this submission.
+fn summary_of_input<'a>(input: &'a Input, submission: &Submission) -> TextSummary<'a>
+    ensures { HoldsIn (input_data input.now) submission.now result }
+{
+    match input {
+        Input::Trace(text) => summary_of(submission, text.get(), Format::Trace),
+        Input::Lcov2(text) => summary_of(submission, text.get(), Format::Lcov2),
+        Input::Gcov { text, .. } => summary_of(submission, text.get(), Format::Gcov),
+    }
+}
+
+/// Whether the text has an item, and neither an odd line nor a line that isn't read.
+pub(crate) fn is_clean(summary: &TextSummary<'_>) -> bool
+    ensures { result ≡ is_clean_summary summary.now }
+{
+    summary.items > 0 && summary.odd == 0 && summary.skipped == 0
+}
+
+/// Appends the lines about the patterns of the operation that match no file of the store.
+pub(crate) fn add_unmatched_of_op(op: &Op, store: &Store, lines: &mut Bytes) -> Result<(), Memory>
+    ensures { OnOk result (lines.new ≡ lines.old ++ flat_map (unmatched_line store.now.sections) (patterns_of_op (op_data op.now))) }
+{
+    match op {
+        Op::Extract(patterns) | Op::Remove(patterns) => add_unmatched(patterns, store, lines),
+        _ => Ok(()),
+    }
+}
+
+/// Appends the lines about the patterns of the choice that match no file of the store.
+pub(crate) fn add_unmatched_of_choice(
+    choice: &Choice,
+    store: &Store,
+    lines: &mut Bytes,
+) -> Result<(), Memory>
+    ensures { OnOk result (lines.new ≡ lines.old ++ flat_map (unmatched_line store.now.sections) (patterns_of_choice (choice_data choice.now))) }
+{
+    match choice {
+        Choice::All => Ok(()),
+        Choice::Extract(patterns) | Choice::Remove(patterns) => add_unmatched(patterns, store, lines),
+        Choice::Filter { includes, excludes } => {
+            add_unmatched(includes, store, lines)?;
+            add_unmatched(excludes, store, lines)
+        }
+    }
+}
+
+/// Appends a line about each of these patterns that matches no file of the store.
+fn add_unmatched(patterns: &Patterns, store: &Store, lines: &mut Bytes) -> Result<(), Memory>
+    ensures { OnOk result (lines.new ≡ lines.old ++ flat_map (unmatched_line store.now.sections) patterns.now) }
+{
+    for pattern in patterns.get() {
+        add_if_unmatched(pattern.get(), store, lines)?;
+    }
+    Ok(())
+}
+
+/// Appends a line about the pattern if it matches no file of the store.
+fn add_if_unmatched(pattern: &[u8], store: &Store, lines: &mut Bytes) -> Result<(), Memory>
+    ensures { OnOk result (lines.new ≡ lines.old ++ unmatched_line store.now.sections pattern.now) }
+{
+    if matches_a_file(pattern, store) {
+        return Ok(());
+    }
+    put_shown_name(pattern, lines)?;
+    lines.append(b": matches no file\n")?;
+    Ok(())
+}
+
+/// Whether the pattern matches the path of a file of the store.
+fn matches_a_file(pattern: &[u8], store: &Store) -> bool
+    ensures { result ≡ is_matched store.now.sections pattern.now }
+{
+    for file in store.files() {
+        if matches(pattern, file.path) {
+            return true;
+        }
+    }
+    false
+}
