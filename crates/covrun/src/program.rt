@@ -111,6 +111,7 @@ fn run_command<
 {
     let Asked {
         command,
+        strictness: _,
         output: file,
     } = asked;
     match task_for(alloc, command) {
