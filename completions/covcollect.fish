@@ -94,6 +94,8 @@ complete -c covcollect -n __covcollect_begins -a remove -d 'Leave out the source
 complete -c covcollect -n __covcollect_begins -a gcov -d 'Make a tracefile of what gcov wrote'
 complete -c covcollect -n __covcollect_begins -a check -d 'Tell what is read of each file, and add nothing up'
 complete -c covcollect -n '__covcollect_within merge summary list extract remove check' -l lcov2 -d 'The tracefiles may be of LCOV 2'
+complete -c covcollect -n '__covcollect_within merge summary list extract remove' -l strict -d 'Refuse odd or empty files, unmatched patterns'
+complete -c covcollect -n '__covcollect_within check' -l strict -d 'Fail for odd or skipped lines too'
 complete -c covcollect -n '__covcollect_within merge summary list check' -s j -l jobs -x -a '(__covcollect_processors)' -d 'How many files are read at once, 1 to 64'
 complete -c covcollect -n '__covcollect_within merge extract remove gcov' -s o -l output -x -a '(__covcollect_tracefiles)' -d 'Write to this file, which may be an input'
 complete -c covcollect -n '__covcollect_within summary list' -s o -l output -r -F -d 'Write to this file'

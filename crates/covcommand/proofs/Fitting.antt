@@ -14,7 +14,7 @@ use Rattle.clap.specs.Simple.{App, Shape, argument_words, built, entered, filled
 use Rattle.clap.specs.Takes.{is_given}
 use Rattle.clap.specs.Faults.{built_fault, check_fault, entered_fault, fault_of, level_fault, repeat_fault, walk_fault}
 use Rattle.covcommand.specs.CommandLine.{check, covcollect, extract, filtering, flag, gcov, jobs, limit, list, merge, output, patterns, program, remove, several, single, summary, test}
-use Rattle.covcommand.specs.Found.{Fits, HasCheck, HasFiltering, HasFlag, HasListing, HasMerging, HasSome, HasTest}
+use Rattle.covcommand.specs.Found.{Fits, HasCheck, HasFiltering, HasFlag, HasFlags, HasListing, HasMerging, HasSome, HasTest}
 use Rattle.covcommand.proofs.Walks.{EachKeeps, Keeps, level_keeps, no_faults, settled_after}
 use Rattle.covcommand.proofs.Rows.{EachDefaultFits, FitsValues, RowOf, RowsFit, append_fits, defaulted, defaults_fit, given_row, has_default, has_flag, has_jobs, has_some, has_test, held_row, is_flag, numbers, set_fits}
 
@@ -138,11 +138,15 @@ module _ {s : Shape} {rows : List Row} (left : Left s rows) where
   some_left : (id : Text) → is_given id rows ≡ true → HasSome id rows
   some_left id given = has_some id rows (given_row id rows left.fit given)
 
+  -- the flags of all subcommands but `gcov`
+  flags_left : has_default (codes "lcov2") s.rules ≡ true → has_default (codes "strict") s.rules ≡ true → HasFlags rows
+  flags_left lcov2 strict = (flag_left (codes "lcov2") refl lcov2, flag_left (codes "strict") refl strict)
+
   -- the options of `merge`, which has files too
-  merging_left : has_default (codes "lcov2") s.rules ≡ true → has_default (codes "jobs") s.rules ≡ true → is_given (codes "FILE") rows ≡ true
-      → HasMerging rows
-  merging_left lcov2 number given =
-      (flag_left (codes "lcov2") refl lcov2, has_jobs rows (row_left (codes "jobs") number), some_left (codes "FILE") given)
+  merging_left : has_default (codes "lcov2") s.rules ≡ true → has_default (codes "strict") s.rules ≡ true
+      → has_default (codes "jobs") s.rules ≡ true → is_given (codes "FILE") rows ≡ true → HasMerging rows
+  merging_left lcov2 strict number given =
+      (flags_left lcov2 strict, has_jobs rows (row_left (codes "jobs") number), some_left (codes "FILE") given)
 
 -- words without a fault for the subcommand leave rows of this kind
 abbrev Leaves : Shape → (List Row → Type 0) → Type 0
@@ -158,16 +162,20 @@ merge_leaves words none =
           output_keeps 2,
           (
             flag_keeps (codes "lcov2") 2 refl,
-            (patterns_keeps (codes "include") 2 (refl, refl), (patterns_keeps (codes "exclude") 2 (refl, refl), (help_keeps 2, tt))),
+            (
+              flag_keeps (codes "strict") 2 refl,
+              (patterns_keeps (codes "include") 2 (refl, refl), (patterns_keeps (codes "exclude") 2 (refl, refl), (help_keeps 2, tt))),
+            ),
           ),
         ),
       ),
     ) in
-    let defaults : EachDefaultFits (built_below merge).rules = (tt, (one_job_fits, (tt, (unset_fits (codes "lcov2") refl, (tt, (tt, (tt, tt))))))) in
+    let defaults : EachDefaultFits (built_below merge).rules =
+    (tt, (one_job_fits, (tt, (unset_fits (codes "lcov2") refl, (unset_fits (codes "strict") refl, (tt, (tt, (tt, tt)))))))) in
     of_left _ (left_after (built_below merge) words each defaults none)
   where
     of_left : (rows : List Row) → Left (built_below merge) rows → HasMerging rows
-    of_left rows left = merging_left left refl refl (wanted _ _ _ left.none).0
+    of_left rows left = merging_left left refl refl refl (wanted _ _ _ left.none).0
 
 summary_leaves : Leaves (built_below summary) HasListing
 summary_leaves words none =
@@ -185,17 +193,20 @@ summary_leaves words none =
           output_keeps 2,
           (
             flag_keeps (codes "lcov2") 2 refl,
-            (patterns_keeps (codes "include") 2 (refl, refl), (patterns_keeps (codes "exclude") 2 (refl, refl), (flag_keeps (codes "json") 2 refl, limits))),
+            (
+              flag_keeps (codes "strict") 2 refl,
+              (patterns_keeps (codes "include") 2 (refl, refl), (patterns_keeps (codes "exclude") 2 (refl, refl), (flag_keeps (codes "json") 2 refl, limits))),
+            ),
           ),
         ),
       ),
     ) in
     let defaults : EachDefaultFits (built_below summary).rules =
-    (tt, (one_job_fits, (tt, (unset_fits (codes "lcov2") refl, (tt, (tt, (unset_fits (codes "json") refl, (tt, (tt, (tt, (tt, tt))))))))))) in
+    (tt, (one_job_fits, (tt, (unset_fits (codes "lcov2") refl, (unset_fits (codes "strict") refl, (tt, (tt, (unset_fits (codes "json") refl, (tt, (tt, (tt, (tt, tt)))))))))))) in
     of_left _ (left_after (built_below summary) words each defaults none)
   where
     of_left : (rows : List Row) → Left (built_below summary) rows → HasListing rows
-    of_left rows left = (flag_left left (codes "json") refl refl, merging_left left refl refl (wanted _ _ _ left.none).0)
+    of_left rows left = (flag_left left (codes "json") refl refl, merging_left left refl refl refl (wanted _ _ _ left.none).0)
 
 list_leaves : Leaves (built_below list) HasListing
 list_leaves words none =
@@ -208,35 +219,42 @@ list_leaves words none =
           (
             flag_keeps (codes "lcov2") 2 refl,
             (
-              patterns_keeps (codes "include") 2 (refl, refl),
-              (patterns_keeps (codes "exclude") 2 (refl, refl), (flag_keeps (codes "json") 2 refl, (help_keeps 2, tt))),
+              flag_keeps (codes "strict") 2 refl,
+              (
+                patterns_keeps (codes "include") 2 (refl, refl),
+                (patterns_keeps (codes "exclude") 2 (refl, refl), (flag_keeps (codes "json") 2 refl, (help_keeps 2, tt))),
+              ),
             ),
           ),
         ),
       ),
     ) in
     let defaults : EachDefaultFits (built_below list).rules =
-    (tt, (one_job_fits, (tt, (unset_fits (codes "lcov2") refl, (tt, (tt, (unset_fits (codes "json") refl, (tt, tt)))))))) in
+    (tt, (one_job_fits, (tt, (unset_fits (codes "lcov2") refl, (unset_fits (codes "strict") refl, (tt, (tt, (unset_fits (codes "json") refl, (tt, tt))))))))) in
     of_left _ (left_after (built_below list) words each defaults none)
   where
     of_left : (rows : List Row) → Left (built_below list) rows → HasListing rows
-    of_left rows left = (flag_left left (codes "json") refl refl, merging_left left refl refl (wanted _ _ _ left.none).0)
+    of_left rows left = (flag_left left (codes "json") refl refl, merging_left left refl refl refl (wanted _ _ _ left.none).0)
 
 -- `extract` and `remove`
 filtering_leaves : (name : Text) → Leaves (built_below (filtering name)) HasFiltering
 filtering_leaves name words none =
     let each : EachKeeps RowsFit (built_below (filtering name)).rules = (
       single_keeps (codes "TRACEFILE") 1 (refl, refl),
-      (several_keeps (codes "PATTERN") 2 (refl, refl), (output_keeps 3, (flag_keeps (codes "lcov2") 3 refl, (help_keeps 3, tt)))),
+      (
+        several_keeps (codes "PATTERN") 2 (refl, refl),
+        (output_keeps 3, (flag_keeps (codes "lcov2") 3 refl, (flag_keeps (codes "strict") 3 refl, (help_keeps 3, tt)))),
+      ),
     ) in
-    let defaults : EachDefaultFits (built_below (filtering name)).rules = (tt, (tt, (tt, (unset_fits (codes "lcov2") refl, (tt, tt))))) in
+    let defaults : EachDefaultFits (built_below (filtering name)).rules =
+    (tt, (tt, (tt, (unset_fits (codes "lcov2") refl, (unset_fits (codes "strict") refl, (tt, tt)))))) in
     of_left _ (left_after (built_below (filtering name)) words each defaults none)
   where
     of_left : (rows : List Row) → Left (built_below (filtering name)) rows → HasFiltering rows
     of_left rows left =
         let tracefile = wanted _ _ _ left.none in
         let patterns = wanted _ _ _ tracefile.1 in (
-          flag_left left (codes "lcov2") refl refl,
+          flags_left left refl refl,
           (some_left left (codes "TRACEFILE") tracefile.0, some_left left (codes "PATTERN") patterns.0),
         )
 
@@ -253,16 +271,21 @@ gcov_leaves words none =
 
 check_leaves : Leaves (built_below check) HasCheck
 check_leaves words none =
-    let each : EachKeeps RowsFit (built_below check).rules =
-    (several_keeps (codes "FILE") 1 (refl, refl), (jobs_keeps 2, (flag_keeps (codes "gcov") 2 refl, (flag_keeps (codes "lcov2") 2 refl, (help_keeps 2, tt))))) in
+    let each : EachKeeps RowsFit (built_below check).rules = (
+      several_keeps (codes "FILE") 1 (refl, refl),
+      (
+        jobs_keeps 2,
+        (flag_keeps (codes "gcov") 2 refl, (flag_keeps (codes "lcov2") 2 refl, (flag_keeps (codes "strict") 2 refl, (help_keeps 2, tt)))),
+      ),
+    ) in
     let defaults : EachDefaultFits (built_below check).rules =
-    (tt, (one_job_fits, (unset_fits (codes "gcov") refl, (unset_fits (codes "lcov2") refl, (tt, tt))))) in
+    (tt, (one_job_fits, (unset_fits (codes "gcov") refl, (unset_fits (codes "lcov2") refl, (unset_fits (codes "strict") refl, (tt, tt)))))) in
     of_left _ (left_after (built_below check) words each defaults none)
   where
     of_left : (rows : List Row) → Left (built_below check) rows → HasCheck rows
     of_left rows left = (
       flag_left left (codes "gcov") refl refl,
-      flag_left left (codes "lcov2") refl refl,
+      flags_left left refl refl,
       has_jobs rows (row_left left (codes "jobs") refl),
       some_left left (codes "FILE") (wanted _ _ _ left.none).0,
     )

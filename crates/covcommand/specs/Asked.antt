@@ -10,6 +10,8 @@ use Rattle.covcommand.specs.declared.asked.Command.{Command}
 use Rattle.covcommand.specs.declared.asked.Command.TheVariants.{Session, Merge, Summary, Extract, Remove, Gcov, Check}
 use Rattle.covcommand.specs.declared.asked.Command.TheVariants as commands
 use Rattle.covcommand.specs.declared.asked.SourceFilter.{SourceFilter}
+use Rattle.covcommand.specs.declared.asked.Strictness.{Strictness}
+use Rattle.covcommand.specs.declared.asked.Strictness.TheVariants.{Lenient, Strict}
 use Rattle.covcommand.specs.declared.asked.TotalsForm.{TotalsForm}
 use Rattle.covcommand.specs.declared.asked.TotalsForm.TheVariants.{Words, Json}
 use Rattle.covcommand.specs.declared.asked.Limits.{Limits}
@@ -81,6 +83,22 @@ AsksFor met (Gcov test names) = (rows : List Row) × (met ≡ Some (codes "gcov"
 AsksFor met (Check how jobs names) = (rows : List Row) × (met ≡ Some (codes "check", rows))
     × IsFormatOf rows how × IsNumberOf rows jobs × (names ≡ values_of (codes "FILE") rows)
 
+-- a call is strict if clap sets the flag `--strict`, and lenient if it doesn't
+abbrev pub IsStrictnessOf : List Row → Strictness → Type 0
+IsStrictnessOf rows Lenient = one_of (codes "strict") rows ≡ Some (codes "false")
+IsStrictnessOf rows Strict = one_of (codes "strict") rows ≡ Some (codes "true")
+
+-- whether the call of this command is strict, by the flag `--strict`. A session and `gcov`, which have no such flag, are lenient
+abbrev pub HasStrictness : List Row → Command → Strictness → Type 0
+HasStrictness rows Session strictness = strictness ≡ Lenient
+HasStrictness rows (Merge version jobs filter names) strictness = IsStrictnessOf rows strictness
+HasStrictness rows (Summary version jobs filter form limits names) strictness = IsStrictnessOf rows strictness
+HasStrictness rows (commands.List version jobs filter form names) strictness = IsStrictnessOf rows strictness
+HasStrictness rows (Extract version names) strictness = IsStrictnessOf rows strictness
+HasStrictness rows (Remove version names) strictness = IsStrictnessOf rows strictness
+HasStrictness rows (Gcov test names) strictness = strictness ≡ Lenient
+HasStrictness rows (Check how jobs names) strictness = IsStrictnessOf rows strictness
+
 -- the word that clap found for `--output`, as it is, and `None` if the option isn't given
 abbrev pub IsOutputOf : List Row → Option (String Global) → Type 0
 IsOutputOf rows output = first_of (codes "output") rows ≡ option_map string_bytes output
@@ -101,9 +119,10 @@ GoesTo rows (Check how jobs names) output = output ≡ None
 abbrev pub rows_met : Option (Text × List Row) → List Row
 rows_met met = option_map_or (λ subcommand. subcommand.1) met []
 
--- a call asks for this command, and for its text to go there
+-- a call asks for this command, with this strictness, and for its text to go there
 abbrev pub AsksForAll : Option (Text × List Row) → Asked → Type 0
-AsksForAll met asked = AsksFor met asked.command × GoesTo (rows_met met) asked.command asked.output
+AsksForAll met asked = AsksFor met asked.command × HasStrictness (rows_met met) asked.command asked.strictness
+    × GoesTo (rows_met met) asked.command asked.output
 
 -- `merge`, `summary`, `list` and `check` have 1 to 64 jobs. Each subcommand has at least one name, and `extract` and `remove` have at
 -- least two

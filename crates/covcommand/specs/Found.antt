@@ -5,6 +5,9 @@ use Rattle.clap.specs.Lexer.{without_minus}
 use Rattle.clap.specs.Values.{IsSignedIn}
 use Rattle.clap.specs.Walk.{Row, Text, first_of, one_of}
 use Rattle.covcommand.specs.Asked.{values_of}
+use Rattle.covcommand.specs.declared.asked.Command.{Command}
+use Rattle.covcommand.specs.declared.asked.Command.TheVariants.{Session, Merge, Summary, Extract, Remove, Gcov, Check}
+use Rattle.covcommand.specs.declared.asked.Command.TheVariants as commands
 
 -- clap found at least one word for the argument
 abbrev pub HasSome : Text → List Row → Type 0
@@ -22,9 +25,13 @@ HasJobs rows = (text : Text) × (one_of (codes "jobs") rows ≡ Some (without_mi
 abbrev pub HasFlag : Text → List Row → Type 0
 HasFlag id rows = (one_of id rows ≡ Some (codes "true")) ⊎ (one_of id rows ≡ Some (codes "false"))
 
+-- clap says of `--lcov2` and of `--strict` whether they are set
+abbrev pub HasFlags : List Row → Type 0
+HasFlags rows = HasFlag (codes "lcov2") rows × HasFlag (codes "strict") rows
+
 -- clap found what `merge` requires. It requires nothing of `--include` and `--exclude`, which may have no row
 abbrev pub HasMerging : List Row → Type 0
-HasMerging rows = HasFlag (codes "lcov2") rows × HasJobs rows × HasSome (codes "FILE") rows
+HasMerging rows = HasFlags rows × HasJobs rows × HasSome (codes "FILE") rows
 
 -- clap found what `summary` and `list` require. They require nothing of `--fail-under-..`, which may have no row
 abbrev pub HasListing : List Row → Type 0
@@ -36,11 +43,11 @@ HasFilter rows = HasSome (codes "TRACEFILE") rows × HasSome (codes "PATTERN") r
 
 -- clap found what `extract` and `remove` require
 abbrev pub HasFiltering : List Row → Type 0
-HasFiltering rows = HasFlag (codes "lcov2") rows × HasFilter rows
+HasFiltering rows = HasFlags rows × HasFilter rows
 
 -- clap found what `check` requires
 abbrev pub HasCheck : List Row → Type 0
-HasCheck rows = HasFlag (codes "gcov") rows × HasFlag (codes "lcov2") rows × HasJobs rows × HasSome (codes "FILE") rows
+HasCheck rows = HasFlag (codes "gcov") rows × HasFlags rows × HasJobs rows × HasSome (codes "FILE") rows
 
 -- clap found for the arguments of the subcommand of this name what the subcommand requires
 pub record Fits (name : Text) (rows : List Row) : Type 0 where
@@ -54,3 +61,14 @@ pub record Fits (name : Text) (rows : List Row) : Type 0 where
       → bytes_eq name (codes "list") ≡ false → bytes_eq name (codes "extract") ≡ false
       → bytes_eq name (codes "remove") ≡ false → bytes_eq name (codes "gcov") ≡ false
       → (name ≡ codes "check") × HasCheck rows
+
+-- clap says of `--strict` whether it is set, if the command has this flag
+abbrev pub TellsStrictness : List Row → Command → Type 0
+TellsStrictness rows Session = Unit {0}
+TellsStrictness rows (Merge version jobs filter names) = HasFlag (codes "strict") rows
+TellsStrictness rows (Summary version jobs filter form limits names) = HasFlag (codes "strict") rows
+TellsStrictness rows (commands.List version jobs filter form names) = HasFlag (codes "strict") rows
+TellsStrictness rows (Extract version names) = HasFlag (codes "strict") rows
+TellsStrictness rows (Remove version names) = HasFlag (codes "strict") rows
+TellsStrictness rows (Gcov test names) = Unit {0}
+TellsStrictness rows (Check how jobs names) = HasFlag (codes "strict") rows

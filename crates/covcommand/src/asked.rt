@@ -3,11 +3,13 @@
 use crate::names::Names;
 use covline::Bytes;
 
-/// What the words of a call ask for: a command, and where its text goes.
+/// What the words of a call ask for: a command, how strict it is, and where its text goes.
 #[derive(Drop)]
 pub struct Asked {
     /// The command.
     pub command: Command,
+    /// How the call takes files and patterns that look wrong.
+    pub strictness: Strictness,
     /// The path of the file that the text goes to, or `None`: to standard output.
     pub output: Option<String>,
 }
@@ -96,6 +98,16 @@ pub struct SourceFilter {
     pub includes: Names,
     /// `--exclude`: a file has to match none of these.
     pub excludes: Names,
+}
+
+/// How a call takes files and patterns that look wrong, but can be used.
+#[derive(Clone, Copy)]
+pub enum Strictness {
+    /// Without `--strict`: they are used as they are. A session and `gcov`, which have no such flag, are always lenient.
+    Lenient,
+    /// With `--strict`: a file with no item, an odd line or a skipped line is refused, and so is a pattern that matches no source
+    /// file.
+    Strict,
 }
 
 /// The form in which totals are printed.

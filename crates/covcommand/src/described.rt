@@ -67,8 +67,8 @@ fn listing<'a>(alloc: Global, name: &'a str) -> Result<Command<'a>, AllocError>
     merging(alloc, name)?.arg(json(alloc))
 }
 
-/// A command that takes tracefiles, which jobs may read at once, a file for its text, and patterns of the source files to keep and
-/// to leave out.
+/// A command that takes tracefiles, which jobs may read at once, a file for its text, two flags, and patterns of the source files
+/// to keep and to leave out.
 fn merging<'a>(alloc: Global, name: &'a str) -> Result<Command<'a>, AllocError>
     ensures { IfOk result (HasNoGlobals (line.merging name.entry.now)) }
 {
@@ -78,6 +78,7 @@ fn merging<'a>(alloc: Global, name: &'a str) -> Result<Command<'a>, AllocError>
         .arg(jobs(alloc))?
         .arg(output(alloc))?
         .arg(lcov2(alloc))?
+        .arg(strict(alloc, help::STRICT))?
         .arg(patterns(alloc, "include", help::INCLUDE))?
         .arg(patterns(alloc, "exclude", help::EXCLUDE))
 }
@@ -96,7 +97,7 @@ fn remove<'a>(alloc: Global) -> Result<Command<'a>, AllocError>
     Ok(remove.about(help::REMOVE).after_help(help::REMOVE_END))
 }
 
-/// A command that takes a tracefile, patterns, and a file for its text.
+/// A command that takes a tracefile, patterns, a file for its text, and two flags.
 fn filter<'a>(alloc: Global, name: &'a str) -> Result<Command<'a>, AllocError>
     ensures { IfOk result (HasNoGlobals (line.filtering name.entry.now)) }
 {
@@ -105,7 +106,8 @@ fn filter<'a>(alloc: Global, name: &'a str) -> Result<Command<'a>, AllocError>
         .arg(tracefile(alloc))?
         .arg(several(alloc, "PATTERN", help::PATTERNS))?
         .arg(output(alloc))?
-        .arg(lcov2(alloc))
+        .arg(lcov2(alloc))?
+        .arg(strict(alloc, help::STRICT))
 }
 
 fn gcov<'a>(alloc: Global) -> Result<Command<'a>, AllocError>
@@ -129,7 +131,8 @@ fn check<'a>(alloc: Global) -> Result<Command<'a>, AllocError>
         .arg(several(alloc, "FILE", help::CHECKED))?
         .arg(jobs(alloc))?
         .arg(annotated(alloc))?
-        .arg(lcov2(alloc))
+        .arg(lcov2(alloc))?
+        .arg(strict(alloc, help::STRICT_CHECK))
 }
 
 /// A required argument of one word or more.
@@ -225,6 +228,13 @@ fn lcov2<'a>(alloc: Global) -> Arg<'a>
     ensures { IsRule line.lcov2 result }
 {
     flag(alloc, "lcov2", help::LCOV2)
+}
+
+/// The flag `--strict`, which says that files and patterns that look wrong are refused.
+fn strict<'a>(alloc: Global, help: &'a str) -> Arg<'a>
+    ensures { IsRule line.strict result }
+{
+    flag(alloc, "strict", help)
 }
 
 /// The flag `--json`, which says that totals are printed as JSON.

@@ -4,12 +4,14 @@ ghost use Rattle.std.specs.Prelude.{◌≡◌, ◌≤◌, ◌++◌, [], IfOk, If
 ghost use Rattle.std.specs.String.{string_bytes};
 ghost use Rattle.clap.specs.Words.{rows_of, found_of, subcommand_of, takes, fault_of, first_of};
 ghost use Rattle.covcommand.specs.CommandLine.{covcollect};
-ghost use Rattle.covcommand.specs.Asked.{AreLimitsOf, AsksFor, GoesTo, IsFilterOf, IsFormOf, IsFormatOf, IsInBounds, IsLimitOf, IsNumberOf, IsOutputOf, IsVersionOf, rows_met, tracefile_and_patterns, values_of};
-ghost use Rattle.covcommand.specs.Found.{Fits, HasFilter, HasFlag, HasJobs, HasSome, HasTest};
+ghost use Rattle.covcommand.specs.Asked.{AreLimitsOf, AsksFor, GoesTo, HasStrictness, IsFilterOf, IsFormOf, IsFormatOf, IsInBounds, IsLimitOf, IsNumberOf, IsOutputOf, IsStrictnessOf, IsVersionOf, rows_met, tracefile_and_patterns, values_of};
+ghost use Rattle.covcommand.specs.Found.{Fits, HasFilter, HasFlag, HasJobs, HasSome, HasTest, TellsStrictness};
 ghost use Rattle.covcommand.specs.Fault.{IsFaultAmong};
 ghost use Rattle.covcommand.specs.declared.fault.CommandFault.TheVariants as faults;
 
-use crate::asked::{Asked, Command, LcovVersion, Limits, SourceFilter, TextFormat, TotalsForm};
+use crate::asked::{
+    Asked, Command, LcovVersion, Limits, SourceFilter, Strictness, TextFormat, TotalsForm,
+};
 use crate::described::described;
 use crate::fault::CommandFault;
 use crate::names::Names;
@@ -23,6 +25,7 @@ use std::alloc::Global;
 /// clap takes the words, `Memory` is the only fault.
 pub fn command(alloc: Global, words: &[String]) -> Result<Asked, CommandFault>
     ensures asks { IfOk result (λ asked. AsksFor (subcommand_of covcollect (map string_bytes words.now)) asked.command) }
+    ensures strictness { IfOk result (λ asked. HasStrictness (rows_met (subcommand_of covcollect (map string_bytes words.now))) asked.command asked.strictness) }
     ensures output { IfOk result (λ asked. GoesTo (rows_met (subcommand_of covcollect (map string_bytes words.now))) asked.command asked.output) }
     ensures bounds { IfOk result (λ asked. IsInBounds asked.command) }
     ensures fits { IfOk result (λ _. fault_of covcollect (map string_bytes words.now) ≡ []) }
@@ -38,22 +41,52 @@ pub fn command(alloc: Global, words: &[String]) -> Result<Asked, CommandFault>
         Some((name, found)) => asked_from(alloc, name, found),
         None => Ok(Asked {
             command: Command::Session,
+            strictness: Strictness::Lenient,
             output: None,
         }),
     }
 }
 
-/// What the subcommand of this name asks for, and where its text goes.
+/// What the subcommand of this name asks for, how strict it is, and where its text goes.
 fn asked_from(alloc: Global, name: &str, found: &ArgMatches<'_>) -> Result<Asked, CommandFault>
     requires { Fits name.now (rows_of (found_of found.now)) }
     ensures asks { IfOk result (λ asked. AsksFor (Some (name.now, rows_of (found_of found.now))) asked.command) }
+    ensures strictness { IfOk result (λ asked. HasStrictness (rows_of (found_of found.now)) asked.command asked.strictness) }
     ensures output { IfOk result (λ asked. GoesTo (rows_of (found_of found.now)) asked.command asked.output) }
     ensures bounds { IfOk result (λ asked. IsInBounds asked.command) }
     ensures memory { IfErr result (λ f. f ≡ faults.Memory) }
 {
     let command = command_from(alloc, name, found)?;
+    let strictness = strictness_for(&command, found);
     let output = output_for(alloc, &command, found)?;
-    Ok(Asked { command, output })
+    Ok(Asked {
+        command,
+        strictness,
+        output,
+    })
+}
+
+/// How strict the command is, by what clap found for its arguments.
+fn strictness_for(command: &Command, found: &ArgMatches<'_>) -> Strictness
+    requires { TellsStrictness (rows_of (found_of found.now)) command.now }
+    ensures { HasStrictness (rows_of (found_of found.now)) command.now result }
+{
+    match command {
+        Command::Session | Command::Gcov { .. } => Strictness::Lenient,
+        _ => strictness_of(found),
+    }
+}
+
+/// How strict the call is: strict if clap found the flag `--strict`, else lenient.
+fn strictness_of(found: &ArgMatches<'_>) -> Strictness
+    requires { HasFlag (codes "strict") (rows_of (found_of found.now)) }
+    ensures { IsStrictnessOf (rows_of (found_of found.now)) result }
+{
+    if found.get_flag("strict") {
+        Strictness::Strict
+    } else {
+        Strictness::Lenient
+    }
 }
 
 /// Where the text of the command goes, by what clap found for its arguments.
@@ -84,6 +117,7 @@ fn output_of(alloc: Global, found: &ArgMatches<'_>) -> Result<Option<String>, Me
 fn command_from(alloc: Global, name: &str, found: &ArgMatches<'_>) -> Result<Command, CommandFault>
     requires { Fits name.now (rows_of (found_of found.now)) }
     ensures asks { IfOk result (AsksFor (Some (name.now, rows_of (found_of found.now)))) }
+    ensures strictness { IfOk result (TellsStrictness (rows_of (found_of found.now))) }
     ensures bounds { IfOk result IsInBounds }
     ensures memory { IfErr result (λ f. f ≡ faults.Memory) }
 {

@@ -4,8 +4,8 @@
 //! Examples are text, so that they cost the proof of these tests nothing: a line has a call and, after ` => `, its answer.
 
 use covcommand::{
-    Asked, Command, CommandFault, LcovVersion, Limits, Names, SourceFilter, TextFormat, TotalsForm,
-    command,
+    Asked, Command, CommandFault, LcovVersion, Limits, Names, SourceFilter, Strictness, TextFormat,
+    TotalsForm, command,
 };
 use std::alloc::Global;
 use std::process::Abort;
@@ -46,9 +46,10 @@ fn refused(alloc: Global, fault: &CommandFault) -> Result<String, Fail> {
     Ok(format!(in alloc; "{} {} {first}", fault.number(), fault.status())?)
 }
 
-/// What is asked for in words: the command, and the file for its text.
+/// What is asked for in words: the command, how strict it is, and the file for its text.
 fn told(alloc: Global, whole: &Asked) -> Result<String, Fail> {
-    with_output(command_in_words(alloc, &whole.command)?, &whole.output)
+    let command = command_in_words(alloc, &whole.command)?;
+    with_output(with_strictness(command, &whole.strictness)?, &whole.output)
 }
 
 /// The command in words: its subcommand, its version of LCOV, its number of jobs, its test or its format, then its filter, its
@@ -155,6 +156,14 @@ fn with_limits(alloc: Global, mut text: String, limits: &Limits) -> Result<Strin
 fn with_limit(alloc: Global, text: String, of: &str, limit: &[u8]) -> Result<String, Fail> {
     let limit: String = String::from_utf8_lossy(alloc, limit)?;
     Ok(format!(in alloc; "{text} {of}({limit})")?)
+}
+
+/// The text with `strict` after it if the call is strict.
+fn with_strictness(mut text: String, strictness: &Strictness) -> Result<String, Fail> {
+    if let Strictness::Strict = strictness {
+        text.push_str(" strict")?;
+    }
+    Ok(text)
 }
 
 /// The text with the path of the file for a command's text after it, if there is one: in brackets, with `>` before them.

@@ -125,6 +125,56 @@ covcollect --lcov2 merge a.info => 2 2 error: unexpected argument '--lcov2' foun
     )
 }
 
+/// The flag `--strict`, of each subcommand that has it, before, between and after other words.
+#[test]
+fn strict(rt: HostRuntime) -> Result<(), Fail> {
+    check_all(
+        &rt,
+        "\
+covcollect merge --strict a.info => merge (1 1) [a.info] strict
+covcollect merge a.info --strict b.info => merge (1 1) [a.info] [b.info] strict
+covcollect merge -j2 --strict -o out.info --lcov2 --exclude x a.info => merge (2 2) -[x] [a.info] strict >[out.info]
+covcollect merge -- --strict => merge (1 1) [--strict]
+covcollect merge strict => merge (1 1) [strict]
+covcollect merge --exclude=--strict a.info => merge (1 1) -[--strict] [a.info]
+covcollect summary a.info --strict => summary (1 1) [a.info] strict
+covcollect summary --strict --json --fail-under-lines 80 a.info => summary (1 1) json lines(80) [a.info] strict
+covcollect list --json --strict b.info a.info => list (1 1) json [b.info] [a.info] strict
+covcollect list --strict --lcov2 --include '*.c' -- a.info => list (2 1) +[*.c] [a.info] strict
+covcollect extract --strict a.info '*/src/*' => extract (1) [a.info] [*/src/*] strict
+covcollect extract a.info '*/src/*' '*.h' --lcov2 --strict => extract (2) [a.info] [*/src/*] [*.h] strict
+covcollect extract a.info -- --strict => extract (1) [a.info] [--strict]
+covcollect remove a.info --strict '/usr/*' -o a.info => remove (1) [a.info] [/usr/*] strict >[a.info]
+covcollect check --strict a.info => check (tracefile 1 1) [a.info] strict
+covcollect check a.info -j 3 --lcov2 --strict b.info => check (tracefile 2 3) [a.info] [b.info] strict
+covcollect check --gcov --strict main.c.gcov => check (gcov 1) [main.c.gcov] strict
+",
+    )
+}
+
+/// The flag `--strict` twice, with a value, without the words that are required, misspelt, and where nothing takes it.
+#[test]
+fn strict_that_is_refused(rt: HostRuntime) -> Result<(), Fail> {
+    check_all(
+        &rt,
+        "\
+covcollect gcov --strict --test unit main.c.gcov => 2 2 error: unexpected argument '--strict' found
+covcollect gcov --test unit main.c.gcov --strict => 2 2 error: unexpected argument '--strict' found
+covcollect --strict => 2 2 error: unexpected argument '--strict' found
+covcollect --strict merge a.info => 2 2 error: unexpected argument '--strict' found
+covcollect merge --strict --strict a.info => 2 2 error: the argument '--strict' cannot be used multiple times
+covcollect check --strict a.info --strict => 2 2 error: the argument '--strict' cannot be used multiple times
+covcollect merge --strict=yes a.info => 2 2 error: unexpected value 'yes' for '--strict' found; no more were expected
+covcollect check --strict=true a.info => 2 2 error: unexpected value 'true' for '--strict' found; no more were expected
+covcollect remove a.info '*.h' --strict=no => 2 2 error: unexpected value 'no' for '--strict' found; no more were expected
+covcollect merge --strict => 2 2 error: the following required arguments were not provided:
+covcollect extract --strict a.info => 2 2 error: the following required arguments were not provided:
+covcollect summary --stricter a.info => 2 2 error: unexpected argument '--stricter' found
+covcollect list -s a.info => 2 2 error: unexpected argument '-s' found
+",
+    )
+}
+
 /// The options `--include` and `--exclude`: each several times, mixed with each other and with other words. Each takes one word.
 #[test]
 fn filters(rt: HostRuntime) -> Result<(), Fail> {

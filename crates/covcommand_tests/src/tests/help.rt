@@ -163,6 +163,7 @@ Arguments:
 Options:
   -o, --output <FILE>  Write to FILE, which may be one of the inputs
       --lcov2          Tracefiles of LCOV 2 are read too
+      --strict         Refuse odd or empty files, unmatched patterns
   -h, --help           Print help
 
 Prints the tracefile of the other source files. A pattern has to match the whole
@@ -198,6 +199,7 @@ Options:
   -j, --jobs <N>                  Files read at once, from 1 to 64 [default: 1]
   -o, --output <FILE>             Write to FILE, which may be one of the inputs
       --lcov2                     Tracefiles of LCOV 2 are read too
+      --strict                    Refuse odd or empty files, unmatched patterns
       --include <PATTERN>         Only source files that match; may be repeated
       --exclude <PATTERN>         No source files that match; may be repeated
       --json                      Print JSON
@@ -240,6 +242,7 @@ Options:
   -j, --jobs <N>           Files read at once, from 1 to 64 [default: 1]
   -o, --output <FILE>      Write to FILE, which may be one of the inputs
       --lcov2              Tracefiles of LCOV 2 are read too
+      --strict             Refuse odd or empty files, unmatched patterns
       --include <PATTERN>  Only source files that match; may be repeated
       --exclude <PATTERN>  No source files that match; may be repeated
       --json               Print JSON
@@ -277,6 +280,7 @@ Options:
   -j, --jobs <N>  Files read at once, from 1 to 64 [default: 1]
       --gcov      The files are what gcov wrote, and not tracefiles
       --lcov2     Tracefiles of LCOV 2 are read too
+      --strict    Fail for odd or skipped lines too
   -h, --help      Print help
 
 Prints a line for each file: how many sections, items and odd lines it has, how

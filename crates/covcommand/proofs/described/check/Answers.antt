@@ -1,6 +1,6 @@
 use Rattle.std.proofs.Common.{rules, codes}
 use Rattle.std.proofs.lemmas.Result.{IfOk-weaker}
-use Rattle.covcommand.specs.CommandLine.{annotated, jobs, lcov2, several}
+use Rattle.covcommand.specs.CommandLine.{annotated, jobs, lcov2, several, strict}
 use Rattle.clap.specs.Simple.{new_app}
 use Rattle.covcommand.specs.Built.{HasNoGlobals}
 use Rattle.covcommand.proofs.Arguments.{added}
@@ -12,4 +12,5 @@ returns c =
     let with_files = added _ (several (codes "FILE")) _ _ _ start c.in_ok-arg.ensures c.several.ensures in
     let with_jobs = added _ jobs _ _ _ with_files c.in_ok-arg-2.ensures c.jobs.ensures in
     let with_gcov = added _ annotated _ _ _ with_jobs c.in_ok-arg-3.ensures c.annotated.ensures in
-    IfOk-weaker c.arg-4.result _ _ (λ r h. added _ lcov2 _ r _ with_gcov h c.lcov2.ensures) c.arg-4.ensures
+    let with_lcov2 = added _ lcov2 _ _ _ with_gcov c.in_ok-arg-4.ensures c.lcov2.ensures in
+    IfOk-weaker c.arg-5.result _ _ (λ r h. added _ strict _ r _ with_lcov2 h c.strict.ensures) c.arg-5.ensures
