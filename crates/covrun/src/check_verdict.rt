@@ -25,7 +25,8 @@ impl CheckVerdict {
             (CheckVerdict::Unreadable, _) | (_, CheckVerdict::Unreadable) =>
                 CheckVerdict::Unreadable,
             (CheckVerdict::Refused, _) | (_, CheckVerdict::Refused) => CheckVerdict::Refused,
-            (CheckVerdict::Unaccepted, _) | (_, CheckVerdict::Unaccepted) => CheckVerdict::Unaccepted,
+            (CheckVerdict::Unaccepted, _) | (_, CheckVerdict::Unaccepted) =>
+                CheckVerdict::Unaccepted,
             (CheckVerdict::Fine, CheckVerdict::Fine) => CheckVerdict::Fine,
         }
     }

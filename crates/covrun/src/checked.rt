@@ -36,7 +36,9 @@ pub(crate) fn check_files<R: Threads + Sync, F: Folder<File: Send> + Sync, O: Si
         (sinks (O.written output.old) (O.held output.old) (O.failed_writes output.old) (E.written faults.old) (E.failed_writes faults.old))
         (sinks (O.written output.new) (O.held output.new) (O.failed_writes output.new) (E.written faults.new) (E.failed_writes faults.new)) }
 {
-    match check_each(rt, folder, alloc, format, strictness, jobs, files, output, faults) {
+    match check_each(
+        rt, folder, alloc, format, strictness, jobs, files, output, faults,
+    ) {
         Ok(worst) => worst.status(),
         Err(fault) => {
             say(b"", line_of(fault), faults);

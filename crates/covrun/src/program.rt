@@ -136,7 +136,19 @@ fn run_command<
                 jobs,
                 files: names,
             },
-        ) => { check_files(rt, folder, alloc, format, strictness, jobs, names.get(), output, faults) }
+        ) => {
+            check_files(
+                rt,
+                folder,
+                alloc,
+                format,
+                strictness,
+                jobs,
+                names.get(),
+                output,
+                faults,
+            )
+        }
         Err(fault) => report_failure(failure_of_work(fault), faults),
     }
 }

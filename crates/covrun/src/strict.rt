@@ -75,7 +75,9 @@ pub(crate) fn add_unmatched_of_choice(
 {
     match choice {
         Choice::All => Ok(()),
-        Choice::Extract(patterns) | Choice::Remove(patterns) => add_unmatched(patterns, store, lines),
+        Choice::Extract(patterns) | Choice::Remove(patterns) => add_unmatched(
+            patterns, store, lines,
+        ),
         Choice::Filter { includes, excludes } => {
             add_unmatched(includes, store, lines)?;
             add_unmatched(excludes, store, lines)

@@ -4,13 +4,7 @@ use crate::argument_fault::ArgumentFault;
 use crate::question::Question;
 use covbook::Op;
 use covcommand::{
-    Command,
-    LcovVersion,
-    Limits as LimitWords,
-    Names,
-    SourceFilter,
-    Strictness,
-    TextFormat,
+    Command, LcovVersion, Limits as LimitWords, Names, SourceFilter, Strictness, TextFormat,
 };
 use covlimit::{Limits, Rate};
 use covline::{Bytes, Memory, good_test};

@@ -5,4 +5,3 @@ use Rattle.covrun.specs.View.{question_data, ready_data}
 use Rattle.covrun.specs.Ending.{ran_out}
 use Rattle.covrun.proofs.Endings.{ends_with_answer}
 use Rattle.covrun.proofs.collecting.answer_of.Goals as goal
-
