@@ -29,7 +29,7 @@ Exit status:
   2  the call is wrong: its words, a pattern, a limit or the name of a test
   3  memory ran out, or the history is full
   4  a file was refused, or checksums clash; nothing is printed, but by check
-  5  check found a file without items
+  5  check found a file without items, or --strict what it refuses
   6  summary found less hit than --fail-under-.. asks for, or nothing to hit";
 
 /// What `merge` does.
@@ -43,6 +43,8 @@ write
   covcollect merge A.info B.info -o OUT
 and where there are many files
   covcollect merge --jobs 4 jobs/*.info -o OUT
+and to end with status 5 where one of them is empty or odd
+  covcollect merge --strict jobs/*.info -o OUT
 and where LCOV 2 wrote some of them
   covcollect merge --lcov2 A.info B.info -o OUT
 and to leave out source files (extract --help tells of patterns)
@@ -142,7 +144,7 @@ and where there are many files
   covcollect check --jobs 4 jobs/*.info
 With both flags the files are what gcov wrote.
 The status is 1 where a file can't be read, else 4 where one is refused, and
-else 5 where one has no items.";
+else 5 where one has no items or, with --strict, odd or skipped lines.";
 
 /// The help of an argument for tracefiles.
 pub(crate) const TRACEFILES: &str = "Tracefiles, read in this order";

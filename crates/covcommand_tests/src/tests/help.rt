@@ -110,7 +110,7 @@ Exit status:
   2  the call is wrong: its words, a pattern, a limit or the name of a test
   3  memory ran out, or the history is full
   4  a file was refused, or checksums clash; nothing is printed, but by check
-  5  check found a file without items
+  5  check found a file without items, or --strict what it refuses
   6  summary found less hit than --fail-under-.. asks for, or nothing to hit
 ",
     )
@@ -295,7 +295,7 @@ and where there are many files
   covcollect check --jobs 4 jobs/*.info
 With both flags the files are what gcov wrote.
 The status is 1 where a file can't be read, else 4 where one is refused, and
-else 5 where one has no items.
+else 5 where one has no items or, with --strict, odd or skipped lines.
 ",
     )
 }
