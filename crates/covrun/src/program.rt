@@ -24,8 +24,8 @@ use std::thread::Threads;
 ///
 /// A call that collects files looks for faults in this order, given here with their exit statuses: the command line (2); the
 /// patterns, then the limits, or the test's name of `gcov` (2); the first file that can't be read (1); a fault of collecting (3),
-/// such as a full history; a text for which memory ran out (3); refused texts and clashes (4); if the call is strict, texts that
-/// aren't clean (5), and then patterns that match no file (5); a failed write of the text (1); rates below their limits (6). `out of memory` (3) may end the call at any point before the first byte of its text. Only help,
+/// such as a full history; a text for which memory ran out (3); refused texts, and clashes of accepted ones (4); if the call
+/// is strict, texts that aren't clean (5), and then patterns that match no file (5); a failed write of the text (1); rates below their limits (6). `out of memory` (3) may end the call at any point before the first byte of its text. Only help,
 /// the version, or the text that is asked for goes to the output, and the text only after all faults but the last two are ruled
 /// out. The answer of a call that collects is written in blocks while it is made. If a write fails, the output has a beginning of
 /// the text.
