@@ -1,5 +1,5 @@
 -- Files that are checked one after another: what was reported for the first ones, and for one more.
-use Rattle.std.proofs.Common.{◌≡◌, inl, inr, ℕ, suc, ◌+◌, ◌<◌, ◌≤◌, Bool, true, false, ◌||◌, if◌then◌else◌, List, [], ◌∷◌, ◌++◌, length, get_or, take, drop, map, Option, Result, Ok, Err, IfOk, IfErr, refl, sym, ap, ◌∙◌, ◌^◌, subst, codes, arith, append-nil, append_assoc, length-append}
+use Rattle.std.proofs.Common.{◌≡◌, inl, inr, ℕ, suc, ◌+◌, ◌<◌, ◌≤◌, Bool, true, false, ◌||◌, if◌then◌else◌, List, [], ◌∷◌, ◌++◌, length, get_or, take, drop, map, Option, Result, Ok, Err, IfOk, IfErr, refl, sym, ap, ◌∙◌, ◌^◌, subst, arith, append-nil, append_assoc, length-append}
 use Rattle.std.proofs.KnownBytes.{Appends-nil, Appends-trans}
 use Rattle.std.proofs.lemmas.List.{drop_more, flat_map_more, length-map, length-take, map-append, take-append-drop, take_all, take_more}
 use Rattle.std.proofs.lemmas.List.Concat.{flat_map-append}
@@ -28,7 +28,10 @@ use Rattle.covsession.specs.declared.session.fault.SessionFault.{SessionFault}
 use Rattle.covsession.specs.declared.session.fault.SessionFault.TheVariants as faults
 use Rattle.covrun.specs.Check.{OutcomeData, Unread, Refused, Held, IsOutcome, IsCheck, EndsWithin, outcome_line, outcome_complaint, check_lines, check_complaints, is_unread, is_refused, is_accepted, is_unaccepted}
 use Rattle.covrun.specs.Checked.{AnswersText, AreExamined, IsExamined, IsReportOf, IsTextExamined, Reports, ReportsFile, Says, TellsEach, TellsExamined, TellsOne, verdict_of, worse, worst_of}
+use Rattle.covrun.specs.Files.{IsUnread}
 use Rattle.covrun.specs.Folder.{FolderData, IsTextOf}
+use Rattle.covrun.specs.declared.files.FileFault.{FileFault}
+use Rattle.covrun.specs.declared.files.FileFault.TheVariants as files
 use Rattle.covrun.specs.Streams.{SinksData}
 use Rattle.covrun.specs.declared.check_verdict.CheckVerdict.{CheckVerdict}
 use Rattle.covrun.specs.declared.check_verdict.CheckVerdict.TheVariants as verdicts
@@ -131,6 +134,11 @@ pub examined_text : (folder : FolderData) (format : TextFormat) (strictness : St
     → (result : Result FileReport SessionFault) → IsTextExamined format strictness shown text result → IsExamined folder format strictness file result
 examined_text folder format strictness file shown text is short fits result examined =
     examined_as folder format strictness file text short fits result (subst (λ (name : List ℕ). IsTextExamined format strictness name text result) is examined)
+
+-- a file that isn't read, although memory doesn't run out, may fail to be read
+pub may_fail_of : (folder : FolderData) (name : List ℕ) (fault : FileFault) → (fault ≡ files.Memory → ⊥) → IsUnread folder name fault → folder.MayFail name
+may_fail_of folder name (files.Unreadable file) other unread = unread.1
+may_fail_of folder name files.Memory other unread = absurd (other refl)
 
 -- a file that can't be read is reported as such
 pub examined_unread : (folder : FolderData) (format : TextFormat) (strictness : Strictness) (file shown : List ℕ) → shown ≡ shown_name file → folder.MayFail file

@@ -23,7 +23,8 @@ use Rattle.covjobs.specs.declared.collect_fault.CollectFault.TheVariants as coll
 use Rattle.covjobs.specs.declared.refused.RefusedInput.{RefusedInput}
 use Rattle.covcommand.specs.declared.asked.Strictness.{Strictness}
 use Rattle.covrun.specs.declared.text_fault.TextFault.{TextFault}
-use Rattle.covrun.proofs.Strict.{are_collected}
+use Rattle.covrun.proofs.Lenient.{are_collected}
+use Rattle.covrun.specs.Strict.{asked_patterns, unmatched_line}
 use Rattle.covcommand.specs.declared.asked.Command.{Command}
 use Rattle.covcommand.specs.declared.asked.Command.TheVariants as commands
 use Rattle.covcommand.specs.declared.asked.TotalsForm.{TotalsForm}
@@ -133,7 +134,7 @@ table_stays entries op asks =
     ap table_of (map-append (λ (e : EntryData). e.op) entries (next_entry entries 0 op ∷ [])) ∙ tables_append [] (ops_in entries) op ∙ text_leaves (table_of (ops_in entries)) op asks
 
 -- the sections of the table are the same after the last operation
-pub sections_stay : (entries : List EntryData) (op : OpData) → IsText op → (sections : List SectionData) → sections ≡ content_at (table_of (ops_in entries))
+sections_stay : (entries : List EntryData) (op : OpData) → IsText op → (sections : List SectionData) → sections ≡ content_at (table_of (ops_in entries))
     → sections ≡ content_at (table_of (ops_in (entries ++ next_entry entries 0 op ∷ [])))
 sections_stay entries op asks sections are = are ∙ ap content_at (sym (table_stays entries op asks))
 
@@ -152,6 +153,12 @@ pub list_is_asked : (entries : List EntryData) (form : TotalsForm) (choice : Cho
     → list_text form (chosen_files choice sections) (totals_of_chosen choice sections) ≡ asked_text (ChosenList form choice) (entries ++ next_entry entries 0 SummaryOp ∷ [])
 list_is_asked entries form choice sections are =
     ap (λ (s : List SectionData). list_text form (chosen_files choice s) (totals_of_chosen choice s)) (sections_stay entries SummaryOp tt sections are)
+
+-- the lines about patterns are those for the table after the last operation
+pub patterns_are_asked : (entries : List EntryData) (asks : QuestionData) → IsText (last_of asks) → (sections : List SectionData) → sections ≡ content_at (table_of (ops_in entries))
+    → flat_map (unmatched_line sections) (asked_patterns asks) ≡ flat_map (unmatched_line (content_at (table_of (ops_in (entries ++ next_entry entries 0 (last_of asks) ∷ []))))) (asked_patterns asks)
+patterns_are_asked entries asks is_text sections are =
+    ap (λ (s : List SectionData). flat_map (unmatched_line s) (asked_patterns asks)) (sections_stay entries (last_of asks) is_text sections are)
 
 -- a text that is this one is the other that equals it
 pub text_then : {E : Type 0} (result : Result (List ℕ) E) (text other : List ℕ) → IfOk result (λ t. t ≡ text) → text ≡ other → IfOk result (λ t. t ≡ other)

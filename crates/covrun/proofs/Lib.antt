@@ -1,6 +1,6 @@
 pub mod Blocks
 pub mod Checks
-pub mod Strict
+pub mod Lenient
 pub mod Endings
 pub mod Folders
 pub mod Patterns

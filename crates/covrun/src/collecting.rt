@@ -13,7 +13,7 @@ ghost use Rattle.covrun.specs.Call.{IsEndingReported, WorkEnds};
 ghost use Rattle.covbook.specs.Step.{ops_in, table_of};
 ghost use Rattle.covstore.specs.Content.{content_at};
 ghost use Rattle.covrun.specs.Ending.{EndingData, Stopped, of_collected, asked_shortfalls, asked_text, complaints, faulty_line, refusal_line, ran_out, name_at, strict_line, strict_lines as strict_lines_of, unclean_line, with_shortfalls};
-ghost use Rattle.covrun.specs.Strict.{unmatched_lines as unmatched_lines_of};
+ghost use Rattle.covrun.specs.Strict.{asked_patterns, unmatched_line, unmatched_lines as unmatched_lines_of};
 ghost use Rattle.covrun.specs.Folder.{folder_data};
 ghost use Rattle.covrun.specs.OutputFiles.{output_files};
 ghost use Rattle.covrun.specs.Streams.{sinks};
@@ -110,9 +110,9 @@ fn answer_of<'a>(
     if !lines.is_empty() {
         return Err(Failure::Refused(lines));
     }
-    let lines = strict_lines(alloc, files, strictness, asks, collected)?;
-    if !lines.get().is_empty() {
-        return Err(Failure::Unclean(lines));
+    let unclean = strict_lines(alloc, files, strictness, asks, collected)?;
+    if !unclean.get().is_empty() {
+        return Err(Failure::Unclean(unclean));
     }
     Ok(answered(alloc, asks, collected)?)
 }
@@ -262,11 +262,24 @@ fn unmatched_lines(
     ensures { IfOk result (λ lines. lines ≡ unmatched_lines_of strictness (question_data asks.now)
         (content_at (table_of (ops_in (collected.now.book.entries ++ next_entry collected.now.book.entries 0 (last_of (question_data asks.now)) ∷ []))))) }
 {
-    let mut lines = Bytes::new(alloc);
     match strictness {
-        Strictness::Lenient => {}
-        Strictness::Strict => asks.add_unmatched(collected.book.store(), &mut lines)?,
+        Strictness::Lenient => Ok(Bytes::new(alloc)),
+        Strictness::Strict => unmatched_patterns(alloc, asks, collected),
     }
+}
+
+/// The lines about patterns that match no file.
+fn unmatched_patterns(
+    alloc: Global,
+    asks: &Question,
+    collected: &CollectedBook<TextFault>,
+) -> Result<Bytes, Memory>
+    requires { IsText (last_of (question_data asks.now)) }
+    ensures { IfOk result (λ lines. lines ≡ flat_map (unmatched_line (content_at (table_of (ops_in
+        (collected.now.book.entries ++ next_entry collected.now.book.entries 0 (last_of (question_data asks.now)) ∷ []))))) (asked_patterns (question_data asks.now))) }
+{
+    let mut lines = Bytes::new(alloc);
+    asks.add_unmatched(collected.book.store(), &mut lines)?;
     Ok(lines)
 }
 

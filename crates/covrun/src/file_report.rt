@@ -97,20 +97,20 @@ pub(crate) fn examine<F: Folder>(
 {
     let shown = shown_name(alloc, name.as_bytes())?;
     match file_text(folder, alloc, name) {
-        Ok(text) => report_on_text(alloc, format, strictness, shown.get(), text.get()),
-        Err(FileFault::Unreadable(_)) => report_on_unread(alloc, shown.get()),
+        Ok(text) => report_on_text(alloc, format, strictness, &shown, text.get()),
+        Err(FileFault::Unreadable(_)) => report_on_unread(alloc, &shown),
         Err(FileFault::Memory) => Err(SessionFault::Memory),
     }
 }
 
 /// The report on a file with this shown name that can't be read.
-fn report_on_unread(alloc: Global, shown: &[u8]) -> Result<FileReport, SessionFault>
+fn report_on_unread(alloc: Global, shown: &Bytes) -> Result<FileReport, SessionFault>
     ensures report { (strictness : StrictnessData) → IfOk result (IsReportOf strictness shown.now Unread) }
     ensures fault { IfErr result (λ fault. fault ≡ session_faults.Memory) }
 {
     Ok(FileReport {
         line: Vec::new(alloc),
-        complaint: joined(alloc, shown, b": can't read\n")?,
+        complaint: joined(alloc, shown.get(), b": can't read\n")?,
         verdict: CheckVerdict::Unreadable,
     })
 }
@@ -120,7 +120,7 @@ fn report_on_text(
     alloc: Global,
     format: TextFormat,
     strictness: Strictness,
-    shown: &[u8],
+    shown: &Bytes,
     text: &[u8],
 ) -> Result<FileReport, SessionFault>
     ensures { IsTextExamined format strictness shown.now text.now result }
@@ -147,14 +147,14 @@ fn answer(alloc: Global, format: TextFormat, text: &[u8]) -> Result<TextSummary<
 fn report_on_summary(
     alloc: Global,
     strictness: Strictness,
-    shown: &[u8],
+    shown: &Bytes,
     summary: &TextSummary<'_>,
 ) -> Result<FileReport, SessionFault>
     ensures report { IfOk result (IsReportOf strictness shown.now (Held summary.now)) }
     ensures fault { IfErr result (λ fault. fault ≡ session_faults.Memory) }
 {
     let told = summary_line(alloc, summary)?;
-    let line = line_of_file(alloc, shown, told.as_slice())?;
+    let line = line_of_file(alloc, shown.get(), told.as_slice())?;
     if is_accepted(strictness, summary) {
         return Ok(FileReport {
             line,
@@ -162,7 +162,7 @@ fn report_on_summary(
             verdict: CheckVerdict::Fine,
         });
     }
-    let complaint = unaccepted(alloc, strictness, shown, line.as_slice())?;
+    let complaint = unaccepted(alloc, strictness, shown.get(), line.as_slice())?;
     Ok(FileReport {
         line,
         complaint,
@@ -199,14 +199,14 @@ fn unaccepted(
 /// The report on a file with this shown name whose text is refused.
 fn report_on_refusal(
     alloc: Global,
-    shown: &[u8],
+    shown: &Bytes,
     fault: ReadFault,
 ) -> Result<FileReport, SessionFault>
     ensures report { (strictness : StrictnessData) → IfOk result (IsReportOf strictness shown.now (Refused fault)) }
     ensures fault { IfErr result (λ fault. fault ≡ session_faults.Memory) }
 {
     let told = refused_line(alloc, fault)?;
-    let line = line_of_file(alloc, shown, told.as_slice())?;
+    let line = line_of_file(alloc, shown.get(), told.as_slice())?;
     Ok(FileReport {
         line,
         complaint: Vec::new(alloc),

@@ -1,5 +1,5 @@
 -- What a call that isn't strict collects: inputs are refused only for faults of their texts.
-use Rattle.std.proofs.Common.{◌≡◌, ℕ, zero, suc, ◌<◌, List, [], ◌∷◌, ◌++◌, length, map, Option, Some, None, Result, Ok, Err, slice_get, refl, sym, ap, ◌∙◌, subst, arith}
+use Rattle.std.proofs.Common.{◌≡◌, ℕ, zero, suc, ◌<◌, List, ◌++◌, length, map, Option, Some, None, Result, Ok, Err, slice_get, refl, sym, ap, ◌∙◌, subst, arith}
 use Rattle.std.proofs.lemmas.List.{map-append}
 use Rattle.std.specs.List.{AllByRecursion, range_with_len}
 use Rattle.std.specs.Prelude.{IsSomeAnd}
@@ -7,7 +7,7 @@ use Rattle.covbook.specs.Gather.{LogData}
 use Rattle.covbook.specs.Op.{OpData, EntryData, SubmitOp}
 use Rattle.covcommand.specs.declared.asked.Strictness.{Strictness}
 use Rattle.covcommand.specs.declared.asked.Strictness.TheVariants.{Lenient, Strict}
-use Rattle.covjobs.specs.Collect.{AreJobLogs, AreOutcomes, EndsWith, InputData, IsCollectedWith, IsOutcomeOf, all_places, brought, last_of, ops_in, places_of_job, refusal, refusals_of, submissions_of, submitted}
+use Rattle.covjobs.specs.Collect.{AreOutcomes, EndsWith, InputData, IsCollectedWith, IsOutcomeOf, all_places, brought, last_of, ops_in, places_of_job, refusal, refusals_of, submitted}
 use Rattle.covjobs.specs.declared.refused.RefusedInput.{RefusedInput}
 use Rattle.covline.specs.Row.{SubmissionData}
 use Rattle.covread.specs.declared.fault.ReadFault.{ReadFault}
@@ -95,7 +95,9 @@ are_collected Strict inputs jobs last entries logs refused outcome are with = (o
 are_collected Lenient inputs jobs last entries logs refused outcome are with = (
   refusals_of all_places (λ index. plain (outcome index)) (length inputs),
   with.are_refused ∙ refusals_plain outcome (length inputs) (λ index less. plain_at (slice_get inputs index) (outcome index) (are index less)),
-  (λ index. plain (outcome index)),
-  (λ index less. outcome_at (slice_get inputs index) (outcome index) (are index less)),
-  plainly_with outcome (length inputs) jobs last entries logs refused with,
+  (
+    (λ index. plain (outcome index)),
+    (λ index less. outcome_at (slice_get inputs index) (outcome index) (are index less)),
+    plainly_with outcome (length inputs) jobs last entries logs refused with,
+  ),
 )
