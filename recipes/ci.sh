@@ -1,7 +1,6 @@
 #!/usr/bin/env bash
 # The coverage job of a C or C++ project: builds it with --coverage, runs its tests and writes a report. Tracefiles of other jobs can
-# be added. Copy ci.sh and intake into one folder of your project (and lcov2.awk, for a covcollect without --lcov2) and run ci.sh in the
-# project's top folder:
+# be added. Copy ci.sh into a folder of your project (and intake beside it, for --empty skip) and run it in the project's top folder:
 #
 #     COVERAGE_BUILD='make CFLAGS="--coverage -O0"' COVERAGE_TEST='make check' ci/ci.sh --lines 80 jobs/*.info
 #
@@ -13,8 +12,9 @@
 # ci.sh [OPTION]... [TRACEFILE]...
 #
 #     --merge-only       don't build and test: merge the tracefiles that are named, and nothing else
-#     --empty skip       a tracefile without a record is told and skipped (default: fail, since its job went wrong)
-#     --lines PERCENT    fail if fewer lines are hit, for example 80 or 79.95 (up to 6 decimals)
+#     --empty skip       a tracefile without a record is told and skipped, and odd and skipped lines are no fault (default: fail, by
+#                        covcollect's --strict: where there is one with no record, or with such lines, its job went wrong)
+#     --lines PERCENT    fail if fewer lines are hit, for example 80 or 79.95, as covcollect's --fail-under-lines
 #     --remove PATTERN   leave out source files that match; can be repeated (default: '/usr/*')
 #     --test-name NAME   the test name in the tracefile (default: unit)
 #     --output FOLDER    the folder of results, which is replaced as a whole (default: coverage)
@@ -33,10 +33,10 @@
 #
 # COVERAGE_BUILD and COVERAGE_TEST run in bash -euo pipefail, so each can be several commands. The folder of results has all.info
 # (every source), own.info (without the removed ones), summary.txt and html/. If a step fails, the folder of the last run stays as it
-# is. Tracefiles that are named may be of LCOV 1 or 2, and are looked at by 'covcollect check' (see intake).
+# is. Tracefiles that are named may be of LCOV 1 or 2.
 #
 # Exit status: 0 done; 1 the tests wrote no counts, or a tracefile can't be read; 2 wrong call, or something is missing; 4 a tracefile is
-# refused or has no record, or checksums clash (the file or the line is named on standard error); 5 too few lines are hit (the results
+# refused or isn't clean, or checksums clash (the file or the line is named on standard error); 5 too few lines are hit (the results
 # are written); otherwise the status of the command that failed.
 set -euo pipefail
 
@@ -84,31 +84,20 @@ case $empty in fail|skip) ;; *) wrong "--empty: $empty is neither fail nor skip"
 [ -n "$output" ] || wrong '--output: the name is empty'
 [[ $jobs =~ ^0*([1-9]|[1-5][0-9]|6[0-4])$ ]] || wrong "--jobs: $jobs isn't a number from 1 to 64"
 [ $capture = yes ] || [ ${#handed[@]} -gt 0 ] || wrong '--merge-only needs tracefiles'
-if [ -n "$threshold" ]; then
-    [[ $threshold =~ ^([0-9]{1,3})(\.([0-9]{1,6}))?$ ]] || wrong "--lines: $threshold isn't a percentage such as 80 or 79.95"
-    # 79.95 becomes 7995 with a scale of 100.
-    whole=${BASH_REMATCH[1]} part=${BASH_REMATCH[3]}
-    scale=$((10 ** ${#part}))
-    wanted=$((10#$whole$part))
-    [ "$wanted" -le $((100 * scale)) ] || wrong "--lines: $threshold is above 100"
-fi
-
 here=$(cd "$(dirname "${BASH_SOURCE[0]}")" && pwd)
 program=${COVCOLLECT-covcollect}
 command -v "$program" >/dev/null || wrong "$program isn't there"
-# Whether the program compares with a threshold itself, and whether it reads LCOV 2. Otherwise lcov2.awk converts it.
-help=$("$program" summary --help 2>/dev/null </dev/null || true)
-compares=no lcov2=()
-[[ $help != *--fail-under-lines* ]] || compares=yes
-case $help in
-    *--lcov2*) lcov2=(--lcov2) ;;
-    *)
-        command -v awk >/dev/null || wrong "awk isn't there"
-        [ -f "$here/lcov2.awk" ] || wrong "$program has no --lcov2, and $here/lcov2.awk isn't there: copy it beside ci.sh" ;;
-esac
+[[ $("$program" merge --help 2>/dev/null </dev/null || true) == *--strict* ]] || wrong "$program has no --strict, so it is older than ci.sh"
+limits=()
+if [ -n "$threshold" ]; then
+    limits=(--fail-under-lines="$threshold")
+    status=0
+    "$program" summary "${limits[@]}" -- /dev/null >/dev/null 2>&1 || status=$?
+    [ $status -eq 6 ] || wrong "--lines: $threshold isn't a percentage up to 100, such as 80 or 79.95"
+fi
 [ $capture = no ] || command -v geninfo >/dev/null || wrong "geninfo isn't there (it is part of lcov)"
 [ $html = no ] || command -v genhtml >/dev/null || wrong "genhtml isn't there (it is part of lcov; or use --no-html)"
-[ -f "$here/intake" ] || wrong "$here/intake isn't there: copy it beside ci.sh"
+[ $empty = fail ] || [ -f "$here/intake" ] || wrong "$here/intake isn't there: copy it beside ci.sh"
 for file in "${handed[@]}"; do
     [ -e "$file" ] || wrong "$file isn't there"
     [ ! -d "$file" ] || { say "$file is a folder, and no tracefile"; exit 1; }
@@ -132,21 +121,23 @@ trap 'exit 130' INT
 trap 'exit 143' TERM HUP
 chmod 755 "$next"
 
-# covcollect reports what is wrong on standard error. The job ends with its status.
-collect() { # FILE WORDS...: runs covcollect WORDS and writes its output to FILE
-    local file=$1 status=0
-    shift
-    "$program" "$@" >"$next/$file" || status=$?
-    if [ $status -eq 4 ]; then
-        say "covcollect $1: a tracefile is refused or checksums clash, see above; $output is unchanged"
-    elif [ $status -ne 0 ]; then
-        say "covcollect $1 failed with status $status; $output is unchanged"
-    fi
-    [ $status -eq 0 ] || exit $status
+# covcollect reports what is wrong on standard error. Unless only the threshold isn't reached, the job ends with its status.
+short=no
+collect() { # FILE SUBCOMMAND WORDS...: runs covcollect, which writes FILE
+    local file=$1 command=$2 status=0
+    "$program" "$command" -o "$next/$file" "${@:3}" || status=$?
+    case $status in
+        0) ;;
+        4) say "covcollect $command: a tracefile is refused or checksums clash, see above; $output is unchanged"; exit 4 ;;
+        5) say "a tracefile has no record, or odd or skipped lines, see above (or use --empty skip); $output is unchanged"; exit 4 ;;
+        6) short=yes ;;
+        *) say "covcollect $command failed with status $status; $output is unchanged"; exit $status ;;
+    esac
 }
 
-# The tracefiles to be merged are collected here.
+# The tracefiles to be merged that aren't handed over, or are copies, are here.
 mkdir "$next/parts"
+files=()
 
 # 1. Build and test. Without the find, counts of an earlier run in this folder would be added to those of this run.
 run() { # WHAT COMMAND
@@ -165,42 +156,39 @@ if [ $capture = yes ]; then
 fi
 
 # 2. Capture the counts, and a baseline with a count of 0 for every line that was compiled. Without the baseline, sources that no test
-#    runs are missing and the rate is too high. LCOV 2 has another name for the branch option, fails if a project has no branches
-#    (empty), and writes records that version 1 doesn't have.
+#    runs are missing and the rate is too high. LCOV 2 has another name for the branch option, and fails if a project has no branches
+#    (empty).
 old() { case $("$1" --version 2>/dev/null) in *' 1.'*) ;; *) return 1 ;; esac; } # whether the tool is of LCOV 1
 if [ $capture = yes ]; then
     branches=branch_coverage=1 options=(--ignore-errors empty)
     ! old geninfo || branches=lcov_branch_coverage=1 options=()
     read -r -a more <<<"${COVERAGE_GENINFO-}"
     options+=(--quiet --rc "$branches" --test-name "$name" "${more[@]}")
-    geninfo "${options[@]}" --initial --output-filename "$next/baseline.new" . >&2
-    geninfo "${options[@]}" --output-filename "$next/counted.new" . >&2
-    for kind in baseline counted; do
-        if [ ${#lcov2[@]} -gt 0 ]; then
-            mv "$next/$kind.new" "$next/parts/$kind.info"
-        else
-            LC_ALL=C awk -f "$here/lcov2.awk" "$next/$kind.new" >"$next/parts/$kind.info"
-            rm "$next/$kind.new"
-        fi
-    done
+    geninfo "${options[@]}" --initial --output-filename "$next/parts/baseline.info" . >&2
+    geninfo "${options[@]}" --output-filename "$next/parts/counted.info" . >&2
+    files=("$next"/parts/*.info)
 fi
 
-# 3. Copy the tracefiles of other jobs and look at them.
-if [ ${#handed[@]} -gt 0 ]; then
+# 3. Tracefiles of other jobs are merged as they are, by --strict. With --empty skip, intake looks at each, and copies are merged.
+strict=()
+if [ ${#handed[@]} -gt 0 ] && [ $empty = fail ]; then
+    strict=(--strict)
+    files+=("${handed[@]}")
+elif [ ${#handed[@]} -gt 0 ]; then
     status=0
-    printf '%s\0' "${handed[@]}" | bash "$here/intake" --empty $empty "$next/parts" || status=$?
+    printf '%s\0' "${handed[@]}" | bash "$here/intake" --empty skip "$next/parts" || status=$?
     case $status in
         0) ;;
         4) say "a tracefile is refused, see above; $output is unchanged"; exit 4 ;;
-        5) say "a tracefile has no record, see above (or use --empty skip); $output is unchanged"; exit 4 ;;
         *) say "the tracefiles couldn't be read or checked (status $status); $output is unchanged"; exit $status ;;
     esac
+    files=("$next"/parts/*.info)
 fi
 
-# 4. Merge, remove what isn't the project's own, summarize.
-collect all.info merge "${lcov2[@]}" --jobs "$jobs" -- "$next"/parts/*.info
+# 4. Merge, remove what isn't the project's own, summarize and compare with the threshold.
+collect all.info merge --lcov2 "${strict[@]}" --jobs "$jobs" -- "${files[@]}"
 collect own.info remove -- "$next/all.info" "${patterns[@]}"
-collect summary.txt summary -- "$next/own.info"
+collect summary.txt summary "${limits[@]}" -- "$next/own.info"
 rm -r "$next/parts"
 if [ $html = yes ]; then
     branches=branch_coverage=1
@@ -213,20 +201,4 @@ fi
 [ ! -e "$output" ] || mv "$output" "$next.old"
 mv "$next" "$output"
 cat "$output/summary.txt"
-
-# 6. Compare with the threshold. For a covcollect that can't, the numbers are compared here: the summary's rate is rounded.
-if [ -n "$threshold" ] && [ $compares = yes ]; then
-    status=0
-    "$program" summary --fail-under-lines "$threshold" -- "$output/own.info" >/dev/null || status=$?
-    [ $status -ne 6 ] || status=5
-    exit $status
-elif [ -n "$threshold" ]; then
-    hit=0 found=0
-    if [[ $(<"$output/summary.txt") =~ lines\.+:\ [0-9.]+%\ \(([0-9]+)\ of\ ([0-9]+)\ lines? ]]; then
-        hit=${BASH_REMATCH[1]} found=${BASH_REMATCH[2]}
-    fi
-    if [ "$found" -eq 0 ] || [ $((hit * 100 * scale)) -lt $((wanted * found)) ]; then
-        echo "lines: $hit of $found is below $threshold%" >&2
-        exit 5
-    fi
-fi
+[ $short = no ] || exit 5

@@ -8,12 +8,13 @@
 # TOTAL        the merged tracefile (default: farm.info)
 # SHARES       a folder for the merge of each machine, for farm.mk alone (default: TOTAL.shares)
 # EMPTY        what to do with a machine that has no tracefile: skip it with a message, or fail (default: skip)
-# CHECK        no, fail or skip (default: no). With fail and skip each tracefile is looked at by 'covcollect check'; one without a record
-#              fails, or is told and skipped. Copy intake beside farm.mk for it
+# CHECK        no, fail or skip (default: no). With fail the machines' tracefiles are merged with --strict, so one fails that has no
+#              record, or odd or skipped lines. With skip one without a record is told and skipped: copy intake beside farm.mk for it
 # JOBS         how many tracefiles the last merge reads at once (default: 4)
 # COVCOLLECT   the program (default: covcollect)
 #
-# Tracefiles may be of LCOV 1 or 2. A covcollect without --lcov2 reads those of LCOV 2 only with a CHECK, and with lcov2.awk beside intake.
+# Tracefiles may be of LCOV 1 or 2. A covcollect without --lcov2 reads those of LCOV 2 only with CHECK=skip, and with lcov2.awk beside
+# intake.
 #
 # A machine is merged again only if one of its tracefiles changed, appeared or vanished. The total is merged again if a machine's
 # merge changed, or if a machine appeared or vanished. Each target is written to a temporary name and then moved. If a merge fails,
@@ -53,10 +54,8 @@ ifneq ($(filter-out no fail skip,$(CHECK)),)
     $(error CHECK must be no, fail or skip, not '$(CHECK)')
 endif
 intake := $(dir $(realpath $(lastword $(MAKEFILE_LIST))))intake
-ifneq ($(CHECK),no)
-    ifeq ($(wildcard $(intake)),)
-        $(error CHECK=$(CHECK) needs $(intake): copy it beside farm.mk)
-    endif
+ifeq ($(CHECK):$(wildcard $(intake)),skip:)
+    $(error CHECK=skip needs $(intake): copy it beside farm.mk)
 endif
 ifneq ($(words [$(FARM)] [$(TOTAL)] [$(SHARES)]),3)
     $(error FARM, TOTAL and SHARES must not have spaces)
@@ -92,25 +91,26 @@ ifeq ($(machines),)
 endif
 
 # Where the program has it, machines' tracefiles are read by it. What a merge printed is version 1.
-lcov2 := $(findstring --lcov2,$(shell $(COVCOLLECT) merge --help 2>/dev/null </dev/null))
+help := $(shell $(COVCOLLECT) merge --help 2>/dev/null </dev/null)
+lcov2 := $(findstring --lcov2,$(help))
+strict := $(if $(filter fail,$(CHECK)),$(or $(findstring --strict,$(help)),$(error CHECK=fail needs a covcollect with --strict)))
 
 .PHONY: all again
 all: $(TOTAL)
 
 $(TOTAL): $(SHARES)/machines $(machines:%=$(SHARES)/%.info)
 	@echo 'farm.mk: makes $@ (shares: $(words $(machines)))' >&2
-	@$(COVCOLLECT) merge --jobs $(JOBS) -- $(machines:%=$(SHARES)/%.info) >$@.new || { rm -f $@.new; exit 1; }
-	@mv -f $@.new $@
+	@$(COVCOLLECT) merge --jobs $(JOBS) -o $@ -- $(machines:%=$(SHARES)/%.info)
 
 # The merge of one machine, of the files in its list. If they don't fit on one command line, xargs runs several merges. Their outputs
-# in a row are a tracefile too. Where they are to be checked, it is intake's copies that are merged.
+# in a row are a tracefile too. Where some are to be skipped, it is intake's copies that are merged.
 names = sed -z 's/^[^ ]* [^ ]* [^ ]* [^ ]* //' $<
-checked = rm -rf $@.files; mkdir $@.files; $(names) | bash $(intake) --empty $(CHECK) $@.files || { rm -rf $@.files; exit 1; }
+checked = rm -rf $@.files; mkdir $@.files; $(names) | bash $(intake) --empty skip $@.files || { rm -rf $@.files; exit 1; }
 $(machines:%=$(SHARES)/%.info): $(SHARES)/%.info: $(SHARES)/%.list $(SHARES)/check
 	@echo 'farm.mk: makes $@' >&2
-	@$(if $(filter no,$(CHECK)),,$(checked))
-	@$(if $(filter no,$(CHECK)),$(names),printf '%s\0' $@.files/*.info) | \
-	    xargs -0 $(COVCOLLECT) merge $(lcov2) -- >$@.new || { rm -rf $@.new $@.files; exit 1; }
+	@$(if $(filter skip,$(CHECK)),$(checked))
+	@$(if $(filter skip,$(CHECK)),printf '%s\0' $@.files/*.info,$(names)) | \
+	    xargs -0 $(COVCOLLECT) merge $(lcov2) $(strict) -- >$@.new || { rm -rf $@.new $@.files; exit 1; }
 	@rm -rf $@.files
 	@mv -f $@.new $@
 

@@ -35,13 +35,21 @@ load projects
     printf '<!DOCTYPE html>\n<html>404</html>\n' >jobs/page.info
     call ci/ci.sh --merge-only --no-html jobs/*.info
     ended 4 'ci.sh: status 4 for a tracefile without a record'
-    says "$work/err" 'ci.sh: and what to do' 'ci.sh: a tracefile has no record, see above (or use --empty skip); coverage is unchanged'
+    says "$work/err" 'ci.sh: and what to do' 'ci.sh: a tracefile has no record, or odd or skipped lines, see above (or use --empty skip); coverage is unchanged'
     holds 'ci.sh: with the name of the file and its first line' grep -qE '^jobs/page\.info: sections 0 items 0 odd 0 skipped 2 first <!DOCTYPE' "$work/err"
     call diff -r ../before coverage
     ended 0 'ci.sh: the results are as they were'
     call ci/ci.sh --merge-only --no-html --empty skip --lines 75 jobs/*.info
     ended 0 'ci.sh: --empty skip'
     holds 'ci.sh: which tells it, too' grep -q '^jobs/page\.info: sections 0 items 0' "$work/err"
+    printf 'SF:/a.c\nDA:1,1\nCOUNT\nLF:7\nend_of_record\n' >jobs/page.info
+    call ci/ci.sh --merge-only --no-html jobs/*.info
+    ended 4 'ci.sh: a tracefile with odd and skipped lines'
+    says "$work/err" 'ci.sh: what it holds' 'jobs/page.info: sections 1 items 1 odd 1 skipped 1 first COUNT at 3'
+    call ci/ci.sh --merge-only --no-html --empty skip jobs/*.info
+    ended 0 'ci.sh: which --empty skip takes'
+    says coverage/all.info 'ci.sh: with its counts' 'SF:/a.c' 'DA:1,1'
+    rm jobs/page.info
     printf 'SF:/a.c\nDA:1,1\nDA:2' >jobs/cut.info
     call ci/ci.sh --merge-only --no-html --empty skip jobs/*.info
     ended 4 'ci.sh: a tracefile that was cut off'
@@ -60,7 +68,7 @@ load projects
     says "$work/out" 'ci.sh --merge-only: a name with an equals sign, and a pipe' '  lines......: 75.0% (3 of 4 lines)'
 }
 
-# With --lcov2 no filter is needed; for a covcollect without it the filter does the same.
+# With --lcov2 no filter is needed. For a covcollect without it intake needs the filter.
 @test "LCOV 2, and a covcollect without --lcov2" {
     local make=(make -f farm.mk)
     project project
@@ -75,24 +83,21 @@ load projects
     call ci/ci.sh --merge-only --no-html jobs/*.info
     ended 0 'ci.sh: tracefiles of both versions, without lcov2.awk'
     same ../wanted coverage/all.info 'ci.sh: and the counts worked out by hand'
-    call env COVCOLLECT="$PWD/../old" ci/ci.sh --merge-only --no-html jobs/*.info
-    ended 2 'ci.sh: a covcollect without --lcov2 needs lcov2.awk'
-    says "$work/err" 'ci.sh: as it says' "ci.sh: $PWD/../old has no --lcov2, and $PWD/ci/lcov2.awk isn't there: copy it beside ci.sh"
+    call ci/ci.sh --merge-only --no-html --empty skip jobs/*.info
+    same ../wanted coverage/all.info 'ci.sh: the same with --empty skip'
     call bash -c 'mkdir copies; printf "%s\0" jobs/new.info | COVCOLLECT=$1 bash ci/intake copies' - "$PWD/../old"
-    ended 2 'intake: the same'
+    ended 2 'intake: a covcollect without --lcov2 needs lcov2.awk'
     cp "$recipes/lcov2.awk" ci
     # The filter refuses a block with a number and an expression.
+    call bash -c 'printf "%s\0" jobs/new.info | COVCOLLECT=$1 bash ci/intake copies' - "$PWD/../old"
+    ended 4 "intake: a tracefile that lcov2.awk can't convert"
+    holds 'intake: and its line' grep -q '^jobs/new.info: at ' "$work/err"
     sed -i '/^BRDA:2,0,x/s/2,0,x/3,0,x/' jobs/new.info
     sed -i 's/^BRDA:2,0,1,2/BRDA:3,0,0,2/' ../wanted
-    call env COVCOLLECT="$PWD/../old" ci/ci.sh --merge-only --no-html jobs/*.info
-    ended 0 'ci.sh: a covcollect without --lcov2, by lcov2.awk'
-    same ../wanted coverage/all.info 'ci.sh: the same counts'
-    call ci/ci.sh --merge-only --no-html jobs/*.info
-    same ../wanted coverage/all.info 'ci.sh: which are those by --lcov2'
-    printf 'SF:/a.c\nFNA:0,1,f\nDA:1,1\nend_of_record\n' >jobs/cut.info
-    call env COVCOLLECT="$PWD/../old" ci/ci.sh --merge-only --no-html jobs/*.info
-    ended 4 "ci.sh: a tracefile that lcov2.awk can't convert"
-    holds 'ci.sh: and its line' grep -q '^jobs/cut.info: at 2: ' "$work/err"
+    call bash -c 'printf "%s\0" jobs/*.info | COVCOLLECT=$1 bash ci/intake copies' - "$PWD/../old"
+    ended 0 'intake: a covcollect without --lcov2, by lcov2.awk'
+    "$COVCOLLECT" merge -o all.info copies/*.info
+    same ../wanted all.info 'intake: the counts worked out by hand'
 
     cp "$recipes/farm.mk" "$recipes/intake" .
     cp jobs/new.info machines/a
@@ -100,13 +105,20 @@ load projects
     call "${make[@]}"
     ended 0 'farm.mk: tracefiles of both versions'
     same ../wanted farm.info 'farm.mk: and the counts worked out by hand'
+    mv intake ..
     call "${make[@]}" CHECK=fail
-    ended 0 'farm.mk: the same with CHECK, without lcov2.awk'
+    ended 0 'farm.mk: the same with CHECK=fail, without intake'
     same ../wanted farm.info 'farm.mk: and the counts, too'
+    call "${make[@]}" CHECK=skip
+    ended 2 'farm.mk: CHECK=skip needs intake'
+    mv ../intake .
     call "${make[@]}" CHECK=fail COVCOLLECT="$PWD/../old"
-    ended 2 'farm.mk: CHECK with a covcollect without --lcov2 needs lcov2.awk'
+    ended 2 'farm.mk: CHECK=fail needs a covcollect with --strict'
+    holds 'farm.mk: as it says' grep -q 'CHECK=fail needs a covcollect with --strict' "$work/err"
+    call "${make[@]}" CHECK=skip COVCOLLECT="$PWD/../old"
+    ended 2 'farm.mk: CHECK=skip with a covcollect without --lcov2 needs lcov2.awk'
     cp "$recipes/lcov2.awk" .
-    call "${make[@]}" CHECK=fail COVCOLLECT="$PWD/../old"
+    call "${make[@]}" CHECK=skip COVCOLLECT="$PWD/../old"
     ended 0 'farm.mk: which is used then'
     same ../wanted farm.info 'farm.mk: with the same counts'
     holds 'farm.mk: for which every machine was merged again' [ "$(grep -c 'makes' "$work/err")" -ge 2 ]
@@ -193,6 +205,12 @@ load projects
     call "${make[@]}" CHECK=skip
     ended 0 'farm.mk: CHECK=skip'
     same before.info farm.info 'farm.mk: which gives the same total'
+    printf 'SF:/two.c\nFNDA:3,f\nDA:1,1\nend_of_record\n' >machines/m2/page.info
+    call "${make[@]}" CHECK=fail
+    ended 2 'farm.mk: CHECK=fail, where a tracefile has an odd line'
+    says "$work/err" 'farm.mk: which is told' 'machines/m2/page.info: sections 1 items 1 odd 1 skipped 0'
+    call "${make[@]}" CHECK=skip
+    says farm.info 'farm.mk: and CHECK=skip takes it' 'SF:/two.c'
     printf 'SF:/two.c\nFNL:0,1,5\nFNA:0,3,f\nDA:1,1\nend_of_record\n' >machines/m2/page.info
     call "${make[@]}" CHECK=fail
     says farm.info 'farm.mk: with CHECK a tracefile of LCOV 2 is read' 'SF:/two.c' 'FNDA:3,f'

@@ -39,12 +39,12 @@ load common
     cp --preserve=timestamps other 'machines/m1/a file.info'
     call make -f "$recipes/farm.mk" CHECK=no
     says farm.info 'farm.mk: a copy over it, with its size and time' DA:1,7
-    # With CHECK it is intake that reads the list.
-    call make -f "$recipes/farm.mk" CHECK=fail
+    # With CHECK=skip it is intake that reads the list.
+    call make -f "$recipes/farm.mk" CHECK=skip
     says farm.info 'farm.mk: the same with CHECK' DA:1,7
     printf 'SF:/a.c\nDA:1,9\nend_of_record\n' >other
     touch -d 2026-01-01 other
     cp --preserve=timestamps other 'machines/m1/a file.info'
     call make -f "$recipes/farm.mk" CHECK=fail
-    says farm.info 'farm.mk: another one, with CHECK' DA:1,9
+    says farm.info 'farm.mk: another one, with CHECK=fail' DA:1,9
 }

@@ -29,9 +29,9 @@ form() { # RECIPE OPTION FLAG: an option with a value, and one without
 
 @test "ci.sh" {
     form ci.sh --lines --no-html
-    refused ci.sh '--lines: 101 is above 100' --lines 101
-    refused ci.sh '--lines: 101 is above 100' --lines=101
-    refused ci.sh "--lines: 1=2 isn't a percentage such as 80 or 79.95" --lines=1=2
+    refused ci.sh "--lines: 101 isn't a percentage up to 100, such as 80 or 79.95" --lines 101
+    refused ci.sh "--lines: -1 isn't a percentage up to 100, such as 80 or 79.95" --lines=-1
+    refused ci.sh "--lines: 1=2 isn't a percentage up to 100, such as 80 or 79.95" --lines=1=2
     refused ci.sh '--empty: maybe is neither fail nor skip' --empty=maybe
     refused ci.sh "--x.info isn't there" --merge-only --no-html -- --x.info
     refused ci.sh "a=b.info isn't there" --merge-only --no-html a=b.info

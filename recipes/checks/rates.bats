@@ -13,33 +13,38 @@ lines() { # HIT FOUND PATH
 }
 
 # 3999 of 5000 lines are 79.98%, which the summary rounds to 80.0%.
-@test "ci.sh asks the program, or compares by itself" {
-    local program words=(--merge-only --no-html)
+@test "ci.sh asks the program" {
+    local words=(--merge-only --no-html)
     lines 3999 5000 /src/a.c >a.info
     lines 1 1 /usr/x.h >b.info
     old_program old
     printf '#!/bin/bash\necho "$*" >>"%s"\nexec "$COVCOLLECT_REAL" "$@"\n' "$PWD/asked" >new
     chmod +x new
     export COVCOLLECT_REAL=$COVCOLLECT
-    for program in new old; do
-        call env COVCOLLECT="$PWD/$program" "$recipes/ci.sh" "${words[@]}" --lines 79.98 a.info b.info
-        ended 0 "ci.sh: $program: 3999 of 5000 lines are 79.98%"
-        holds "ci.sh: $program: and nothing is told" [ ! -s "$work/err" ]
-        says "$work/out" "ci.sh: $program: the summary" '  lines......: 80.0% (3999 of 5000 lines)'
-        holds "ci.sh: $program: which stands there once" [ "$(grep -c 'Summary coverage rate' "$work/out")" -eq 1 ]
-        call env COVCOLLECT="$PWD/$program" "$recipes/ci.sh" "${words[@]}" --lines 79.980001 a.info b.info
-        ended 5 "ci.sh: $program: and less than 79.980001%"
-        says "$work/err" "ci.sh: $program: as it says" 'lines: 3999 of 5000 is below 79.980001%'
-        rm -r coverage
-        call env COVCOLLECT="$PWD/$program" COVERAGE_LINES=080 "$recipes/ci.sh" "${words[@]}" a.info b.info
-        ended 5 "ci.sh: $program: and less than 80%, although the rate is rounded to that"
-        says "$work/err" "ci.sh: $program: with the threshold as it was given" 'lines: 3999 of 5000 is below 080%'
-        only "ci.sh: $program: the results are written" coverage all.info own.info summary.txt
-        call env COVCOLLECT="$PWD/$program" "$recipes/ci.sh" "${words[@]}" --remove '*' --lines 0 a.info
-        ended 5 "ci.sh: $program: no lines at all are below 0% too"
-        says "$work/err" "ci.sh: $program: and it says so" 'lines: 0 of 0 is below 0%'
-    done
-    holds 'ci.sh: a program that has --fail-under-lines was asked' [ "$(grep -c '^summary --fail-under-lines' asked)" -eq 4 ]
+    export COVCOLLECT=$PWD/new
+    call "$recipes/ci.sh" "${words[@]}" --lines 79.98 a.info b.info
+    ended 0 'ci.sh: 3999 of 5000 lines are 79.98%'
+    holds 'ci.sh: and nothing is told' [ ! -s "$work/err" ]
+    says "$work/out" 'ci.sh: the summary' '  lines......: 80.0% (3999 of 5000 lines)'
+    holds 'ci.sh: which stands there once' [ "$(grep -c 'Summary coverage rate' "$work/out")" -eq 1 ]
+    call "$recipes/ci.sh" "${words[@]}" --lines 79.980001 a.info b.info
+    ended 5 'ci.sh: and less than 79.980001%'
+    says "$work/err" 'ci.sh: as it says' 'lines: 3999 of 5000 is below 79.980001%'
+    holds 'ci.sh: once' [ "$(grep -c 'is below' "$work/err")" -eq 1 ]
+    rm -r coverage
+    call env COVERAGE_LINES=080 "$recipes/ci.sh" "${words[@]}" a.info b.info
+    ended 5 'ci.sh: and less than 80%, although the rate is rounded to that'
+    says "$work/err" 'ci.sh: with the threshold as it was given' 'lines: 3999 of 5000 is below 080%'
+    only 'ci.sh: the results are written' coverage all.info own.info summary.txt
+    call "$recipes/ci.sh" "${words[@]}" --remove '*' --lines 0 a.info
+    ended 5 'ci.sh: no lines at all are below 0% too'
+    says "$work/err" 'ci.sh: and it says so' 'lines: 0 of 0 is below 0%'
+    holds 'ci.sh: the program was asked for each summary, and for each threshold before' [ "$(grep -c '^summary .*--fail-under-lines=' asked)" -eq 8 ]
+    # The jobs' files are merged as they are.
+    holds 'ci.sh: by one strict call each time' [ "$(grep -cE '^merge -o [^ ]*/all\.info --lcov2 --strict --jobs 4 -- a\.info( b\.info)?$' asked)" -eq 4 ]
+    call env COVCOLLECT="$PWD/old" "$recipes/ci.sh" "${words[@]}" a.info b.info
+    ended 2 'ci.sh: a covcollect without --strict'
+    says "$work/err" 'ci.sh: is told' "ci.sh: $PWD/old has no --strict, so it is older than ci.sh"
 }
 
 @test "the script of README.md" {
@@ -49,7 +54,7 @@ lines() { # HIT FOUND PATH
     lines 0 4 /usr/include/t.h >jobs/3.info
     cat >script <<'END'
 set -e
-"$COVCOLLECT" merge --lcov2 --jobs 4 --exclude '/usr/*' -o own.info jobs/*.info
+"$COVCOLLECT" merge --lcov2 --strict --jobs 4 --exclude '/usr/*' -o own.info jobs/*.info
 "$COVCOLLECT" summary --fail-under-lines "$1" own.info
 echo passed
 END
@@ -80,6 +85,15 @@ END
     call bash script 80
     ended 4 'README: a file that was cut off has its own status'
     same before.info own.info 'README: and own.info is as it was'
+    echo '<html>' >jobs/4.info
+    call bash script 80
+    ended 5 'README: and so has an error page'
+    says "$work/err" 'README: which is told' 'jobs/4.info: sections 0 items 0 odd 0 skipped 1 first <html> at 1'
+    rm jobs/3.info jobs/4.info
+    call bash script 80
+    ended 5 'README: no file of /usr'
+    says "$work/err" 'README: which is told, too' '/usr/*: matches no file'
+    same before.info own.info 'README: and own.info is still as it was'
 }
 
 @test "JSON, as jq reads it" {

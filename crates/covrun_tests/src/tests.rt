@@ -28,6 +28,7 @@ mod lists;
 mod outputs;
 mod printing;
 mod rates;
+mod strict;
 
 /// Makes a call, and returns its exit status. This function promises nothing: a test looks at what a call does, and is proved
 /// more quickly this way.
