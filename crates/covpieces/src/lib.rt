@@ -1,0 +1,4 @@
+//! Reads a tracefile in pieces.
+#![tactic(auto)]
+
+pub mod laws;
