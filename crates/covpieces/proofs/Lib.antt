@@ -4,3 +4,7 @@ pub mod GoodTests
 pub mod InPieces
 pub mod TraceFronts
 pub mod TraceFormat
+pub mod Lcov2Lines
+pub mod Lcov2Groups
+pub mod Lcov2Fronts
+pub mod Lcov2Format
