@@ -7,6 +7,7 @@ use Rattle.covline.specs.declared.trace_line.TotalKind.{TotalKind}
 use Rattle.covline.specs.declared.trace_line.TotalKind.TheVariants.{FuncFound, FuncHit, BranchFound, BranchHit, LineFound, LineHit}
 use Rattle.covline.specs.Reading.{after_key}
 use Rattle.covline.specs.Spells.{LineData, Test, Path, FuncStart, FuncCount, Branch, Line, Total, End, Skip, Begins, key_of}
+use Rattle.covline.proofs.SmallNumbers.{after_some}
 use Rattle.covlcov2.specs.Spells.{Lcov2Data, Plain, Leader, Alias, Edge, Lcov2Spells}
 use Rattle.covlcov2.specs.Reads.{is_leader, above_after}
 use Rattle.covlcov2.proofs.Holds.{Goes}
@@ -16,19 +17,9 @@ use Rattle.covpieces.proofs.Lcov2Lines.{is_grouped}
 
 -- ---- keys
 
-key_cut : (k : ℕ) (ks : List ℕ) (b : ℕ) (bs : List ℕ) (test : Bool) → eqb k b ≡ test → ((rest : List ℕ) → after_key ks bs ≡ Some rest → bs ≡ ks ++ rest) → (rest : List ℕ)
-    → (if test then after_key ks bs else None) ≡ Some rest → b ∷ bs ≡ k ∷ ks ++ rest
-key_cut k ks b bs true e others rest found = ap (λ (x : ℕ). x ∷ bs) (sym (eqb-true k b e)) ∙ ap (λ (x : List ℕ). k ∷ x) (others rest found)
-key_cut k ks b bs false e others rest found = absurd cc
-
-after_key_is : (key line rest : List ℕ) → after_key key line ≡ Some rest → line ≡ key ++ rest
-after_key_is [] line rest e = let same : line ≡ rest = cc in same
-after_key_is (k ∷ ks) [] rest e = absurd cc
-after_key_is (k ∷ ks) (b ∷ bs) rest e = key_cut k ks b bs (eqb k b) refl (λ (r : List ℕ). after_key_is ks bs r) rest e
-
 no_key_found : (key line : List ℕ) (found : Option (List ℕ)) → after_key key line ≡ found → ¬ Begins line key → is_some found ≡ false
 no_key_found key line None e none = refl
-no_key_found key line (Some rest) e none = absurd (none (rest, after_key_is key line rest e))
+no_key_found key line (Some rest) e none = absurd (none (rest, after_some key line rest (sym e)))
 
 no_key : (key line : List ℕ) → ¬ Begins line key → has_key key line ≡ false
 no_key key line none = no_key_found key line (after_key key line) refl none

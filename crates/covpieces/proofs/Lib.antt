@@ -8,3 +8,5 @@ pub mod Lcov2Lines
 pub mod Lcov2Groups
 pub mod Lcov2Fronts
 pub mod Lcov2Format
+pub mod LastLines
+pub mod Keys

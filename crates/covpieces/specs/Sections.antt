@@ -1,5 +1,5 @@
 -- Sections of a tracefile, by the keys of their lines: where a section ends, and where functions are grouped (LCOV 2).
-use Rattle.std.specs.Prelude.{◌≡◌, ℕ, Bool, true, false, if◌then◌else◌, List, [], ◌∷◌, ◌++◌, codes}
+use Rattle.std.specs.Prelude.{◌≡◌, ℕ, ◌<◌, ◌≤◌, Bool, true, false, if◌then◌else◌, List, [], ◌∷◌, ◌++◌, length, take, codes}
 use Rattle.std.specs.Option.{is_some}
 use Rattle.covline.specs.Lines.{line_feed, lines_of}
 use Rattle.covline.specs.Reading.{after_key}
@@ -23,3 +23,9 @@ abbrev pub grouped_after : Bool → List (List ℕ) → Bool
 grouped_after is_grouped [] = is_grouped
 grouped_after is_grouped (line ∷ lines) =
     grouped_after (if has_key (codes "SF:") line then false else (if has_key (codes "FNL:") line then true else is_grouped)) lines
+
+-- the longest beginning of the text that ends with the last line of a section has `n` bytes; 0 if there is none
+pub record AreWholeSections (text : List ℕ) (n : ℕ) : Type 0 where
+  pub within : n ≤ length text
+  pub ends : 0 < n → EndsSection (take n text)
+  pub longest : (k : ℕ) → n < k → k ≤ length text → ¬ EndsSection (take k text)
