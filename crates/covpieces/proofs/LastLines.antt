@@ -1,15 +1,16 @@
 -- The last line of a text: its place, and what the text's lines are.
-use Rattle.std.proofs.Common.{◌≡◌, ◌≢◌, ◌⊎◌, ℕ, zero, suc, ◌+◌, ◌-◌, ◌<◌, ◌≤◌, Bool, true, false, List, [], ◌∷◌, ◌++◌, length, get_or, take, drop, Option, Some, None, refl, sym, ap, subst, ◌∙◌, append_assoc, length-append, get_or-take, get_or-drop, take_at, take-append-drop, length-take, length-drop, arith, inl, inr, if◌then◌else◌}
-use Rattle.std.specs.Prelude.{All, codes}
+use Rattle.std.proofs.Common.{◌≡◌, ◌≢◌, ◌⊎◌, ℕ, zero, suc, ◌+◌, ◌-◌, ◌<◌, ◌≤◌, Bool, true, false, cond, eqb, List, [], ◌∷◌, ◌++◌, length, get_or, take, drop, Option, Some, None, refl, sym, ap, subst, ◌∙◌, append_assoc, length-append, get_or-take, get_or-drop, take_at, take-append-drop, length-take, length-drop, arith, inl, inr, lit<, if◌then◌else◌}
+use Rattle.std.specs.Prelude.{All, codes, count_by}
+use Rattle.std.proofs.lemmas.List.Sums.{sum_by-cons}
 use Rattle.std.proofs.lemmas.Bool.{eq-eqb, eqb-true}
-use Rattle.std.proofs.lemmas.List.{append-nil, take_more, same_from_push, take-append-le}
+use Rattle.std.proofs.lemmas.List.{append-nil, take_more, same_from_push, take-append-le, length-map}
 use Rattle.std.proofs.lemmas.List.Elements.{All-nil, All-cons, All-head, All-tail, All-append, All-take, All-from_get_or, All-get_or}
 use Rattle.memchr.specs.Find.{Nowhere, NoneAfter, Passes, is_byte}
-use Rattle.covline.specs.Lines.{line_feed, strip, lines_of}
+use Rattle.covline.specs.Lines.{line_feed, onto_first, pieces_of, line_of, strip, lines_of}
 use Rattle.covline.specs.Spells.{Begins}
 use Rattle.covline.proofs.Cut.{lines_at, lines-append}
 use Rattle.covpieces.specs.Sections.{EndsSection, AreWholeSections, has_key, grouped_after}
-use Rattle.covpieces.specs.LastLines.{EndsInFeed, HasWholeLines, HasNoFeed, IsLastCut, grouping_of, IsShorter}
+use Rattle.covpieces.specs.LastLines.{EndsInFeed, HasWholeLines, HasNoFeed, IsLastCut, grouping_of, is_feed}
 
 -- ---- the last line feed
 
@@ -181,3 +182,37 @@ grouped_decided grouped decided text front line cut e =
 pub grouped_kept : (grouped : Bool) (text front line : List ℕ) → IsLastCut text front line → grouping_of (strip line) ≡ None → grouped_after grouped (lines_of text) ≡ grouped_after grouped (lines_of front)
 grouped_kept grouped text front line cut e =
     grouped_cut grouped text front line cut ∙ step_none (has_key (codes "SF:") (strip line)) (has_key (codes "FNL:") (strip line)) (grouped_after grouped (lines_of front)) e
+
+-- ---- counting lines
+
+abbrev some_pieces : List (List ℕ) → Type 0
+some_pieces pieces = 0 < length pieces
+
+length-onto : (b : ℕ) (pieces : List (List ℕ)) → 0 < length pieces → length (onto_first b pieces) ≡ length pieces
+length-onto b [] some = absurd (omega arith)
+length-onto b (piece ∷ pieces) some = refl
+
+feeds_step : (b : ℕ) (pieces : List (List ℕ)) (test : Bool) → 0 < length pieces → length (if test then (b ∷ []) ∷ pieces else onto_first b pieces) ≡ cond test 1 0 + length pieces
+feeds_step b pieces true some = omega arith
+feeds_step b pieces false some = length-onto b pieces some ∙ omega arith
+
+some_step : (b : ℕ) (pieces : List (List ℕ)) (test : Bool) → 0 < length pieces → 0 < length (if test then (b ∷ []) ∷ pieces else onto_first b pieces)
+some_step b pieces true some = omega arith
+some_step b pieces false some = omega (arith, length-onto b pieces some)
+
+some_to_feed : (front : List ℕ) → 0 < length (pieces_of (front ++ line_feed ∷ []))
+some_to_feed [] = lit< tt
+some_to_feed (b ∷ front) = some_step b (pieces_of (front ++ line_feed ∷ [])) (eqb b line_feed) (some_to_feed front)
+
+feeds_to_feed : (front : List ℕ) → count_by is_feed (front ++ line_feed ∷ []) ≡ length (pieces_of (front ++ line_feed ∷ []))
+feeds_to_feed [] = refl
+feeds_to_feed (b ∷ front) =
+    sum_by-cons (λ y. cond (is_feed y) 1 0) b (front ++ line_feed ∷ []) ∙ ap (λ (n : ℕ). cond (eqb b line_feed) 1 0 + n) (feeds_to_feed front)
+    ∙ sym (feeds_step b (pieces_of (front ++ line_feed ∷ [])) (eqb b line_feed) (some_to_feed front))
+
+-- a text of whole lines has as many lines as line feeds
+pub lines_are_feeds : (text : List ℕ) → HasWholeLines text → count_by is_feed text ≡ length (lines_of text)
+lines_are_feeds text (inl none) = subst (λ (t : List ℕ). count_by is_feed t ≡ length (lines_of t)) (sym none) refl
+lines_are_feeds text (inr ends) =
+    subst (λ (t : List ℕ). count_by is_feed t ≡ length (lines_of t)) (sym ends.1)
+    (feeds_to_feed ends.0 ∙ sym (length-map (pieces_of (ends.0 ++ line_feed ∷ [])) line_of))

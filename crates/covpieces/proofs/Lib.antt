@@ -10,3 +10,4 @@ pub mod Lcov2Fronts
 pub mod Lcov2Format
 pub mod LastLines
 pub mod Keys
+pub mod LastSect

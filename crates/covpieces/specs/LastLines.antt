@@ -1,5 +1,5 @@
 -- The last line of a text: for the private steps that go over the lines from the end.
-use Rattle.std.specs.Prelude.{◌≡◌, ◌≢◌, ◌⊎◌, ℕ, Bool, true, false, if◌then◌else◌, List, [], ◌∷◌, ◌++◌, All, Option, None, Some, codes, MatchOption}
+use Rattle.std.specs.Prelude.{◌≡◌, ◌≢◌, ◌⊎◌, ℕ, Bool, true, false, ◌==◌, if◌then◌else◌, List, [], ◌∷◌, ◌++◌, All, Option, None, Some, codes}
 use Rattle.covline.specs.Lines.{line_feed, strip}
 use Rattle.covline.specs.Spells.{Begins}
 use Rattle.covpieces.specs.Sections.{EndsSection, has_key}
@@ -12,6 +12,7 @@ EndsInFeed text = (front : List ℕ) × (text ≡ front ++ line_feed ∷ [])
 abbrev pub HasWholeLines : List ℕ → Type 0
 HasWholeLines text = (text ≡ []) ⊎ EndsInFeed text
 
+-- none of the bytes is a line feed
 abbrev pub HasNoFeed : List ℕ → Type 0
 HasNoFeed text = All (λ b. b ≢ line_feed) text
 
@@ -29,3 +30,6 @@ grouping_of line = if has_key (codes "SF:") line then Some false else (if has_ke
 abbrev pub IsShorter : List ℕ → Option (List ℕ) → Type 0
 IsShorter text None = (text ≡ []) ⊎ EndsSection text
 IsShorter text (Some front) = (line : List ℕ) × IsLastCut text front line × ¬ Begins (strip line) (codes "end_of_record")
+
+abbrev pub is_feed : ℕ → Bool
+is_feed b = b == line_feed

@@ -1,5 +1,5 @@
 -- A tracefile that is read in pieces: what a piece is, what goes over into the next piece, and what the pieces say together.
-use Rattle.std.specs.Prelude.{◌≡◌, ◌⊎◌, ℕ, ◌+◌, ◌-◌, Bool, false, if◌then◌else◌, List, [], ◌∷◌, ◌++◌, length, Result, Ok, Err, codes}
+use Rattle.std.specs.Prelude.{◌≡◌, ◌⊎◌, ℕ, ◌+◌, ◌-◌, ◌^◌, min, Bool, false, if◌then◌else◌, List, [], ◌∷◌, ◌++◌, length, Result, Ok, Err, codes}
 use Rattle.std.specs.List.{concat}
 use Rattle.covline.specs.Row.{SectData, SubmissionData}
 use Rattle.covline.specs.Lines.{line_feed, lines_of}
@@ -64,6 +64,10 @@ moved_number c at = c.lines + (at - length (front_lines c))
 -- the fault of a piece with its front, as a fault of the whole text
 abbrev pub moved : CarriedData → ReadFault → ReadFault
 moved c fault = renumbered (moved_number c) fault
+
+-- the same with numbers of 64 bits: a larger number is told as the largest of them
+abbrev pub told : CarriedData → ReadFault → ReadFault
+told c fault = renumbered (λ at. min (moved_number c at) (2 ^ 64 - 1)) fault
 
 -- the test's name after these sections: the name of the last one's test, or `test` if there are no sections
 abbrev pub test_after : List ℕ → List SectData → List ℕ

@@ -1,10 +1,10 @@
 //! Where a block of bytes of a tracefile can be cut: after its last whole section.
 
-ghost use Rattle.std.specs.Prelude.{◌≡◌, ◌≤◌, ◌↔◌, length, take, drop, codes, option_map, IsTrue};
+ghost use Rattle.std.specs.Prelude.{◌≡◌, ◌≤◌, ◌↔◌, length, take, drop, codes, count_by, option_map, IsTrue};
 ghost use Rattle.covline.specs.Lines.{lines_of, strip};
 ghost use Rattle.covline.specs.Spells.{Begins};
 ghost use Rattle.covpieces.specs.Sections.{AreWholeSections, EndsSection, grouped_after};
-ghost use Rattle.covpieces.specs.LastLines.{EndsInFeed, HasNoFeed, HasWholeLines, IsLastCut, IsShorter, grouping_of};
+ghost use Rattle.covpieces.specs.LastLines.{EndsInFeed, HasNoFeed, HasWholeLines, IsLastCut, IsShorter, grouping_of, is_feed};
 
 use covline::{strip_key, without_returns};
 use memchr::memrchr;
@@ -93,4 +93,20 @@ fn grouping_of(line: &[u8]) -> Option<bool>
         return Some(true);
     }
     None
+}
+
+/// How many lines these are.
+pub(crate) fn count_lines(text: &[u8]) -> u64
+    requires { HasWholeLines text.now }
+    ensures value { result ≡ length (lines_of text.now) }
+    ensures few { result ≤ length text.now }
+{
+    count_feeds(text) as u64
+}
+
+/// How many of the bytes are line feeds.
+fn count_feeds(text: &[u8]) -> usize
+    ensures { result ≡ count_by is_feed text.now }
+{
+    text.iter().filter(|byte| **byte == b'\n').count()
 }
