@@ -1,5 +1,5 @@
 -- The lines of fronts are lines: they have no line feed and don't end in a carriage return.
-use Rattle.std.proofs.Common.{◌≡◌, ℕ, ◌<◌, List, [], ◌∷◌, ◌++◌, codes, lit<}
+use Rattle.std.proofs.Common.{ℕ, List, [], ◌∷◌, ◌++◌, codes, lit<}
 use Rattle.std.specs.Prelude.{All}
 use Rattle.std.proofs.lemmas.List.Elements.{All-from_recursion, All-head, All-tail}
 use Rattle.covline.specs.Lawful.{IsGoodTest, IsLawfulSect}

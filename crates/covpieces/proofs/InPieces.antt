@@ -1,5 +1,5 @@
 -- Reading in pieces is reading the whole text: for both versions, from what is known of two texts one after another.
-use Rattle.std.proofs.Common.{◌≡◌, ◌⊎◌, ℕ, ◌+◌, ◌-◌, Bool, true, false, List, [], ◌∷◌, ◌++◌, length, Result, Ok, Err, refl, sym, ap, subst, ◌∙◌, append_assoc, length-append, arith, inl, inr, if◌then◌else◌}
+use Rattle.std.proofs.Common.{◌≡◌, ◌⊎◌, ℕ, ◌+◌, ◌-◌, Bool, true, false, List, [], ◌∷◌, ◌++◌, length, Result, Ok, Err, refl, sym, ap, subst, ◌∙◌, append_assoc, length-append, arith, inl, inr}
 use Rattle.std.specs.Prelude.{All, codes}
 use Rattle.std.specs.List.{concat}
 use Rattle.std.proofs.lemmas.List.{append-nil}
@@ -58,15 +58,23 @@ renumbered_twice f g h same LostFunction = refl
 renumbered_twice f g h same BadTest = refl
 renumbered_twice f g h same Memory = refl
 
+-- ---- submissions
+
+pub joined_nothing : (s : SubmissionData) → joined s no_sections ≡ s
+joined_nothing s =
+    let sects : joined s no_sections ≡ record { sects = s.sects; odd = s.odd + 0 } = ap (λ (x : List SectData). record { sects = x; odd = s.odd + 0 }) (append-nil s.sects) in
+    let odd : record { sects = s.sects; odd = s.odd + 0 } ≡ s = ap (λ (n : ℕ). record { sects = s.sects; odd = n }) (omega arith) in
+    sects ∙ odd
+
 -- ---- a format
 
-abbrev Faults : Type 1
+abbrev pub Faults : Type 1
 Faults = List (List ℕ) → ReadFault → Type 0
 
-abbrev Outcomes : Type 1
+abbrev pub Outcomes : Type 1
 Outcomes = List ℕ → Result SubmissionData ReadFault → Type 0
 
-abbrev Next : Type 0
+abbrev pub Next : Type 0
 Next = CarriedData → List ℕ → List SectData → CarriedData
 
 -- the lines of a piece behind its front
@@ -148,23 +156,24 @@ module _ (Reads : Reading) (IsFault : Faults) (IsOutcome : Outcomes) (IsCarried 
       → Told (next c piece s.sects) rest (Err fault) → Told c (piece ++ rest) (Err fault)
   err_after c piece rest s fault is ends first (inl long) = inl long
   err_after c piece rest s fault is ends first (inr later) =
-      inr (renumbered (number_after c piece s) later.0, later.1 ∙ sym (renumbered_twice (moved_number c) (number_after c piece s) (moved_number (next c piece s.sects)) (numbers c piece s) later.0),
-      fault_then c piece rest s later.0 is ends first later.2)
+      inr (
+        renumbered (number_after c piece s) later.0,
+        later.1 ∙ sym (renumbered_twice (moved_number c) (number_after c piece s) (moved_number (next c piece s.sects)) (numbers c piece s) later.0),
+        fault_then c piece rest s later.0 is ends first later.2,
+      )
 
   err_here : (c : CarriedData) (piece rest : List ℕ) (told fault : ReadFault) → EndsSection piece → fault ≡ moved c told → (told ≡ TooLong) ⊎ IsFault (behind_front c piece) told → Told c (piece ++ rest) (Err fault)
   err_here c piece rest told fault ends e (inl long) = inl (e ∙ ap (moved c) long)
   err_here c piece rest told fault ends e (inr first) =
       let place = ap (λ (x : List (List ℕ)). front_lines c ++ x) ends.lines ∙ sym (append_assoc (front_lines c) ends.above (ends.last ∷ [])) in
-      inr (told, e, subst (λ (x : List (List ℕ)). IsFault x told) (lines_both c piece rest ends)
-      (law.longer (behind_front c piece) (front_lines c ++ ends.above) ends.last place ends.ends (lines_of rest) told first))
+      inr (
+        told,
+        e,
+        subst (λ (x : List (List ℕ)). IsFault x told) (lines_both c piece rest ends)
+            (law.longer (behind_front c piece) (front_lines c ++ ends.above) ends.last place ends.ends (lines_of rest) told first),
+      )
 
   -- ---- the last piece
-
-  joined_nothing : (s : SubmissionData) → joined s no_sections ≡ s
-  joined_nothing s =
-      let sects : joined s no_sections ≡ record { sects = s.sects; odd = s.odd + 0 } = ap (λ (x : List SectData). record { sects = x; odd = s.odd + 0 }) (append-nil s.sects) in
-      let odd : record { sects = s.sects; odd = s.odd + 0 } ≡ s = ap (λ (n : ℕ). record { sects = s.sects; odd = n }) (omega arith) in
-      sects ∙ odd
 
   err_last : (c : CarriedData) (piece : List ℕ) (told fault : ReadFault) → fault ≡ moved c told → (told ≡ TooLong) ⊎ IsFault (behind_front c piece) told → Told c piece (Err fault)
   err_last c piece told fault e (inl long) = inl (e ∙ ap (moved c) long)

@@ -1,16 +1,16 @@
 -- The last line of a text: its place, and what the text's lines are.
-use Rattle.std.proofs.Common.{◌≡◌, ◌≢◌, ◌⊎◌, ℕ, zero, suc, ◌+◌, ◌-◌, ◌<◌, ◌≤◌, Bool, true, false, cond, eqb, List, [], ◌∷◌, ◌++◌, length, get_or, take, drop, Option, Some, None, refl, sym, ap, subst, ◌∙◌, append_assoc, length-append, get_or-take, get_or-drop, take_at, take-append-drop, length-take, length-drop, arith, inl, inr, lit<, if◌then◌else◌}
-use Rattle.std.specs.Prelude.{All, codes, count_by}
+use Rattle.std.proofs.Common.{◌≡◌, ◌≢◌, ◌⊎◌, ℕ, zero, suc, ◌+◌, ◌-◌, ◌<◌, ◌≤◌, Bool, true, false, cond, eqb, List, [], ◌∷◌, ◌++◌, length, get_or, take, drop, Option, Some, None, refl, sym, ap, subst, ◌∙◌, append_assoc, length-append, get_or-drop, take_at, take-append-drop, length-drop, arith, inl, inr, lit<, if◌then◌else◌}
+use Rattle.std.specs.Prelude.{codes, count_by}
 use Rattle.std.proofs.lemmas.List.Sums.{sum_by-cons}
 use Rattle.std.proofs.lemmas.Bool.{eq-eqb, eqb-true}
-use Rattle.std.proofs.lemmas.List.{append-nil, take_more, same_from_push, take-append-le, length-map}
-use Rattle.std.proofs.lemmas.List.Elements.{All-nil, All-cons, All-head, All-tail, All-append, All-take, All-from_get_or, All-get_or}
+use Rattle.std.proofs.lemmas.List.{take_more, same_from_push, take-append-le, length-map}
+use Rattle.std.proofs.lemmas.List.Elements.{All-from_get_or, All-get_or}
 use Rattle.memchr.specs.Find.{Nowhere, NoneAfter, Passes, is_byte}
 use Rattle.covline.specs.Lines.{line_feed, onto_first, pieces_of, line_of, strip, lines_of}
 use Rattle.covline.specs.Spells.{Begins}
 use Rattle.covline.proofs.Cut.{lines_at, lines-append}
 use Rattle.covpieces.specs.Sections.{EndsSection, AreWholeSections, has_key, grouped_after}
-use Rattle.covpieces.specs.LastLines.{EndsInFeed, HasWholeLines, HasNoFeed, IsLastCut, grouping_of, is_feed}
+use Rattle.covpieces.specs.LastLines.{HasWholeLines, HasNoFeed, IsLastCut, grouping_of, is_feed}
 
 -- ---- the last line feed
 

@@ -1,10 +1,10 @@
 -- The test of the last section.
-use Rattle.std.proofs.Common.{◌≡◌, ℕ, zero, suc, ◌+◌, ◌-◌, ◌<◌, List, [], ◌∷◌, ◌++◌, map, length, slice_get, Some, refl, sym, ap, ◌∙◌, arith}
+use Rattle.std.proofs.Common.{◌≡◌, ℕ, zero, suc, ◌+◌, ◌-◌, ◌<◌, List, [], ◌∷◌, map, length, slice_get, Some, sym, ap, ◌∙◌, arith}
 use Rattle.std.proofs.lemmas.Option.{slice_get_within}
 use Rattle.covline.specs.Row.{SectData}
 use Rattle.covline.specs.SectView.{sect_data}
 use Rattle.covline.specs.declared.sect.Sect.{Sect}
-use Rattle.covpieces.specs.Pieces.{CarriedData, test_after}
+use Rattle.covpieces.specs.Pieces.{test_after}
 
 last_of : {A : Type 0} (sects : List (Sect A)) (last : Sect A) (n : ℕ) (test : List ℕ) → n + 1 ≡ length sects → slice_get sects n ≡ Some last → last.test ≡ test_after test (map sect_data sects)
 last_of [] last n test few found = absurd (omega (arith, few))

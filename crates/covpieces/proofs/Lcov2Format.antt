@@ -1,5 +1,5 @@
 -- What is known of tracefiles of LCOV 2.
-use Rattle.std.proofs.Common.{◌≡◌, ◌⊎◌, ℕ, Bool, false, List, [], ◌∷◌, ◌++◌, Result, Ok, Err, refl, sym, ap, ◌∙◌, append_assoc, inl, inr}
+use Rattle.std.proofs.Common.{◌≡◌, ◌⊎◌, ℕ, false, List, [], ◌∷◌, ◌++◌, Result, Ok, Err, refl, sym, ap, ◌∙◌, append_assoc, inl, inr}
 use Rattle.std.specs.List.{flat_map}
 use Rattle.covline.specs.Lawful.{IsLawful}
 use Rattle.covline.specs.Lines.{lines_of}
@@ -18,7 +18,7 @@ use Rattle.covpieces.proofs.Faults.{GoAlike}
 use Rattle.covpieces.proofs.GoodTests.{IsGoodTest-none, good_after}
 use Rattle.covpieces.proofs.Lcov2Lines.{goes_on}
 use Rattle.covpieces.proofs.Lcov2Groups.{lines_group, front_groups}
-use Rattle.covpieces.proofs.Lcov2Fronts.{ReadsFrom, below, grouped_at, with_front, from_front, joined_reads, front_alike, fault_after, test_at_end, fault_longer}
+use Rattle.covpieces.proofs.Lcov2Fronts.{below, grouped_at, with_front, from_front, joined_reads, front_alike, fault_after, test_at_end, fault_longer}
 use Rattle.covpieces.proofs.InPieces.{behind_front, FormatLaw, IsWhole, whole, after_first}
 use Rattle.covpieces.proofs.TraceFormat.{IsCarried}
 

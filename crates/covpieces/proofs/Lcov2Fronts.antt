@@ -1,5 +1,5 @@
 -- Tracefiles of LCOV 2: what lines say after lines that are read as a submission.
-use Rattle.std.proofs.Common.{◌≡◌, ℕ, ◌+◌, ◌-◌, Bool, true, false, List, [], ◌∷◌, ◌++◌, length, Option, Some, None, refl, sym, ap, subst, ◌∙◌, arith, lit<, if◌then◌else◌}
+use Rattle.std.proofs.Common.{◌≡◌, ℕ, ◌+◌, ◌-◌, Bool, true, false, List, [], ◌∷◌, ◌++◌, length, Some, refl, sym, ap, subst, ◌∙◌, arith, lit<, if◌then◌else◌}
 use Rattle.std.specs.Prelude.{codes}
 use Rattle.std.specs.List.{flat_map, sum_by, AllByRecursion}
 use Rattle.std.proofs.lemmas.List.{append-nil}
@@ -7,7 +7,7 @@ use Rattle.std.proofs.lemmas.List.Elements.{All-from_recursion}
 use Rattle.std.proofs.lemmas.List.Concat.{flat_map-append}
 use Rattle.std.proofs.lemmas.List.Sums.{sum_by-cons, sum_by-append}
 use Rattle.covline.specs.Row.{SectData, SubmissionData}
-use Rattle.covline.specs.Spells.{LineData, Test, Path, End, Skip, Begins, IsDigit, IsNumeral}
+use Rattle.covline.specs.Spells.{LineData, Test, End, Skip, Begins, IsDigit, IsNumeral}
 use Rattle.covread.specs.declared.fault.ReadFault.{ReadFault}
 use Rattle.covread.specs.declared.fault.ReadFault.TheVariants as faults
 use Rattle.covread.specs.Reads as reads
@@ -18,12 +18,12 @@ use Rattle.covlcov2.specs.Spells.{Lcov2Data, Plain, Leader, Lcov2Spells}
 use Rattle.covlcov2.specs.LineLaws.{Lcov2LineLaw}
 use Rattle.covlcov2.specs.Reads.{said, above_after, StandFor, Reads}
 use Rattle.covlcov2.specs.Outcome.{IsLawfulText, MayGoOn, IsFirstFaulty, IsFirstFault}
-use Rattle.covlcov2.proofs.Holds.{Goes, goes_says, says_split}
+use Rattle.covlcov2.proofs.Holds.{goes_says, says_split}
 use Rattle.covlcov2.proofs.Records.{same_some}
-use Rattle.covpieces.specs.Pieces.{CarriedData, front_lines, group_line, test_after, joined, renumbered}
-use Rattle.covpieces.proofs.Parts.{test_at, sects-append, last_of, last_of-append, test_of_last, AreWhole, whole_parts, AreLater, later_parts}
+use Rattle.covpieces.specs.Pieces.{group_line, test_after, joined, renumbered}
+use Rattle.covpieces.proofs.Parts.{test_at, sects-append, last_of, last_of-append, test_of_last, whole_parts, later_parts}
 use Rattle.covpieces.proofs.Faults.{FirstFaulty, GoAlike, goes_on_first, faulty_after, faulty_longer}
-use Rattle.covpieces.proofs.Lcov2Lines.{goes_on, stand_then, Halves, halves, last_is_end, is_grouped, stands_below}
+use Rattle.covpieces.proofs.Lcov2Lines.{goes_on, stand_then, halves, last_is_end, is_grouped, stands_below}
 
 -- the lines are a lawful text, and this is what it says if this test's name is valid before its first line, and functions are
 -- grouped there or not

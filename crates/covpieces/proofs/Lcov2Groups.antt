@@ -1,15 +1,14 @@
 -- Where functions are grouped, by the keys of lines: as the lines above the next line have it.
-use Rattle.std.proofs.Common.{◌≡◌, ℕ, Bool, true, false, List, [], ◌∷◌, ◌++◌, Option, Some, None, Ok, refl, sym, ap, subst, ◌∙◌, eqb, eqb-true, inl, inr, if◌then◌else◌}
+use Rattle.std.proofs.Common.{◌≡◌, ℕ, Bool, true, false, List, [], ◌∷◌, ◌++◌, Option, Some, None, refl, sym, ap, subst, ◌∙◌, inl, inr, if◌then◌else◌}
 use Rattle.std.specs.Prelude.{codes}
 use Rattle.std.specs.Option.{is_some}
-use Rattle.std.specs.List.{list_any}
 use Rattle.covline.specs.declared.trace_line.TotalKind.{TotalKind}
 use Rattle.covline.specs.declared.trace_line.TotalKind.TheVariants.{FuncFound, FuncHit, BranchFound, BranchHit, LineFound, LineHit}
 use Rattle.covline.specs.Reading.{after_key}
 use Rattle.covline.specs.Spells.{LineData, Test, Path, FuncStart, FuncCount, Branch, Line, Total, End, Skip, Begins, key_of}
 use Rattle.covline.proofs.SmallNumbers.{after_some}
 use Rattle.covlcov2.specs.Spells.{Lcov2Data, Plain, Leader, Alias, Edge, Lcov2Spells}
-use Rattle.covlcov2.specs.Reads.{is_leader, above_after}
+use Rattle.covlcov2.specs.Reads.{above_after}
 use Rattle.covlcov2.proofs.Holds.{Goes}
 use Rattle.covpieces.specs.Sections.{has_key, grouped_after}
 use Rattle.covpieces.specs.Pieces.{CarriedData, front_lines}

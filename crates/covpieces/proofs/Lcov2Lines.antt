@@ -1,18 +1,17 @@
 -- Lines of LCOV 2 and the records that they stand for: lines one after another, and what lines outside of sections need of those above.
-use Rattle.std.proofs.Common.{◌≡◌, ℕ, Bool, true, false, List, [], ◌∷◌, ◌++◌, Option, Some, None, refl, sym, ap, subst, ◌∙◌, append_assoc, if◌then◌else◌}
+use Rattle.std.proofs.Common.{◌≡◌, ℕ, Bool, true, false, List, [], ◌∷◌, ◌++◌, Option, Some, None, refl, sym, ap, subst, ◌∙◌, append_assoc}
 use Rattle.std.specs.Prelude.{codes}
 use Rattle.std.specs.List.{list_any}
 use Rattle.covline.specs.declared.trace_line.TotalKind.{TotalKind}
 use Rattle.covline.specs.declared.trace_line.TotalKind.TheVariants.{FuncFound, FuncHit, BranchFound, BranchHit, LineFound, LineHit}
-use Rattle.covline.specs.Reading.{after_key}
 use Rattle.covline.specs.Spells.{LineData, Test, Path, FuncStart, FuncCount, Branch, Line, Total, End, Skip, Begins}
 use Rattle.covread.proofs.TraceGrammar.{Between, Accepts}
 use Rattle.covlcov2.specs.Spells.{Lcov2Data, Plain, Leader, Alias, Edge, Lcov2Spells}
 use Rattle.covlcov2.specs.LineLaws.{Lcov2LineLaw}
-use Rattle.covlcov2.specs.Reads.{leader, is_leader, total_said, plain_said, alias_said, edge_said, said, above_after, StandFor}
+use Rattle.covlcov2.specs.Reads.{leader, is_leader, total_said, alias_said, edge_said, said, above_after, StandFor}
 use Rattle.covlcov2.proofs.Holds.{Goes}
 use Rattle.covlcov2.proofs.Records.{same_some, some_isnt_none}
-use Rattle.covpieces.proofs.Parts.{last_of, last_of-append}
+use Rattle.covpieces.proofs.Parts.{last_of}
 
 -- ---- lines one after another
 

@@ -11,3 +11,5 @@ pub mod Lcov2Format
 pub mod LastLines
 pub mod Keys
 pub mod LastSect
+pub mod OneByOne
+pub mod LongPieces

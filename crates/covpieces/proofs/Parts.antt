@@ -94,6 +94,12 @@ pub record AreWhole (records : List LineData) : Type 0 where
 path_isnt_end : (path : List ℕ) → Path path ≡ End → ⊥
 path_isnt_end path e = cc
 
+whole_section : (path : List ℕ) (inside front rest : List LineData) (x : LineData) (parts : List Part) → Path path ≡ x → front ≡ (inside ++ End ∷ []) ++ rest → flat_map records_of parts ≡ rest
+    → flat_map records_of (Section path inside ∷ parts) ≡ x ∷ front
+whole_section path inside front rest x parts first front_is same =
+    ap (λ (y : List LineData). Path path ∷ (inside ++ End ∷ []) ++ y) same
+    ∙ ap (λ (y : List LineData). Path path ∷ y) (sym front_is) ∙ ap (λ (y : LineData). y ∷ front) first
+
 -- if first records of a lawful text end with the end of a section, they are whole parts
 pub whole_parts : (all : List Part) (front back : List LineData) (d : LineData) → AllByRecursion IsLawfulPart all → flat_map records_of all ≡ front ++ back → last_of d front ≡ End → AreWhole front
 whole_parts all [] back d lawful e ends = record { parts = []; lawful = tt; same = refl }
@@ -115,9 +121,7 @@ whole_parts (Section path inside ∷ all) (x ∷ front) back d lawful e ends =
     record {
       parts = Section path inside ∷ m.parts;
       lawful = (lawful.0, m.lawful);
-      same =
-          ap (λ (y : List LineData). Path path ∷ (inside ++ End ∷ []) ++ y) m.same
-          ∙ ap (λ (y : List LineData). Path path ∷ y) (sym k.front_is) ∙ ap (λ (y : LineData). y ∷ front) first;
+      same = whole_section path inside front k.rest x m.parts first k.front_is m.same;
     }
 
 -- ---- the parts after some whole ones

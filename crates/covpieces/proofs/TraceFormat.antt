@@ -1,7 +1,6 @@
 -- What is known of tracefiles of version 1.
 use Rattle.std.proofs.Common.{◌≡◌, ◌⊎◌, ℕ, List, [], ◌∷◌, ◌++◌, Result, Ok, Err, refl, sym, ap, ◌∙◌, append_assoc, inl, inr}
-use Rattle.std.specs.Prelude.{All, codes}
-use Rattle.covline.specs.Lawful.{IsGoodTest, IsLawful, IsLawfulSect}
+use Rattle.covline.specs.Lawful.{IsGoodTest, IsLawful}
 use Rattle.covline.specs.Lines.{lines_of}
 use Rattle.covline.specs.Row.{SubmissionData}
 use Rattle.covread.specs.declared.fault.ReadFault.{ReadFault}
@@ -15,7 +14,7 @@ use Rattle.covpieces.specs.Whole.{IsWholeOutcome}
 use Rattle.covpieces.proofs.Parts.{test_at}
 use Rattle.covpieces.proofs.Faults.{GoAlike}
 use Rattle.covpieces.proofs.GoodTests.{IsGoodTest-none, good_after}
-use Rattle.covpieces.proofs.TraceFronts.{ReadsFrom, with_test, from_test, joined_reads, test_alike, fault_after, test_at_end, fault_longer}
+use Rattle.covpieces.proofs.TraceFronts.{with_test, from_test, joined_reads, test_alike, fault_after, test_at_end, fault_longer}
 use Rattle.covpieces.proofs.InPieces.{behind_front, FormatLaw, IsWhole, whole, after_first}
 
 -- what may go over to a piece

@@ -5,7 +5,7 @@ use Rattle.std.specs.List.{flat_map, sum_by, AllByRecursion}
 use Rattle.std.proofs.lemmas.List.Concat.{flat_map-append}
 use Rattle.std.proofs.lemmas.List.Sums.{sum_by-cons, sum_by-append}
 use Rattle.covline.specs.Row.{SectData, SubmissionData}
-use Rattle.covline.specs.Spells.{LineData, Test, Path, End, Skip, Begins, Spells, HasFault}
+use Rattle.covline.specs.Spells.{LineData, Test, Path, End, Skip, Begins, Spells}
 use Rattle.covread.specs.declared.fault.ReadFault.{ReadFault}
 use Rattle.covread.specs.declared.fault.ReadFault.TheVariants as faults
 use Rattle.covread.specs.Reads as reads
@@ -15,7 +15,7 @@ use Rattle.covread.proofs.AllOf.{all_append}
 use Rattle.covread.proofs.TraceGrammar.{LineLaw}
 use Rattle.covread.proofs.TraceStands.{AllSpell-append, AllSpell-split, AllSpell-one}
 use Rattle.covpieces.specs.Pieces.{test_after, joined, renumbered}
-use Rattle.covpieces.proofs.Parts.{test_at, sects-append, last_of, last_of-append, test_of_last, AreWhole, whole_parts, AreLater, later_parts}
+use Rattle.covpieces.proofs.Parts.{test_at, sects-append, last_of, last_of-append, test_of_last, whole_parts, later_parts}
 use Rattle.covpieces.proofs.Faults.{FirstFaulty, GoAlike, goes_on_first, faulty_after, faulty_longer}
 
 -- the lines are a lawful text, and this is what it says if this test's name is valid before its first line

@@ -106,3 +106,34 @@ ReadsInPieces IsOutcome next c (piece ∷ pieces) (Ok whole) =
 ReadsInPieces IsOutcome next c (piece ∷ pieces) (Err fault) =
     ((told : ReadFault) × IsOutcome (front_text c ++ piece) (Err told) × (fault ≡ moved c told))
     ⊎ ((first : SubmissionData) × IsOutcome (front_text c ++ piece) (Ok first) × ReadsInPieces IsOutcome next (next c piece first.sects) pieces (Err fault))
+
+-- ---- reading one piece after another
+
+-- all sections of these submissions in order, and all their odd lines
+abbrev pub all_of : List SubmissionData → SubmissionData
+all_of [] = no_sections
+all_of (submission ∷ submissions) = joined submission (all_of submissions)
+
+-- from `c` on, these pieces were read as these submissions, and `last` goes over to the next piece. Each piece ends with a section
+abbrev pub HaveBeenRead : (List ℕ → Result SubmissionData ReadFault → Type 0) → (CarriedData → List ℕ → List SectData → CarriedData)
+    → CarriedData → List (List ℕ) → List SubmissionData → CarriedData → Type 0
+HaveBeenRead IsOutcome next c [] [] last = last ≡ c
+HaveBeenRead IsOutcome next c [] (submission ∷ submissions) last = ⊥
+HaveBeenRead IsOutcome next c (piece ∷ pieces) [] last = ⊥
+HaveBeenRead IsOutcome next c (piece ∷ pieces) (submission ∷ submissions) last =
+    EndsSection piece × IsOutcome (front_text c ++ piece) (Ok submission) × HaveBeenRead IsOutcome next (next c piece submission.sects) pieces submissions last
+
+-- what a reader in pieces relies on, if this is the outcome of a piece, what goes over, and what a whole text is read as
+pub record OneByOne (IsOutcome IsWhole : List ℕ → Result SubmissionData ReadFault → Type 0) (next : CarriedData → List ℕ → List SectData → CarriedData) : Type 0 where
+  -- one more piece
+  pub more : (pieces : List (List ℕ)) (submissions : List SubmissionData) (c : CarriedData) (piece : List ℕ) (submission : SubmissionData)
+      → HaveBeenRead IsOutcome next nothing_carried pieces submissions c → EndsSection piece → IsOutcome (front_text c ++ piece) (Ok submission)
+      → HaveBeenRead IsOutcome next nothing_carried (pieces ++ piece ∷ []) (submissions ++ submission ∷ []) (next c piece submission.sects)
+  -- the last piece
+  pub last : (pieces : List (List ℕ)) (submissions : List SubmissionData) (c : CarriedData) (piece : List ℕ) (outcome : Result SubmissionData ReadFault)
+      → HaveBeenRead IsOutcome next nothing_carried pieces submissions c → IsOutcome (front_text c ++ piece) outcome
+      → (outcome ≡ Err TooLong) ⊎ IsWhole (concat pieces ++ piece) (with_first (all_of submissions) c outcome)
+  -- a faulty piece, after which the text goes on
+  pub fault : (pieces : List (List ℕ)) (submissions : List SubmissionData) (c : CarriedData) (piece rest : List ℕ) (fault : ReadFault)
+      → HaveBeenRead IsOutcome next nothing_carried pieces submissions c → EndsSection piece → IsOutcome (front_text c ++ piece) (Err fault)
+      → (fault ≡ TooLong) ⊎ IsWhole (concat pieces ++ piece ++ rest) (Err (moved c fault))

@@ -97,7 +97,8 @@ impl<A: Allocator> Carried<A> {
     fn moved_number(&self, at: u64) -> u64
         ensures { result ≡ min (moved_number self.now at) (2 ^ 64 - 1) }
     {
-        self.lines.saturating_add(at.saturating_sub(self.front_lines()))
+        self.lines
+            .saturating_add(at.saturating_sub(self.front_lines()))
     }
 
     /// How many lines the front has.
@@ -109,12 +110,7 @@ impl<A: Allocator> Carried<A> {
 
     /// Goes on to the next piece of a tracefile of version 1. This piece, without its front, ends with a section, and behind its
     /// front it was read as this submission.
-    pub fn pass(
-        &mut self,
-        alloc: A,
-        piece: &[u8],
-        submission: &Submission<A>,
-    ) -> Result<(), Memory>
+    pub fn pass(&mut self, alloc: A, piece: &[u8], submission: &Submission<A>) -> Result<(), Memory>
         requires ends { EndsSection piece.now }
         requires few { self.old.lines + length piece.now < 2 ^ 64 }
         ensures ok { OnOk result (self.new ≡ carried_after self.old piece.now submission.now.sects) }

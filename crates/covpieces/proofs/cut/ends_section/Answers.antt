@@ -1,5 +1,4 @@
 use Rattle.std.proofs.Common.{sym, codes}
-use Rattle.covline.specs.Spells.{Begins}
 use Rattle.covpieces.proofs.Keys.{begins_told}
 use Rattle.covpieces.proofs.cut.ends_section.Goals as goal
 

@@ -1,5 +1,5 @@
 use Rattle.std.proofs.Common.{refl}
-use Rattle.covpieces.proofs.LastLines.{looking_begins, looking_on, looking_ends}
+use Rattle.covpieces.proofs.LastLines.{looking_begins, looking_on}
 use Rattle.covpieces.proofs.cut.whole_sections.Goals as goal
 
 pub loop-front-init : goal.loop-front-init

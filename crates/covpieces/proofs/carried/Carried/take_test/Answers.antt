@@ -1,4 +1,4 @@
-use Rattle.std.proofs.Common.{◌≡◌, ◌∙◌, sym, ap, List, ℕ}
+use Rattle.std.proofs.Common.{◌∙◌, sym, ap, List, ℕ}
 use Rattle.covpieces.specs.Pieces.{CarriedData}
 use Rattle.covpieces.proofs.LastSect.{test_of_last}
 use Rattle.covpieces.proofs.carried.Carried.take_test.Goals as goal
