@@ -39,6 +39,13 @@ impl<A: Allocator> Carried<A> {
         }
     }
 
+    /// How many lines the pieces have that were read.
+    pub fn lines(&self) -> u64
+        ensures { result ≡ self.now.lines }
+    {
+        self.lines
+    }
+
     /// The front of the next piece: the lines that are put before its bytes. Behind them it is read as it is behind the pieces before
     /// it.
     pub fn front(&self, alloc: A) -> Result<Bytes<A>, Memory>

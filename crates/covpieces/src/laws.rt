@@ -59,12 +59,8 @@ pub fn pieces_are_read_one_by_one()
 /// long if the block, with its front, has as many bytes as a text can have.
 pub fn a_block_without_sections_is_in_no_piece()
     ensures longer { (block more piece rest : List ℕ) → AreWholeSections block 0 → block ++ more ≡ piece ++ rest → EndsSection piece → length block < length piece }
-    ensures trace {
-        (c : CarriedData) (block more piece rest : List ℕ) → AreWholeSections block 0 → max_bytes ≤ length (front_text c ++ block) → block ++ more ≡ piece ++ rest
-        → EndsSection piece → IsOutcome (front_text c ++ piece) (Err TooMuch)
-    }
-    ensures lcov2 {
-        (c : CarriedData) (block more piece rest : List ℕ) → AreWholeSections block 0 → max_bytes ≤ length (front_text c ++ block) → block ++ more ≡ piece ++ rest
-        → EndsSection piece → IsLcov2Outcome (front_text c ++ piece) (Err TooMuch)
-    }
+    ensures trace { (c : CarriedData) (block more piece rest : List ℕ) → AreWholeSections block 0 → max_bytes ≤ length (front_text c ++ block) → block ++ more ≡ piece ++ rest
+        → EndsSection piece → IsOutcome (front_text c ++ piece) (Err TooMuch) }
+    ensures lcov2 { (c : CarriedData) (block more piece rest : List ℕ) → AreWholeSections block 0 → max_bytes ≤ length (front_text c ++ block) → block ++ more ≡ piece ++ rest
+        → EndsSection piece → IsLcov2Outcome (front_text c ++ piece) (Err TooMuch) }
 {}
