@@ -185,9 +185,6 @@ grouped_kept grouped text front line cut e =
 
 -- ---- counting lines
 
-abbrev some_pieces : List (List ℕ) → Type 0
-some_pieces pieces = 0 < length pieces
-
 length-onto : (b : ℕ) (pieces : List (List ℕ)) → 0 < length pieces → length (onto_first b pieces) ≡ length pieces
 length-onto b [] some = absurd (omega arith)
 length-onto b (piece ∷ pieces) some = refl

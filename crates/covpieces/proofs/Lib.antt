@@ -13,3 +13,4 @@ pub mod Keys
 pub mod LastSect
 pub mod OneByOne
 pub mod LongPieces
+pub mod SomeResult

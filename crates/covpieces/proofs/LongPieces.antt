@@ -1,10 +1,9 @@
 -- A piece that begins with a block without sections is longer than the block.
-use Rattle.std.proofs.Common.{◌≡◌, ℕ, zero, suc, ◌+◌, ◌<◌, ◌≤◌, List, [], ◌∷◌, ◌++◌, length, take, refl, sym, ap, subst, ◌∙◌, length-append, take_at, arith, inl, inr}
+use Rattle.std.proofs.Common.{◌≡◌, ℕ, ◌<◌, ◌≤◌, List, [], ◌∷◌, ◌++◌, length, take, refl, sym, ap, subst, ◌∙◌, length-append, take_at, arith, inl, inr}
 use Rattle.std.proofs.lemmas.Bool.{cases_lt}
 use Rattle.std.proofs.lemmas.List.{take-append-le}
 use Rattle.covline.specs.Lines.{line_feed}
 use Rattle.covpieces.specs.Sections.{AreWholeSections, EndsSection}
-use Rattle.covpieces.specs.Pieces.{CarriedData, front_text}
 
 some_bytes : (piece : List ℕ) → EndsSection piece → 0 < length piece
 some_bytes piece ends = omega (arith, ap length ends.feed, length-append ends.front (line_feed ∷ []))

@@ -10,9 +10,12 @@ ghost use Rattle.covpieces.specs.Whole.{IsWholeOutcome, IsWholeLcov2Outcome};
 ghost use Rattle.covpieces.specs.Sections.{AreWholeSections, EndsSection};
 ghost use Rattle.covpieces.specs.Pieces.{CarriedData, IsCut, OneByOne, ReadsInPieces, carried_after, lcov2_carried_after, front_text, nothing_carried, with_first};
 
-use covlcov2::{each_lcov2_line_has_one_meaning, what_is_read_as_lcov2_is_lawful};
+use covlcov2::{
+    each_lcov2_line_has_one_meaning, each_lcov2_text_has_one_outcome,
+    what_is_read_as_lcov2_is_lawful,
+};
 use covline::each_line_has_one_meaning;
-use covread::what_is_read_is_lawful;
+use covread::{each_text_has_one_outcome, what_is_read_is_lawful};
 
 /// A tracefile is cut after a section, the first part is read as a submission, and the rest is read behind its front. Then the whole
 /// has the sections of both in order and the odd lines of both, or else the fault of the rest, with its number in the whole. Only the
@@ -44,6 +47,20 @@ pub fn pieces_are_read_as_the_whole()
     each_lcov2_line_has_one_meaning();
     what_is_read_is_lawful();
     what_is_read_as_lcov2_is_lawful();
+}
+
+/// Conversely, what the whole of a tracefile says is what its pieces say, unless a piece is too long with its front.
+pub fn the_whole_is_read_in_pieces()
+    ensures trace { (text : List ℕ) (pieces : List (List ℕ)) (r : Result SubmissionData Fault) → IsCut text pieces → IsWholeOutcome text r
+        → ReadsInPieces IsOutcome carried_after nothing_carried pieces (Err TooMuch) ⊎ ReadsInPieces IsOutcome carried_after nothing_carried pieces r }
+    ensures lcov2 { (text : List ℕ) (pieces : List (List ℕ)) (r : Result SubmissionData Fault) → IsCut text pieces → IsWholeLcov2Outcome text r
+        → ReadsInPieces IsLcov2Outcome lcov2_carried_after nothing_carried pieces (Err TooMuch) ⊎ ReadsInPieces IsLcov2Outcome lcov2_carried_after nothing_carried pieces r }
+{
+    each_line_has_one_meaning();
+    each_lcov2_line_has_one_meaning();
+    each_text_has_one_outcome();
+    each_lcov2_text_has_one_outcome();
+    pieces_are_read_as_the_whole();
 }
 
 /// What a reader in pieces relies on: how one more piece is read after others, and that the outcome of the last piece, or of a faulty
