@@ -1,33 +1,14 @@
 -- The last line of a text: its place, and what the text's lines are.
-use Rattle.std.proofs.Common.{◌≡◌, ◌≢◌, ◌⊎◌, ℕ, zero, suc, ◌+◌, ◌-◌, ◌<◌, ◌≤◌, Bool, true, false, cond, eqb, List, [], ◌∷◌, ◌++◌, length, get_or, take, drop, Option, Some, None, refl, sym, ap, subst, ◌∙◌, append_assoc, length-append, get_or-drop, take_at, take-append-drop, length-drop, arith, inl, inr, lit<, if◌then◌else◌}
+use Rattle.std.proofs.Common.{◌≡◌, ◌≢◌, ◌⊎◌, ℕ, zero, suc, ◌+◌, ◌-◌, ◌<◌, ◌≤◌, Bool, true, false, cond, eqb, List, [], ◌∷◌, ◌++◌, length, get_or, take, drop, Option, Some, None, refl, sym, ap, subst, ◌∙◌, append_assoc, length-append, take_at, take-append-drop, arith, inl, inr, lit<, if◌then◌else◌}
 use Rattle.std.specs.Prelude.{codes, count_by}
 use Rattle.std.proofs.lemmas.List.Sums.{sum_by-cons}
-use Rattle.std.proofs.lemmas.Bool.{eq-eqb, eqb-true}
 use Rattle.std.proofs.lemmas.List.{take_more, same_from_push, take-append-le, length-map}
-use Rattle.std.proofs.lemmas.List.Elements.{All-from_get_or, All-get_or}
-use Rattle.memchr.specs.Find.{Nowhere, NoneAfter, Passes, is_byte}
+use Rattle.std.proofs.lemmas.List.Elements.{All-get_or}
 use Rattle.covline.specs.Lines.{line_feed, onto_first, pieces_of, line_of, strip, lines_of}
 use Rattle.covline.specs.Spells.{Begins}
 use Rattle.covline.proofs.Cut.{lines_at, lines-append}
 use Rattle.covpieces.specs.Sections.{EndsSection, AreWholeSections, has_key, grouped_after}
 use Rattle.covpieces.specs.LastLines.{HasWholeLines, HasNoFeed, IsLastCut, grouping_of, is_feed}
-
--- ---- the last line feed
-
-pub whole_to : (text : List ℕ) (i : ℕ) → NoneAfter (Passes (is_byte line_feed) text) 0 (length text) i × Passes (is_byte line_feed) text i → HasWholeLines (take (i + 1) text)
-whole_to text i found =
-    inr (take i text, take_more text i 0 found.0.high ∙ ap (λ (b : ℕ). take i text ++ b ∷ []) (eqb-true (get_or text i 0) line_feed found.1))
-
-no_feed_from : (text : List ℕ) (n : ℕ) → Nowhere (Passes (is_byte line_feed) text) n (length text) → HasNoFeed (drop n text)
-no_feed_from text n none =
-    All-from_get_or (λ b. b ≢ line_feed) (drop n text) 0 (λ k lt e.
-    none (n + k) (omega arith) (omega (arith, length-drop n text)) (eq-eqb (get_or text (n + k) 0) line_feed (sym (get_or-drop n text k 0) ∙ e)))
-
-pub no_feed_after : (text : List ℕ) (i : ℕ) → NoneAfter (Passes (is_byte line_feed) text) 0 (length text) i × Passes (is_byte line_feed) text i → HasNoFeed (drop (i + 1) text)
-no_feed_after text i found = no_feed_from text (i + 1) found.0.after
-
-pub no_feed_at_all : (text : List ℕ) → Nowhere (Passes (is_byte line_feed) text) 0 (length text) → HasNoFeed (drop 0 text)
-no_feed_at_all text none = no_feed_from text 0 none
 
 -- ---- the lines of a text with its last line
 

@@ -14,7 +14,7 @@ last_of (sect ∷ other ∷ sects) last zero test few found = absurd (omega (ari
 last_of (sect ∷ other ∷ sects) last (suc n) test few found = last_of (other ∷ sects) last n sect.test (omega (arith, few)) found
 
 -- the test of the last section is the test after all sections
-pub test_of_last : {A : Type 0} (sects : List (Sect A)) (last : Sect A) (all : List SectData) (test : List ℕ) → map sect_data sects ≡ all → slice_get sects (length sects - 1) ≡ Some last → last.test ≡ test_after test all
+pub test_of_last : {A : Type 0} (sects : List (Sect A)) (last : Sect A) (all : List SectData) (test : List ℕ) → map sect_data sects ≡ all → Some last ≡ slice_get sects (length sects - 1) → last.test ≡ test_after test all
 test_of_last sects last all test same found =
-    let within : length sects - 1 < length sects = slice_get_within sects (length sects - 1) last found in
-    last_of sects last (length sects - 1) test (omega (arith, within)) found ∙ ap (test_after test) same
+    let within : length sects - 1 < length sects = slice_get_within sects (length sects - 1) last (sym found) in
+    last_of sects last (length sects - 1) test (omega (arith, within)) (sym found) ∙ ap (test_after test) same
