@@ -5,7 +5,7 @@ use Rattle.std.proofs.lemmas.List.Elements.{All-from_recursion, All-head, All-ta
 use Rattle.covline.specs.Lawful.{IsGoodTest, IsLawfulSect}
 use Rattle.covline.specs.Row.{SectData}
 use Rattle.covline.proofs.GoodTexts.{IsPlain, IsGoodTest-append, IsGoodTest-plain}
-use Rattle.covpieces.specs.Pieces.{group_line, test_after}
+use Rattle.covpieces.specs.Pieces.{group_line, last_test}
 
 -- the line of a test's name
 pub IsGoodTest-key : (test : List ℕ) → IsGoodTest test → IsGoodTest (codes "TN:" ++ test)
@@ -17,7 +17,7 @@ IsGoodTest-group =
     IsGoodTest-plain group_line (All-from_recursion IsPlain group_line (lit< tt, (lit< tt, (lit< tt, (lit< tt, (lit< tt, (lit< tt, (lit< tt, tt))))))))
 
 -- the test's name after lawful sections
-pub good_after : (test : List ℕ) (sects : List SectData) → IsGoodTest test → All IsLawfulSect sects → IsGoodTest (test_after test sects)
+pub good_after : (test : List ℕ) (sects : List SectData) → IsGoodTest test → All IsLawfulSect sects → IsGoodTest (last_test test sects)
 good_after test [] good lawful = good
 good_after test (sect ∷ sects) good lawful = good_after sect.test sects (All-head IsLawfulSect sect sects lawful).test (All-tail IsLawfulSect sect sects lawful)
 

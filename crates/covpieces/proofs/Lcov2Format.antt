@@ -11,7 +11,7 @@ use Rattle.covlcov2.specs.LineLaws.{Lcov2LineLaw}
 use Rattle.covlcov2.specs.Reads.{Reads}
 use Rattle.covlcov2.specs.Outcome.{IsFirstFault, IsOutcome}
 use Rattle.covpieces.specs.Sections.{EndsSection, grouped_after}
-use Rattle.covpieces.specs.Pieces.{IsCut, CarriedData, nothing_carried, front_lines, front_text, test_after, no_sections, with_first, lcov2_carried_after, ReadsInPieces}
+use Rattle.covpieces.specs.Pieces.{IsCut, CarriedData, nothing_carried, front_lines, front_text, last_test, no_sections, with_first, lcov2_carried_after, ReadsInPieces}
 use Rattle.covpieces.specs.Whole.{IsWholeLcov2Outcome}
 use Rattle.covpieces.proofs.Parts.{test_at}
 use Rattle.covpieces.proofs.Faults.{GoAlike}
@@ -49,7 +49,7 @@ module _ (law : Lcov2LineLaw) where
   last_line : (c : CarriedData) (piece : List ℕ) (ends : EndsSection piece) → behind_front c piece ≡ (front_lines c ++ ends.above) ++ ends.last ∷ []
   last_line c piece ends = ap (λ (x : List (List ℕ)). front_lines c ++ x) ends.lines ∙ sym (append_assoc (front_lines c) ends.above (ends.last ∷ []))
 
-  test_is : (c : CarriedData) (piece : List ℕ) (s : SubmissionData) → EndsSection piece → (r : Reads (behind_front c piece) s) → test_at [] r.parts ≡ test_after c.test s.sects
+  test_is : (c : CarriedData) (piece : List ℕ) (s : SubmissionData) → EndsSection piece → (r : Reads (behind_front c piece) s) → test_at [] r.parts ≡ last_test c.test s.sects
   test_is c piece s ends r = test_at_end law (behind_front c piece) (front_lines c ++ ends.above) ends.last (last_line c piece ends) ends.ends c.test s r
 
   grouped_is : (c : CarriedData) (piece : List ℕ) (s : SubmissionData) (r : Reads (behind_front c piece) s) → grouped_at (behind_front c piece) s r ≡ grouped_after c.is_grouped (lines_of piece)
@@ -72,9 +72,9 @@ module _ (law : Lcov2LineLaw) where
     without_front = without_front;
     with_front = with_first_front;
     alike = λ c piece s is ends r.
-        front_alike law (behind_front c piece) (test_after c.test s.sects) (grouped_after c.is_grouped (lines_of piece)) s r (test_is c piece s ends r) (grouped_is c piece s r);
+        front_alike law (behind_front c piece) (last_test c.test s.sects) (grouped_after c.is_grouped (lines_of piece)) s r (test_is c piece s ends r) (grouped_is c piece s r);
     joins = λ c piece s is ends r rest t.
-        joined_reads law (behind_front c piece) (test_after c.test s.sects) (grouped_after c.is_grouped (lines_of piece)) s r (test_is c piece s ends r) (grouped_is c piece s r) rest t;
+        joined_reads law (behind_front c piece) (last_test c.test s.sects) (grouped_after c.is_grouped (lines_of piece)) s r (test_is c piece s ends r) (grouped_is c piece s r) rest t;
     moves = fault_after;
     longer = λ lines above last place begins more fault first. fault_longer law lines above last place begins more fault first;
   }

@@ -20,7 +20,7 @@ use Rattle.covlcov2.specs.Reads.{said, above_after, StandFor, Reads}
 use Rattle.covlcov2.specs.Outcome.{IsLawfulText, MayGoOn, IsFirstFaulty, IsFirstFault}
 use Rattle.covlcov2.proofs.Holds.{goes_says, says_split}
 use Rattle.covlcov2.proofs.Records.{same_some}
-use Rattle.covpieces.specs.Pieces.{group_line, test_after, joined, renumbered}
+use Rattle.covpieces.specs.Pieces.{group_line, last_test, joined, renumbered}
 use Rattle.covpieces.proofs.Parts.{test_at, sects-append, last_of, last_of-append, test_of_last, whole_parts, later_parts}
 use Rattle.covpieces.proofs.Faults.{FirstFaulty, GoAlike, goes_on_first, faulty_after, faulty_longer}
 use Rattle.covpieces.proofs.Lcov2Lines.{goes_on, stand_then, halves, last_is_end, is_grouped, stands_below}
@@ -246,10 +246,10 @@ module _ (law : Lcov2LineLaw) (lines above : List (List ℕ)) (last : List ℕ) 
       ap (last_of Skip) k.both ∙ last_of-append Skip k.front k.back ∙ last_is_end law last k.last k.back begins k.others (last_of Skip k.front)
 
   -- the current test is the last section's
-  pub test_at_end : (other : List ℕ) (s : SubmissionData) (r : Reads lines s) → test_at [] r.parts ≡ test_after other s.sects
+  pub test_at_end : (other : List ℕ) (s : SubmissionData) (r : Reads lines s) → test_at [] r.parts ≡ last_test other s.sects
   test_at_end other s r =
       test_of_last r.parts Skip [] other r.lawful (ends_in_end (flat_map records_of r.parts) r.spelled) (λ e. absurd cc)
-      ∙ ap (test_after other) (sym r.sects)
+      ∙ ap (last_test other) (sym r.sects)
 
   -- no section is open
   not_open : MayGoOn lines → IsLawfulText lines

@@ -9,7 +9,7 @@ use Rattle.covread.specs.Reads as reads
 use Rattle.covread.specs.Reads.{Part, Outside, Section, IsOutside, IsInside, IsLawfulPart, records_of, items_of, sects_from}
 use Rattle.covread.proofs.AllOf.{all_back}
 use Rattle.covread.proofs.TraceGrammar.{Between, parts_from, parts_from-part, parts_from-parts}
-use Rattle.covpieces.specs.Pieces.{test_after}
+use Rattle.covpieces.specs.Pieces.{last_test}
 
 -- the test's name after these parts
 abbrev pub test_at : List ℕ → List Part → List ℕ
@@ -46,7 +46,7 @@ last_after_section d path inside more =
 
 -- if the last record is the end of a section, the current test is the last section's
 pub test_of_last : (parts : List Part) (d : LineData) (test other : List ℕ) → AllByRecursion IsLawfulPart parts → last_of d (flat_map records_of parts) ≡ End → (d ≡ End → test ≡ other)
-    → test_at test parts ≡ test_after other (sects_from test parts)
+    → test_at test parts ≡ last_test other (sects_from test parts)
 test_of_last [] d test other lawful ends known = known ends
 test_of_last (Outside says ∷ parts) d test other lawful ends known =
     test_of_last parts says (reads.test_after test says) other lawful.1 ends (λ e. absurd (outside_ends says lawful.0 e))

@@ -9,7 +9,7 @@ use Rattle.covread.specs.Reads.{Reads}
 use Rattle.covread.specs.Outcome.{IsFirstFault, IsOutcome}
 use Rattle.covread.proofs.TraceGrammar.{LineLaw}
 use Rattle.covpieces.specs.Sections.{EndsSection}
-use Rattle.covpieces.specs.Pieces.{IsCut, CarriedData, nothing_carried, front_lines, front_text, test_after, no_sections, with_first, carried_after, ReadsInPieces}
+use Rattle.covpieces.specs.Pieces.{IsCut, CarriedData, nothing_carried, front_lines, front_text, last_test, no_sections, with_first, carried_after, ReadsInPieces}
 use Rattle.covpieces.specs.Whole.{IsWholeOutcome}
 use Rattle.covpieces.proofs.Parts.{test_at}
 use Rattle.covpieces.proofs.Faults.{GoAlike}
@@ -47,7 +47,7 @@ module _ (law : LineLaw) where
   last_line : (c : CarriedData) (piece : List ℕ) (ends : EndsSection piece) → behind_front c piece ≡ (front_lines c ++ ends.above) ++ ends.last ∷ []
   last_line c piece ends = ap (λ (x : List (List ℕ)). front_lines c ++ x) ends.lines ∙ sym (append_assoc (front_lines c) ends.above (ends.last ∷ []))
 
-  test_is : (c : CarriedData) (piece : List ℕ) (s : SubmissionData) → EndsSection piece → (r : Reads (behind_front c piece) s) → test_at [] r.parts ≡ test_after c.test s.sects
+  test_is : (c : CarriedData) (piece : List ℕ) (s : SubmissionData) → EndsSection piece → (r : Reads (behind_front c piece) s) → test_at [] r.parts ≡ last_test c.test s.sects
   test_is c piece s ends r = test_at_end law (behind_front c piece) (front_lines c ++ ends.above) ends.last (last_line c piece ends) ends.ends c.test s r
 
   pub format : ((text : List ℕ) (s : SubmissionData) → IsOutcome text (Ok s) → IsLawful s) → FormatLaw Reads IsFirstFault IsOutcome IsCarried carried_after
@@ -63,8 +63,8 @@ module _ (law : LineLaw) where
     starts = starts;
     without_front = without_front;
     with_front = with_front;
-    alike = λ c piece s is ends r. test_alike law (behind_front c piece) (test_after c.test s.sects) s r (test_is c piece s ends r);
-    joins = λ c piece s is ends r rest t later. joined_reads law (behind_front c piece) rest (test_after c.test s.sects) s t r (test_is c piece s ends r) later;
+    alike = λ c piece s is ends r. test_alike law (behind_front c piece) (last_test c.test s.sects) s r (test_is c piece s ends r);
+    joins = λ c piece s is ends r rest t later. joined_reads law (behind_front c piece) rest (last_test c.test s.sects) s t r (test_is c piece s ends r) later;
     moves = fault_after;
     longer = λ lines above last place begins more fault first. fault_longer law lines above last place begins more fault first;
   }

@@ -14,7 +14,7 @@ use Rattle.covread.specs.Outcome.{IsLawfulText, MayGoOn, IsFirstFaulty, IsFirstF
 use Rattle.covread.proofs.AllOf.{all_append}
 use Rattle.covread.proofs.TraceGrammar.{LineLaw}
 use Rattle.covread.proofs.TraceStands.{AllSpell-append, AllSpell-split, AllSpell-one}
-use Rattle.covpieces.specs.Pieces.{test_after, joined, renumbered}
+use Rattle.covpieces.specs.Pieces.{last_test, joined, renumbered}
 use Rattle.covpieces.proofs.Parts.{test_at, sects-append, last_of, last_of-append, test_of_last, whole_parts, later_parts}
 use Rattle.covpieces.proofs.Faults.{FirstFaulty, GoAlike, goes_on_first, faulty_after, faulty_longer}
 
@@ -148,10 +148,10 @@ module _ (law : LineLaw) (lines above : List (List ℕ)) (last : List ℕ) (plac
       ap (last_of Skip) split.2 ∙ last_of-append Skip split.0 split.1 ∙ last_is_end law last split.1 begins split.4 (last_of Skip split.0)
 
   -- the current test is the last section's
-  pub test_at_end : (other : List ℕ) (s : SubmissionData) (r : Reads lines s) → test_at [] r.parts ≡ test_after other s.sects
+  pub test_at_end : (other : List ℕ) (s : SubmissionData) (r : Reads lines s) → test_at [] r.parts ≡ last_test other s.sects
   test_at_end other s r =
       test_of_last r.parts Skip [] other r.lawful (ends_in_end (flat_map records_of r.parts) r.spelled) (λ e. absurd cc)
-      ∙ ap (test_after other) (sym r.sects)
+      ∙ ap (last_test other) (sym r.sects)
 
   -- no section is open
   not_open : MayGoOn lines → IsLawfulText lines

@@ -70,17 +70,17 @@ abbrev pub told : CarriedData → ReadFault → ReadFault
 told c fault = renumbered (λ at. min (moved_number c at) (2 ^ 64 - 1)) fault
 
 -- the test's name after these sections: the name of the last one's test, or `test` if there are no sections
-abbrev pub test_after : List ℕ → List SectData → List ℕ
-test_after test [] = test
-test_after test (sect ∷ sects) = test_after sect.test sects
+abbrev pub last_test : List ℕ → List SectData → List ℕ
+last_test test [] = test
+last_test test (sect ∷ sects) = last_test sect.test sects
 
 -- what goes over after a piece of version 1 that is read as these sections, and after one of LCOV 2
 abbrev pub carried_after : CarriedData → List ℕ → List SectData → CarriedData
-carried_after c piece sects = record { test = test_after c.test sects; is_grouped = false; lines = c.lines + length (lines_of piece) }
+carried_after c piece sects = record { test = last_test c.test sects; is_grouped = false; lines = c.lines + length (lines_of piece) }
 
 abbrev pub lcov2_carried_after : CarriedData → List ℕ → List SectData → CarriedData
 lcov2_carried_after c piece sects =
-    record { test = test_after c.test sects; is_grouped = grouped_after c.is_grouped (lines_of piece); lines = c.lines + length (lines_of piece) }
+    record { test = last_test c.test sects; is_grouped = grouped_after c.is_grouped (lines_of piece); lines = c.lines + length (lines_of piece) }
 
 -- sections one after another, and all their odd lines
 abbrev pub joined : SubmissionData → SubmissionData → SubmissionData
@@ -89,7 +89,7 @@ joined first rest = record { sects = first.sects ++ rest.sects; odd = first.odd 
 abbrev pub no_sections : SubmissionData
 no_sections = record { sects = []; odd = 0 }
 
--- what a text and the rest after it are read as together, if the text is read as this submission and the rest, behind its front, as this
+-- what a text is read as whose first part says this submission, and whose rest, behind its front, is read as this
 abbrev pub with_first : SubmissionData → CarriedData → Result SubmissionData ReadFault → Result SubmissionData ReadFault
 with_first first c (Ok rest) = Ok (joined first rest)
 with_first first c (Err fault) = Err (moved c fault)

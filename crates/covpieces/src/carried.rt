@@ -26,7 +26,7 @@ impl<A: Allocator> Model for Carried<A> {
 impl<A: Allocator> Carried<A> {
     ghost use Rattle.std.specs.Prelude.{◌≡◌, ◌+◌, ◌-◌, ◌<◌, ◌^◌, min, length, IfOk, OnOk, OnErr};
     ghost use Rattle.covpieces.specs.Sections.{EndsSection};
-    ghost use Rattle.covpieces.specs.Pieces.{carried_after, front_lines, front_text, lcov2_carried_after, moved_number, nothing_carried, test_after, told};
+    ghost use Rattle.covpieces.specs.Pieces.{carried_after, front_lines, front_text, lcov2_carried_after, moved_number, nothing_carried, last_test, told};
 
     /// Before the first piece.
     pub fn new(alloc: A) -> Carried<A>
@@ -152,7 +152,7 @@ impl<A: Allocator> Carried<A> {
 
     /// Takes over the test of the last section, if there is one.
     fn take_test(&mut self, alloc: A, submission: &Submission<A>) -> Result<(), Memory>
-        ensures ok { OnOk result (self.new ≡ record { test = test_after self.old.test submission.now.sects; is_grouped = self.old.is_grouped; lines = self.old.lines }) }
+        ensures ok { OnOk result (self.new ≡ record { test = last_test self.old.test submission.now.sects; is_grouped = self.old.is_grouped; lines = self.old.lines }) }
         ensures err { OnErr result (self.new ≡ self.old) }
     {
         if let Some(last) = submission.sects().last() {

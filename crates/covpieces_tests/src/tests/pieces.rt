@@ -323,7 +323,7 @@ end_of_record
     )
 }
 
-/// The same in faults.
+/// The same in faults. The last two texts show why the front needs an `FNL:` line: without one above it, the total is a fault.
 #[test]
 fn grouped_faults(rt: HostRuntime) -> Result<(), Fail> {
     check_faults(
@@ -355,6 +355,13 @@ SF:x
 end_of_record
 --
 FNH:1
-! Outside at 3",
+! Outside at 3
+FNF:1
+! Outside at 1
+SF:x
+FNL:0,1
+end_of_record
+FNF:1
+! none",
     )
 }
