@@ -1,0 +1,16 @@
+pub mod Parts
+pub mod Faults
+pub mod GoodTests
+pub mod InPieces
+pub mod TraceFronts
+pub mod TraceFormat
+pub mod Lcov2Lines
+pub mod Lcov2Groups
+pub mod Lcov2Fronts
+pub mod Lcov2Format
+pub mod LastLines
+pub mod Keys
+pub mod LastSect
+pub mod OneByOne
+pub mod LongPieces
+pub mod SomeResult

@@ -1,0 +1,85 @@
+-- What is known of tracefiles of version 1.
+use Rattle.std.proofs.Common.{◌≡◌, ◌⊎◌, ℕ, List, [], ◌∷◌, ◌++◌, Result, Ok, Err, refl, sym, ap, ◌∙◌, append_assoc, inl, inr}
+use Rattle.covline.specs.Lawful.{IsGoodTest, IsLawful}
+use Rattle.covline.specs.Lines.{lines_of}
+use Rattle.covline.specs.Row.{SubmissionData}
+use Rattle.covread.specs.declared.fault.ReadFault.{ReadFault}
+use Rattle.covread.specs.declared.fault.ReadFault.TheVariants.{TooLong}
+use Rattle.covread.specs.Reads.{Reads}
+use Rattle.covread.specs.Outcome.{IsFirstFault, IsOutcome}
+use Rattle.covread.proofs.TraceGrammar.{LineLaw}
+use Rattle.covpieces.specs.Sections.{EndsSection}
+use Rattle.covpieces.specs.Pieces.{IsCut, CarriedData, nothing_carried, front_lines, front_text, last_test, no_sections, with_first, carried_after, ReadsInPieces}
+use Rattle.covpieces.specs.Whole.{IsWholeOutcome}
+use Rattle.covpieces.proofs.Parts.{test_at}
+use Rattle.covpieces.proofs.Faults.{GoAlike}
+use Rattle.covpieces.proofs.GoodTests.{IsGoodTest-none, good_after}
+use Rattle.covpieces.proofs.TraceFronts.{with_test, from_test, joined_reads, test_alike, fault_after, test_at_end, fault_longer}
+use Rattle.covpieces.proofs.InPieces.{behind_front, FormatLaw, IsWhole, whole, after_first}
+
+-- what may go over to a piece
+abbrev pub IsCarried : CarriedData → Type 0
+IsCarried c = IsGoodTest c.test
+
+faults_of : (text : List ℕ) (fault : ReadFault) → IsOutcome text (Err fault) → (fault ≡ TooLong) ⊎ IsFirstFault (lines_of text) fault
+faults_of text fault (inl long) = inl long.1
+faults_of text fault (inr first) = inr first.1
+
+nothing_read : Reads [] no_sections
+nothing_read = record { parts = []; lawful = tt; spelled = tt; sects = refl; odd = refl }
+
+with_front : (lines : List (List ℕ)) (s : SubmissionData) → Reads lines s → Reads (front_lines nothing_carried ++ lines) s
+with_front lines s r = with_test [] lines s (record { parts = r.parts; lawful = r.lawful; spelled = r.spelled; sects = r.sects; odd = r.odd })
+
+module _ (law : LineLaw) where
+  without_front : (lines : List (List ℕ)) (s : SubmissionData) → Reads (front_lines nothing_carried ++ lines) s → Reads lines s
+  without_front lines s r =
+      let from = from_test law [] lines s r in
+      record { parts = from.parts; lawful = from.lawful; spelled = from.spelled; sects = from.sects; odd = from.odd }
+
+  starts : GoAlike Reads [] (front_lines nothing_carried)
+  starts = record {
+    whole = (no_sections, with_front [] no_sections nothing_read);
+    to_first = λ rest text. (text.0, without_front rest text.0 text.1);
+    to_front = λ rest text. (text.0, with_front rest text.0 text.1);
+  }
+
+  last_line : (c : CarriedData) (piece : List ℕ) (ends : EndsSection piece) → behind_front c piece ≡ (front_lines c ++ ends.above) ++ ends.last ∷ []
+  last_line c piece ends = ap (λ (x : List (List ℕ)). front_lines c ++ x) ends.lines ∙ sym (append_assoc (front_lines c) ends.above (ends.last ∷ []))
+
+  test_is : (c : CarriedData) (piece : List ℕ) (s : SubmissionData) → EndsSection piece → (r : Reads (behind_front c piece) s) → test_at [] r.parts ≡ last_test c.test s.sects
+  test_is c piece s ends r = test_at_end law (behind_front c piece) (front_lines c ++ ends.above) ends.last (last_line c piece ends) ends.ends c.test s r
+
+  pub format : ((text : List ℕ) (s : SubmissionData) → IsOutcome text (Ok s) → IsLawful s) → FormatLaw Reads IsFirstFault IsOutcome IsCarried carried_after
+  format lawful = record {
+    reads_of = λ text s outcome. outcome.1;
+    fault_of = faults_of;
+    lawful_of = lawful;
+    nothing = nothing_read;
+    begins = IsGoodTest-none;
+    good = λ c is. is;
+    carries = λ c piece s is texts. good_after c.test s.sects is texts;
+    counts = λ c piece sects. refl;
+    starts = starts;
+    without_front = without_front;
+    with_front = with_front;
+    alike = λ c piece s is ends r. test_alike law (behind_front c piece) (last_test c.test s.sects) s r (test_is c piece s ends r);
+    joins = λ c piece s is ends r rest t later. joined_reads law (behind_front c piece) rest (last_test c.test s.sects) s t r (test_is c piece s ends r) later;
+    moves = fault_after;
+    longer = λ lines above last place begins more fault first. fault_longer law lines above last place begins more fault first;
+  }
+
+  module _ (lawful : (text : List ℕ) (s : SubmissionData) → IsOutcome text (Ok s) → IsLawful s) where
+    told : (text : List ℕ) (r : Result SubmissionData ReadFault) → (r ≡ Err TooLong) ⊎ IsWhole Reads IsFirstFault IsOutcome IsCarried carried_after (format lawful) text r → (r ≡ Err TooLong) ⊎ IsWholeOutcome text r
+    told text (Ok s) is = is
+    told text (Err fault) is = is
+
+    pub all_pieces : (text : List ℕ) (pieces : List (List ℕ)) (r : Result SubmissionData ReadFault) → IsCut text pieces → ReadsInPieces IsOutcome carried_after nothing_carried pieces r
+        → (r ≡ Err TooLong) ⊎ IsWholeOutcome text r
+    all_pieces text pieces r cut reads = told text r (whole Reads IsFirstFault IsOutcome IsCarried carried_after (format lawful) text pieces r cut reads)
+
+    pub two_pieces : (first rest : List ℕ) (s : SubmissionData) (r : Result SubmissionData ReadFault) → EndsSection first → IsOutcome first (Ok s)
+        → IsWholeOutcome (front_text (carried_after nothing_carried first s.sects) ++ rest) r
+        → IsWholeOutcome (first ++ rest) (with_first s (carried_after nothing_carried first s.sects) r)
+    two_pieces first rest s (Ok t) ends outcome later = after_first Reads IsFirstFault IsOutcome IsCarried carried_after (format lawful) first rest s (Ok t) ends outcome later
+    two_pieces first rest s (Err f) ends outcome later = after_first Reads IsFirstFault IsOutcome IsCarried carried_after (format lawful) first rest s (Err f) ends outcome later

@@ -1,0 +1,4 @@
+pub mod Whole
+pub mod Sections
+pub mod Pieces
+pub mod LastLines

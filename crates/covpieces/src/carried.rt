@@ -1,0 +1,163 @@
+//! What goes over from a piece of a tracefile into the next one.
+
+use crate::cut::{count_lines, grouped_after};
+use covline::{Bytes, Memory, Submission};
+use covread::ReadFault;
+use std::alloc::{Allocator, Global};
+use std::marker::Model;
+
+/// What a piece of a tracefile takes over from the pieces before it: the test's name, how many lines these pieces have, and in
+/// LCOV 2 whether the last `FNL:` line is still valid. Contracts see these three.
+#[derive(Drop)]
+pub struct Carried<A: Allocator = Global> {
+    test: Bytes<A>,
+    is_grouped: bool,
+    lines: u64,
+}
+
+impl<A: Allocator> Model for Carried<A> {
+    ghost use Rattle.covpieces.specs.Pieces.{CarriedData};
+
+    ghost Value = { CarriedData };
+
+    ghost view = { λ c. record { test = c.test; is_grouped = c.is_grouped; lines = c.lines } };
+}
+
+impl<A: Allocator> Carried<A> {
+    ghost use Rattle.std.specs.Prelude.{◌≡◌, ◌+◌, ◌-◌, ◌<◌, ◌^◌, min, length, IfOk, OnOk, OnErr};
+    ghost use Rattle.covpieces.specs.Sections.{EndsSection};
+    ghost use Rattle.covpieces.specs.Pieces.{carried_after, front_lines, front_text, lcov2_carried_after, moved_number, nothing_carried, last_test, told};
+
+    /// Before the first piece.
+    pub fn new(alloc: A) -> Carried<A>
+        ensures { result ≡ nothing_carried }
+    {
+        Carried {
+            test: Bytes::new(alloc),
+            is_grouped: false,
+            lines: 0,
+        }
+    }
+
+    /// How many lines the pieces have that were read.
+    pub fn lines(&self) -> u64
+        ensures { result ≡ self.now.lines }
+    {
+        self.lines
+    }
+
+    /// The front of the next piece: the lines that are put before its bytes. Behind them it is read as it is behind the pieces before
+    /// it.
+    pub fn front(&self, alloc: A) -> Result<Bytes<A>, Memory>
+        ensures { IfOk result (λ text. text ≡ front_text self.now) }
+    {
+        let mut text = Bytes::new(alloc);
+        text.append(b"TN:")?;
+        text.append(self.test.get())?;
+        text.append(b"\n")?;
+        if self.is_grouped {
+            text.append(b"FNL:0,0\n")?;
+        }
+        Ok(text)
+    }
+
+    /// The fault of the piece behind its front, with the line's number in the whole tracefile. A number of 2^64 or more is told as
+    /// 2^64 - 1.
+    pub fn moved(&self, fault: ReadFault) -> ReadFault
+        ensures { result ≡ told self.now fault }
+    {
+        match fault {
+            ReadFault::Line { at, fault } => ReadFault::Line {
+                at: self.moved_number(at),
+                fault,
+            },
+            ReadFault::Outside { at } => ReadFault::Outside {
+                at: self.moved_number(at),
+            },
+            ReadFault::Inside { at } => ReadFault::Inside {
+                at: self.moved_number(at),
+            },
+            ReadFault::BadMark { at } => ReadFault::BadMark {
+                at: self.moved_number(at),
+            },
+            ReadFault::NoSource { at } => ReadFault::NoSource {
+                at: self.moved_number(at),
+            },
+            ReadFault::Percent { at } => ReadFault::Percent {
+                at: self.moved_number(at),
+            },
+            ReadFault::Instances { at } => ReadFault::Instances {
+                at: self.moved_number(at),
+            },
+            ReadFault::Misplaced { at } => ReadFault::Misplaced {
+                at: self.moved_number(at),
+            },
+            ReadFault::TooLong
+            | ReadFault::OpenEnd
+            | ReadFault::LostFunction
+            | ReadFault::BadTest
+            | ReadFault::Memory => fault,
+        }
+    }
+
+    /// The number in the whole tracefile of a line that has this number in the piece behind its front.
+    fn moved_number(&self, at: u64) -> u64
+        ensures { result ≡ min (moved_number self.now at) (2 ^ 64 - 1) }
+    {
+        self.lines
+            .saturating_add(at.saturating_sub(self.front_lines()))
+    }
+
+    /// How many lines the front has.
+    fn front_lines(&self) -> u64
+        ensures { result ≡ length (front_lines self.now) }
+    {
+        if self.is_grouped { 2 } else { 1 }
+    }
+
+    /// Goes on to the next piece of a tracefile of version 1. This piece, without its front, ends with a section, and behind its
+    /// front it was read as this submission.
+    pub fn pass(&mut self, alloc: A, piece: &[u8], submission: &Submission<A>) -> Result<(), Memory>
+        requires ends { EndsSection piece.now }
+        requires few { self.old.lines + length piece.now < 2 ^ 64 }
+        ensures ok { OnOk result (self.new ≡ carried_after self.old piece.now submission.now.sects) }
+        ensures err { OnErr result (self.new ≡ self.old) }
+    {
+        let lines = self.lines + count_lines(piece);
+        self.take_test(alloc, submission)?;
+        self.is_grouped = false;
+        self.lines = lines;
+        Ok(())
+    }
+
+    /// Goes on to the next piece of a tracefile of LCOV 2, as `pass` does.
+    pub fn pass_lcov2(
+        &mut self,
+        alloc: A,
+        piece: &[u8],
+        submission: &Submission<A>,
+    ) -> Result<(), Memory>
+        requires ends { EndsSection piece.now }
+        requires few { self.old.lines + length piece.now < 2 ^ 64 }
+        ensures ok { OnOk result (self.new ≡ lcov2_carried_after self.old piece.now submission.now.sects) }
+        ensures err { OnErr result (self.new ≡ self.old) }
+    {
+        let lines = self.lines + count_lines(piece);
+        let is_grouped = grouped_after(self.is_grouped, piece);
+        self.take_test(alloc, submission)?;
+        self.is_grouped = is_grouped;
+        self.lines = lines;
+        Ok(())
+    }
+
+    /// Takes over the test of the last section, if there is one.
+    fn take_test(&mut self, alloc: A, submission: &Submission<A>) -> Result<(), Memory>
+        ensures ok { OnOk result (self.new ≡ record { test = last_test self.old.test submission.now.sects; is_grouped = self.old.is_grouped; lines = self.old.lines }) }
+        ensures err { OnErr result (self.new ≡ self.old) }
+    {
+        if let Some(last) = submission.sects().last() {
+            self.test = last.test.copy(alloc)?;
+        }
+        Ok(())
+    }
+}

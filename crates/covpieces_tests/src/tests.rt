@@ -1,0 +1,77 @@
+//! What is wanted was worked out by hand from geninfo(1), section FILES, never taken from an output. Sections are written as
+//! a tracefile of version 1.
+
+use covlcov2::read_lcov2;
+use covline::{Bytes, Memory, Submission};
+use covpieces::{Carried, whole_sections};
+use covread::{ReadFault, read_trace};
+use std::alloc::Global;
+use std::process::Abort;
+use std::test::*;
+
+mod cuts;
+mod pieces;
+
+/// A version of the format.
+#[derive(Clone, Copy)]
+enum Version {
+    /// LCOV 1.x.
+    One,
+    /// LCOV 2.
+    Two,
+}
+
+/// The submission of a text.
+fn read(alloc: Global, text: &[u8], version: Version) -> Result<Submission, ReadFault> {
+    match version {
+        Version::One => read_trace(alloc, text),
+        Version::Two => read_lcov2(alloc, text),
+    }
+}
+
+/// The text of a piece behind its front.
+fn behind_front(alloc: Global, carried: &Carried, piece: &[u8]) -> Result<Bytes, Memory> {
+    let mut text = carried.front(alloc)?;
+    text.append(piece)?;
+    Ok(text)
+}
+
+/// The submission of a piece behind its front, or its fault in the whole text.
+fn read_piece(
+    alloc: Global,
+    carried: &Carried,
+    piece: &[u8],
+    version: Version,
+) -> Result<Submission, ReadFault> {
+    let text = behind_front(alloc, carried, piece)?;
+    match read(alloc, text.get(), version) {
+        Ok(submission) => Ok(submission),
+        Err(fault) => Err(carried.moved(fault)),
+    }
+}
+
+/// Goes on behind a piece of whole sections. False if the piece has other lines, or too many bytes for a test.
+fn pass(
+    alloc: Global,
+    carried: &mut Carried,
+    piece: &[u8],
+    version: Version,
+) -> Result<bool, ReadFault> {
+    let len = whole_sections(piece);
+    if len == 0 || len != piece.len() || len > 1_000_000 || carried.lines() > 1_000_000 {
+        return Ok(false);
+    }
+    let submission = read_piece(alloc, carried, piece, version)?;
+    match version {
+        Version::One => carried.pass(alloc, &piece[..len], &submission)?,
+        Version::Two => carried.pass_lcov2(alloc, &piece[..len], &submission)?,
+    }
+    Ok(true)
+}
+
+/// Appends a line.
+fn push_line(text: &mut Vec<u8>, line: &[u8]) -> Result<(), Fail> {
+    text.extend_from_slice(line)?;
+    text.push(b'\n')?;
+    Ok(())
+}

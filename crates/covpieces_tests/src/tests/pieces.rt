@@ -1,0 +1,367 @@
+//! What goes over from piece to piece.
+
+use super::{Version, pass, push_line, read_piece};
+use covpieces::Carried;
+use covread::read_trace;
+use std::alloc::Global;
+use std::process::Abort;
+use std::test::*;
+
+/// The words of the piece's fault, or `none`.
+fn fault_of(
+    alloc: Global,
+    carried: &Carried,
+    piece: &[u8],
+    version: Version,
+) -> Result<String, Fail> {
+    Ok(match read_piece(alloc, carried, piece, version) {
+        Ok(_) => format!(in alloc; "none")?,
+        Err(fault) => format!(in alloc; "{fault}")?,
+    })
+}
+
+/// Checks the fault of the last piece.
+fn check_fault(
+    rt: &(impl Abort + AllocGlobal),
+    carried: &Carried,
+    piece: &[u8],
+    version: Version,
+    wanted: &[u8],
+) -> Result<(), Fail> {
+    let fault = fault_of(rt.alloc(), carried, piece, version)?;
+    assert!(rt; fault.as_bytes() == wanted, "{wanted:?}: {fault}");
+    Ok(())
+}
+
+/// Checks the sections of the last piece. `wanted` is a tracefile of version 1 with them.
+fn check_sections(
+    rt: &(impl Abort + AllocGlobal),
+    carried: &Carried,
+    piece: &[u8],
+    version: Version,
+    wanted: &[u8],
+) -> Result<(), Fail> {
+    let given = read_piece(rt.alloc(), carried, piece, version)?;
+    let wanted_ones = read_trace(rt.alloc(), wanted)?;
+    assert!(rt; given.is_same(&wanted_ones), "{wanted:?}");
+    Ok(())
+}
+
+/// Goes on to the next piece.
+fn check_pass(
+    rt: &(impl Abort + AllocGlobal),
+    carried: &mut Carried,
+    piece: &[u8],
+    version: Version,
+) -> Result<(), Fail> {
+    let passed = pass(rt.alloc(), carried, piece, version)?;
+    assert!(rt; passed, "{piece:?}");
+    Ok(())
+}
+
+/// Checks the last pieces of texts, one text after the other. A line `--` ends a piece. A line that begins with `! ` ends a text, and
+/// has the fault of its last piece.
+fn check_faults(
+    rt: &(impl Abort + AllocGlobal),
+    version: Version,
+    examples: &[u8],
+) -> Result<(), Fail> {
+    let mut carried = Carried::new(rt.alloc());
+    let mut piece = Vec::new(rt.alloc());
+    for line in examples.split(|byte| *byte == b'\n') {
+        if line == b"--".as_slice() {
+            check_pass(rt, &mut carried, piece.as_slice(), version)?;
+            piece.clear();
+        } else if let Some(wanted) = line.strip_prefix(b"! ") {
+            check_fault(rt, &carried, piece.as_slice(), version, wanted)?;
+            carried = Carried::new(rt.alloc());
+            piece.clear();
+        } else {
+            push_line(&mut piece, line)?;
+        }
+    }
+    assert!(rt; piece.is_empty(), "the last text has no fault");
+    Ok(())
+}
+
+/// Checks the last pieces of texts, one text after the other. A line `--` ends a piece. Lines that begin with `> ` are what the last
+/// piece is wanted to have, as a tracefile of version 1. A line that begins with `= ` ends a text.
+fn check_all(
+    rt: &(impl Abort + AllocGlobal),
+    version: Version,
+    examples: &[u8],
+) -> Result<(), Fail> {
+    let mut carried = Carried::new(rt.alloc());
+    let mut piece = Vec::new(rt.alloc());
+    let mut wanted = Vec::new(rt.alloc());
+    for line in examples.split(|byte| *byte == b'\n') {
+        if line == b"--".as_slice() {
+            check_pass(rt, &mut carried, piece.as_slice(), version)?;
+            piece.clear();
+        } else if let Some(words) = line.strip_prefix(b"> ") {
+            push_line(&mut wanted, words)?;
+        } else if line.starts_with(b"= ") {
+            check_sections(rt, &carried, piece.as_slice(), version, wanted.as_slice())?;
+            carried = Carried::new(rt.alloc());
+            piece.clear();
+            wanted.clear();
+        } else {
+            push_line(&mut piece, line)?;
+        }
+    }
+    assert!(rt; piece.is_empty(), "the last text has no name");
+    Ok(())
+}
+
+/// The front of the second piece.
+fn check_front(
+    rt: &(impl Abort + AllocGlobal),
+    first: &[u8],
+    version: Version,
+    wanted: &[u8],
+) -> Result<(), Fail> {
+    let mut carried = Carried::new(rt.alloc());
+    check_pass(rt, &mut carried, first, version)?;
+    let front = carried.front(rt.alloc())?;
+    assert!(rt; front.get() == wanted, "{first:?}");
+    Ok(())
+}
+
+/// The first piece has the front of the empty name.
+#[test]
+fn first_front(rt: HostRuntime) -> Result<(), Fail> {
+    let front = Carried::new(rt.alloc()).front(rt.alloc())?;
+    assert!(rt; front.get() == b"TN:\n".as_slice(), "the first front");
+    Ok(())
+}
+
+/// The front of a second piece.
+#[test]
+fn fronts(rt: HostRuntime) -> Result<(), Fail> {
+    check_front(&rt, b"SF:x\nend_of_record\n", Version::One, b"TN:\n")?;
+    check_front(
+        &rt,
+        b"TN:a\r\nSF:x\r\nend_of_record\r\n",
+        Version::One,
+        b"TN:a\n",
+    )?;
+    check_front(
+        &rt,
+        b"TN:a\nSF:x\nFNL:0,1\nend_of_record\n",
+        Version::One,
+        b"TN:a\n",
+    )?;
+    check_front(
+        &rt,
+        b"TN:a\nSF:x\nFNL:0,1\nend_of_record\n",
+        Version::Two,
+        b"TN:a\nFNL:0,0\n",
+    )
+}
+
+/// The test's name goes over, and the sections are those of the whole text.
+#[test]
+fn names(rt: HostRuntime) -> Result<(), Fail> {
+    check_all(
+        &rt,
+        Version::One,
+        b"TN:a
+SF:x
+DA:1,1
+end_of_record
+--
+SF:y
+DA:1,2
+end_of_record
+> TN:a
+> SF:y
+> DA:1,2
+> end_of_record
+= the name goes over
+TN:a
+SF:x
+end_of_record
+TN:b
+SF:y
+end_of_record
+--
+SF:z
+DA:1,0
+end_of_record
+--
+
+VER:1
+SF:z
+DA:2,7
+end_of_record
+TN:c
+SF:z
+end_of_record
+> TN:b
+> SF:z
+> DA:2,7
+> end_of_record
+> TN:c
+> SF:z
+> end_of_record
+= the last name goes over two pieces, and a section without items stays
+TN:a
+TN:
+SF:x
+end_of_record
+--
+SF:y
+end_of_record
+> SF:y
+> end_of_record
+= the empty name
+TN:a b,c
+SF:x
+end_of_record
+--
+TN:b
+SF:x
+DA:1,1
+LF:2
+end_of_record
+> TN:b
+> SF:x
+> DA:1,1
+> LF:2
+> end_of_record
+= a name in the second piece, and an odd line",
+    )
+}
+
+/// Faults have the line's number in the whole text.
+#[test]
+fn faults(rt: HostRuntime) -> Result<(), Fail> {
+    check_faults(
+        &rt,
+        Version::One,
+        b"TN:a
+SF:x
+end_of_record
+--
+DA:1,1
+! Outside at 4
+TN:a
+SF:x
+end_of_record
+--
+SF:y
+TN:b
+! Inside at 5
+SF:x
+end_of_record
+--
+SF:
+! EmptyPath at 3
+SF:x
+end_of_record
+--
+SF:y
+! OpenEnd
+SF:x
+end_of_record
+--
+
+SF:y
+DA:1,1
+end_of_record
+--
+SF:z
+DA:x
+! BadLine at 8
+DA:1,1
+! Outside at 1
+SF:x
+FNL:0,1
+end_of_record
+--
+FNF:1
+! Outside at 4
+SF:x
+end_of_record
+--
+! none",
+    )
+}
+
+/// In LCOV 2 totals of functions say nothing below an `FNL:` line, until the next path.
+#[test]
+fn groups(rt: HostRuntime) -> Result<(), Fail> {
+    check_all(
+        &rt,
+        Version::Two,
+        b"SF:x
+FNL:0,1
+end_of_record
+--
+FNF:1
+SF:y
+end_of_record
+> SF:y
+> end_of_record
+= a total of functions after the section
+SF:x
+FNL:0,1
+FNA:0,1,f
+end_of_record
+--
+SF:y
+FN:1,g
+FNDA:1,g
+FNF:2
+end_of_record
+> SF:y
+> FN:1,g
+> FNDA:1,g
+> FNF:2
+> end_of_record
+= a total after the next path is odd",
+    )
+}
+
+/// The same in faults. The last two texts show why the front needs an `FNL:` line: without one above it, the total is a fault.
+#[test]
+fn grouped_faults(rt: HostRuntime) -> Result<(), Fail> {
+    check_faults(
+        &rt,
+        Version::Two,
+        b"SF:x
+FNL:0,1
+end_of_record
+--
+FNA:0,1,f
+! Misplaced at 4
+SF:x
+FNL:0,1
+end_of_record
+--
+SF:y
+end_of_record
+--
+FNF:1
+! Outside at 6
+SF:x
+FNL:0,1
+end_of_record
+--
+FNF:1
+LF:1
+! Outside at 5
+SF:x
+end_of_record
+--
+FNH:1
+! Outside at 3
+FNF:1
+! Outside at 1
+SF:x
+FNL:0,1
+end_of_record
+FNF:1
+! none",
+    )
+}
