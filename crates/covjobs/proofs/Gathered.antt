@@ -1,5 +1,5 @@
 -- All that the workers refused, and all that they submitted, follows from one function that gives the outcome of each input.
-use Rattle.std.proofs.Common.{◌≡◌, ◌∙◌, ℕ, zero, suc, ◌+◌, ◌<◌, cond, List, [], ◌∷◌, ◌++◌, map, Ok, Err, ap, sym, refl, subst, arith}
+use Rattle.std.proofs.Common.{◌≡◌, ◌∙◌, ℕ, zero, suc, ◌+◌, ◌<◌, cond, List, [], ◌∷◌, ◌++◌, map, Option, None, Some, ap, sym, refl, subst, arith}
 use Rattle.std.proofs.Math.Dec.{eqb}
 use Rattle.std.proofs.lemmas.List.{append-nil, map-append}
 use Rattle.std.proofs.lemmas.List.Concat.{flat_map-append}
@@ -11,7 +11,7 @@ use Rattle.std.specs.List.{AllByRecursion, range_with_len, flat_map, sum_by}
 use Rattle.std.specs.List.Sorted.{IsPermutation, IsNonDecreasingBy}
 use Rattle.covline.specs.Row.{SubmissionData}
 use Rattle.covjobs.specs.declared.refused.RefusedInput.{RefusedInput}
-use Rattle.covjobs.specs.Collect.{submitted, refusal, brought, all_places, places_of_job, submissions_of, refusals_of}
+use Rattle.covjobs.specs.Collect.{submitted, refused_for, refusal, brought, all_places, places_of_job, submissions_of, refusals_of}
 use Rattle.covjobs.specs.Work.{WorkerData, refused_in}
 use Rattle.covjobs.proofs.Ascending.{Up, places_of, IsRefusal, same_if_as_often, one_refused, up_from_sorted, up_after}
 use Rattle.covjobs.proofs.Places.{times}
@@ -63,13 +63,13 @@ pub all_joined : {X : Type 0} (P : X → Type 0) (xs ys : List X) → AllByRecur
 all_joined P [] ys a b = b
 all_joined P (x ∷ xs) ys a b = (a.0, all_joined P xs ys a.1 b)
 
-refusal_is : {F : Type 0} (outcome : ℕ → Outcome F) (index : ℕ) (own : Outcome F) → outcome index ≡ own → AllByRecursion (IsRefusal outcome) (refusal index own)
-refusal_is outcome index (Ok submission) is = tt
-refusal_is {F} outcome index (Err fault) is = (ap (λ (f : Outcome F). refusal index f) is, tt)
+refusal_is : {F : Type 0} (outcome : ℕ → Outcome F) (index : ℕ) (own : Option F) → (outcome index).fault ≡ own → AllByRecursion (IsRefusal outcome) (refused_for index own)
+refusal_is outcome index None is = tt
+refusal_is {F} outcome index (Some fault) is = (ap (λ (found : Option F). refused_for index found) is, tt)
 
 refusals_are : {F : Type 0} (outcome : ℕ → Outcome F) (count : ℕ) → AllByRecursion (IsRefusal outcome) (refusals_of all_places outcome count)
 refusals_are outcome zero = tt
-refusals_are outcome (suc count) = all_joined (IsRefusal outcome) (refusals_of all_places outcome count) (refusal count (outcome count)) (refusals_are outcome count) (refusal_is outcome count (outcome count) refl)
+refusals_are outcome (suc count) = all_joined (IsRefusal outcome) (refusals_of all_places outcome count) (refusal count (outcome count)) (refusals_are outcome count) (refusal_is outcome count (outcome count).fault refl)
 
 all_higher : (xs : List ℕ) (n : ℕ) → AllByRecursion (λ (x : ℕ). x < n) xs → AllByRecursion (λ (x : ℕ). x < suc n) xs
 all_higher [] n below = tt
@@ -79,10 +79,10 @@ record Rising {F : Type 0} (count : ℕ) (inputs : List (RefusedInput F)) : Type
   up : Up (places_of inputs)
   below : AllByRecursion (λ (x : ℕ). x < count) (places_of inputs)
 
-one_more_rises : {F : Type 0} (count : ℕ) (inputs : List (RefusedInput F)) (own : Outcome F) → Rising count inputs → Rising (suc count) (inputs ++ refusal count own)
-one_more_rises {F} count inputs (Ok submission) so_far =
+one_more_rises : {F : Type 0} (count : ℕ) (inputs : List (RefusedInput F)) (own : Option F) → Rising count inputs → Rising (suc count) (inputs ++ refused_for count own)
+one_more_rises {F} count inputs None so_far =
     subst (λ (rs : List (RefusedInput F)). Rising (suc count) rs) (sym (append-nil inputs)) (record { up = so_far.up; below = all_higher (places_of inputs) count so_far.below })
-one_more_rises {F} count inputs (Err fault) so_far =
+one_more_rises {F} count inputs (Some fault) so_far =
     let r : RefusedInput F = record { index = count; fault = fault } in
     let is : places_of (inputs ++ r ∷ []) ≡ places_of inputs ++ count ∷ [] = map-append (λ (r : RefusedInput F). r.index) inputs (r ∷ []) in
     record {
@@ -93,7 +93,7 @@ one_more_rises {F} count inputs (Err fault) so_far =
 
 refusals_rise : {F : Type 0} (outcome : ℕ → Outcome F) (count : ℕ) → Rising count (refusals_of all_places outcome count)
 refusals_rise outcome zero = record { up = tt; below = tt }
-refusals_rise outcome (suc count) = one_more_rises count (refusals_of all_places outcome count) (outcome count) (refusals_rise outcome count)
+refusals_rise outcome (suc count) = one_more_rises count (refusals_of all_places outcome count) (outcome count).fault (refusals_rise outcome count)
 
 times_by_sum : {F : Type 0} (k : ℕ) (inputs : List (RefusedInput F)) → times k (places_of inputs) ≡ sum_by (λ (r : RefusedInput F). cond (eqb k r.index) 1 0) inputs
 times_by_sum k [] = refl

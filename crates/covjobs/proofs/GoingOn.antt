@@ -1,21 +1,19 @@
 -- A worker reads its share to the end, also after it was refused something.
-use Rattle.std.proofs.Common.{◌≡◌, ◌∙◌, inl, inr, ℕ, zero, suc, ◌≤◌, List, [], ◌∷◌, ◌++◌, length, map, Option, None, Some, Result, Ok, Err, slice_get, ap, sym, refl, subst}
+use Rattle.std.proofs.Common.{◌≡◌, ◌∙◌, inl, inr, ℕ, zero, suc, ◌≤◌, List, [], ◌∷◌, ◌++◌, length, map, Option, None, Some, Err, slice_get, ap, sym, refl, subst}
 use Rattle.std.specs.Prelude.{IsSomeAnd}
 use Rattle.std.proofs.lemmas.List.{map-append}
 use Rattle.std.proofs.lemmas.Option.{none-some}
+use Rattle.covline.specs.Row.{SubmissionData}
 use Rattle.covbook.specs.declared.book.BookFault.{BookFault}
 use Rattle.covbook.specs.Op.{OpData, SubmitOp, NoSuchTestAnswer, ReceiptData}
-use Rattle.covjobs.specs.declared.late_fault.LateFault.{LateFault}
-use Rattle.covjobs.specs.declared.late_fault.LateFault.TheVariants as late
 use Rattle.covjobs.specs.declared.readers.Readers.{Readers}
 use Rattle.covjobs.specs.declared.refused.RefusedInput.{RefusedInput}
 use Rattle.covjobs.specs.declared.shares.Placed.{Placed}
 use Rattle.covjobs.specs.declared.stop.Stop.{Stop}
 use Rattle.covjobs.specs.declared.stop.Stop.TheVariants as stops
 use Rattle.covjobs.specs.Collect.{HasRead, submitted, refusal, ops_in}
-use Rattle.covjobs.specs.Late.{IsLateOutcome}
 use Rattle.covjobs.specs.Shares.{share_of}
-use Rattle.covjobs.specs.Stops.{IsStopAt, of_late}
+use Rattle.covjobs.specs.Stops.{IsStopAt}
 use Rattle.covjobs.specs.Work.{Chances, Takes, WorkerData, HasTaken, HasOutcome, HasReadBefore, HasEnded, IsStopPlace, IsUnreadAt}
 use Rattle.covjobs.proofs.ReadAfter.{none_read}
 use Rattle.covjobs.proofs.Taken.{Outcome}
@@ -48,14 +46,13 @@ none_gone Gives inputs jobs job share first worker is no_receipts none_refused n
   own = λ well. (refl, refl, none_read worker.has_reader worker.receipts worker.readings no_receipts no_readings);
 }
 
--- a receipt of what would have been submitted
-abbrev receipts_of : {F : Type 0} → Outcome F → List ReceiptData
-receipts_of (Ok submission) = record { place = 0; op = SubmitOp submission; answer = NoSuchTestAnswer } ∷ []
-receipts_of (Err fault) = []
+-- a receipt of each submission that would have been submitted
+abbrev receipts_of : List SubmissionData → List ReceiptData
+receipts_of submissions = map (λ (s : SubmissionData). record { place = 0; op = SubmitOp s; answer = NoSuchTestAnswer }) submissions
 
-ops_of : {F : Type 0} (outcome : Outcome F) → ops_in (receipts_of outcome) ≡ map SubmitOp (submitted outcome)
-ops_of (Ok submission) = refl
-ops_of (Err fault) = refl
+ops_of : (submissions : List SubmissionData) → ops_in (receipts_of submissions) ≡ map SubmitOp submissions
+ops_of [] = refl
+ops_of (s ∷ submissions) = ap (λ (ops : List OpData). SubmitOp s ∷ ops) (ops_of submissions)
 
 own_underway : {X F : Type 0} (Gives : X → Outcome F → Type 0) (inputs : List X) (jobs job : ℕ) (rest : List (Placed X)) (receipts own : List ReceiptData) (refused refuses : List (RefusedInput F)) → receipts ≡ own → refused ≡ refuses
     → IsUnderway Gives inputs jobs job rest receipts refused → IsUnderway Gives inputs jobs job rest own refuses
@@ -81,7 +78,7 @@ one_gone Gives inputs jobs job placed rest first None old new so_far has takes r
       own = λ is. (refl, refl, read refl own.2);
     }
 one_gone {X} {F} Gives inputs jobs job placed rest first (Some fault) old new so_far has takes read =
-    let receipts : List ReceiptData = so_far.receipts ++ receipts_of has.0 in
+    let receipts : List ReceiptData = so_far.receipts ++ receipts_of (submitted has.0) in
     let refused : List (RefusedInput F) = so_far.refused ++ refusal placed.index has.0 in
     record {
       receipts = receipts;
@@ -91,7 +88,7 @@ one_gone {X} {F} Gives inputs jobs job placed rest first (Some fault) old new so
           (record {
             outcome = has.0;
             is_outcome = has.1;
-            submits = map-append (λ (r : ReceiptData). r.op) so_far.receipts (receipts_of has.0) ∙ ap (λ (ops : List OpData). ops_in so_far.receipts ++ ops) (ops_of has.0);
+            submits = map-append (λ (r : ReceiptData). r.op) so_far.receipts (receipts_of (submitted has.0)) ∙ ap (λ (ops : List OpData). ops_in so_far.receipts ++ ops) (ops_of (submitted has.0));
             tells = refl;
           });
       own = λ is. absurd (none-some fault (sym is));
@@ -127,14 +124,3 @@ stop_of chances readers inputs jobs job placed rest first worker (stops.Refused 
     let next = next_of chances.Gives inputs jobs job placed rest so_far.receipts so_far.refused so_far.underway in
     subst (λ (i : ℕ). HasReadBefore chances inputs jobs job i × IsStopPlace inputs jobs job i) (sym is)
     (read_of chances inputs jobs job placed.index so_far.receipts so_far.refused next.taken, inl next.own)
-
-abbrev fault_in : {F : Type 0} → F → Result F Stop → F
-fault_in other (Ok fault) = fault
-fault_in other (Err stop) = other
-
--- a text that is refused has an outcome that the input may have
-pub refused_outcome : {F : Type 0} (MayGive : Outcome F → Type 0) (MayFail : Type 0) (index : ℕ) (first : Option BookFault) (late_fault : LateFault F) (fault : F) → IsLateOutcome MayGive MayFail (Err late_fault)
-    → of_late index first late_fault ≡ Ok fault → MayGive (Err fault)
-refused_outcome {F} MayGive MayFail index first (late.Refused found) fault is told = subst (λ (f : F). MayGive (Err f)) (ap (λ (r : Result F Stop). fault_in found r) told) is
-refused_outcome MayGive MayFail index first late.Unreadable fault is told = absurd cc
-refused_outcome MayGive MayFail index first late.Memory fault is told = absurd cc

@@ -7,6 +7,7 @@ pub mod Dealt
 pub mod Ended
 pub mod Everything
 pub mod Outcomes
+pub mod Parts
 pub mod Gathered
 pub mod GoingOn
 pub mod Histories
@@ -14,6 +15,7 @@ pub mod LastEntry
 pub mod Places
 pub mod Underway
 pub mod ReadAfter
+pub mod ReadWhole
 pub mod Stopped
 pub mod Submitted
 pub mod Taken

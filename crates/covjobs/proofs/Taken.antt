@@ -1,5 +1,5 @@
 -- A worker takes its inputs one after another.
-use Rattle.std.proofs.Common.{◌≡◌, ◌∙◌, ◌⊎◌, inl, inr, ℕ, zero, suc, ◌+◌, ◌<◌, Bool, true, false, IsTrue, if◌then◌else◌, List, [], ◌∷◌, ◌++◌, map, Option, Some, Result, Ok, slice_get, ap, sym, refl, subst, arith}
+use Rattle.std.proofs.Common.{◌≡◌, ◌∙◌, ◌⊎◌, inl, inr, ℕ, zero, suc, ◌+◌, ◌<◌, Bool, true, false, IsTrue, if◌then◌else◌, List, [], ◌∷◌, ◌++◌, map, Option, None, Some, slice_get, ap, sym, refl, subst, arith}
 use Rattle.std.specs.Prelude.{IsSomeAnd}
 use Rattle.std.proofs.Math.Dec.{eqb}
 use Rattle.std.proofs.lemmas.Bool.{eq-eqb, ne_eqb, false≢true}
@@ -7,15 +7,15 @@ use Rattle.std.proofs.lemmas.Bool.Decides.{eqb_tells}
 use Rattle.covline.specs.Row.{SubmissionData}
 use Rattle.covbook.specs.Op.{OpData, SubmitOp, ReceiptData}
 use Rattle.covjobs.specs.declared.refused.RefusedInput.{RefusedInput}
-use Rattle.covjobs.specs.Collect.{submitted, refusal, brought, places_of_job, submissions_of, ops_in}
+use Rattle.covjobs.specs.Collect.{OutcomeData, submitted, refusal, brought, places_of_job, submissions_of, ops_in}
 use Rattle.covjobs.specs.Work.{Takes, HasTaken}
 
 abbrev pub Outcome : Type 0 → Type 0
-Outcome F = Result SubmissionData F
+Outcome F = OutcomeData F
 
--- a submission of nothing
-abbrev pub nothing : SubmissionData
-nothing = record { sects = []; odd = 0 }
+-- nothing was read, and nothing is refused
+abbrev pub nothing : {F : Type 0} → Outcome F
+nothing {F} = record { read = []; fault = None }
 
 -- the function `old` with the value `new` at the number `at`
 abbrev pub put : {X : Type 0} → ℕ → X → (ℕ → X) → ℕ → X
@@ -64,7 +64,7 @@ map_after {X} {Y} f (x ∷ xs) ys = ap (λ (rest : List Y). f x ∷ rest) (map_a
 pub none_taken : {X F : Type 0} (Gives : X → Outcome F → Type 0) (inputs : List X) (jobs job : ℕ) (receipts : List ReceiptData) (refused : List (RefusedInput F)) → receipts ≡ [] → refused ≡ []
     → HasTaken Gives inputs jobs job 0 receipts refused
 none_taken {X} Gives inputs jobs job receipts refused no_receipts none_refused =
-    record { outcome = λ index. Ok nothing; outcomes = λ index less own. absurd (omega (arith, less)); asked = ap (λ (rs : List ReceiptData). ops_in rs) no_receipts; are_refused = none_refused }
+    record { outcome = λ index. nothing; outcomes = λ index less own. absurd (omega (arith, less)); asked = ap (λ (rs : List ReceiptData). ops_in rs) no_receipts; are_refused = none_refused }
 
 is_below : (index count : ℕ) → index < count + 1 → (index ≡ count → ⊥) → index < count
 is_below index count less apart = omega (arith, less, apart)

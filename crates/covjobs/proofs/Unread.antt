@@ -1,26 +1,21 @@
 -- The least place of an input that can't be read: all inputs before it were read, each by its own worker.
-use Rattle.std.proofs.Common.{◌≡◌, ◌∙◌, ◌⊎◌, inl, inr, ap, ℕ, zero, suc, ◌+◌, ◌<◌, ◌%◌, Bool, true, IsTrue, List, [], ◌∷◌, length, map, take, Ok, Err, slice_get, sym, refl, subst, arith}
+use Rattle.std.proofs.Common.{◌≡◌, ◌∙◌, ◌⊎◌, inl, inr, ap, ℕ, zero, suc, ◌+◌, ◌-◌, ◌^◌, ◌<◌, ◌%◌, min, Bool, true, IsTrue, List, [], ◌∷◌, length, take, Ok, Err, slice_get, sym, refl, subst, arith}
 use Rattle.std.specs.Prelude.{IsSomeAnd, ◌≤◌, if◌then◌else◌, nat_lt, false}
-use Rattle.std.specs.List.{AllByRecursion, Contains}
+use Rattle.std.specs.List.{AllByRecursion, Contains, sum_by}
 use Rattle.std.proofs.lemmas.Bool.{eq-eqb, ltb-false}
-use Rattle.std.proofs.lemmas.List.{length-map}
 use Rattle.std.proofs.lemmas.Nat.{mod_below}
 use Rattle.covbook.specs.declared.book.BookFault.{BookFault}
 use Rattle.covbook.specs.declared.book.BookFault.TheVariants as book
-use Rattle.covbook.specs.Gather.{LogData}
-use Rattle.covbook.specs.Op.{OpData, EntryData}
 use Rattle.covbook.specs.Step.{max_entries}
 use Rattle.covjobs.specs.declared.book_fault.IntoBookFault.{IntoBookFault}
 use Rattle.covjobs.specs.declared.book_fault.IntoBookFault.TheVariants as into_book
 use Rattle.covjobs.specs.declared.collect_fault.CollectFault.{CollectFault}
 use Rattle.covjobs.specs.declared.collect_fault.CollectFault.TheVariants as collects
 use Rattle.covjobs.specs.declared.readers.Readers.{Readers}
-use Rattle.covjobs.specs.declared.refused.RefusedInput.{RefusedInput}
 use Rattle.covjobs.specs.declared.stop.Stop.{Stop}
 use Rattle.covjobs.specs.declared.stop.Stop.TheVariants as stops
-use Rattle.covjobs.specs.Collect.{AreOutcomes, IsCollectedFrom, IsCollectedWith}
 use Rattle.covjobs.specs.Late.{MayCome, IsFirstUnread, IsIntoBookFault, IsUnreadFault, chances_of}
-use Rattle.covjobs.specs.Stops.{no_memory, of_refused, of_stop}
+use Rattle.covjobs.specs.Stops.{most_parts_in, no_memory, of_refused, of_stop}
 use Rattle.covjobs.specs.Work.{Chances, WorkData, HasEnded, HasOutcome, HaveEnded, IsStarted, IsUnreadAt, IsNotBefore, IsLeastUnread, IsWorstEnd}
 use Rattle.covjobs.proofs.Ended.{End}
 use Rattle.covjobs.proofs.GoingOn.{read_of}
@@ -110,54 +105,47 @@ first_unread {X} MayGive MayFail readers inputs jobs ended index some if_started
 
 -- ---- which fault is returned
 
--- the history can be full if there are inputs enough
-full_may_come : (inputs most : ℕ) (test : Bool) → nat_lt inputs most ≡ test → (Few : CollectFault → Type 0) → Few collects.NotLast → (most ≤ inputs → Few collects.Full) → Few (if test then collects.NotLast else collects.Full)
-full_may_come inputs most true is Few few many = few
-full_may_come inputs most false is Few few many = many (ltb-false inputs most is)
+-- the history can be full if there are parts enough
+full_may_come : (parts most : ℕ) (test : Bool) → nat_lt parts most ≡ test → (Few : CollectFault → Type 0) → Few collects.NotLast → (most ≤ parts → Few collects.Full) → Few (if test then collects.NotLast else collects.Full)
+full_may_come parts most true is Few few many = few
+full_may_come parts most false is Few few many = many (ltb-false parts most is)
 
-pub refused_may_come : (inputs : ℕ) (fault : BookFault) → MayCome inputs (of_refused inputs fault)
-refused_may_come inputs book.Full = full_may_come inputs max_entries (nat_lt inputs max_entries) refl (MayCome inputs) tt (λ many. many)
-refused_may_come inputs book.Memory = tt
+-- a fault of the book may come. The number of parts may have stopped at the largest number of 64 bits
+pub refused_may_come : {X : Type 0} (most : X → ℕ) (inputs : List X) (fault : BookFault) → MayCome (sum_by most inputs) (of_refused (most_parts_in most inputs) fault)
+refused_may_come most inputs book.Full =
+    let parts = most_parts_in most inputs in
+    full_may_come parts max_entries (nat_lt parts max_entries) refl (MayCome (sum_by most inputs)) tt (λ many. enough max_entries (sum_by most inputs) many)
+  where
+    enough : (all parts : ℕ) → all ≤ min parts (2 ^ 64 - 1) → all ≤ parts
+    enough all parts many = omega (arith, many)
+refused_may_come most inputs book.Memory = tt
 
 -- a fault of the book is never returned as `BadJobs`
-pub no_bad_jobs_by : (inputs : ℕ) (fault : BookFault) → of_refused inputs fault ≡ collects.BadJobs → ⊥
-no_bad_jobs_by inputs book.Full is = full_may_come inputs max_entries (nat_lt inputs max_entries) refl (λ (f : CollectFault). f ≡ collects.BadJobs → ⊥) (λ same. cc) (λ many same. cc) is
-no_bad_jobs_by inputs book.Memory is = cc
+pub no_bad_jobs_by : (parts : ℕ) (fault : BookFault) → of_refused parts fault ≡ collects.BadJobs → ⊥
+no_bad_jobs_by parts book.Full is = full_may_come parts max_entries (nat_lt parts max_entries) refl (λ (f : CollectFault). f ≡ collects.BadJobs → ⊥) (λ same. cc) (λ many same. cc) is
+no_bad_jobs_by parts book.Memory is = cc
 
-pub fault_is : {X F : Type 0} (MayGive : X → Outcome F → Type 0) (MayFail : X → Type 0) (readers : Readers) (inputs : List X) (jobs : ℕ) (ended : List (End F)) (stop : Stop) → 0 < jobs
+pub fault_is : {X F : Type 0} (MayGive : X → Outcome F → Type 0) (MayFail : X → Type 0) (most : X → ℕ) (readers : Readers) (inputs : List X) (jobs : ℕ) (ended : List (End F)) (stop : Stop) → 0 < jobs
     → (AllByRecursion IsStarted ended → HaveEnded (chances_of MayGive MayFail) (works_from inputs jobs readers 0 jobs) ended)
-    → IsWorstEnd ended stop ⊎ (stop ≡ no_memory) → IsIntoBookFault MayGive MayFail inputs (of_stop (length inputs) stop)
-fault_is MayGive MayFail readers inputs jobs ended (stops.Unread index) some done (inl least) = first_unread MayGive MayFail readers inputs jobs ended index some done least
-fault_is MayGive MayFail readers inputs jobs ended (stops.Unread index) some done (inr is) = absurd cc
-fault_is MayGive MayFail readers inputs jobs ended (stops.Refused refusal) some done worst = refused_may_come (length inputs) refusal.fault
+    → IsWorstEnd ended stop ⊎ (stop ≡ no_memory) → IsIntoBookFault MayGive MayFail most inputs (of_stop (most_parts_in most inputs) stop)
+fault_is MayGive MayFail most readers inputs jobs ended (stops.Unread index) some done (inl least) = first_unread MayGive MayFail readers inputs jobs ended index some done least
+fault_is MayGive MayFail most readers inputs jobs ended (stops.Unread index) some done (inr is) = absurd cc
+fault_is MayGive MayFail most readers inputs jobs ended (stops.Refused refusal) some done worst = refused_may_come most inputs refusal.fault
 
 abbrev collect_in : IntoBookFault → CollectFault
 collect_in (into_book.Unread index) = collects.Memory
 collect_in (into_book.Collect fault) = fault
 
-pub no_bad_jobs : (inputs : ℕ) (stop : Stop) → of_stop inputs stop ≡ into_book.Collect collects.BadJobs → ⊥
-no_bad_jobs inputs (stops.Unread index) is = cc
-no_bad_jobs inputs (stops.Refused refusal) is = no_bad_jobs_by inputs refusal.fault (ap collect_in is)
+pub no_bad_jobs : (parts : ℕ) (stop : Stop) → of_stop parts stop ≡ into_book.Collect collects.BadJobs → ⊥
+no_bad_jobs parts (stops.Unread index) is = cc
+no_bad_jobs parts (stops.Refused refusal) is = no_bad_jobs_by parts refusal.fault (ap collect_in is)
 
 -- a fault of collecting into a book tells of an input only if it is the first that can't be read
-pub unread_is : {X F : Type 0} (MayGive : X → Outcome F → Type 0) (MayFail : X → Type 0) (inputs : List X) (fault : IntoBookFault) → IsIntoBookFault MayGive MayFail inputs fault → IsUnreadFault MayGive MayFail inputs fault
-unread_is MayGive MayFail inputs (into_book.Unread index) is = is
-unread_is MayGive MayFail inputs (into_book.Collect fault) is = tt
+pub unread_is : {X F : Type 0} (MayGive : X → Outcome F → Type 0) (MayFail : X → Type 0) (most : X → ℕ) (inputs : List X) (fault : IntoBookFault) → IsIntoBookFault MayGive MayFail most inputs fault → IsUnreadFault MayGive MayFail inputs fault
+unread_is MayGive MayFail most inputs (into_book.Unread index) is = is
+unread_is MayGive MayFail most inputs (into_book.Collect fault) is = tt
 
 -- ---- inputs in memory
-
--- outcomes of inputs are outcomes of what the inputs say
-outcomes_said : {X Y F : Type 0} (Gives : Y → Outcome F → Type 0) (says : X → Y) (inputs : List X) (outcome : ℕ → Outcome F) → AreOutcomes (λ late. Gives (says late)) inputs outcome → AreOutcomes Gives (map says inputs) outcome
-outcomes_said Gives says [] outcome each index less = absurd (omega (arith, less))
-outcomes_said Gives says (late ∷ inputs) outcome each zero less = each 0 (omega arith)
-outcomes_said Gives says (late ∷ inputs) outcome each (suc index) less =
-    outcomes_said Gives says inputs (λ place. outcome (suc place)) (λ place within. each (suc place) (omega (arith, within))) index (omega (arith, less))
-
--- so what is collected from the inputs is collected from what they say
-pub collected_said : {X Y F : Type 0} (Gives : Y → Outcome F → Type 0) (says : X → Y) (inputs : List X) (jobs : ℕ) (last : OpData) (entries : List EntryData) (logs : List LogData) (refused : List (RefusedInput F))
-    → IsCollectedFrom (λ late. Gives (says late)) inputs jobs last entries logs refused → IsCollectedFrom Gives (map says inputs) jobs last entries logs refused
-collected_said Gives says inputs jobs last entries logs refused (outcome, outcomes, collected) =
-    (outcome, outcomes_said Gives says inputs outcome outcomes, subst (λ (n : ℕ). IsCollectedWith outcome n jobs last entries logs refused) (sym (length-map inputs says)) collected)
 
 -- there is no input in memory that can't be read
 pub no_unread : {X : Type 0} (inputs : List X) (index : ℕ) → IsSomeAnd (slice_get inputs index) (λ (late : X). ⊥) → ⊥

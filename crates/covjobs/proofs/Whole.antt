@@ -1,5 +1,5 @@
 -- All that the workers have done follows from one function that gives the outcome of each input.
-use Rattle.std.proofs.Common.{◌≡◌, ◌∙◌, inl, inr, ℕ, zero, suc, ◌+◌, ◌<◌, ◌%◌, Bool, true, IsTrue, List, [], ◌∷◌, length, map, Ok, slice_get, ap, sym, refl, subst, arith}
+use Rattle.std.proofs.Common.{◌≡◌, ◌∙◌, inl, inr, ℕ, zero, suc, ◌+◌, ◌<◌, ◌%◌, Bool, true, IsTrue, List, [], ◌∷◌, length, map, slice_get, ap, sym, refl, subst, arith}
 use Rattle.std.specs.Prelude.{IsSomeAnd}
 use Rattle.std.specs.List.{AllByRecursion, range_with_len}
 use Rattle.std.proofs.Math.Dec.{eqb}
@@ -21,7 +21,7 @@ works_from inputs jobs readers from count = map (work_of inputs jobs readers) (m
 
 -- the outcomes of the inputs by the k-th worker's own account, which is right for the inputs of its job
 abbrev outcomes_at : {X F : Type 0} (chances : Chances X F) (works : List (WorkData X)) (workers : List (WorkerData F)) → HaveDone chances works workers → ℕ → ℕ → Outcome F
-outcomes_at chances [] [] done k = λ index. Ok nothing
+outcomes_at chances [] [] done k = λ index. nothing
 outcomes_at chances [] (worker ∷ workers) done k = absurd done
 outcomes_at chances (work ∷ works) [] done k = absurd done
 outcomes_at chances (work ∷ works) (worker ∷ workers) done zero = done.0.taken.outcome

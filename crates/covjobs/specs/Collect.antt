@@ -1,6 +1,6 @@
--- What workers collect. Each input is read; each job submits what its inputs are read as; and after all submissions there is one
--- last operation (lcov(1), --add-tracefile, for many files at once).
-use Rattle.std.specs.Prelude.{◌≡◌, ◌⊎◌, ◌==◌, ℕ, zero, suc, ◌<◌, ◌≤◌, ◌%◌, if◌then◌else◌, Bool, true, false, List, [], ◌∷◌, ◌++◌, length, map, slice_get, IsSomeAnd, Result, Ok, Err}
+-- What workers collect. Each input is read, as a whole or in several parts; each job submits what its inputs are read as; and after
+-- all submissions there is one last operation (lcov(1), --add-tracefile, for many files at once).
+use Rattle.std.specs.Prelude.{◌≡◌, ◌⊎◌, ◌==◌, ℕ, zero, suc, ◌<◌, ◌≤◌, ◌%◌, if◌then◌else◌, Bool, true, false, List, [], ◌∷◌, ◌++◌, length, map, slice_get, IsSomeAnd, Option, None, Some, Result, Ok, Err}
 use Rattle.std.specs.List.{AllByRecursion, range_with_len}
 use Rattle.covline.specs.Lawful.{IsGoodTest}
 use Rattle.covline.specs.Row.{SubmissionData}
@@ -40,20 +40,36 @@ MayRunOut (GcovInput test text) = (length text ≤ trace.max_bytes) × IsGoodTes
 abbrev pub IsOutcomeOf : InputData → Result SubmissionData ReadFault → Type 0
 IsOutcomeOf input outcome = IsReadAs input outcome ⊎ (MayRunOut input × (outcome ≡ Err faults.Memory))
 
--- `outcome` gives an outcome of each of these inputs, by the input's place. `Gives` says which outcomes an input may have: what it is
--- read as, or why it is refused
-abbrev pub AreOutcomes : {X F : Type 0} → (Gives : X → Result SubmissionData F → Type 0) → List X → (ℕ → Result SubmissionData F) → Type 0
+-- what came of an input: the submissions that were read of it, in order; and why the rest of it is refused, if it is
+pub record OutcomeData (F : Type 0) : Type 0 where
+  pub read : List SubmissionData
+  pub fault : Option F
+
+-- the outcome of an input that is read as a whole: the submission that was read, or the fault
+abbrev pub whole : {F : Type 0} → Result SubmissionData F → OutcomeData F
+whole (Ok submission) = record { read = submission ∷ []; fault = None }
+whole (Err fault) = record { read = []; fault = Some fault }
+
+-- an outcome of an input that is read as a whole. `Gives` says what it may be read as, or why it may be refused
+abbrev pub IsReadWhole : {F : Type 0} → (Gives : Result SubmissionData F → Type 0) → OutcomeData F → Type 0
+IsReadWhole {F} Gives outcome = (result : Result SubmissionData F) × (outcome ≡ whole result) × Gives result
+
+-- `outcome` gives an outcome of each of these inputs, by the input's place. `Gives` says which outcomes an input may have
+abbrev pub AreOutcomes : {X O : Type 0} → (Gives : X → O → Type 0) → List X → (ℕ → O) → Type 0
 AreOutcomes Gives inputs outcome = (index : ℕ) → index < length inputs → IsSomeAnd (slice_get inputs index) (λ input. Gives input (outcome index))
 
--- what is submitted for an outcome: the submission that was read, or nothing
-abbrev pub submitted : {F : Type 0} → Result SubmissionData F → List SubmissionData
-submitted (Ok submission) = submission ∷ []
-submitted (Err fault) = []
+-- what is submitted for an outcome: the submissions that were read
+abbrev pub submitted : {F : Type 0} → OutcomeData F → List SubmissionData
+submitted outcome = outcome.read
 
--- what is refused for an outcome: nothing, or the input's place with its fault
-abbrev pub refusal : {F : Type 0} → ℕ → Result SubmissionData F → List (RefusedInput F)
-refusal index (Ok submission) = []
-refusal index (Err fault) = record { index = index; fault = fault } ∷ []
+-- an input's place with its fault, if it has one
+abbrev pub refused_for : {F : Type 0} → ℕ → Option F → List (RefusedInput F)
+refused_for index None = []
+refused_for index (Some fault) = record { index = index; fault = fault } ∷ []
+
+-- what is refused for an outcome: the input's place with its fault, if it has one
+abbrev pub refusal : {F : Type 0} → ℕ → OutcomeData F → List (RefusedInput F)
+refusal index outcome = refused_for index outcome.fault
 
 -- all that `bring` gives for those of the first `count` places for which `meant` is true, in ascending order of the places
 abbrev pub brought : {X : Type 0} → (meant : ℕ → Bool) → (bring : ℕ → List X) → (count : ℕ) → List X
@@ -69,11 +85,11 @@ abbrev pub places_of_job : (jobs job : ℕ) → ℕ → Bool
 places_of_job jobs job index = index % jobs == job
 
 -- the submissions of those of the first `count` inputs whose places are meant
-abbrev pub submissions_of : {F : Type 0} → (meant : ℕ → Bool) → (ℕ → Result SubmissionData F) → (count : ℕ) → List SubmissionData
+abbrev pub submissions_of : {F : Type 0} → (meant : ℕ → Bool) → (ℕ → OutcomeData F) → (count : ℕ) → List SubmissionData
 submissions_of meant outcome count = brought meant (λ index. submitted (outcome index)) count
 
 -- the refusals of those of the first `count` inputs whose places are meant
-abbrev pub refusals_of : {F : Type 0} → (meant : ℕ → Bool) → (ℕ → Result SubmissionData F) → (count : ℕ) → List (RefusedInput F)
+abbrev pub refusals_of : {F : Type 0} → (meant : ℕ → Bool) → (ℕ → OutcomeData F) → (count : ℕ) → List (RefusedInput F)
 refusals_of meant outcome count = brought meant (λ index. refusal index (outcome index)) count
 
 -- what a job asks at the end: job 0 the last operation, any other job nothing
@@ -81,7 +97,7 @@ abbrev pub last_of : (last : OpData) → (job : ℕ) → List OpData
 last_of last job = if job == 0 then last ∷ [] else []
 
 -- all that a job asks: it submits the submissions of its inputs, and job 0 then asks the last operation
-abbrev pub asked_by : {F : Type 0} → (ℕ → Result SubmissionData F) → (count jobs : ℕ) → (last : OpData) → (job : ℕ) → List OpData
+abbrev pub asked_by : {F : Type 0} → (ℕ → OutcomeData F) → (count jobs : ℕ) → (last : OpData) → (job : ℕ) → List OpData
 asked_by outcome count jobs last job = map SubmitOp (submissions_of (places_of_job jobs job) outcome count) ++ last_of last job
 
 -- the operations of a log's receipts
@@ -89,7 +105,7 @@ abbrev pub ops_in : List ReceiptData → List OpData
 ops_in receipts = map (λ (r : ReceiptData). r.op) receipts
 
 -- there is one log for each job from 0 to `jobs - 1`, in order, and each has the operations that its job asks
-abbrev pub AreJobLogs : {F : Type 0} → (ℕ → Result SubmissionData F) → (count jobs : ℕ) → (last : OpData) → List LogData → Type 0
+abbrev pub AreJobLogs : {F : Type 0} → (ℕ → OutcomeData F) → (count jobs : ℕ) → (last : OpData) → List LogData → Type 0
 AreJobLogs outcome count jobs last logs =
     (map (λ (log : LogData). log.job) logs ≡ range_with_len 0 jobs)
     × AllByRecursion (λ (log : LogData). ops_in log.receipts ≡ asked_by outcome count jobs last log.job) logs
@@ -128,7 +144,7 @@ pub record EndsWith (submissions : List SubmissionData) (last : OpData) (entries
 -- what this number of jobs collects from `count` inputs with these outcomes. The outcomes decide what the jobs ask. Nothing is said
 -- about the order in which the jobs take their turns, or about how many entries their readings count, except that a reading after a
 -- submit counts its entry. The submissions are lawful, and each reading has the totals after its number of entries
-pub record IsCollectedWith {F : Type 0} (outcome : ℕ → Result SubmissionData F) (count jobs : ℕ) (last : OpData) (entries : List EntryData) (logs : List LogData) (refused : List (RefusedInput F)) : Type 0 where
+pub record IsCollectedWith {F : Type 0} (outcome : ℕ → OutcomeData F) (count jobs : ℕ) (last : OpData) (entries : List EntryData) (logs : List LogData) (refused : List (RefusedInput F)) : Type 0 where
   pub legal : IsLegal entries
   pub lawful : AreLawfulOps (ops_of entries)
   pub merge : IsMerge entries logs
@@ -140,10 +156,15 @@ pub record IsCollectedWith {F : Type 0} (outcome : ℕ → Result SubmissionData
 
 -- what this number of jobs collects from these inputs: each input has an outcome that it may have, and this is collected with these
 -- outcomes
-abbrev pub IsCollectedFrom : {X F : Type 0} → (Gives : X → Result SubmissionData F → Type 0) → (inputs : List X) → (jobs : ℕ) → (last : OpData) → List EntryData → List LogData → List (RefusedInput F) → Type 0
+abbrev pub IsCollectedFrom : {X F : Type 0} → (Gives : X → OutcomeData F → Type 0) → (inputs : List X) → (jobs : ℕ) → (last : OpData) → List EntryData → List LogData → List (RefusedInput F) → Type 0
 IsCollectedFrom {X} {F} Gives inputs jobs last entries logs refused =
-    (outcome : ℕ → Result SubmissionData F) × AreOutcomes Gives inputs outcome × IsCollectedWith outcome (length inputs) jobs last entries logs refused
+    (outcome : ℕ → OutcomeData F) × AreOutcomes Gives inputs outcome × IsCollectedWith outcome (length inputs) jobs last entries logs refused
+
+-- the same for inputs that are read as a whole. `Gives` says what an input may be read as, or why it may be refused
+abbrev pub IsCollectedWhole : {X F : Type 0} → (Gives : X → Result SubmissionData F → Type 0) → (inputs : List X) → (jobs : ℕ) → (last : OpData) → List EntryData → List LogData → List (RefusedInput F) → Type 0
+IsCollectedWhole {X} {F} Gives inputs jobs last entries logs refused =
+    (outcome : ℕ → Result SubmissionData F) × AreOutcomes Gives inputs outcome × IsCollectedWith (λ index. whole (outcome index)) (length inputs) jobs last entries logs refused
 
 -- the same for inputs in memory
 abbrev pub IsCollected : (inputs : List InputData) → (jobs : ℕ) → (last : OpData) → List EntryData → List LogData → List (RefusedInput ReadFault) → Type 0
-IsCollected inputs jobs last entries logs refused = IsCollectedFrom IsOutcomeOf inputs jobs last entries logs refused
+IsCollected inputs jobs last entries logs refused = IsCollectedWhole IsOutcomeOf inputs jobs last entries logs refused

@@ -1,5 +1,6 @@
 -- Private steps: where a worker stops, and which fault is returned for that.
-use Rattle.std.specs.Prelude.{◌≡◌, ℕ, min, if◌then◌else◌, nat_lt, Option, None, Some, Result, Ok, Err}
+use Rattle.std.specs.List.{sum_by}
+use Rattle.std.specs.Prelude.{◌≡◌, ℕ, ◌-◌, ◌^◌, List, min, if◌then◌else◌, nat_lt, Option, None, Some, Result, Ok, Err}
 use Rattle.covbook.specs.declared.book.BookFault.{BookFault}
 use Rattle.covbook.specs.declared.book.BookFault.TheVariants as book
 use Rattle.covbook.specs.Step.{max_entries}
@@ -13,16 +14,20 @@ use Rattle.covjobs.specs.declared.stop.Refusal.{Refusal}
 use Rattle.covjobs.specs.declared.stop.Stop.{Stop}
 use Rattle.covjobs.specs.declared.stop.Stop.TheVariants as stops
 
--- which fault of collecting is returned if the book refused a call. With fewer inputs than `max_entries` the history never gets
+-- which fault of collecting is returned if the book refused a call. With fewer parts than `max_entries` the history never gets
 -- full: `NotLast` stands for that case
-abbrev pub of_refused : (inputs : ℕ) → BookFault → CollectFault
-of_refused inputs book.Full = if nat_lt inputs max_entries then collects.NotLast else collects.Full
-of_refused inputs book.Memory = collects.Memory
+abbrev pub of_refused : (most_parts : ℕ) → BookFault → CollectFault
+of_refused most_parts book.Full = if nat_lt most_parts max_entries then collects.NotLast else collects.Full
+of_refused most_parts book.Memory = collects.Memory
 
--- which fault is returned for a stop. `inputs` is the number of inputs
-abbrev pub of_stop : (inputs : ℕ) → Stop → IntoBookFault
-of_stop inputs (stops.Unread index) = Unread index
-of_stop inputs (stops.Refused refusal) = Collect (of_refused inputs refusal.fault)
+-- which fault is returned for a stop. The inputs have this number of parts at most
+abbrev pub of_stop : (most_parts : ℕ) → Stop → IntoBookFault
+of_stop most_parts (stops.Unread index) = Unread index
+of_stop most_parts (stops.Refused refusal) = Collect (of_refused most_parts refusal.fault)
+
+-- the most parts that all inputs together can have, or the largest number of 64 bits if there are more
+abbrev pub most_parts_in : {X : Type 0} → (most : X → ℕ) → List X → ℕ
+most_parts_in most inputs = min (sum_by most inputs) (2 ^ 64 - 1)
 
 -- memory was refused before a job read its first input
 abbrev pub no_memory : Stop

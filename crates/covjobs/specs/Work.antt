@@ -1,5 +1,5 @@
 -- One step of a worker, and what all workers have done.
-use Rattle.std.specs.Prelude.{◌≡◌, ◌⊎◌, ℕ, ◌+◌, ◌<◌, ◌≤◌, Bool, true, false, IsTrue, List, [], ◌∷◌, ◌++◌, length, map, slice_get, IsSomeAnd, Result, Ok, Err}
+use Rattle.std.specs.Prelude.{◌≡◌, ◌⊎◌, ℕ, ◌+◌, ◌<◌, ◌≤◌, Bool, true, false, IsTrue, List, [], ◌∷◌, ◌++◌, length, map, slice_get, IsSomeAnd, IfSome, Option, None, Some, Result, Ok, Err}
 use Rattle.std.specs.List.{AllByRecursion, Contains, flat_map}
 use Rattle.covline.specs.Row.{SubmissionData}
 use Rattle.covbook.specs.declared.book.BookFault.{BookFault}
@@ -12,16 +12,32 @@ use Rattle.covjobs.specs.declared.readers.Readers.{Readers}
 use Rattle.covjobs.specs.declared.readers.Readers.TheVariants as readers
 use Rattle.covjobs.specs.declared.stop.Stop.{Stop}
 use Rattle.covjobs.specs.declared.stop.Stop.TheVariants as stops
-use Rattle.covjobs.specs.Collect.{submitted, refusal, places_of_job, submissions_of, refusals_of, ops_in, HasRead}
+use Rattle.covjobs.specs.Collect.{OutcomeData, whole, submitted, refusal, places_of_job, submissions_of, refusals_of, ops_in, HasRead}
 use Rattle.covlock.specs.Seat.{SeatData}
 
--- an input is taken: its submission is appended to the operations that were asked, or its refusal to the refused inputs. `Gives`
--- says which outcomes the input may have
-pub record Takes {F : Type 0} (Gives : Result SubmissionData F → Type 0) (index : ℕ) (asked asks : List OpData) (refused refuses : List (RefusedInput F)) : Type 0 where
-  pub outcome : Result SubmissionData F
+-- an input is taken: its submissions are appended to the operations that were asked, and its refusal to the refused inputs, if it
+-- is refused. `Gives` says which outcomes the input may have
+pub record Takes {F : Type 0} (Gives : OutcomeData F → Type 0) (index : ℕ) (asked asks : List OpData) (refused refuses : List (RefusedInput F)) : Type 0 where
+  pub outcome : OutcomeData F
   pub is_outcome : Gives outcome
   pub submits : asks ≡ asked ++ map SubmitOp (submitted outcome)
   pub tells : refuses ≡ refused ++ refusal index outcome
+
+-- the outcomes that an input may still have: those of what is left of it, or only the one with nothing more
+abbrev pub GivesLeft : {X F : Type 0} → (Gives : X → OutcomeData F → Type 0) → (left : Option X) → OutcomeData F → Type 0
+GivesLeft Gives None = λ outcome. outcome ≡ record { read = []; fault = None }
+GivesLeft Gives (Some rest) = Gives rest
+
+-- an outcome with one more submission in front of the others
+abbrev pub in_front : {F : Type 0} → SubmissionData → OutcomeData F → OutcomeData F
+in_front submission outcome = record { read = submission ∷ outcome.read; fault = outcome.fault }
+
+-- a part of an input is read as a submission or a fault, and this is left of the input: whatever the rest gives, the input may give
+-- with the part in front. Nothing is left after a fault
+abbrev pub IsPartOf : {X F : Type 0} → (Gives : X → OutcomeData F → Type 0) → (input : X) → (part : Result SubmissionData F) → (left : Option X) → Type 0
+IsPartOf Gives input part None = Gives input (whole part)
+IsPartOf {X} {F} Gives input (Ok submission) (Some rest) = (outcome : OutcomeData F) → Gives rest outcome → Gives input (in_front submission outcome)
+IsPartOf Gives input (Err fault) (Some rest) = ⊥
 
 -- an operation is asked: its receipt is appended to the job's receipts, and `seen` is the place after the receipt's
 pub record Asks (receipts after : List ReceiptData) (seen : ℕ) (op : OpData) : Type 0 where
@@ -66,13 +82,29 @@ work_of inputs jobs readers seat = record { inputs = inputs; jobs = jobs; job = 
 
 -- which outcomes an input may have, and whether it may turn out that it can't be read
 pub record Chances (X F : Type 0) : Type 1 where
-  pub Gives : X → Result SubmissionData F → Type 0
+  pub Gives : X → OutcomeData F → Type 0
   pub MayFail : X → Type 0
+
+-- an input was read: it had an outcome
+abbrev pub HasOutcome : {F : Type 0} → (Gives : OutcomeData F → Type 0) → Type 0
+HasOutcome {F} Gives = (outcome : OutcomeData F) × Gives outcome
+
+-- a worker has come from `old` to `new` while it read parts of an input, and this is left of the input. `first` was the first fault
+-- of a refused call or list before these parts, and `fault` is the first one after them. As long as there is none, all parts are
+-- taken: with an outcome of what is left, the worker takes the input
+pub record IsReading {X F : Type 0} (chances : Chances X F) (index : ℕ) (input : X) (first : Option BookFault) (old : WorkerData F) (left : Option X) (fault : Option BookFault) (new : WorkerData F) : Type 0 where
+  pub outcome : HasOutcome (GivesLeft chances.Gives left) → HasOutcome (chances.Gives input)
+  pub fails : IfSome left (λ rest. chances.MayFail rest → chances.MayFail input)
+  pub well : fault ≡ None → first ≡ None
+  pub kept : IfSome first (λ f. fault ≡ Some f)
+  pub taken : fault ≡ None → (asks : List OpData) → (refuses : List (RefusedInput F)) → Takes (GivesLeft chances.Gives left) index (ops_in new.receipts) asks new.refused refuses
+      → Takes (chances.Gives input) index (ops_in old.receipts) asks old.refused refuses
+  pub read : fault ≡ None → HasRead old.has_reader old.receipts old.readings → HasRead new.has_reader new.receipts new.readings
 
 -- what a job has done with those of the first `count` inputs that are its own: its receipts are those of the submits of what was
 -- read, and the inputs that weren't accepted are refused
-pub record HasTaken {X F : Type 0} (Gives : X → Result SubmissionData F → Type 0) (inputs : List X) (jobs job count : ℕ) (receipts : List ReceiptData) (refused : List (RefusedInput F)) : Type 0 where
-  pub outcome : ℕ → Result SubmissionData F
+pub record HasTaken {X F : Type 0} (Gives : X → OutcomeData F → Type 0) (inputs : List X) (jobs job count : ℕ) (receipts : List ReceiptData) (refused : List (RefusedInput F)) : Type 0 where
+  pub outcome : ℕ → OutcomeData F
   pub outcomes : (index : ℕ) → index < count → IsTrue (places_of_job jobs job index) → IsSomeAnd (slice_get inputs index) (λ input. Gives input (outcome index))
   pub asked : ops_in receipts ≡ map SubmitOp (submissions_of (places_of_job jobs job) outcome count)
   pub are_refused : refused ≡ refusals_of (places_of_job jobs job) outcome count
@@ -83,10 +115,6 @@ pub record HasDone {X F : Type 0} (chances : Chances X F) (work : WorkData X) (w
   pub taken : HasTaken chances.Gives work.inputs work.jobs work.job (length work.inputs) worker.receipts worker.refused
   pub read : HasRead worker.has_reader worker.receipts worker.readings
   pub reader : MayHaveReader work.readers worker.has_reader
-
--- an input was read: it had an outcome
-abbrev pub HasOutcome : {F : Type 0} → (Gives : Result SubmissionData F → Type 0) → Type 0
-HasOutcome {F} Gives = (outcome : Result SubmissionData F) × Gives outcome
 
 -- a worker has read its inputs at all places before this one
 abbrev pub HasReadBefore : {X F : Type 0} → Chances X F → (inputs : List X) → (jobs job index : ℕ) → Type 0

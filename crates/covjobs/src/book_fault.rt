@@ -98,23 +98,23 @@ impl From<GatherFault> for IntoBookFault {
 ghost use Rattle.std.specs.Prelude.{◌≡◌};
 ghost use Rattle.covjobs.specs.Stops.{of_refused, of_stop};
 
-/// The fault that is returned for a stop. `inputs` is the number of inputs.
-pub(crate) fn fault_of(inputs: usize, stop: Stop) -> IntoBookFault
-    ensures { result ≡ of_stop inputs stop }
+/// The fault that is returned for a stop. The inputs have this number of parts at most.
+pub(crate) fn fault_of(most_parts: u64, stop: Stop) -> IntoBookFault
+    ensures { result ≡ of_stop most_parts stop }
 {
     match stop {
         Stop::Unread(index) => IntoBookFault::Unread { index },
-        Stop::Refused(refusal) => IntoBookFault::Collect(refused_by(inputs, refusal.fault)),
+        Stop::Refused(refusal) => IntoBookFault::Collect(refused_by(most_parts, refusal.fault)),
     }
 }
 
-/// The fault of collecting that is returned for a fault of the book. `inputs` is the number of inputs. A full history needs at
-/// least as many inputs as it has entries. `NotLast` stands for a full history with fewer inputs, which never happens.
-pub(crate) fn refused_by(inputs: usize, fault: BookFault) -> CollectFault
-    ensures { result ≡ of_refused inputs fault }
+/// The fault of collecting that is returned for a fault of the book. The inputs have this number of parts at most. A full history
+/// needs at least as many parts as it has entries. `NotLast` stands for a full history with fewer parts, which never happens.
+pub(crate) fn refused_by(most_parts: u64, fault: BookFault) -> CollectFault
+    ensures { result ≡ of_refused most_parts fault }
 {
     match fault {
-        BookFault::Full => if (inputs as u64) < MAX_ENTRIES {
+        BookFault::Full => if most_parts < MAX_ENTRIES {
             CollectFault::NotLast
         } else {
             CollectFault::Full

@@ -21,8 +21,8 @@ pub enum CollectFault {
     /// Fault 4: the history can't be gathered from the jobs' logs: it isn't a merge of them, or a reading is wrong.
     #[error("gather: {0}")]
     Gather(GatherFault),
-    /// Fault 5: there is an entry after that of the last operation. This is tested last. It also stands for a full history with
-    /// fewer inputs than a full history has entries, which never happens.
+    /// Fault 5: there is an entry after that of the last operation. This is tested last. It also stands for a full history of
+    /// inputs with fewer parts than a full history has entries, which never happens.
     #[error("NotLast")]
     NotLast,
 }

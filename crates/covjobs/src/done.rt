@@ -11,7 +11,7 @@ ghost use Rattle.covlock.specs.Seat.{first_seats};
 
 use crate::book_fault::{IntoBookFault, fault_of};
 use crate::gate::Gate;
-use crate::late::LateInput;
+use crate::late::{LateInput, most_parts_of};
 use crate::readers::Readers;
 use crate::shares::{Dealt, deal};
 use crate::stop::{Refusal, Stop, both, lesser, worst};
@@ -45,16 +45,16 @@ pub(crate) fn all_done<
     requires some { 0 < jobs }
     requires seats { seats ≡ first_seats jobs }
     ensures done { IfOk result (λ workers. HaveDone (chances_of T.may_give T.may_fail) (map (work_of inputs.items jobs readers) (first_seats jobs)) workers.items) }
-    ensures unread { IfErr result (IsIntoBookFault T.may_give T.may_fail inputs.items) }
+    ensures unread { IfErr result (IsIntoBookFault T.may_give T.may_fail T.most inputs.items) }
     ensures jobs_are_good { result ≡ Err (into_book.Collect faults.BadJobs) → ⊥ }
 {
-    let count = inputs.len();
+    let most_parts = most_parts_of(inputs.as_slice());
     let dealt = deal(alloc, inputs, jobs)?;
     let Dealt { inputs, shares } = dealt;
     let ended = do_all_work(rt, alloc, book, gate, seats, jobs, readers, &inputs, shares)?;
     match all_well(alloc, ended) {
         Ok(workers) => Ok(workers),
-        Err(stop) => Err(fault_of(count, stop)),
+        Err(stop) => Err(fault_of(most_parts, stop)),
     }
 }
 

@@ -4,7 +4,7 @@ use crate::book_fault::{IntoBookFault, refused_by};
 use crate::collect_fault::CollectFault;
 use crate::done::all_done;
 use crate::gate::Gate;
-use crate::late::LateInput;
+use crate::late::{LateInput, most_parts_of};
 use crate::readers::Readers;
 use crate::refused::Refused;
 use crate::worker::Worker;
@@ -43,15 +43,16 @@ ghost use Rattle.covjobs.specs.Work.{kept_of, seats_in, refused_in};
 ghost use Rattle.covlock.specs.Start.{AreJobs};
 
 /// Collects inputs as `collect` does, but keeps no history and no logs in memory, and no job reads the totals. Each worker reads
-/// an input when its turn comes, and frees it before it submits what was read.
+/// an input when its turn comes, part by part: it submits each part before it reads the next one, and frees the input before it
+/// submits the last part. A fault refuses the input, and the parts before the fault stay submitted.
 ///
 /// What `collect` promises holds of the book's history once a text is asked for. Whichever text job 0 asks for next, there are
 /// logs of the jobs that make the history with this last entry a result of `collect`. There is room for that entry.
 /// `Book::text_of` returns the text.
 ///
 /// Faults: those of `collect` except `Gather`, and `Unread` with the first input that can't be read. If that input is known,
-/// `Unread` is returned before `Full` and `Memory`. `Full` is returned only if there are at least 1,048,576 inputs. `NotLast` is
-/// returned if a worker knows of more entries than the closed book has, or if the book is full although there are fewer inputs.
+/// `Unread` is returned before `Full` and `Memory`. `Full` is returned only if the inputs can have at least 1,048,576 parts. `NotLast`
+/// is returned if a worker knows of more entries than the closed book has, or if the book is full although there are fewer parts.
 /// Neither happens. No contract says that `Memory` is returned only if memory was refused.
 pub fn collect_into_book<
     R: Threads + Wait + Sync,
@@ -66,7 +67,7 @@ pub fn collect_into_book<
 ) -> Result<CollectedBook<T::Fault>, IntoBookFault>
     ensures collected { IfOk result (λ c. IsCollectedSoFar T.may_give inputs.items jobs c.book.entries c.refused) }
     ensures not_full { IfOk result (λ c. length c.book.entries < max_entries) }
-    ensures unread { IfErr result (IsIntoBookFault T.may_give T.may_fail inputs.items) }
+    ensures unread { IfErr result (IsIntoBookFault T.may_give T.may_fail T.most inputs.items) }
     ensures bad { (result ≡ Err (into_book.Collect faults.BadJobs)) ↔ (AreJobs jobs → ⊥) }
 {
     let start = Start::new(alloc, jobs)?;
@@ -94,10 +95,10 @@ fn collect_named<
     requires some { 0 < jobs }
     ensures collected { IfOk result (λ c. IsCollectedSoFar T.may_give inputs.items jobs c.book.entries c.refused) }
     ensures not_full { IfOk result (λ c. length c.book.entries < max_entries) }
-    ensures unread { IfErr result (IsIntoBookFault T.may_give T.may_fail inputs.items) }
+    ensures unread { IfErr result (IsIntoBookFault T.may_give T.may_fail T.most inputs.items) }
     ensures jobs_are_good { result ≡ Err (into_book.Collect faults.BadJobs) → ⊥ }
 {
-    let count = inputs.len();
+    let most_parts = most_parts_of(inputs.as_slice());
     let (book, seats) = open_book_keeping::<L, Global, Answered>(alloc, start)?;
     let workers: Vec<Worker<L, Global, Snapshot<Receipt>, T::Fault>> = all_done(
         rt,
@@ -119,7 +120,7 @@ fn collect_named<
         return Err(IntoBookFault::Collect(CollectFault::NotLast));
     }
     if book.is_full() {
-        return Err(IntoBookFault::Collect(refused_by(count, BookFault::Full)));
+        return Err(IntoBookFault::Collect(refused_by(most_parts, BookFault::Full)));
     }
     calls_count_a_history();
     a_run_goes_on();

@@ -2,65 +2,100 @@
 
 use crate::input::Input;
 use crate::late_fault::LateFault;
-use covbook::SubRef;
+use crate::part::Part;
 use covread::ReadFault;
 use std::alloc::Allocator;
 
-/// An input that a worker reads when its turn comes, such as a file. Reading consumes the input: what it holds is freed, or goes
-/// back to its owner, before anything is submitted.
+/// An input that a worker reads when its turn comes, such as a file. It is read in one part or in several, each of which is a
+/// submission of its own. Reading consumes the input: what it holds is freed, or goes back to its owner, before its last part is
+/// submitted.
 pub trait LateInput<A: Allocator>: Drop {
-    ghost use Rattle.std.specs.Prelude.{Result};
-    ghost use Rattle.covline.specs.Row.{SubmissionData};
-    ghost use Rattle.covjobs.specs.Late.{IsLateOutcome};
+    ghost use Rattle.std.specs.Prelude.{◌≡◌, ℕ};
+    ghost use Rattle.covjobs.specs.Collect.{OutcomeData};
+    ghost use Rattle.covjobs.specs.Late.{IsNextPart};
 
-    // Which outcomes the input may have: what it may be read as, or why it may be refused.
-    ghost may_give: { Self → Result SubmissionData Self.Fault → Type 0 };
+    // Which outcomes the input may have: what may be read of it, and why the rest of it may be refused.
+    ghost may_give: { Self → OutcomeData Self.Fault → Type 0 };
 
     // Whether the input may turn out to be unreadable.
     ghost may_fail: { Self → Type 0 };
 
+    // The most parts that the input can have.
+    ghost most: { Self → ℕ };
+
     /// Why the input's text is refused.
     type Fault: Drop;
 
-    /// Reads the input. Returns what it holds, ready to be submitted.
-    fn read_late(self, alloc: A) -> Result<SubRef<A>, LateFault<Self::Fault>>
-        ensures { IsLateOutcome (may_give self) (may_fail self) result };
+    /// Reads the next part of the input. Returns what it holds, ready to be submitted, and the rest of the input if this isn't the
+    /// last part. A fault ends the input.
+    fn read_part(self, alloc: A) -> Result<Part<Self, A>, LateFault<Self::Fault>>
+        ensures { IsNextPart may_give may_fail most self result };
+
+    /// The most parts that the input can have.
+    fn most_parts(&self) -> u64
+        ensures { result ≡ most self.now };
 }
 
-/// An input that is already in memory. It is freed once it is read.
+/// An input that is already in memory. It has one part, and is freed once it is read.
 impl<A: Allocator + Copy> LateInput<A> for Input<A> {
-    ghost use Rattle.covjobs.specs.Collect.{IsOutcomeOf};
+    ghost use Rattle.covjobs.specs.Collect.{IsOutcomeOf, IsReadWhole};
     ghost use Rattle.covjobs.specs.InputView.{input_data};
 
-    ghost may_give = { λ late. IsOutcomeOf (input_data late) };
+    ghost may_give = { λ late. IsReadWhole (IsOutcomeOf (input_data late)) };
 
     ghost may_fail = { λ late. ⊥ };
 
+    ghost most = { λ late. 1 };
+
     type Fault = ReadFault;
 
-    fn read_late(self, alloc: A) -> Result<SubRef<A>, LateFault> {
+    fn read_part(self, alloc: A) -> Result<Part<Self, A>, LateFault> {
         match self.read(alloc) {
-            Ok(submission) => Ok(submission),
+            Ok(submission) => Ok(Part::Last(submission)),
             Err(fault) => Err(LateFault::Refused(fault)),
         }
+    }
+
+    fn most_parts(&self) -> u64 {
+        1
     }
 }
 
-/// A borrowed input that is already in memory. Its owner keeps it.
+/// A borrowed input that is already in memory. It has one part, and its owner keeps it.
 impl<'a, A: Allocator + Copy> LateInput<A> for &'a Input<A> {
-    ghost use Rattle.covjobs.specs.Collect.{IsOutcomeOf};
+    ghost use Rattle.covjobs.specs.Collect.{IsOutcomeOf, IsReadWhole};
     ghost use Rattle.covjobs.specs.InputView.{input_data};
 
-    ghost may_give = { λ late. IsOutcomeOf (input_data late.now) };
+    ghost may_give = { λ late. IsReadWhole (IsOutcomeOf (input_data late.now)) };
 
     ghost may_fail = { λ late. ⊥ };
 
+    ghost most = { λ late. 1 };
+
     type Fault = ReadFault;
 
-    fn read_late(self, alloc: A) -> Result<SubRef<A>, LateFault> {
+    fn read_part(self, alloc: A) -> Result<Part<Self, A>, LateFault> {
         match Input::read(self, alloc) {
-            Ok(submission) => Ok(submission),
+            Ok(submission) => Ok(Part::Last(submission)),
             Err(fault) => Err(LateFault::Refused(fault)),
         }
     }
+
+    fn most_parts(&self) -> u64 {
+        1
+    }
+}
+
+ghost use Rattle.std.specs.Prelude.{◌≡◌};
+ghost use Rattle.covjobs.specs.Stops.{most_parts_in};
+
+/// The most parts that all inputs together can have. The sum stops at the largest number of 64 bits.
+pub(crate) fn most_parts_of<A: Allocator, T: LateInput<A>>(inputs: &[T]) -> u64
+    ensures { result ≡ most_parts_in T.most inputs.now }
+{
+    let mut most: u64 = 0;
+    for input in inputs {
+        most = most.saturating_add(input.most_parts());
+    }
+    most
 }

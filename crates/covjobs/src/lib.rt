@@ -10,7 +10,8 @@
 //! `collect` does all of this for texts that are already in memory. It opens a book. Each job reads its share of the inputs and
 //! submits them: one job on the calling thread, several in a thread each. Then `collect` performs a last operation, closes the
 //! book, and gathers the history from the jobs' logs. `collect_owned` does the same, and frees each text once it is read.
-//! `collect_into_book` keeps no history and no logs: it returns the book. Its inputs are read when their turn comes (`LateInput`).
+//! `collect_into_book` keeps no history and no logs: it returns the book. Its inputs are read when their turn comes, each in one part
+//! or in several (`LateInput`).
 //!
 //! This crate also re-exports what a thread asks (`Op`) and what it keeps (`Receipt` and `Reading`, in a `JobLog`), and `gather`,
 //! which checks that the logs fit the closed history (`Entries`). All of this is covbook's. So a user needs only this crate.
@@ -44,6 +45,7 @@ mod input;
 mod into_book;
 mod late;
 mod late_fault;
+mod part;
 mod readers;
 mod refused;
 mod shares;
@@ -66,4 +68,5 @@ pub use input::Input;
 pub use into_book::{CollectedBook, collect_into_book};
 pub use late::LateInput;
 pub use late_fault::LateFault;
+pub use part::Part;
 pub use refused::{Refused, RefusedInput};

@@ -3,6 +3,7 @@
 use crate::gate::Gate;
 use crate::late::LateInput;
 use crate::late_fault::LateFault;
+use crate::part::Part;
 use crate::readers::Readers;
 use crate::refused::{Refused, RefusedInput};
 use crate::shares::Placed;
@@ -49,12 +50,13 @@ impl<L: Name, A: Allocator, P: Keep<Of = Receipt<A>>, F: Drop> Model for Worker<
 }
 
 impl<L: Name, A: Allocator + Copy, P: Keep<Of = Receipt<A>>, F: Drop> Worker<L, A, P, F> {
-    ghost use Rattle.std.specs.Prelude.{◌≡◌, ◌++◌, [], ◌∷◌, None, Some, IfOk, IfErr, IfSome, is_some, length, map};
+    ghost use Rattle.std.specs.Prelude.{◌≡◌, ◌<◌, ◌++◌, [], ◌∷◌, None, Some, IfOk, IfErr, IfSome, is_some, length, map};
     ghost use Rattle.covbook.specs.Op.{SubmitOp};
     ghost use Rattle.covbook.specs.View.{op_data};
-    ghost use Rattle.covjobs.specs.Collect.{ops_in, refusal, submitted, HasRead};
+    ghost use Rattle.covjobs.specs.Collect.{ops_in, refusal, submitted, whole, HasRead};
+    ghost use Rattle.covjobs.specs.Late.{chances_of};
     ghost use Rattle.covjobs.specs.Stops.{IsStopAt};
-    ghost use Rattle.covjobs.specs.Work.{Asks, HasOutcome, ReadsOn, Takes};
+    ghost use Rattle.covjobs.specs.Work.{Asks, HasOutcome, IsReading, ReadsOn, Takes};
     ghost use Rattle.covlock.specs.Seat.{fresh_seat};
 
     /// The job's worker, which has done nothing yet.
@@ -76,9 +78,9 @@ impl<L: Name, A: Allocator + Copy, P: Keep<Of = Receipt<A>>, F: Drop> Worker<L, 
         }
     }
 
-    /// Reads the input. `first` is the first fault of a refused call or list so far. If it is `None`, submits what was read, or
-    /// notes that the text is refused. Returns the first fault after this input. The input is consumed before anything is
-    /// submitted.
+    /// Reads the input, part by part. `first` is the first fault of a refused call or list so far. As long as there is none, submits
+    /// each part before it reads the next one, and notes if the text is refused. Returns the first fault after this input. The
+    /// input is consumed before its last part is submitted.
     fn go_on<R: Wait, G: Gate, T: LateInput<A, Fault = F>, K: Keep<Of = Entry<A>>>(
         &mut self,
         rt: &R,
@@ -96,15 +98,43 @@ impl<L: Name, A: Allocator + Copy, P: Keep<Of = Receipt<A>>, F: Drop> Worker<L, 
         ensures read { IfOk result (λ fault. fault ≡ None → HasRead self.old.has_reader self.old.receipts self.old.readings → HasRead self.new.has_reader self.new.receipts self.new.readings) }
         ensures reader { self.new.has_reader ≡ self.old.has_reader }
     {
-        let index = placed.index;
-        let outcome = outcome_of(alloc, placed, first)?;
+        let Placed { index, input } = placed;
+        let mut fault = first;
+        let mut left = Some(input);
+        while let Some(input) = left {
+            let (rest, after) = self.take_part(rt, alloc, book, gate, index, input, fault)?;
+            left = rest;
+            fault = after;
+        }
+        Ok(fault)
+    }
+
+    /// Reads the next part of the input. `first` is the first fault of a refused call or list so far. If it is `None`, submits the
+    /// part, or notes that the text is refused. Returns the rest of the input, and the first fault after this part.
+    fn take_part<R: Wait, G: Gate, T: LateInput<A, Fault = F>, K: Keep<Of = Entry<A>>>(
+        &mut self,
+        rt: &R,
+        alloc: A,
+        book: &Shared<L, A, K>,
+        gate: &G,
+        index: usize,
+        input: T,
+        first: Option<BookFault>,
+    ) -> Result<(Option<T>, Option<BookFault>), Stop>
+        ensures job { self.new.seat.job ≡ self.old.seat.job }
+        ensures reader { self.new.has_reader ≡ self.old.has_reader }
+        ensures reading { IfOk result (λ r. IsReading (chances_of T.may_give T.may_fail) index input first self.old r.0 r.1 self.new) }
+        ensures fewer { IfOk result (λ r. IfSome r.0 (λ rest. T.most rest < T.most input)) }
+        ensures stop { IfErr result (IsStopAt index (T.may_fail input)) }
+    {
+        let (part, rest) = next_part(alloc, index, input, first)?;
         match first {
-            Some(fault) => Ok(Some(fault)),
-            None => Ok(self.take(rt, alloc, book, gate, index, outcome).err()),
+            Some(fault) => Ok((rest, Some(fault))),
+            None => Ok((rest, self.take(rt, alloc, book, gate, index, part).err())),
         }
     }
 
-    /// Takes an input with this outcome: submits what was read, or notes that the text is refused.
+    /// Takes a part of an input: submits what was read, or notes that the text is refused.
     fn take<R: Wait, G: Gate, K: Keep<Of = Entry<A>>>(
         &mut self,
         rt: &R,
@@ -112,15 +142,15 @@ impl<L: Name, A: Allocator + Copy, P: Keep<Of = Receipt<A>>, F: Drop> Worker<L, 
         book: &Shared<L, A, K>,
         gate: &G,
         index: usize,
-        outcome: Result<SubRef<A>, F>,
+        part: Result<SubRef<A>, F>,
     ) -> Result<(), BookFault>
         ensures job { self.new.seat.job ≡ self.old.seat.job }
-        ensures submits { IfOk result (λ _. ops_in self.new.receipts ≡ ops_in self.old.receipts ++ map SubmitOp (submitted outcome)) }
-        ensures tells { IfOk result (λ _. self.new.refused ≡ self.old.refused ++ refusal index outcome) }
+        ensures submits { IfOk result (λ _. ops_in self.new.receipts ≡ ops_in self.old.receipts ++ map SubmitOp (submitted (whole part))) }
+        ensures tells { IfOk result (λ _. self.new.refused ≡ self.old.refused ++ refusal index (whole part)) }
         ensures read { IfOk result (λ _. HasRead self.old.has_reader self.old.receipts self.old.readings → HasRead self.new.has_reader self.new.receipts self.new.readings) }
         ensures reader { self.new.has_reader ≡ self.old.has_reader }
     {
-        match outcome {
+        match part {
             Ok(submission) => self.submit(rt, alloc, book, gate, submission),
             Err(fault) => Ok(self.refuse(RefusedInput { index, fault })?),
         }
@@ -280,7 +310,7 @@ impl<L: Name, A: Allocator> Worker<L, A> {
 ghost use Rattle.std.specs.Prelude.{is_some};
 ghost use Rattle.covjobs.specs.Late.{chances_of};
 ghost use Rattle.covjobs.specs.Shares.{share_of};
-ghost use Rattle.covjobs.specs.Work.{HasEnded, MayHaveReader, work_of};
+ghost use Rattle.covjobs.specs.Work.{HasEnded, IsPartOf, MayHaveReader, work_of};
 ghost use Rattle.covlock.specs.Seat.{fresh_seat};
 
 /// Does the work of one of `jobs` jobs: takes the job's share of the inputs, in order. After the first call or list that is
@@ -324,22 +354,26 @@ pub(crate) fn work<
     }
 }
 
-ghost use Rattle.std.specs.Prelude.{IfErr};
+ghost use Rattle.std.specs.Prelude.{IfErr, IfSome};
 ghost use Rattle.covjobs.specs.Stops.{IsStopAt, of_late};
 
-/// What the input is read as, or where the job stops. `first` is the first fault of a refused call or list.
-fn outcome_of<A: Allocator, T: LateInput<A>>(
+/// What the next part of the input is read as, and the rest of the input; or where the job stops. `first` is the first fault of a
+/// refused call or list.
+fn next_part<A: Allocator, T: LateInput<A>>(
     alloc: A,
-    placed: Placed<T>,
+    index: usize,
+    input: T,
     first: Option<BookFault>,
-) -> Result<Result<SubRef<A>, T::Fault>, Stop>
-    ensures outcome { IfOk result (T.may_give placed.input) }
-    ensures stop { IfErr result (IsStopAt placed.index (T.may_fail placed.input)) }
+) -> Result<(Result<SubRef<A>, T::Fault>, Option<T>), Stop>
+    ensures part { IfOk result (λ r. IsPartOf T.may_give input r.0 r.1) }
+    ensures fails { IfOk result (λ r. IfSome r.1 (λ rest. T.may_fail rest → T.may_fail input)) }
+    ensures fewer { IfOk result (λ r. IfSome r.1 (λ rest. T.most rest < T.most input)) }
+    ensures stop { IfErr result (IsStopAt index (T.may_fail input)) }
 {
-    let Placed { index, input } = placed;
-    match input.read_late(alloc) {
-        Ok(submission) => Ok(Ok(submission)),
-        Err(fault) => Ok(Err(refused_text(index, first, fault)?)),
+    match input.read_part(alloc) {
+        Ok(Part::Last(submission)) => Ok((Ok(submission), None)),
+        Ok(Part::More(submission, rest)) => Ok((Ok(submission), Some(rest))),
+        Err(fault) => Ok((Err(refused_text(index, first, fault)?), None)),
     }
 }
 

@@ -11,6 +11,7 @@ mod gates;
 mod into_book;
 mod jobs;
 mod kept;
+mod parts;
 mod readers;
 mod refusals;
 mod said;

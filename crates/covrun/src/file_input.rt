@@ -7,7 +7,7 @@ use crate::text_fault::TextFault;
 use crate::work::FileFormat;
 use covbook::SubRef;
 use covcommand::{LcovVersion, Strictness};
-use covjobs::{Input, LateFault, LateInput};
+use covjobs::{Input, LateFault, LateInput, Part};
 use covline::{Bytes, Memory};
 use std::alloc::Global;
 
@@ -21,22 +21,30 @@ pub(crate) struct FileInput<'a, F: Folder> {
 }
 
 impl<'a, F: Folder> LateInput<Global> for FileInput<'a, F> {
+    ghost use Rattle.covjobs.specs.Collect.{IsReadWhole};
     ghost use Rattle.covrun.specs.Files.{MayHaveOutcome};
     ghost use Rattle.covrun.specs.Folder.{folder_data};
 
-    ghost may_give = { λ late. MayHaveOutcome (F.holds late.folder.now late.name.now) late.format.now late.strictness };
+    ghost may_give = { λ late. IsReadWhole (MayHaveOutcome (F.holds late.folder.now late.name.now) late.format.now late.strictness) };
 
     ghost may_fail = { λ late. (folder_data (F.holds late.folder.now) (F.may_refuse late.folder.now) (F.may_open late.folder.now) F.File.left F.File.failed_reads).MayFail late.name.now };
+
+    ghost most = { λ late. 1 };
 
     type Fault = TextFault;
 
     /// Reads the file, and then parses its text. Frees the text.
-    fn read_late(self, alloc: Global) -> Result<SubRef, LateFault<TextFault>> {
+    fn read_part(self, alloc: Global) -> Result<Part<Self>, LateFault<TextFault>> {
         match file_text(self.folder, alloc, self.name) {
-            Ok(text) => read_text(alloc, self.format, self.strictness, text),
+            Ok(text) => Ok(Part::Last(read_text(alloc, self.format, self.strictness, text)?)),
             Err(FileFault::Unreadable(_)) => Err(LateFault::Unreadable),
             Err(FileFault::Memory) => Err(LateFault::Memory),
         }
+    }
+
+    /// A file is read as a whole.
+    fn most_parts(&self) -> u64 {
+        1
     }
 }
 

@@ -3,9 +3,9 @@
 use super::check_bytes;
 use super::collecting::{ADDED_UP, OTHERS, is_outside, trace};
 use super::turns::SMALL;
-use covbook::{Answer, Answered, Op, SubRef};
+use covbook::{Answer, Answered, Op};
 use covjobs::{
-    CollectFault, CollectedBook, Input, IntoBookFault, LateFault, LateInput, NoGate,
+    CollectFault, CollectedBook, Input, IntoBookFault, LateFault, LateInput, NoGate, Part,
     collect_into_book,
 };
 use covline::Memory;
@@ -29,22 +29,28 @@ impl LateInput<Global> for Late {
 
     ghost may_fail = { λ late. Unit {0} };
 
+    ghost most = { λ late. 1 };
+
     type Fault = ReadFault;
 
-    fn read_late(self, alloc: Global) -> Result<SubRef, LateFault> {
+    fn read_part(self, alloc: Global) -> Result<Part<Self>, LateFault> {
         match self {
             Late::Readable(input) => match input.read(alloc) {
-                Ok(submission) => Ok(submission),
+                Ok(submission) => Ok(Part::Last(submission)),
                 Err(fault) => Err(LateFault::Refused(fault)),
             },
             Late::Unreadable => Err(LateFault::Unreadable),
             Late::TooLarge => Err(LateFault::Memory),
         }
     }
+
+    fn most_parts(&self) -> u64 {
+        1
+    }
 }
 
 /// Stands for an input for which there is no memory.
-const TOO_LARGE: &[u8] = b"too large";
+pub(super) const TOO_LARGE: &[u8] = b"too large";
 
 /// An input of this text, or one that can't be read in place of an empty text.
 fn late_of(alloc: Global, text: &[u8]) -> Result<Late, Memory> {
@@ -88,7 +94,11 @@ fn collected_of<R: Threads + Wait + Sync + AllocGlobal + Abort>(
 }
 
 /// Checks the report that the book prints.
-fn check_report<R: AllocGlobal + Abort>(rt: &R, collected: &CollectedBook, wanted: &[u8]) {
+pub(super) fn check_report<R: AllocGlobal + Abort>(
+    rt: &R,
+    collected: &CollectedBook,
+    wanted: &[u8],
+) {
     match collected.book.text_of(rt.alloc(), &Op::Report) {
         Ok(text) => check_bytes(rt, text.get(), wanted),
         Err(_refused) => panic!(rt; "no memory for the report"),
@@ -111,7 +121,7 @@ fn collected_into_a_book(rt: HostRuntime) -> Result<(), Fail> {
 }
 
 /// Whether the answer is that a submission was accepted, with this number.
-fn is_accepted(answer: Option<&Answered>, wanted: u64) -> bool {
+pub(super) fn is_accepted(answer: Option<&Answered>, wanted: u64) -> bool {
     match answer {
         Some(kept) => match &kept.answer {
             Answer::Accepted { number, .. } => *number == wanted,
@@ -122,7 +132,7 @@ fn is_accepted(answer: Option<&Answered>, wanted: u64) -> bool {
 }
 
 /// Whether the answer is a clash of this line.
-fn is_clash(answer: Option<&Answered>, wanted: u64) -> bool {
+pub(super) fn is_clash(answer: Option<&Answered>, wanted: u64) -> bool {
     match answer {
         Some(kept) => match &kept.answer {
             Answer::Clash { line, .. } => *line == wanted,

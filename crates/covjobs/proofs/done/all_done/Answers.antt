@@ -2,7 +2,7 @@ use Rattle.std.proofs.Common.{rules, ◌∙◌, ℕ, List, Vec, Global, map, ap,
 use Rattle.covjobs.specs.declared.shares.Placed.{Placed}
 use Rattle.covjobs.specs.declared.book_fault.IntoBookFault.{IntoBookFault}
 use Rattle.covjobs.specs.Late.{IsIntoBookFault, chances_of}
-use Rattle.covjobs.specs.Stops.{of_stop}
+use Rattle.covjobs.specs.Stops.{most_parts_in, of_stop}
 use Rattle.covjobs.proofs.Dealt.{all_fresh, ended_for_all, share_for_each}
 use Rattle.covjobs.proofs.Ended.{done_if_well}
 use Rattle.covjobs.proofs.Unread.{fault_is}
@@ -32,8 +32,9 @@ do_all_work-requires-clause-fresh g c κs within = all_fresh c.args.jobs c.args.
 pub returns-clause-unread : goal.returns-clause-unread
 returns-clause-unread g c =
     let chances = chances_of g.T.LateInput.may_give g.T.LateInput.may_fail in
-    subst (λ (fault : IntoBookFault). IsIntoBookFault g.T.LateInput.may_give g.T.LateInput.may_fail c.args.inputs.items fault) (sym (c.fault_of.ensures ∙ ap (λ (count : ℕ). of_stop count c.in-Err.stop) (c.len-count.ensures ∙ c.args.inputs.ok.0)))
-    (fault_is g.T.LateInput.may_give g.T.LateInput.may_fail c.args.readers c.args.inputs.items c.args.jobs c.in_ok-ended.ended.items c.in-Err.stop c.requires.some
+    subst (λ (fault : IntoBookFault). IsIntoBookFault g.T.LateInput.may_give g.T.LateInput.may_fail g.T.LateInput.most c.args.inputs.items fault)
+    (sym (c.fault_of.ensures ∙ ap (λ (parts : ℕ). of_stop parts c.in-Err.stop) (c.most_parts_of-most_parts.ensures ∙ ap (λ (xs : List g.row.T.Denot). most_parts_in g.T.LateInput.most xs) c.as_slice.ensures.value)))
+    (fault_is g.T.LateInput.may_give g.T.LateInput.may_fail g.T.LateInput.most c.args.readers c.args.inputs.items c.args.jobs c.in_ok-ended.ended.items c.in-Err.stop c.requires.some
     (ended_for_all chances c.args.readers c.args.inputs.items c.in_ok-dealt.dealt.inputs.value.items c.args.jobs c.args.seats c.in_ok-ended.ended.items
     (ap (λ (v : Vec g.row.T.Denot Global). v.items) c.in_ok-dealt.ensures.inputs) c.requires.seats c.in_ok-ended.ensures)
     c.in-Err.ensures.fault)

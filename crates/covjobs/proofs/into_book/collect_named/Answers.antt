@@ -1,7 +1,7 @@
 use denote.Param.Send.{sendable}
 use Rattle.std.proofs.Common.{rules, ◌∙◌, IsTrue, ℕ, List, Option, length, ap, sym, subst}
 use Rattle.std.proofs.Crossing as heap
-use Rattle.std.specs.List.{AllByRecursion}
+use Rattle.std.specs.List.{AllByRecursion, sum_by}
 use Rattle.covbook.specs.declared.book.BookFault.TheVariants as book_faults
 use Rattle.covbook.specs.Kept.{IsPrefix}
 use Rattle.covbook.specs.Op.{EntryData}
@@ -12,7 +12,7 @@ use Rattle.covjobs.specs.declared.collect_fault.CollectFault.{CollectFault}
 use Rattle.covjobs.specs.declared.readers.Readers.TheVariants as readers
 use Rattle.covjobs.specs.Late.{MayCome, chances_of}
 use Rattle.covjobs.specs.Latest.{history_of}
-use Rattle.covjobs.specs.Stops.{of_refused}
+use Rattle.covjobs.specs.Stops.{most_parts_in, of_refused}
 use Rattle.covjobs.specs.Work.{seats_in}
 use Rattle.covjobs.proofs.AllSeated.{none_missing_yet}
 use Rattle.covjobs.proofs.SoFar.{AreClosed, latest_before, so_far}
@@ -26,7 +26,7 @@ returns-clause-collected g c =
     let yes : IsTrue c.are_before.result = search rules in
     let latest : List (Option (List EntryData)) = c.in_ok-seats.latest.items in
     let told : AllByRecursion (λ (own : Option (List EntryData)). IsPrefix (history_of own) c.in-Ok.news) latest =
-    subst (λ (owns : List (Option (List EntryData))). AllByRecursion (λ (own : Option (List EntryData)). IsPrefix (history_of own) c.in-Ok.news) owns) c.as_slice.ensures.value (c.are_before.ensures.0 yes) in
+    subst (λ (owns : List (Option (List EntryData))). AllByRecursion (λ (own : Option (List EntryData)). IsPrefix (history_of own) c.in-Ok.news) owns) c.as_slice-2.ensures.value (c.are_before.ensures.0 yes) in
     let closed : AreClosed workers entries = record {
       kept = c.in_ok-seats.ensures.kept;
       before = latest_before latest workers entries c.in_ok-seats.ensures.latest (subst (λ (es : List EntryData). AllByRecursion (λ (own : Option (List EntryData)). IsPrefix (history_of own) es) latest) c.in-Ok.ensures.news told);
@@ -56,5 +56,7 @@ all_done-requires-send-P g c κs within = search (sendable, heap.crosses) depth 
 -- the closed book is full
 pub returns-then-is_full-clause-unread : goal.returns-then-is_full-clause-unread
 returns-then-is_full-clause-unread g c =
-    let inputs = length c.args.inputs.items in
-    subst (λ (fault : CollectFault). MayCome inputs fault) (sym (c.refused_by.ensures ∙ ap (λ (count : ℕ). of_refused count book_faults.Full) (c.len-count.ensures ∙ c.args.inputs.ok.0))) (refused_may_come inputs book_faults.Full)
+    let most = g.T.LateInput.most in
+    subst (λ (fault : CollectFault). MayCome (sum_by most c.args.inputs.items) fault)
+    (sym (c.refused_by.ensures ∙ ap (λ (parts : ℕ). of_refused parts book_faults.Full) (c.most_parts_of-most_parts.ensures ∙ ap (λ (xs : List g.row.T.Denot). most_parts_in most xs) c.as_slice.ensures.value)))
+    (refused_may_come most c.args.inputs.items book_faults.Full)
