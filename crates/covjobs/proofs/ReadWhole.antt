@@ -63,14 +63,14 @@ result_at Gives [] outcome each index = Ok no_rows
 result_at Gives (x ∷ inputs) outcome each zero = (each 0 (there x inputs)).0
 result_at Gives (x ∷ inputs) outcome each (suc index) = result_at Gives inputs (λ place. outcome (suc place)) (λ place less. each (suc place) (behind x inputs place less)) index
 
-results_are : {X F : Type 0} (Gives : X → Result SubmissionData F → Type 0) (inputs : List X) (outcome : ℕ → Outcome F) (each : AreOutcomes (λ input. IsReadWhole (Gives input)) inputs outcome)
+pub results_are : {X F : Type 0} (Gives : X → Result SubmissionData F → Type 0) (inputs : List X) (outcome : ℕ → Outcome F) (each : AreOutcomes (λ input. IsReadWhole (Gives input)) inputs outcome)
     → AreOutcomes Gives inputs (result_at Gives inputs outcome each)
 results_are Gives [] outcome each index less = absurd (omega (arith, less))
 results_are Gives (x ∷ inputs) outcome each zero less = (each 0 (there x inputs)).2
 results_are Gives (x ∷ inputs) outcome each (suc index) less =
     results_are Gives inputs (λ place. outcome (suc place)) (λ place within. each (suc place) (behind x inputs place within)) index (omega (arith, less))
 
-results_give : {X F : Type 0} (Gives : X → Result SubmissionData F → Type 0) (inputs : List X) (outcome : ℕ → Outcome F) (each : AreOutcomes (λ input. IsReadWhole (Gives input)) inputs outcome) (index : ℕ)
+pub results_give : {X F : Type 0} (Gives : X → Result SubmissionData F → Type 0) (inputs : List X) (outcome : ℕ → Outcome F) (each : AreOutcomes (λ input. IsReadWhole (Gives input)) inputs outcome) (index : ℕ)
     → index < length inputs → whole (result_at Gives inputs outcome each index) ≡ outcome index
 results_give Gives [] outcome each index less = absurd (omega (arith, less))
 results_give Gives (x ∷ inputs) outcome each zero less = sym (each 0 (there x inputs)).1
