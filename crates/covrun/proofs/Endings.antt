@@ -15,7 +15,7 @@ use Rattle.covreport.specs.Choice.{ChoiceData}
 use Rattle.covreport.specs.Report.{report_text}
 use Rattle.covbook.specs.Step.{answer_of, next_entry, ops_in, table_after, table_from, table_of}
 use Rattle.covbook.specs.Texts.{IsText}
-use Rattle.covjobs.specs.Collect.{IsCollectedWith}
+use Rattle.covjobs.specs.Collect.{IsCollectedWith, whole}
 use Rattle.covjobs.specs.Late.{MayCome}
 use Rattle.covjobs.specs.Start.{AreJobs}
 use Rattle.covjobs.specs.declared.collect_fault.CollectFault.{CollectFault}
@@ -49,7 +49,7 @@ use Rattle.covrun.proofs.Reading.{HaveTexts, texts_held}
 -- the texts were collected, and the call ends as `of_collected` says, or because memory ran out. `count` is the number of files
 pub ends_collected : (folder : FolderData) (work : WorkData) (files : List (List ℕ)) → files ≡ work.files → (outcome : ℕ → Result SubmissionData TextFault) (count : ℕ) (entries : List EntryData) (refused : List (RefusedInput TextFault)) (ending : EndingData)
     → HaveTexts folder work.format work.strictness files outcome → count ≡ length files → IsText (last_of work.asks)
-    → ((last : OpData) → IsText last → (logs : List LogData) × IsCollectedWith outcome count work.jobs last (entries ++ next_entry entries 0 last ∷ []) logs refused)
+    → ((last : OpData) → IsText last → (logs : List LogData) × IsCollectedWith (λ index. whole (outcome index)) count work.jobs last (entries ++ next_entry entries 0 last ∷ []) logs refused)
     → (ending ≡ Stopped faults.Memory) ⊎ (ending ≡ of_collected files work.strictness work.asks (entries ++ next_entry entries 0 (last_of work.asks) ∷ []) refused) → WorkEnds folder work ending
 ends_collected folder work files named outcome count entries refused ending read long asks collected (inl ran_out) = inl ran_out
 ends_collected folder work files named outcome count entries refused ending (texts, are, outcomes) long asks collected (inr is) =
@@ -61,7 +61,7 @@ ends_collected folder work files named outcome count entries refused ending (tex
       Ok (record { entries = all; logs = last.0; refused = refused }),
       subst (λ (fs : List (List ℕ)). AreTexts folder fs texts) named are,
       are_collected work.strictness (map (input_of work.format) texts) work.jobs (last_of work.asks) all last.0 refused outcome outcomes
-          (subst (λ (n : ℕ). IsCollectedWith outcome n work.jobs (last_of work.asks) all last.0 refused) same last.1),
+          (subst (λ (n : ℕ). IsCollectedWith (λ index. whole (outcome index)) n work.jobs (last_of work.asks) all last.0 refused) same last.1),
       is ∙ ap (λ (fs : List (List ℕ)). of_collected fs work.strictness work.asks all refused) named,
     ))
 

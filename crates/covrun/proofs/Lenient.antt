@@ -7,7 +7,7 @@ use Rattle.covbook.specs.Gather.{LogData}
 use Rattle.covbook.specs.Op.{OpData, EntryData, SubmitOp}
 use Rattle.covcommand.specs.declared.asked.Strictness.{Strictness}
 use Rattle.covcommand.specs.declared.asked.Strictness.TheVariants.{Lenient, Strict}
-use Rattle.covjobs.specs.Collect.{AreOutcomes, EndsWith, InputData, IsCollectedWith, IsOutcomeOf, all_places, brought, last_of, ops_in, places_of_job, refusal, refusals_of, submitted}
+use Rattle.covjobs.specs.Collect.{AreOutcomes, EndsWith, InputData, IsCollectedWith, IsOutcomeOf, all_places, brought, last_of, ops_in, places_of_job, refusal, refusals_of, submitted, whole}
 use Rattle.covjobs.specs.declared.refused.RefusedInput.{RefusedInput}
 use Rattle.covline.specs.Row.{SubmissionData}
 use Rattle.covread.specs.declared.fault.ReadFault.{ReadFault}
@@ -28,12 +28,12 @@ IsPlain (Ok submission) = Unit {0}
 IsPlain (Err (Faulty fault)) = Unit {0}
 IsPlain (Err (Unclean line)) = ⊥
 
-submitted_plain : (outcome : Result SubmissionData TextFault) → submitted (plain outcome) ≡ submitted outcome
+submitted_plain : (outcome : Result SubmissionData TextFault) → submitted (whole (plain outcome)) ≡ submitted (whole outcome)
 submitted_plain (Ok submission) = refl
 submitted_plain (Err (Faulty fault)) = refl
 submitted_plain (Err (Unclean line)) = refl
 
-refusal_plain : (index : ℕ) (outcome : Result SubmissionData TextFault) → IsPlain outcome → refusal index outcome ≡ map for_fault (refusal index (plain outcome))
+refusal_plain : (index : ℕ) (outcome : Result SubmissionData TextFault) → IsPlain outcome → refusal index (whole outcome) ≡ map for_fault (refusal index (whole (plain outcome)))
 refusal_plain index (Ok submission) is = refl
 refusal_plain index (Err (Faulty fault)) is = refl
 refusal_plain index (Err (Unclean line)) is = absurd is
@@ -58,21 +58,21 @@ outcome_at (Some input) outcome is = outcome_of input outcome is
 
 -- the refusals are those for faults
 refusals_plain : (outcome : ℕ → Result SubmissionData TextFault) (count : ℕ) → ((index : ℕ) → index < count → IsPlain (outcome index))
-    → refusals_of all_places outcome count ≡ map for_fault (refusals_of all_places (λ index. plain (outcome index)) count)
+    → refusals_of all_places (λ index. whole (outcome index)) count ≡ map for_fault (refusals_of all_places (λ index. whole (plain (outcome index))) count)
 refusals_plain outcome zero are = refl
 refusals_plain outcome (suc count) are =
     let before = refusals_plain outcome count (λ index less. are index (omega (arith, less))) in
     let this = refusal_plain count (outcome count) (are count (omega arith)) in
-    ap (λ (rs : List (RefusedInput TextFault)). rs ++ refusal count (outcome count)) before
-    ∙ ap (λ (rs : List (RefusedInput TextFault)). map for_fault (refusals_of all_places (λ index. plain (outcome index)) count) ++ rs) this
-    ∙ sym (map-append for_fault (refusals_of all_places (λ index. plain (outcome index)) count) (refusal count (plain (outcome count))))
+    ap (λ (rs : List (RefusedInput TextFault)). rs ++ refusal count (whole (outcome count))) before
+    ∙ ap (λ (rs : List (RefusedInput TextFault)). map for_fault (refusals_of all_places (λ index. whole (plain (outcome index))) count) ++ rs) this
+    ∙ sym (map-append for_fault (refusals_of all_places (λ index. whole (plain (outcome index))) count) (refusal count (whole (plain (outcome count)))))
 
 -- what was collected with outcomes is also collected with the same outcomes for faults alone
 plainly_with : (outcome : ℕ → Result SubmissionData TextFault) (count jobs : ℕ) (last : OpData) (entries : List EntryData) (logs : List LogData) (refused : List (RefusedInput TextFault))
-    → IsCollectedWith outcome count jobs last entries logs refused
-    → IsCollectedWith (λ index. plain (outcome index)) count jobs last entries logs (refusals_of all_places (λ index. plain (outcome index)) count)
+    → IsCollectedWith (λ index. whole (outcome index)) count jobs last entries logs refused
+    → IsCollectedWith (λ index. whole (plain (outcome index))) count jobs last entries logs (refusals_of all_places (λ index. whole (plain (outcome index))) count)
 plainly_with outcome count jobs last entries logs refused with =
-    let same : (λ (index : ℕ). submitted (plain (outcome index))) ≡ (λ (index : ℕ). submitted (outcome index)) = (λ k index. submitted_plain (outcome index) k) in
+    let same : (λ (index : ℕ). submitted (whole (plain (outcome index)))) ≡ (λ (index : ℕ). submitted (whole (outcome index))) = (λ k index. submitted_plain (outcome index) k) in
     record {
       legal = with.legal;
       lawful = with.lawful;
@@ -89,11 +89,11 @@ plainly_with outcome count jobs last entries logs refused with =
 
 -- what was collected from inputs with outcomes for calls of this strictness
 pub are_collected : (strictness : Strictness) (inputs : List InputData) (jobs : ℕ) (last : OpData) (entries : List EntryData) (logs : List LogData) (refused : List (RefusedInput TextFault)) (outcome : ℕ → Result SubmissionData TextFault)
-    → AreOutcomes (IsOutcomeFor strictness) inputs outcome → IsCollectedWith outcome (length inputs) jobs last entries logs refused
+    → AreOutcomes (IsOutcomeFor strictness) inputs outcome → IsCollectedWith (λ index. whole (outcome index)) (length inputs) jobs last entries logs refused
     → AreCollected strictness inputs jobs last entries logs refused
 are_collected Strict inputs jobs last entries logs refused outcome are with = (outcome, are, with)
 are_collected Lenient inputs jobs last entries logs refused outcome are with = (
-  refusals_of all_places (λ index. plain (outcome index)) (length inputs),
+  refusals_of all_places (λ index. whole (plain (outcome index))) (length inputs),
   with.are_refused ∙ refusals_plain outcome (length inputs) (λ index less. plain_at (slice_get inputs index) (outcome index) (are index less)),
   (
     (λ index. plain (outcome index)),

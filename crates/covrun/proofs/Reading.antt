@@ -1,16 +1,21 @@
 -- Files that are read when their turn comes.
-use Rattle.std.proofs.Common.{◌≡◌, ℕ, zero, suc, ◌≤◌, List, [], ◌∷◌, length, take, map, Option, Some, None, Result, Ok, Err, slice_get, refl, sym, ap, ◌∙◌, subst, arith}
+use Rattle.std.proofs.Common.{◌≡◌, ℕ, zero, suc, ◌≤◌, List, [], ◌∷◌, ◌++◌, length, take, map, Option, Some, None, Result, slice_get, refl, sym, ap, ◌∙◌, subst, arith}
 use Rattle.std.proofs.lemmas.List.{length-map, length-take}
 use Rattle.std.specs.List.{AllByRecursion}
 use Rattle.covread.specs.Outcome.{max_bytes}
 use Rattle.covcommand.specs.declared.asked.Strictness.{Strictness}
-use Rattle.covjobs.specs.Collect.{AreOutcomes, InputData}
-use Rattle.covjobs.specs.Late.{IsFirstUnread, IsIntoBookFault, IsLateOutcome, MayCome}
+use Rattle.covbook.specs.Gather.{LogData}
+use Rattle.covbook.specs.Op.{OpData, EntryData}
+use Rattle.covbook.specs.Step.{next_entry}
+use Rattle.covbook.specs.Texts.{IsText}
+use Rattle.covjobs.specs.declared.refused.RefusedInput.{RefusedInput}
+use Rattle.covjobs.proofs.Parts.{one_each}
+use Rattle.covjobs.proofs.ReadWhole.{result_at, results_are, results_give, with_same}
+use Rattle.covjobs.specs.Collect.{AreOutcomes, InputData, IsCollectedWith, IsReadWhole, OutcomeData, whole}
+use Rattle.covjobs.specs.Late.{IsCollectedSoFar, IsFirstUnread, IsIntoBookFault, MayCome}
 use Rattle.covjobs.specs.declared.book_fault.IntoBookFault.{IntoBookFault}
 use Rattle.covjobs.specs.declared.book_fault.IntoBookFault.TheVariants as into_book
 use Rattle.covjobs.specs.declared.collect_fault.CollectFault.{CollectFault}
-use Rattle.covjobs.specs.declared.late_fault.LateFault.{LateFault}
-use Rattle.covjobs.specs.declared.late_fault.LateFault.TheVariants as late
 use Rattle.covline.specs.Row.{SubmissionData}
 use Rattle.covrun.specs.Call.{AreTexts, IsUnreadable}
 use Rattle.covrun.specs.Ending.{name_at}
@@ -37,15 +42,6 @@ AreFiles folder format strictness name MayGive MayFail lates = AllByRecursion (�
 -- some texts of the files have these outcomes
 abbrev pub HaveTexts : FolderData → FileFormat → Strictness → (files : List (List ℕ)) → (ℕ → Outcome) → Type 0
 HaveTexts folder format strictness files outcome = (texts : List (List ℕ)) × AreTexts folder files texts × AreOutcomes (IsOutcomeFor strictness) (map (input_of format) texts) outcome
-
--- an outcome of a text that the file may have is an outcome of the file
-pub file_outcome : (held : Option (List ℕ)) (format : FileFormat) (strictness : Strictness) (text : List ℕ) (may_fail : Type 0) (answer : Result SubmissionData (LateFault TextFault))
-    → length text ≤ suc max_bytes → IsTextOf held text → IsLateOutcome (IsOutcomeFor strictness (input_of format text)) ⊥ answer
-    → IsLateOutcome (MayHaveOutcome held format strictness) may_fail answer
-file_outcome held format strictness text may_fail (Ok submission) short fits is = (text, short, fits, is)
-file_outcome held format strictness text may_fail (Err (late.Refused fault)) short fits is = (text, short, fits, is)
-file_outcome held format strictness text may_fail (Err late.Unreadable) short fits none = absurd none
-file_outcome held format strictness text may_fail (Err late.Memory) short fits told = tt
 
 -- one more input, in front of the others
 outcome_in_front : (strictness : Strictness) (input : InputData) (inputs : List InputData) (outcome : ℕ → Outcome) → IsOutcomeFor strictness input (outcome 0) → AreOutcomes (IsOutcomeFor strictness) inputs (λ index. outcome (suc index))
@@ -76,13 +72,13 @@ unreadable_behind folder format strictness file files found outcome (text, short
 
 -- the first late input that can't be read is the first file that can't be read
 unreadable_first : {X : Type 0} (folder : FolderData) (format : FileFormat) (strictness : Strictness) (name : X → List ℕ) (MayGive : X → Outcome → Type 0) (MayFail : X → Type 0)
-    → (lates : List X) (index : ℕ) → AreFiles folder format strictness name MayGive MayFail lates → IsFirstUnread MayGive MayFail lates index
+    → (lates : List X) (index : ℕ) → AreFiles folder format strictness name MayGive MayFail lates → IsFirstUnread (λ one. IsReadWhole (MayGive one)) MayFail lates index
     → IsUnreadable folder (map name lates) (name_at (slice_get (map name lates) index))
 unreadable_first folder format strictness name MayGive MayFail [] index are (fails, read) = absurd fails
 unreadable_first folder format strictness name MayGive MayFail (one ∷ lates) zero are (fails, read) =
     ([], map name lates, [], refl, (refl, tt, tt), are.0.fails fails)
-unreadable_first folder format strictness name MayGive MayFail (one ∷ lates) (suc index) are (fails, ((outcome, gives), read)) =
-    unreadable_behind folder format strictness (name one) (map name lates) (name_at (slice_get (map name lates) index)) outcome (are.0.gives outcome gives)
+unreadable_first folder format strictness name MayGive MayFail (one ∷ lates) (suc index) are (fails, ((outcome, (result, is, gives)), read)) =
+    unreadable_behind folder format strictness (name one) (map name lates) (name_at (slice_get (map name lates) index)) result (are.0.gives result gives)
     (unreadable_first folder format strictness name MayGive MayFail lates index are.1 (fails, read))
 
 -- ---- inputs that are files of one folder
@@ -117,22 +113,36 @@ texts_read lates at format strictness of own name format_of strictness_of files 
 pub unreadable_read : {X Folder : Type 0} (lates : List X) (at : Folder) (format : FileFormat) (strictness : Strictness) (of : Folder → FolderData) (own : X → Folder) (name : X → List ℕ) (format_of : X → FileFormat) (strictness_of : X → Strictness)
     → (files : List (List ℕ)) (index : ℕ) (fault : IntoBookFault) → map name lates ≡ files → AllByRecursion (λ one. (own one ≡ at) × (format_of one ≡ format) × (strictness_of one ≡ strictness)) lates
     → fault ≡ into_book.Unread index
-    → IsIntoBookFault (λ one. MayHaveOutcome ((of (own one)).holds (name one)) (format_of one) (strictness_of one)) (λ one. (of (own one)).MayFail (name one)) lates fault
+    → IsIntoBookFault (λ one. IsReadWhole (MayHaveOutcome ((of (own one)).holds (name one)) (format_of one) (strictness_of one))) (λ one. (of (own one)).MayFail (name one)) (λ one. 1) lates fault
     → IsUnreadable (of at) files (name_at (slice_get files index))
 unreadable_read {X} lates at format strictness of own name format_of strictness_of files index fault named all is unread =
     let MayGive : X → Outcome → Type 0 = λ one. MayHaveOutcome ((of (own one)).holds (name one)) (format_of one) (strictness_of one) in
     let MayFail : X → Type 0 = λ one. (of (own one)).MayFail (name one) in
     subst (λ (fs : List (List ℕ)). IsUnreadable (of at) fs (name_at (slice_get fs index))) named
     (unreadable_first (of at) format strictness name MayGive MayFail lates index (are_files lates at format strictness of own name format_of strictness_of all)
-    (subst (λ (f : IntoBookFault). IsIntoBookFault MayGive MayFail lates f) is unread))
+    (subst (λ (f : IntoBookFault). IsIntoBookFault (λ one. IsReadWhole (MayGive one)) MayFail (λ one. 1) lates f) is unread))
 
 -- a fault of collecting these late inputs may come with this number of files
-pub may_come : {X : Type 0} (lates : List X) (name : X → List ℕ) (MayGive : X → Outcome → Type 0) (MayFail : X → Type 0)
+pub may_come : {X : Type 0} (lates : List X) (name : X → List ℕ) (MayGive : X → OutcomeData TextFault → Type 0) (MayFail : X → Type 0)
     → (files : List (List ℕ)) (fault : IntoBookFault) (told : CollectFault) → map name lates ≡ files
-    → fault ≡ into_book.Collect told → IsIntoBookFault MayGive MayFail lates fault → MayCome (length files) told
+    → fault ≡ into_book.Collect told → IsIntoBookFault MayGive MayFail (λ one. 1) lates fault → MayCome (length files) told
 may_come lates name MayGive MayFail files fault told named is may =
-    subst (λ (n : ℕ). MayCome n told) (sym (length-map lates name) ∙ ap length named)
-    (subst (λ (f : IntoBookFault). IsIntoBookFault MayGive MayFail lates f) is may)
+    subst (λ (n : ℕ). MayCome n told) (one_each lates ∙ sym (length-map lates name) ∙ ap length named)
+    (subst (λ (f : IntoBookFault). IsIntoBookFault MayGive MayFail (λ one. 1) lates f) is may)
+
+-- what is collected so far of inputs that are read as a whole: there is a result of each
+pub collected_whole : {X F : Type 0} (Gives : X → Result SubmissionData F → Type 0) (inputs : List X) (jobs : ℕ) (entries : List EntryData) (refused : List (RefusedInput F))
+    → IsCollectedSoFar (λ input. IsReadWhole (Gives input)) inputs jobs entries refused
+    → (result : ℕ → Result SubmissionData F) × AreOutcomes Gives inputs result
+    × ((last : OpData) → IsText last → (logs : List LogData) × IsCollectedWith (λ index. whole (result index)) (length inputs) jobs last (entries ++ next_entry entries 0 last ∷ []) logs refused)
+collected_whole {X} {F} Gives inputs jobs entries refused (outcome, each, collected) =
+    let result : ℕ → Result SubmissionData F = result_at Gives inputs outcome each in (
+      result,
+      results_are Gives inputs outcome each,
+      λ last asks.
+          let ended = collected last asks in
+          (ended.0, with_same outcome (λ index. whole (result index)) (length inputs) jobs last (entries ++ next_entry entries 0 last ∷ []) ended.0 refused (results_give Gives inputs outcome each) ended.1),
+    )
 
 -- ---- texts of files that aren't read
 

@@ -12,7 +12,7 @@ use Rattle.covbook.specs.Gather.{LogData}
 use Rattle.covbook.specs.Op.{OpData, EntryData, SubmitOp, DropTestOp, RenameOp, ReportOp, ExtractOp, RemoveOp, SummaryOp}
 use Rattle.covcommand.specs.declared.asked.Strictness.{Strictness}
 use Rattle.covcommand.specs.declared.asked.Strictness.TheVariants.{Lenient, Strict}
-use Rattle.covjobs.specs.Collect.{InputData, TraceInput, Lcov2Input, GcovInput, IsCollected, IsCollectedFrom, IsOutcomeOf}
+use Rattle.covjobs.specs.Collect.{InputData, TraceInput, Lcov2Input, GcovInput, IsCollected, IsCollectedWhole, IsOutcomeOf}
 use Rattle.covjobs.specs.declared.refused.RefusedInput.{RefusedInput}
 use Rattle.covline.specs.Row.{SubmissionData}
 use Rattle.covlist.specs.Shown.{shown_name}
@@ -72,7 +72,7 @@ for_fault r = record { index = r.index; fault = Faulty r.fault }
 abbrev pub AreCollected : Strictness → (inputs : List InputData) → (jobs : ℕ) → (last : OpData) → List EntryData → List LogData → List (RefusedInput TextFault) → Type 0
 AreCollected Lenient inputs jobs last entries logs refused =
     (faulty : List (RefusedInput ReadFault)) × (refused ≡ map for_fault faulty) × IsCollected inputs jobs last entries logs faulty
-AreCollected Strict inputs jobs last entries logs refused = IsCollectedFrom IsStrictOutcome inputs jobs last entries logs refused
+AreCollected Strict inputs jobs last entries logs refused = IsCollectedWhole IsStrictOutcome inputs jobs last entries logs refused
 
 -- ---- patterns that match no file
 

@@ -7,7 +7,8 @@ use Rattle.covrun.specs.Folder.{folder_data}
 use Rattle.covrun.specs.View.{work_data}
 use Rattle.covrun.specs.declared.ending.Failure.TheVariants as failures
 use Rattle.covrun.proofs.Endings.{answer_told, ends_collected, ends_uncollected, ends_unreadable, failure_told}
-use Rattle.covrun.proofs.Reading.{may_come, texts_read, unreadable_read}
+use Rattle.covrun.specs.Files.{MayHaveOutcome}
+use Rattle.covrun.proofs.Reading.{collected_whole, may_come, texts_read, unreadable_read}
 use Rattle.covrun.proofs.collecting.do_work.Goals as goal
 
 pub returns-in_default : goal.returns-in_default
@@ -17,7 +18,7 @@ returns-in_default g c =
 
 pub returns-in-Ok-answer_of : goal.returns-in-Ok-answer_of
 returns-in-Ok-answer_of g c =
-    let collected = c.in-Ok-collect_into_book.ensures.collected in
+    let collected = collected_whole (λ one. MayHaveOutcome (g.F.Folder.holds one.folder.now one.name.now) one.format.now one.strictness) c.in-Ok.inputs.items _ _ _ c.in-Ok-collect_into_book.ensures.collected in
     let read = texts_read c.in-Ok.inputs.items c.args.folder.now c.args.work.now.format c.args.work.now.strictness
     (λ folder. folder_data (g.F.Folder.holds folder) (g.F.Folder.may_refuse folder) (g.F.Folder.may_open folder) g.F.File.Source.left g.F.File.Source.failed_reads)
     (λ one. one.folder.now) (λ one. one.name.now) (λ one. one.format.now) (λ one. one.strictness) _ collected.0 c.in-Ok.ensures.names c.in-Ok.ensures.own collected.1 in
@@ -28,7 +29,7 @@ returns-in-Ok-answer_of g c =
 
 pub returns-in-Ok-collect_into_book : goal.returns-in-Ok-collect_into_book
 returns-in-Ok-collect_into_book g c =
-    let collected = c.in-Ok-collect_into_book.ensures.collected in
+    let collected = collected_whole (λ one. MayHaveOutcome (g.F.Folder.holds one.folder.now one.name.now) one.format.now one.strictness) c.in-Ok.inputs.items _ _ _ c.in-Ok-collect_into_book.ensures.collected in
     let read = texts_read c.in-Ok.inputs.items c.args.folder.now c.args.work.now.format c.args.work.now.strictness
     (λ folder. folder_data (g.F.Folder.holds folder) (g.F.Folder.may_refuse folder) (g.F.Folder.may_open folder) g.F.File.Source.left g.F.File.Source.failed_reads)
     (λ one. one.folder.now) (λ one. one.name.now) (λ one. one.format.now) (λ one. one.strictness) _ collected.0 c.in-Ok.ensures.names c.in-Ok.ensures.own collected.1 in
