@@ -11,7 +11,6 @@ use Rattle.covbook.specs.declared.book.BookFault.{BookFault}
 use Rattle.covbook.specs.Op.{OpData, SubmitOp}
 use Rattle.covjobs.specs.declared.late_fault.LateFault.{LateFault}
 use Rattle.covjobs.specs.declared.late_fault.LateFault.TheVariants as late
-use Rattle.covjobs.specs.declared.part.Part.{Part}
 use Rattle.covjobs.specs.declared.refused.RefusedInput.{RefusedInput}
 use Rattle.covjobs.specs.declared.stop.Stop.{Stop}
 use Rattle.covjobs.specs.declared.stop.Stop.TheVariants as stops
