@@ -11,7 +11,6 @@ use Rattle.covbook.specs.declared.book.BookFault.{BookFault}
 use Rattle.covbook.specs.Op.{OpData, SubmitOp}
 use Rattle.covjobs.specs.declared.late_fault.LateFault.{LateFault}
 use Rattle.covjobs.specs.declared.late_fault.LateFault.TheVariants as late
-use Rattle.covjobs.specs.declared.part.Part.{Part}
 use Rattle.covjobs.specs.declared.refused.RefusedInput.{RefusedInput}
 use Rattle.covjobs.specs.declared.stop.Stop.{Stop}
 use Rattle.covjobs.specs.declared.stop.Stop.TheVariants as stops
@@ -40,10 +39,14 @@ same_first : (first : Option BookFault) → IfSome first (λ f. first ≡ Some f
 same_first None = tt
 same_first (Some fault) = refl
 
+same_lists : {F : Type 0} (first : Option BookFault) (worker : WorkerData F) → IfSome first (λ f. (worker.receipts ≡ worker.receipts) × (worker.refused ≡ worker.refused))
+same_lists None worker = tt
+same_lists (Some fault) worker = (refl, refl)
+
 -- nothing is read yet
 pub none_of_it : {X F : Type 0} (chances : Chances X F) (index : ℕ) (input : X) (first : Option BookFault) (worker : WorkerData F) → IsReading chances index input first worker (Some input) first worker
 none_of_it chances index input first worker =
-    record { outcome = λ has. has; fails = λ may. may; well = λ is. is; kept = same_first first; taken = λ none asks refuses takes. takes; read = λ none so_far. so_far }
+    record { outcome = λ has. has; fails = λ may. may; well = λ is. is; kept = same_first first; idle = same_lists first worker; taken = λ none asks refuses takes. takes; read = λ none so_far. so_far }
 
 still_fails : {X : Type 0} (MayFail : X → Type 0) (input rest : X) (left : Option X) → (MayFail rest → MayFail input) → IfSome left (λ more. MayFail more → MayFail rest) → IfSome left (λ more. MayFail more → MayFail input)
 still_fails MayFail input rest None fails more = tt
@@ -53,6 +56,14 @@ still_kept : (first fault after : Option BookFault) → IfSome first (λ f. faul
 still_kept None fault after is kept = tt
 still_kept (Some first) fault after is kept = subst (λ (found : Option BookFault). IfSome found (λ f. after ≡ Some f)) is kept
 
+still_idle : {F : Type 0} (first fault : Option BookFault) (old between new : WorkerData F) → IfSome first (λ f. fault ≡ Some f) → IfSome first (λ f. (between.receipts ≡ old.receipts) × (between.refused ≡ old.refused))
+    → IfSome fault (λ f. (new.receipts ≡ between.receipts) × (new.refused ≡ between.refused)) → IfSome first (λ f. (new.receipts ≡ old.receipts) × (new.refused ≡ old.refused))
+still_idle None fault old between new is idle more = tt
+still_idle (Some first) fault old between new is idle more =
+    let behind : (new.receipts ≡ between.receipts) × (new.refused ≡ between.refused) =
+    subst (λ (found : Option BookFault). IfSome found (λ f. (new.receipts ≡ between.receipts) × (new.refused ≡ between.refused))) is more in
+    (behind.0 ∙ idle.0, behind.1 ∙ idle.1)
+
 -- more parts are read of what is left
 pub more_of_it : {X F : Type 0} (chances : Chances X F) (index : ℕ) (input rest : X) (left : Option X) (first fault after : Option BookFault) (old between new : WorkerData F)
     → IsReading chances index input first old (Some rest) fault between → IsReading chances index rest fault between left after new → IsReading chances index input first old left after new
@@ -61,6 +72,7 @@ more_of_it chances index input rest left first fault after old between new so_fa
   fails = still_fails chances.MayFail input rest left so_far.fails more.fails;
   well = λ none. so_far.well (more.well none);
   kept = still_kept first fault after so_far.kept more.kept;
+  idle = still_idle first fault old between new so_far.kept so_far.idle more.idle;
   taken = λ none asks refuses takes. so_far.taken (more.well none) asks refuses (more.taken none asks refuses takes);
   read = λ none before. more.read none (so_far.read (more.well none) before);
 }
@@ -104,6 +116,7 @@ part_taken chances index input part left fault old new is fails submits tells re
   fails = fails;
   well = λ none. refl;
   kept = tt;
+  idle = tt;
   taken = λ none asks refuses takes. one_taken chances.Gives index input part left (ops_in old.receipts) (ops_in new.receipts) asks old.refused new.refused refuses is (submits none) (tells none) takes;
   read = read;
 }
@@ -117,6 +130,7 @@ part_read chances index input part left fault worker is fails = record {
   fails = fails;
   well = λ none. none;
   kept = refl;
+  idle = (refl, refl);
   taken = λ none. absurd (none-some fault (sym none));
   read = λ none. absurd (none-some fault (sym none));
 }

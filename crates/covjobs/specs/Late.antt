@@ -1,6 +1,6 @@
 -- Inputs that are read when their turn comes, each in one part or in several, and what is collected of them in a book.
 use Rattle.std.specs.List.{AllByRecursion, sum_by}
-use Rattle.std.specs.Prelude.{ℕ, ◌<◌, ◌≤◌, List, [], ◌∷◌, ◌++◌, length, take, slice_get, IsSomeAnd, Option, None, Some, Result, Ok, Err}
+use Rattle.std.specs.Prelude.{ℕ, ◌<◌, ◌≤◌, List, [], ◌∷◌, ◌++◌, length, take, slice_get, IsSomeAnd, None, Some, Result, Ok, Err}
 use Rattle.covline.specs.Row.{SubmissionData}
 use Rattle.covbook.specs.Gather.{LogData}
 use Rattle.covbook.specs.Op.{OpData, EntryData}
@@ -15,7 +15,7 @@ use Rattle.covjobs.specs.declared.collect_fault.CollectFault.TheVariants as coll
 use Rattle.covjobs.specs.declared.part.Part.{Part}
 use Rattle.covjobs.specs.declared.part.Part.TheVariants as parts
 use Rattle.covjobs.specs.declared.refused.RefusedInput.{RefusedInput}
-use Rattle.covjobs.specs.Collect.{AreOutcomes, IsCollectedWith, OutcomeData, whole}
+use Rattle.covjobs.specs.Collect.{AreOutcomes, IsCollectedWith, OutcomeData}
 use Rattle.covjobs.specs.CollectFault.{collect_number}
 use Rattle.covjobs.specs.Work.{Chances, HasOutcome, in_front}
 

@@ -38,7 +38,7 @@ abbrev pub first_of : Option BookFault → BookFault → BookFault
 first_of None fault = fault
 first_of (Some first) fault = first
 
--- what it means to a job that an input gives no submission: its text is refused; or the input can't be read, and the job stops; or
+-- what it means to a job that an input gives no more submissions: its text is refused; or the input can't be read, and the job stops; or
 -- memory ran out, and the job stops there with the fault that came first
 abbrev pub of_late : {F : Type 0} → (index : ℕ) → (first : Option BookFault) → LateFault F → Result F Stop
 of_late index first (late.Refused fault) = Ok fault

@@ -91,12 +91,14 @@ HasOutcome {F} Gives = (outcome : OutcomeData F) × Gives outcome
 
 -- a worker has come from `old` to `new` while it read parts of an input, and this is left of the input. `first` was the first fault
 -- of a refused call or list before these parts, and `fault` is the first one after them. As long as there is none, all parts are
--- taken: with an outcome of what is left, the worker takes the input
+-- taken: with an outcome of what is left, the worker takes the input. After a fault the parts are only read: nothing more is asked,
+-- and no input is refused
 pub record IsReading {X F : Type 0} (chances : Chances X F) (index : ℕ) (input : X) (first : Option BookFault) (old : WorkerData F) (left : Option X) (fault : Option BookFault) (new : WorkerData F) : Type 0 where
   pub outcome : HasOutcome (GivesLeft chances.Gives left) → HasOutcome (chances.Gives input)
   pub fails : IfSome left (λ rest. chances.MayFail rest → chances.MayFail input)
   pub well : fault ≡ None → first ≡ None
   pub kept : IfSome first (λ f. fault ≡ Some f)
+  pub idle : IfSome first (λ f. (new.receipts ≡ old.receipts) × (new.refused ≡ old.refused))
   pub taken : fault ≡ None → (asks : List OpData) → (refuses : List (RefusedInput F)) → Takes (GivesLeft chances.Gives left) index (ops_in new.receipts) asks new.refused refuses
       → Takes (chances.Gives input) index (ops_in old.receipts) asks old.refused refuses
   pub read : fault ≡ None → HasRead old.has_reader old.receipts old.readings → HasRead new.has_reader new.receipts new.readings

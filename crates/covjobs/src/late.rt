@@ -27,7 +27,7 @@ pub trait LateInput<A: Allocator>: Drop {
     type Fault: Drop;
 
     /// Reads the next part of the input. Returns what it holds, ready to be submitted, and the rest of the input if this isn't the
-    /// last part. A fault ends the input.
+    /// last part. A fault ends the input: what was submitted of it before stays submitted.
     fn read_part(self, alloc: A) -> Result<Part<Self, A>, LateFault<Self::Fault>>
         ensures { IsNextPart may_give may_fail most self result };
 

@@ -1,10 +1,10 @@
-//! Why an input that is read late gives no submission.
+//! Why an input that is read late gives no more submissions.
 
 use covread::ReadFault;
 use std::fmt::Display;
 use thiserror::Error;
 
-/// Why an input gives no submission. `F` is the fault of a refused text.
+/// Why an input gives no more submissions. `F` is the fault of a refused text.
 #[derive(Clone, Copy, Debug, PartialEq, Eq, Error)]
 #[error_bound(F: Display)]
 pub enum LateFault<F = ReadFault> {

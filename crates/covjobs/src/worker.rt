@@ -94,6 +94,7 @@ impl<L: Name, A: Allocator + Copy, P: Keep<Of = Receipt<A>>, F: Drop> Worker<L, 
         ensures outcome { IfOk result (λ _. HasOutcome (T.may_give placed.input)) }
         ensures taken { IfOk result (λ fault. fault ≡ None → (first ≡ None) × Takes (T.may_give placed.input) placed.index (ops_in self.old.receipts) (ops_in self.new.receipts) self.old.refused self.new.refused) }
         ensures kept { IfSome first (λ f. IfOk result (λ fault. fault ≡ Some f)) }
+        ensures idle { IfSome first (λ _. IfOk result (λ _. (self.new.receipts ≡ self.old.receipts) × (self.new.refused ≡ self.old.refused))) }
         ensures stop { IfErr result (IsStopAt placed.index (T.may_fail placed.input)) }
         ensures read { IfOk result (λ fault. fault ≡ None → HasRead self.old.has_reader self.old.receipts self.old.readings → HasRead self.new.has_reader self.new.receipts self.new.readings) }
         ensures reader { self.new.has_reader ≡ self.old.has_reader }

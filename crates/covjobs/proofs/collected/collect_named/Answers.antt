@@ -1,4 +1,4 @@
-use Rattle.std.proofs.Common.{rules, ◌≡◌, ◌∙◌, ℕ, List, Global, length, map, refl, ap, subst, arith}
+use Rattle.std.proofs.Common.{◌≡◌, ◌∙◌, ℕ, List, Global, length, map, refl, ap, subst, arith}
 use Rattle.std.proofs.lemmas.List.{length-map}
 use Rattle.covbook.specs.EntryView.{entry_data}
 use Rattle.covbook.specs.Gather.{LogData, IsGathered}
@@ -7,7 +7,7 @@ use Rattle.covbook.specs.Op.{EntryData}
 use Rattle.covbook.specs.View.{op_data}
 use Rattle.covlock.specs.CloseFault.{told_job}
 use Rattle.covlock.specs.Handed.{IsLeastMissing}
-use Rattle.covlock.specs.Seat.{SeatData, first_seats}
+use Rattle.covlock.specs.Seat.{SeatData}
 use Rattle.covjobs.specs.declared.readers.Readers.TheVariants as readers
 use Rattle.covjobs.specs.Late.{chances_of}
 use Rattle.covjobs.specs.Work.{seats_in}

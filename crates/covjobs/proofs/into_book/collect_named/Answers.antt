@@ -1,5 +1,5 @@
 use denote.Param.Send.{sendable}
-use Rattle.std.proofs.Common.{rules, ◌∙◌, IsTrue, ℕ, List, Option, length, ap, sym, subst}
+use Rattle.std.proofs.Common.{rules, ◌∙◌, IsTrue, ℕ, List, Option, ap, sym, subst}
 use Rattle.std.proofs.Crossing as heap
 use Rattle.std.specs.List.{AllByRecursion, sum_by}
 use Rattle.covbook.specs.declared.book.BookFault.TheVariants as book_faults
