@@ -310,7 +310,7 @@ fn check_text(rt: &impl Abort, given: &str, wanted: &str) -> Result<(), Fail> {
 #[test]
 fn examples_are_taken(rt: HostRuntime) -> Result<(), Fail> {
     check_examples(&rt, "covcollect --help", 5)?;
-    check_examples(&rt, "covcollect merge --help", 5)?;
+    check_examples(&rt, "covcollect merge --help", 6)?;
     check_examples(&rt, "covcollect summary --help", 4)?;
     check_examples(&rt, "covcollect list --help", 3)?;
     check_examples(&rt, "covcollect extract --help", 3)?;
