@@ -1,0 +1,58 @@
+-- What a tracefile is read as that is read in pieces, each a submission of its own (geninfo(1), FILES).
+use Rattle.std.specs.Prelude.{◌≡◌, ◌⊎◌, ◌<◌, ◌≤◌, ℕ, List, ◌++◌, length, take, Option, Some, None, Result, Ok, Err}
+use Rattle.std.specs.List.{concat}
+use Rattle.covcommand.specs.declared.asked.LcovVersion.{LcovVersion}
+use Rattle.covlarge.specs.Summary.{SummaryData, HoldsAllIfTold, told_number}
+use Rattle.covlarge.specs.Version.{IsOutcomeOf, IsSkippedOf, IsWholeOf, carried_over}
+use Rattle.covline.specs.Row.{SubmissionData}
+use Rattle.covpieces.specs.Pieces.{CarriedData, HaveBeenRead, all_of, front_text, nothing_carried, renumbered}
+use Rattle.covpieces.specs.Sections.{EndsSection}
+use Rattle.covread.specs.Outcome.{max_bytes}
+use Rattle.covread.specs.declared.fault.ReadFault.{ReadFault}
+use Rattle.covread.specs.declared.fault.ReadFault.TheVariants.{TooLong}
+
+-- the most pieces that a tracefile may have
+abbrev pub max_pieces : ℕ
+max_pieces = 1048576
+
+-- the fault with its line's number as it is told
+abbrev pub told_fault : ReadFault → ReadFault
+told_fault fault = renumbered told_number fault
+
+-- the rest of a tracefile begins with a section that is too long: with the front of its piece, it has more bytes than a text may
+-- have, up to its end, or up to the end of the rest if it has no end
+pub record BeginsTooLong (front rest : List ℕ) : Type 0 where
+  pub all : max_bytes < length (front ++ rest)
+  pub section : (n : ℕ) → n ≤ length rest → EndsSection (take n rest) → max_bytes < length (front ++ take n rest)
+
+-- why reading stops before the rest of the text, after some pieces: for the first fault of the whole text; or since the rest begins
+-- with a section that is too long; or since no more pieces are read
+abbrev pub IsStop : LcovVersion → (text : List ℕ) → CarriedData → (rest : List ℕ) → (pieces : ℕ) → ReadFault → Type 0
+IsStop version text carried rest pieces fault =
+    ((first : ReadFault) × IsWholeOf version text (Err first) × (fault ≡ told_fault first))
+    ⊎ ((fault ≡ TooLong) × (BeginsTooLong (front_text carried) rest ⊎ (max_pieces ≤ pieces)))
+
+-- the first pieces of the text were read as these submissions, and then reading stopped for this fault
+pub record IsStoppedFor (version : LcovVersion) (text : List ℕ) (read : List SubmissionData) (fault : ReadFault) : Type 0 where
+  pub pieces : List (List ℕ)
+  pub rest : List ℕ
+  pub carried : CarriedData
+  pub together : text ≡ concat pieces ++ rest
+  pub each : HaveBeenRead (IsOutcomeOf version) (carried_over version) nothing_carried pieces read carried
+  pub stop : IsStop version text carried rest (length pieces) fault
+
+-- what a tracefile of any length is read as: submissions whose sections, in order, are those of the whole text, and whose odd lines
+-- add up to those of the whole, and what the text holds, if that is asked for; or some submissions and then a fault
+abbrev pub IsReadAs : LcovVersion → (text : List ℕ) → (read : List SubmissionData) → Result (Option SummaryData) ReadFault → Type 0
+IsReadAs version text read (Ok told) =
+    IsWholeOf version text (Ok (all_of read)) × HoldsAllIfTold (IsSkippedOf version) text (all_of read) told
+IsReadAs version text read (Err fault) = IsStoppedFor version text read fault
+
+-- the bytes are the whole text, if they are known
+abbrev pub IsAll : Option (List ℕ) → List ℕ → Type 0
+IsAll None text = Unit {0}
+IsAll (Some bytes) text = text ≡ bytes
+
+-- a tracefile with these bytes, if they are known, may be read as this
+abbrev pub MayBeReadAs : LcovVersion → Option (List ℕ) → (read : List SubmissionData) → Result (Option SummaryData) ReadFault → Type 0
+MayBeReadAs version bytes read end = (text : List ℕ) × IsAll bytes text × IsReadAs version text read end

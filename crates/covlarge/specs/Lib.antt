@@ -1,0 +1,5 @@
+pub mod Version
+pub mod Summary
+pub mod Large
+pub mod State
+pub mod Blocks

@@ -1,0 +1,91 @@
+-- Private steps: a tracefile of which some pieces were read, and what may still come of it.
+use Rattle.std.specs.Io.KnownBytes.{Consumes}
+use Rattle.std.specs.Prelude.{◌≡◌, ◌⊎◌, ◌<◌, ◌≤◌, ◌+◌, ℕ, List, [], ◌∷◌, ◌++◌, length, option_map, Option, Some, None, Result, Ok, Err}
+use Rattle.std.specs.List.{concat}
+use Rattle.covcommand.specs.declared.asked.LcovVersion.{LcovVersion}
+use Rattle.covlarge.specs.Large.{BeginsTooLong, IsAll, MayBeReadAs, max_pieces}
+use Rattle.covlarge.specs.Summary.{HoldsOnIfTold, SummaryData}
+use Rattle.covlarge.specs.Version.{IsOutcomeOf, IsSkippedOf, carried_over}
+use Rattle.covlarge.specs.declared.fault.PieceFault.{PieceFault}
+use Rattle.covlarge.specs.declared.fault.PieceFault.TheVariants.{Refused, Unreadable, Memory}
+use Rattle.covlarge.specs.declared.large_tracefile.NextPiece.{NextPiece}
+use Rattle.covlarge.specs.declared.large_tracefile.NextPiece.TheVariants.{Last, More}
+use Rattle.covline.specs.Row.{SubmissionData}
+use Rattle.covpieces.specs.Pieces.{CarriedData, HaveBeenRead, all_of, front_text, nothing_carried, told}
+use Rattle.covpieces.specs.Sections.{EndsSection}
+use Rattle.covread.specs.declared.fault.ReadFault.{ReadFault}
+use Rattle.covread.specs.declared.fault.ReadFault.TheVariants.{TooLong}
+
+-- a tracefile of which some pieces were read: its version; what goes over to the next piece; what the pieces hold, if that is asked
+-- for; how many more pieces may be read; the bytes that were read and aren't in a piece yet; and the source of the bytes after them
+pub record StateData (S : Type 0) : Type 0 where
+  pub version : LcovVersion
+  pub carried : CarriedData
+  pub held : Option SummaryData
+  pub left : ℕ
+  pub rest : List ℕ
+  pub source : S
+
+-- the bytes of the tracefile that are still to come, if they are known
+abbrev pub to_come : {S : Type 0} → (left : S → Option (List ℕ)) → StateData S → Option (List ℕ)
+to_come left state = option_map (λ more. state.rest ++ more) (left state.source)
+
+-- the piece with its front was refused for this fault. It ends with a section, or it is the end of the text
+pub record IsFaultyPiece (version : LcovVersion) (carried : CarriedData) (rest : List ℕ) (fault : ReadFault) : Type 0 where
+  pub piece : List ℕ
+  pub more : List ℕ
+  pub together : rest ≡ piece ++ more
+  pub ends : EndsSection piece ⊎ (more ≡ [])
+  pub found : ReadFault
+  pub isnt_long : found ≡ TooLong → ⊥
+  pub outcome : IsOutcomeOf version (front_text carried ++ piece) (Err found)
+  pub is : fault ≡ told carried found
+
+-- some pieces of the text were read, from a state on, and then its end is read, or reading stops
+pub record GoesOn {S : Type 0} (state : StateData S) (text : List ℕ) (read : List SubmissionData) (end : Result (Option SummaryData) ReadFault) : Type 0 where
+  pub pieces : List (List ℕ)
+  pub before : List SubmissionData
+  pub last : CarriedData
+  pub rest : List ℕ
+  pub together : text ≡ concat pieces ++ rest
+  pub each : HaveBeenRead (IsOutcomeOf state.version) (carried_over state.version) state.carried pieces before last
+  pub ends : EndsAs state text before last rest read end
+
+-- how reading ends: the rest is the last piece; or a piece is refused, or the rest begins with a section that is too long, or no
+-- more pieces are read
+abbrev pub EndsAs : {S : Type 0} → StateData S → (text : List ℕ) → (before : List SubmissionData) → (last : CarriedData) → (rest : List ℕ) → (read : List SubmissionData)
+    → Result (Option SummaryData) ReadFault → Type 0
+EndsAs state text before last rest read (Ok summary) =
+    (submission : SubmissionData) × IsOutcomeOf state.version (front_text last ++ rest) (Ok submission) × (read ≡ before ++ submission ∷ [])
+    × HoldsOnIfTold (IsSkippedOf state.version) state.carried.lines state.held text (all_of read) summary
+EndsAs state text before last rest read (Err fault) =
+    (read ≡ before)
+    × (IsFaultyPiece state.version last rest fault
+    ⊎ ((fault ≡ TooLong) × (BeginsTooLong (front_text last) rest ⊎ (state.left ≤ length before))))
+
+-- what may come of the tracefile from a state on
+abbrev pub MayGive : {S : Type 0} → (left : S → Option (List ℕ)) → StateData S → (read : List SubmissionData) → Result (Option SummaryData) ReadFault → Type 0
+MayGive left state read end = (text : List ℕ) × IsAll (to_come left state) text × GoesOn state text read end
+
+-- a read may fail from a source on, after it gave some of its bytes
+abbrev pub MayFailFrom : {S : Type 0} → (left : S → Option (List ℕ)) → (failed_reads : S → ℕ) → S → Type 0
+MayFailFrom {S} left failed_reads source =
+    (after : S) × (bytes : List ℕ) × Consumes (left source) (left after) bytes × (failed_reads source < failed_reads after)
+
+-- what reading the next piece may return: the last piece's submission, with what the whole holds; or a piece's submission and the
+-- rest of the tracefile; or why reading stops. Whatever the rest gives, the tracefile may give with the submission in front
+abbrev pub IsNextPiece : {S : Type 0} → (left : S → Option (List ℕ)) → (failed_reads : S → ℕ) → StateData S → Result (NextPiece S) PieceFault → Type 0
+IsNextPiece left failed_reads state (Ok (Last submission summary)) = (0 < state.left) × MayGive left state (submission ∷ []) (Ok summary)
+IsNextPiece left failed_reads state (Ok (More submission next)) =
+    (next.left < state.left) × (MayFailFrom left failed_reads next.source → MayFailFrom left failed_reads state.source)
+    × ((read : List SubmissionData) (end : Result (Option SummaryData) ReadFault) → MayGive left next read end → MayGive left state (submission ∷ read) end)
+IsNextPiece left failed_reads state (Err (Refused fault)) = MayGive left state [] (Err fault)
+IsNextPiece left failed_reads state (Err Unreadable) = MayFailFrom left failed_reads state.source
+IsNextPiece left failed_reads state (Err Memory) = Unit {0}
+
+-- what checking a whole tracefile may return
+abbrev pub IsChecked : {S : Type 0} → (left : S → Option (List ℕ)) → (failed_reads : S → ℕ) → LcovVersion → S → Result SummaryData PieceFault → Type 0
+IsChecked left failed_reads version source (Ok summary) = (read : List SubmissionData) × MayBeReadAs version (left source) read (Ok (Some summary))
+IsChecked left failed_reads version source (Err (Refused fault)) = (read : List SubmissionData) × MayBeReadAs version (left source) read (Err fault)
+IsChecked left failed_reads version source (Err Unreadable) = MayFailFrom left failed_reads source
+IsChecked left failed_reads version source (Err Memory) = Unit {0}
