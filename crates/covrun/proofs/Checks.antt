@@ -13,6 +13,8 @@ use Rattle.covcommand.specs.declared.asked.LcovVersion.TheVariants as versions
 use Rattle.covcommand.specs.declared.asked.Strictness.{Strictness}
 use Rattle.covcommand.specs.declared.asked.TextFormat.{TextFormat}
 use Rattle.covcommand.specs.declared.asked.TextFormat.TheVariants.{Tracefile, Gcov}
+use Rattle.covrun.specs.declared.work.CheckedFormat.{CheckedFormat}
+use Rattle.covrun.specs.declared.work.CheckedFormat.TheVariants.{Text, LargeTracefile}
 use Rattle.covline.specs.Row.{SubmissionData}
 use Rattle.covlist.specs.Shown.{shown_name}
 use Rattle.covlcov2.specs.Outcome as lcov2
@@ -89,7 +91,7 @@ each_both told files more outcomes others same =
     ∙ flat_map-append (λ (f : List ℕ × OutcomeData). told f.0 f.1) (zip files outcomes) (zip more others))
 
 -- this outcome is possible for this file
-abbrev becomes : FolderData → TextFormat → List ℕ × OutcomeData → Type 0
+abbrev becomes : FolderData → CheckedFormat → List ℕ × OutcomeData → Type 0
 becomes folder format f = IsOutcome folder format f.0 f.1
 
 -- the line that reports a file, and the complaint about it
@@ -123,7 +125,7 @@ examined_refusal format strictness shown text why (inr is) other (Err fault) rep
 
 -- if the file may have this text, what comes of examining the file with this text comes of examining the file
 examined_as : (folder : FolderData) (format : TextFormat) (strictness : Strictness) (file text : List ℕ) → length text ≤ suc max_bytes → IsTextOf (folder.holds file) text
-    → (result : Result FileReport SessionFault) → IsTextExamined format strictness (shown_name file) text result → IsExamined folder format strictness file result
+    → (result : Result FileReport SessionFault) → IsTextExamined format strictness (shown_name file) text result → IsExamined folder (Text format) strictness file result
 examined_as folder format strictness file text short fits (Ok report) (Unread, none, is) = absurd none
 examined_as folder format strictness file text short fits (Ok report) (Refused fault, may, is) = (Refused fault, (text, short, fits, may), is)
 examined_as folder format strictness file text short fits (Ok report) (Held summary, may, is) = (Held summary, (text, short, fits, may), is)
@@ -131,7 +133,7 @@ examined_as folder format strictness file text short fits (Err fault) ran_out = 
 
 -- the same for the file's shown name
 pub examined_text : (folder : FolderData) (format : TextFormat) (strictness : Strictness) (file shown text : List ℕ) → shown ≡ shown_name file → length text ≤ suc max_bytes → IsTextOf (folder.holds file) text
-    → (result : Result FileReport SessionFault) → IsTextExamined format strictness shown text result → IsExamined folder format strictness file result
+    → (result : Result FileReport SessionFault) → IsTextExamined format strictness shown text result → IsExamined folder (Text format) strictness file result
 examined_text folder format strictness file shown text is short fits result examined =
     examined_as folder format strictness file text short fits result (subst (λ (name : List ℕ). IsTextExamined format strictness name text result) is examined)
 
@@ -141,7 +143,7 @@ may_fail_of folder name (files.Unreadable file) other unread = unread.1
 may_fail_of folder name files.Memory other unread = absurd (other refl)
 
 -- a file that can't be read is reported as such
-pub examined_unread : (folder : FolderData) (format : TextFormat) (strictness : Strictness) (file shown : List ℕ) → shown ≡ shown_name file → folder.MayFail file
+pub examined_unread : (folder : FolderData) (format : CheckedFormat) (strictness : Strictness) (file shown : List ℕ) → shown ≡ shown_name file → folder.MayFail file
     → (result : Result FileReport SessionFault) → IfOk result (IsReportOf strictness shown Unread) → IfErr result (λ fault. fault ≡ faults.Memory)
     → IsExamined folder format strictness file result
 examined_unread folder format strictness file shown is may (Ok report) reported ended =
@@ -157,13 +159,13 @@ written_report strictness shown outcome report answer b d (words_are, line_is, v
     (subst (λ (line : List ℕ). Reports line report.complaint.items report.verdict answer b d) line_is told))
 
 -- what was examined is reported
-pub told_one : (folder : FolderData) (format : TextFormat) (strictness : Strictness) (file : List ℕ) (result : Result FileReport SessionFault) (answer : Result CheckVerdict SessionFault) (b d : SinksData)
+pub told_one : (folder : FolderData) (format : CheckedFormat) (strictness : Strictness) (file : List ℕ) (result : Result FileReport SessionFault) (answer : Result CheckVerdict SessionFault) (b d : SinksData)
     → IsExamined folder format strictness file result → TellsExamined result answer b d → TellsOne folder format strictness file answer b d
 told_one folder format strictness file (Ok report) answer b d (outcome, may, is) told = inr (outcome, may, written_report strictness (shown_name file) outcome report answer b d is told)
 told_one folder format strictness file (Err fault) answer b d ran_out (ended, unchanged) = inl (ended ∙ ap Err ran_out, unchanged)
 
 -- what came of examining the file at this index
-pub examined_at : (folder : FolderData) (format : TextFormat) (strictness : Strictness) (files : List (List ℕ)) (results seen : List (Result FileReport SessionFault)) (i : ℕ) (result : Result FileReport SessionFault)
+pub examined_at : (folder : FolderData) (format : CheckedFormat) (strictness : Strictness) (files : List (List ℕ)) (results seen : List (Result FileReport SessionFault)) (i : ℕ) (result : Result FileReport SessionFault)
     → AreExamined folder format strictness files results → seen ≡ results → i < length seen → result ≡ get_or seen i result
     → (i < length files) × IsExamined folder format strictness (get_or files i []) result
 examined_at folder format strictness files results seen i result (same, each) seen_is within is =
@@ -259,7 +261,7 @@ within_next files outcomes a b d same within = record {
 
 -- ---- one more file
 
-told_next : (folder : FolderData) (format : TextFormat) (strictness : Strictness) (files : List (List ℕ)) (file : List ℕ) (so_far verdict : CheckVerdict) (a b d : SinksData)
+told_next : (folder : FolderData) (format : CheckedFormat) (strictness : Strictness) (files : List (List ℕ)) (file : List ℕ) (so_far verdict : CheckVerdict) (a b d : SinksData)
     → TellsEach folder format strictness files (Ok so_far) a b → TellsOne folder format strictness file (Ok verdict) b d
     → TellsEach folder format strictness (files ++ file ∷ []) (Ok (worse so_far verdict)) a d
 told_next folder format strictness files file so_far verdict a b d before (inl (ran_out, unchanged)) = absurd cc
@@ -281,7 +283,7 @@ told_next folder format strictness files file so_far verdict a b d (outcomes, al
     )
 
 -- memory ran out before the next file was reported
-told_without_room : (folder : FolderData) (format : TextFormat) (strictness : Strictness) (files rest : List (List ℕ)) (file : List ℕ) (so_far : CheckVerdict) (a b d : SinksData)
+told_without_room : (folder : FolderData) (format : CheckedFormat) (strictness : Strictness) (files rest : List (List ℕ)) (file : List ℕ) (so_far : CheckVerdict) (a b d : SinksData)
     → TellsEach folder format strictness files (Ok so_far) a b → d ≡ b → TellsEach folder format strictness (files ++ file ∷ rest) (Err faults.Memory) a d
 told_without_room folder format strictness files rest file so_far a b d (outcomes, all, (same, is, lines, good, sent, says)) unchanged =
     let few : length outcomes ≤ length files = omega (arith, same) in
@@ -298,7 +300,7 @@ told_without_room folder format strictness files rest file so_far a b d (outcome
     )
 
 -- a fault came at the next file, so no later file is checked
-told_until : (folder : FolderData) (format : TextFormat) (strictness : Strictness) (files rest : List (List ℕ)) (file : List ℕ) (so_far : CheckVerdict) (fault : SessionFault) (a b d : SinksData)
+told_until : (folder : FolderData) (format : CheckedFormat) (strictness : Strictness) (files rest : List (List ℕ)) (file : List ℕ) (so_far : CheckVerdict) (fault : SessionFault) (a b d : SinksData)
     → TellsEach folder format strictness files (Ok so_far) a b → TellsOne folder format strictness file (Err fault) b d
     → TellsEach folder format strictness (files ++ file ∷ rest) (Err fault) a d
 told_until folder format strictness files rest file so_far faults.Write a b d before (inl (ran_out, unchanged)) = absurd cc
@@ -338,7 +340,7 @@ told_until folder format strictness files rest file so_far faults.Full a b d bef
 -- ---- the files by their indexes
 
 -- nothing is reported yet
-pub told_start : (folder : FolderData) (format : TextFormat) (strictness : Strictness) (a : SinksData) → TellsEach folder format strictness [] (Ok verdicts.Fine) a a
+pub told_start : (folder : FolderData) (format : CheckedFormat) (strictness : Strictness) (a : SinksData) → TellsEach folder format strictness [] (Ok verdicts.Fine) a a
 told_start folder format strictness a = (
   [],
   tt,
@@ -346,23 +348,23 @@ told_start folder format strictness a = (
 )
 
 -- memory ran out before the first file was reported
-pub told_nothing : (folder : FolderData) (format : TextFormat) (strictness : Strictness) (files : List (List ℕ)) (a : SinksData) → 0 < length files → TellsEach folder format strictness files (Err faults.Memory) a a
+pub told_nothing : (folder : FolderData) (format : CheckedFormat) (strictness : Strictness) (files : List (List ℕ)) (a : SinksData) → 0 < length files → TellsEach folder format strictness files (Err faults.Memory) a a
 told_nothing folder format strictness [] a some = absurd (omega (arith, some))
 told_nothing folder format strictness (file ∷ rest) a some = told_without_room folder format strictness [] rest file verdicts.Fine a a a (told_start folder format strictness a) refl
 
 -- few writes failed
-pub told_few : (folder : FolderData) (format : TextFormat) (strictness : Strictness) (files : List (List ℕ)) (so_far : CheckVerdict) (a b : SinksData)
+pub told_few : (folder : FolderData) (format : CheckedFormat) (strictness : Strictness) (files : List (List ℕ)) (so_far : CheckVerdict) (a b : SinksData)
     → TellsEach folder format strictness files (Ok so_far) a b → (b.failed_output ≡ a.failed_output) × (b.failed_faults ≤ a.failed_faults + length files)
 told_few folder format strictness files so_far a b (outcomes, all, (same, is, lines, good, sent, (complained, grew, few))) = (good, omega (arith, same, few))
 
 -- few writes to the stream for faults failed, if there are `count` files, and the first `i` are reported
-pub told_few_of : (folder : FolderData) (format : TextFormat) (strictness : Strictness) (files : List (List ℕ)) (i count : ℕ) (so_far : CheckVerdict) (a b : SinksData)
+pub told_few_of : (folder : FolderData) (format : CheckedFormat) (strictness : Strictness) (files : List (List ℕ)) (i count : ℕ) (so_far : CheckVerdict) (a b : SinksData)
     → TellsEach folder format strictness (take i files) (Ok so_far) a b → length files ≡ count → a.failed_faults + count < 2 ^ 63 → b.failed_faults < 2 ^ 63
 told_few_of folder format strictness files i count so_far a b told many room =
     omega (arith, (told_few folder format strictness (take i files) so_far a b told).1, length-take i files, many, room)
 
 -- all files are reported, if as many are as there are results
-pub told_whole : (folder : FolderData) (format : TextFormat) (strictness : Strictness) (files : List (List ℕ)) (results seen : List (Result FileReport SessionFault)) (i : ℕ) (so_far : CheckVerdict) (a b : SinksData)
+pub told_whole : (folder : FolderData) (format : CheckedFormat) (strictness : Strictness) (files : List (List ℕ)) (results seen : List (Result FileReport SessionFault)) (i : ℕ) (so_far : CheckVerdict) (a b : SinksData)
     → AreExamined folder format strictness files results → seen ≡ results → length seen ≤ i → TellsEach folder format strictness (take i files) (Ok so_far) a b
     → TellsEach folder format strictness files (Ok so_far) a b
 told_whole folder format strictness files results seen i so_far a b (same, each) seen_is ended told =
@@ -371,7 +373,7 @@ told_whole folder format strictness files results seen i so_far a b (same, each)
     subst (λ (fs : List (List ℕ)). TellsEach folder format strictness fs (Ok so_far) a b) (take_all i files all) told
 
 -- the next file is reported
-pub told_more : (folder : FolderData) (format : TextFormat) (strictness : Strictness) (files : List (List ℕ)) (i : ℕ) → i < length files
+pub told_more : (folder : FolderData) (format : CheckedFormat) (strictness : Strictness) (files : List (List ℕ)) (i : ℕ) → i < length files
     → (so_far verdict after : CheckVerdict) → after ≡ worse so_far verdict → (a b d : SinksData)
     → TellsEach folder format strictness (take i files) (Ok so_far) a b → TellsOne folder format strictness (get_or files i []) (Ok verdict) b d
     → TellsEach folder format strictness (take (i + 1) files) (Ok after) a d
@@ -381,7 +383,7 @@ told_more folder format strictness files i within so_far verdict after worse_is 
     (told_next folder format strictness (take i files) (get_or files i []) so_far verdict a b d before next))
 
 -- a fault came at the next file, so no later file is reported
-pub told_last : (folder : FolderData) (format : TextFormat) (strictness : Strictness) (files : List (List ℕ)) (i : ℕ) → i < length files → (so_far : CheckVerdict) (fault : SessionFault) (a b d : SinksData)
+pub told_last : (folder : FolderData) (format : CheckedFormat) (strictness : Strictness) (files : List (List ℕ)) (i : ℕ) → i < length files → (so_far : CheckVerdict) (fault : SessionFault) (a b d : SinksData)
     → TellsEach folder format strictness (take i files) (Ok so_far) a b → TellsOne folder format strictness (get_or files i []) (Err fault) b d
     → TellsEach folder format strictness files (Err fault) a d
 told_last folder format strictness files i within so_far fault a b d before next =
@@ -393,7 +395,7 @@ told_last folder format strictness files i within so_far fault a b d before next
 -- ---- one more round
 
 -- some files are reported, and then those of a round
-pub told_round : (folder : FolderData) (format : TextFormat) (strictness : Strictness) (files round : List (List ℕ)) (so_far verdict : CheckVerdict) (a b d : SinksData)
+pub told_round : (folder : FolderData) (format : CheckedFormat) (strictness : Strictness) (files round : List (List ℕ)) (so_far verdict : CheckVerdict) (a b d : SinksData)
     → TellsEach folder format strictness files (Ok so_far) a b → TellsEach folder format strictness round (Ok verdict) b d
     → TellsEach folder format strictness (files ++ round) (Ok (worse so_far verdict)) a d
 told_round folder format strictness files round so_far verdict a b d (outcomes, all, (same, is, lines, good, sent, says)) (more, all', (same', is', lines', good', sent', says')) =
@@ -414,7 +416,7 @@ told_round folder format strictness files round so_far verdict a b d (outcomes, 
     )
 
 -- a fault came within the round
-told_within : (folder : FolderData) (format : TextFormat) (strictness : Strictness) (files round : List (List ℕ)) (so_far : CheckVerdict) (fault : SessionFault) (a b d : SinksData)
+told_within : (folder : FolderData) (format : CheckedFormat) (strictness : Strictness) (files round : List (List ℕ)) (so_far : CheckVerdict) (fault : SessionFault) (a b d : SinksData)
     → TellsEach folder format strictness files (Ok so_far) a b → TellsEach folder format strictness round (Err fault) b d
     → TellsEach folder format strictness (files ++ round) (Err fault) a d
 told_within folder format strictness files round so_far faults.Write a b d (outcomes, all, (same, is, lines, good, sent, says)) (more, all', (within, failed, says')) =
@@ -467,7 +469,7 @@ each_front told files later outcomes few =
     ap (flat_map (λ (f : List ℕ × OutcomeData). told f.0 f.1)) (sym (zip_front files later outcomes few))
 
 -- after a fault no later file is checked
-told_before : (folder : FolderData) (format : TextFormat) (strictness : Strictness) (files later : List (List ℕ)) (fault : SessionFault) (a d : SinksData)
+told_before : (folder : FolderData) (format : CheckedFormat) (strictness : Strictness) (files later : List (List ℕ)) (fault : SessionFault) (a d : SinksData)
     → TellsEach folder format strictness files (Err fault) a d → TellsEach folder format strictness (files ++ later) (Err fault) a d
 told_before folder format strictness files later faults.Write a d (outcomes, all, (within, failed, says)) =
     let few : length outcomes ≤ length files = omega (
@@ -513,7 +515,7 @@ told_before folder format strictness files later faults.Read a d (outcomes, all,
 told_before folder format strictness files later faults.Full a d (outcomes, all, none) = absurd none
 
 -- a fault came within the round, so no later round is checked
-pub told_last_round : (folder : FolderData) (format : TextFormat) (strictness : Strictness) (all files round later : List (List ℕ)) → all ≡ files ++ round ++ later
+pub told_last_round : (folder : FolderData) (format : CheckedFormat) (strictness : Strictness) (all files round later : List (List ℕ)) → all ≡ files ++ round ++ later
     → (so_far : CheckVerdict) (fault : SessionFault) (a b d : SinksData)
     → TellsEach folder format strictness files (Ok so_far) a b → TellsEach folder format strictness round (Err fault) b d
     → TellsEach folder format strictness all (Err fault) a d
@@ -522,7 +524,7 @@ told_last_round folder format strictness all files round later is so_far fault a
     (told_before folder format strictness (files ++ round) later fault a d (told_within folder format strictness files round so_far fault a b d before ended))
 
 -- the same with the verdict that the code has
-pub told_round_as : (folder : FolderData) (format : TextFormat) (strictness : Strictness) (files round : List (List ℕ)) (so_far verdict after : CheckVerdict) → after ≡ worse so_far verdict → (a b d : SinksData)
+pub told_round_as : (folder : FolderData) (format : CheckedFormat) (strictness : Strictness) (files round : List (List ℕ)) (so_far verdict after : CheckVerdict) → after ≡ worse so_far verdict → (a b d : SinksData)
     → TellsEach folder format strictness files (Ok so_far) a b → TellsEach folder format strictness round (Ok verdict) b d
     → TellsEach folder format strictness (files ++ round) (Ok after) a d
 told_round_as folder format strictness files round so_far verdict after is a b d before next =
@@ -556,7 +558,7 @@ few_left name all left round later before cut is failed first few short room =
     )
 
 -- no file is left
-pub told_to_end : {X : Type 0} (folder : FolderData) (name : X → List ℕ) (format : TextFormat) (strictness : Strictness) (all left : List X) (before : List (List ℕ)) (so_far : CheckVerdict) (a b : SinksData)
+pub told_to_end : {X : Type 0} (folder : FolderData) (name : X → List ℕ) (format : CheckedFormat) (strictness : Strictness) (all left : List X) (before : List (List ℕ)) (so_far : CheckVerdict) (a b : SinksData)
     → length left ≡ 0 → map name all ≡ before ++ map name left → TellsEach folder format strictness before (Ok so_far) a b → TellsEach folder format strictness (map name all) (Ok so_far) a b
 told_to_end folder name format strictness all [] before so_far a b none is told =
     subst (λ (fs : List (List ℕ)). TellsEach folder format strictness fs (Ok so_far) a b) (sym (is ∙ append-nil before)) told
@@ -572,7 +574,7 @@ says_last words front spoken b d is complained grew few =
     (λ good. subst (Appends b.faults d.faults) is (complained good), grew, omega (arith, few))
 
 -- a fault ended the check, and was reported
-pub check_ended : (folder : FolderData) (format : TextFormat) (strictness : Strictness) (files : List (List ℕ)) (fault : SessionFault) (status : ℕ) (a b d : SinksData)
+pub check_ended : (folder : FolderData) (format : CheckedFormat) (strictness : Strictness) (files : List (List ℕ)) (fault : SessionFault) (status : ℕ) (a b d : SinksData)
     → TellsEach folder format strictness files (Err fault) a b → status ≡ fault_status fault → d.output ≡ b.output → d.failed_output ≡ b.failed_output
     → Says 1 (said (words_of_fault fault)) b d → IsCheck folder format strictness files status a d
 check_ended folder format strictness files faults.Write status a b d (outcomes, all, (within, failed, says)) ends same unfailed told = (

@@ -15,7 +15,7 @@ use Rattle.covreport.specs.Choice.{ChoiceData}
 use Rattle.covreport.specs.Report.{report_text}
 use Rattle.covbook.specs.Step.{answer_of, next_entry, ops_in, table_after, table_from, table_of}
 use Rattle.covbook.specs.Texts.{IsText}
-use Rattle.covjobs.specs.Collect.{IsCollectedWith, whole}
+use Rattle.covjobs.specs.Collect.{IsCollectedWith, OutcomeData}
 use Rattle.covjobs.specs.Late.{MayCome}
 use Rattle.covjobs.specs.Start.{AreJobs}
 use Rattle.covjobs.specs.declared.collect_fault.CollectFault.{CollectFault}
@@ -23,7 +23,6 @@ use Rattle.covjobs.specs.declared.collect_fault.CollectFault.TheVariants as coll
 use Rattle.covjobs.specs.declared.refused.RefusedInput.{RefusedInput}
 use Rattle.covcommand.specs.declared.asked.Strictness.{Strictness}
 use Rattle.covrun.specs.declared.text_fault.TextFault.{TextFault}
-use Rattle.covrun.proofs.Lenient.{are_collected}
 use Rattle.covrun.specs.Strict.{asked_patterns, unmatched_line}
 use Rattle.covcommand.specs.declared.asked.Command.{Command}
 use Rattle.covcommand.specs.declared.asked.Command.TheVariants as commands
@@ -32,7 +31,7 @@ use Rattle.covcommand.specs.declared.asked.TotalsForm.TheVariants as forms
 use Rattle.covrun.specs.WorkFault.{IsRefusal, of_work}
 use Rattle.covrun.specs.declared.work.WorkFault.{WorkFault}
 use Rattle.covrun.specs.declared.work.WorkFault.TheVariants.{Words, Memory}
-use Rattle.covrun.specs.Call.{StopsEarly, AreTexts, IsUnreadable, WorkEnds, IsTaskDone, IsCutShort, IsEndingPrinted, IsEndingReported, IsEndingWritten, IsUnwritten, IsWritten}
+use Rattle.covrun.specs.Call.{StopsEarly, AreTextsIn, IsUnreadable, most_submissions, WorkEnds, IsTaskDone, IsCutShort, IsEndingPrinted, IsEndingReported, IsEndingWritten, IsUnwritten, IsWritten}
 use Rattle.covrun.specs.Check.{IsCheck}
 use Rattle.covrun.specs.Folder.{FolderData}
 use Rattle.covrun.specs.OutputFiles.{OutputFilesData}
@@ -43,40 +42,41 @@ use Rattle.covrun.specs.declared.ending.Failure.TheVariants as failures
 use Rattle.covrun.specs.Ending.{EndingData, Prints, FallsShort, Unreadable, Stopped, Refuses, IsUnclean, strict_lines, of_collect, of_collected, complaint, complaints, refusal_line, ran_out, shortfall_status, status_of, text_in, text_at, last_text, asked_shortfalls, asked_text, list_text, unless_any, with_shortfalls}
 use Rattle.covlimit.specs.Limits.{has_limit}
 use Rattle.covrun.specs.Work.{QuestionData, Answer, ChosenReport, ChosenSummary, LimitedTotals, ChosenList, last_of, choice_of, chosen_or_all, asked_of, limits_of, summary_asked, WorkData, TaskData, Serves, Collects, Checks, input_of, task_of}
-use Rattle.covcommand.specs.declared.asked.TextFormat.{TextFormat}
-use Rattle.covrun.proofs.Reading.{HaveTexts, texts_held}
+use Rattle.covcommand.specs.declared.asked.TextSize.{TextSize}
+use Rattle.covrun.specs.declared.work.CheckedFormat.{CheckedFormat}
+use Rattle.covrun.proofs.Reading.{HaveTexts, collected_in, texts_held}
 
 -- the texts were collected, and the call ends as `of_collected` says, or because memory ran out. `count` is the number of files
-pub ends_collected : (folder : FolderData) (work : WorkData) (files : List (List ℕ)) → files ≡ work.files → (outcome : ℕ → Result SubmissionData TextFault) (count : ℕ) (entries : List EntryData) (refused : List (RefusedInput TextFault)) (ending : EndingData)
+pub ends_collected : (folder : FolderData) (work : WorkData) (files : List (List ℕ)) → files ≡ work.files → (outcome : ℕ → OutcomeData TextFault) (count : ℕ) (entries : List EntryData) (refused : List (RefusedInput TextFault)) (ending : EndingData)
     → HaveTexts folder work.format work.strictness files outcome → count ≡ length files → IsText (last_of work.asks)
-    → ((last : OpData) → IsText last → (logs : List LogData) × IsCollectedWith (λ index. whole (outcome index)) count work.jobs last (entries ++ next_entry entries 0 last ∷ []) logs refused)
+    → ((last : OpData) → IsText last → (logs : List LogData) × IsCollectedWith outcome count work.jobs last (entries ++ next_entry entries 0 last ∷ []) logs refused)
     → (ending ≡ Stopped faults.Memory) ⊎ (ending ≡ of_collected files work.strictness work.asks (entries ++ next_entry entries 0 (last_of work.asks) ∷ []) refused) → WorkEnds folder work ending
 ends_collected folder work files named outcome count entries refused ending read long asks collected (inl ran_out) = inl ran_out
-ends_collected folder work files named outcome count entries refused ending (texts, are, outcomes) long asks collected (inr is) =
+ends_collected folder work files named outcome count entries refused ending (texts, each, are, outcomes) long asks collected (inr is) =
     let last = collected (last_of work.asks) asks in
     let all = entries ++ next_entry entries 0 (last_of work.asks) ∷ [] in
-    let same : count ≡ length (map (input_of work.format) texts) = long ∙ sym are.0 ∙ sym (length-map texts (input_of work.format)) in
+    let same : count ≡ length texts = long ∙ sym each in
     inr (inr (
       texts,
       Ok (record { entries = all; logs = last.0; refused = refused }),
-      subst (λ (fs : List (List ℕ)). AreTexts folder fs texts) named are,
-      are_collected work.strictness (map (input_of work.format) texts) work.jobs (last_of work.asks) all last.0 refused outcome outcomes
-          (subst (λ (n : ℕ). IsCollectedWith (λ index. whole (outcome index)) n work.jobs (last_of work.asks) all last.0 refused) same last.1),
+      subst (λ (fs : List (List ℕ)). AreTextsIn work.format folder fs texts) named are,
+      collected_in work.format work.strictness texts work.jobs (last_of work.asks) all last.0 refused outcome outcomes
+          (subst (λ (n : ℕ). IsCollectedWith outcome n work.jobs (last_of work.asks) all last.0 refused) same last.1),
       is ∙ ap (λ (fs : List (List ℕ)). of_collected fs work.strictness work.asks all refused) named,
     ))
 
 -- the texts weren't collected, and the call ends with the ending for the fault
 pub ends_uncollected : (folder : FolderData) (work : WorkData) (fault : CollectFault) (ending : EndingData)
-    → (fault ≡ collects.BadJobs → AreJobs work.jobs → ⊥) → MayCome (length work.files) fault → ending ≡ of_collect fault → WorkEnds folder work ending
+    → (fault ≡ collects.BadJobs → AreJobs work.jobs → ⊥) → MayCome (most_submissions work.format (length work.files)) fault → ending ≡ of_collect fault → WorkEnds folder work ending
 ends_uncollected folder work fault ending bad may is =
-    let held = texts_held folder work.files in
+    let held = texts_held work.format folder work.files in
     inr (inr (held.0, Err fault, held.1, (bad, may), is))
 
 -- a file can't be read, and the call ends with that
 pub ends_unreadable : (folder : FolderData) (work : WorkData) (files : List (List ℕ)) → files ≡ work.files → (name : List ℕ) (ending : EndingData)
-    → IsUnreadable folder files name → ending ≡ Unreadable name → WorkEnds folder work ending
+    → IsUnreadable work.format folder files name → ending ≡ Unreadable name → WorkEnds folder work ending
 ends_unreadable folder work files named name ending unread is =
-    inr (inl (name, is, subst (λ (fs : List (List ℕ)). IsUnreadable folder fs name) named unread))
+    inr (inl (name, is, subst (λ (fs : List (List ℕ)). IsUnreadable work.format folder fs name) named unread))
 
 -- ---- what was collected
 
@@ -260,19 +260,19 @@ totals_are_text : (form : TotalsForm) (limits : LimitsData) (choice : Option Cho
 totals_are_text forms.Words limits choice = words_are_text limits choice (has_limit limits)
 totals_are_text forms.Json limits choice = tt
 
-asks_text_of : (command : Command) (strictness : Strictness) → AsksText (task_of command strictness)
-asks_text_of commands.Session strictness = tt
-asks_text_of (commands.Merge version jobs filter names) strictness = report_or_chosen (choice_of filter)
-asks_text_of (commands.Summary version jobs filter form limits names) strictness = totals_are_text form (limits_of limits) (choice_of filter)
-asks_text_of (commands.List version jobs filter form names) strictness = tt
-asks_text_of (commands.Extract version names) strictness = tt
-asks_text_of (commands.Remove version names) strictness = tt
-asks_text_of (commands.Gcov test names) strictness = tt
-asks_text_of (commands.Check format jobs names) strictness = tt
+asks_text_of : (command : Command) (strictness : Strictness) (size : TextSize) → AsksText (task_of command strictness size)
+asks_text_of commands.Session strictness size = tt
+asks_text_of (commands.Merge version jobs filter names) strictness size = report_or_chosen (choice_of filter)
+asks_text_of (commands.Summary version jobs filter form limits names) strictness size = totals_are_text form (limits_of limits) (choice_of filter)
+asks_text_of (commands.List version jobs filter form names) strictness size = tt
+asks_text_of (commands.Extract version names) strictness size = tt
+asks_text_of (commands.Remove version names) strictness size = tt
+asks_text_of (commands.Gcov test names) strictness size = tt
+asks_text_of (commands.Check format jobs names) strictness size = tt
 
 -- the last operation of each subcommand that collects files asks for a text
-pub asks_text : (command : Command) (strictness : Strictness) (work : WorkData) → Collects work ≡ task_of command strictness → IsText (last_of work.asks)
-asks_text command strictness work is = subst AsksText (sym is) (asks_text_of command strictness)
+pub asks_text : (command : Command) (strictness : Strictness) (size : TextSize) (work : WorkData) → Collects work ≡ task_of command strictness size → IsText (last_of work.asks)
+asks_text command strictness size work is = subst AsksText (sym is) (asks_text_of command strictness size)
 
 -- ---- how a call ends
 
@@ -284,7 +284,7 @@ told_work folder work task file named ending status before after old new files w
     (unread, ending, ends, subst (λ (f : Option (List ℕ)). IsEndingReported f ending status old new files written) same told)
 
 -- if files were checked, the task of a check is done
-pub told_check : (folder : FolderData) (format : TextFormat) (strictness : Strictness) (jobs : ℕ) (names named : List (List ℕ)) (task : TaskData) (file : Option (List ℕ)) (status : ℕ) (before after : SourceData) (old new : SinksData) (files : OutputFilesData)
+pub told_check : (folder : FolderData) (format : CheckedFormat) (strictness : Strictness) (jobs : ℕ) (names named : List (List ℕ)) (task : TaskData) (file : Option (List ℕ)) (status : ℕ) (before after : SourceData) (old new : SinksData) (files : OutputFilesData)
     → after ≡ before → named ≡ names → Checks format strictness jobs names ≡ task → IsCheck folder format strictness named status old new → IsTaskDone folder task file status before after old new files files
 told_check folder format strictness jobs names named task file status before after old new files unread same is checked =
     subst (λ (t : TaskData). IsTaskDone folder t file status before after old new files files) is

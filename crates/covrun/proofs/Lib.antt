@@ -1,5 +1,6 @@
 pub mod Blocks
 pub mod Checks
+pub mod Large
 pub mod Lenient
 pub mod Endings
 pub mod Folders

@@ -1,38 +1,87 @@
--- Files that are read when their turn comes.
-use Rattle.std.proofs.Common.{◌≡◌, ℕ, zero, suc, ◌≤◌, List, [], ◌∷◌, ◌++◌, length, take, map, Option, Some, None, Result, slice_get, refl, sym, ap, ◌∙◌, subst, arith}
+-- The files' texts: which texts the inputs have, and what they are taken as.
+use Rattle.std.proofs.Common.{◌≡◌, ◌⊎◌, ℕ, zero, suc, ◌+◌, ◌*◌, ◌<◌, ◌≤◌, List, [], ◌∷◌, ◌++◌, length, take, map, Option, Some, None, Result, slice_get, refl, sym, ap, ◌∙◌, subst, arith}
 use Rattle.std.proofs.lemmas.List.{length-map, length-take}
-use Rattle.std.specs.List.{AllByRecursion}
+use Rattle.std.specs.List.{AllByRecursion, sum_by, zip}
 use Rattle.covread.specs.Outcome.{max_bytes}
 use Rattle.covcommand.specs.declared.asked.Strictness.{Strictness}
 use Rattle.covbook.specs.Gather.{LogData}
 use Rattle.covbook.specs.Op.{OpData, EntryData}
-use Rattle.covbook.specs.Step.{next_entry}
-use Rattle.covbook.specs.Texts.{IsText}
 use Rattle.covjobs.specs.declared.refused.RefusedInput.{RefusedInput}
-use Rattle.covjobs.proofs.Parts.{one_each}
-use Rattle.covjobs.proofs.ReadWhole.{result_at, results_are, results_give, with_same}
-use Rattle.covjobs.specs.Collect.{AreOutcomes, InputData, IsCollectedWith, IsReadWhole, OutcomeData, whole}
-use Rattle.covjobs.specs.Late.{IsCollectedSoFar, IsFirstUnread, IsIntoBookFault, MayCome}
+use Rattle.covjobs.proofs.ReadWhole.{collected_said}
+use Rattle.covjobs.specs.Collect.{AreOutcomes, IsCollectedWith, IsReadWhole, OutcomeData}
+use Rattle.covjobs.specs.Late.{IsFirstUnread, IsIntoBookFault, MayCome}
 use Rattle.covjobs.specs.declared.book_fault.IntoBookFault.{IntoBookFault}
 use Rattle.covjobs.specs.declared.book_fault.IntoBookFault.TheVariants as into_book
 use Rattle.covjobs.specs.declared.collect_fault.CollectFault.{CollectFault}
-use Rattle.covline.specs.Row.{SubmissionData}
-use Rattle.covrun.specs.Call.{AreTexts, IsUnreadable}
+use Rattle.covlarge.specs.Large.{IsAll, max_pieces}
+use Rattle.covlarge.specs.State.{StateData}
+use Rattle.covrun.proofs.Lenient.{are_collected}
+use Rattle.covrun.specs.Call.{AreCollectedIn, AreTextsIn, IsUnreadable, most_submissions}
 use Rattle.covrun.specs.Ending.{name_at}
-use Rattle.covrun.specs.Files.{MayHaveOutcome}
-use Rattle.covrun.specs.Folder.{FolderData, IsTextAtMost, IsTextOf}
+use Rattle.covrun.specs.Files.{MayFailAs, MayTake, most_parts}
+use Rattle.covrun.specs.Folder.{AreTextsOf, FolderData, IsTextAtMost, IsTextOf}
+use Rattle.covrun.specs.Large.{IsLargeOutcome}
 use Rattle.covrun.specs.Strict.{IsOutcomeFor}
 use Rattle.covrun.specs.Work.{input_of}
 use Rattle.covrun.specs.declared.text_fault.TextFault.{TextFault}
 use Rattle.covrun.specs.declared.work.FileFormat.{FileFormat}
+use Rattle.covrun.specs.declared.work.FileFormat.TheVariants.{Tracefile, LargeTracefile, GcovOutput}
 
 abbrev pub Outcome : Type 0
-Outcome = Result SubmissionData TextFault
+Outcome = OutcomeData TextFault
 
--- a late input is this file of the folder: an outcome that it may have is one that the file may have, and it fails only if the file
--- may fail to be read
+-- ---- texts by the format of their files
+
+-- a text that a file of this format may have. `held` has the file's bytes, if they are known
+abbrev pub IsTextIn : FileFormat → (held : Option (List ℕ)) → List ℕ → Type 0
+IsTextIn (Tracefile version) held text = (length text ≤ suc max_bytes) × IsTextOf held text
+IsTextIn (LargeTracefile version) held text = IsAll held text
+IsTextIn (GcovOutput test) held text = (length text ≤ suc max_bytes) × IsTextOf held text
+
+-- what may be taken of a text
+abbrev pub IsTakenIn : FileFormat → Strictness → List ℕ → Outcome → Type 0
+IsTakenIn (Tracefile version) strictness text = IsReadWhole (IsOutcomeFor strictness (input_of (Tracefile version) text))
+IsTakenIn (LargeTracefile version) strictness text = IsLargeOutcome version strictness text
+IsTakenIn (GcovOutput test) strictness text = IsReadWhole (IsOutcomeFor strictness (input_of (GcovOutput test) text))
+
+-- each text is one of the file at its index
+abbrev pub AreTextsBy : FileFormat → FolderData → (files texts : List (List ℕ)) → Type 0
+AreTextsBy format folder files texts =
+    (length texts ≡ length files) × AllByRecursion (λ (f : List ℕ × List ℕ). IsTextIn format (folder.holds f.0) f.1) (zip files texts)
+
+each_short : (folder : FolderData) (files texts : List (List ℕ)) → length texts ≡ length files
+    → AllByRecursion (λ (f : List ℕ × List ℕ). (length f.1 ≤ suc max_bytes) × IsTextOf (folder.holds f.0) f.1) (zip files texts)
+    → AllByRecursion (λ (text : List ℕ). length text ≤ suc max_bytes) texts × AreTextsOf folder files texts
+each_short folder [] [] long all = (tt, tt)
+each_short folder [] (text ∷ texts) long all = absurd (omega (arith, long))
+each_short folder (file ∷ files) [] long all = absurd (omega (arith, long))
+each_short folder (file ∷ files) (text ∷ texts) long all =
+    let others = each_short folder files texts (omega (arith, long)) all.1 in
+    ((all.0.0, others.0), (all.0.1, others.1))
+
+texts_in : (format : FileFormat) (folder : FolderData) (files texts : List (List ℕ)) → AreTextsBy format folder files texts → AreTextsIn format folder files texts
+texts_in (Tracefile version) folder files texts (long, all) = (long, each_short folder files texts long all)
+texts_in (LargeTracefile version) folder files texts (long, all) = (long, all)
+texts_in (GcovOutput test) folder files texts (long, all) = (long, each_short folder files texts long all)
+
+-- what is collected with outcomes of texts is collected of the texts
+pub collected_in : (format : FileFormat) (strictness : Strictness) (texts : List (List ℕ)) (jobs : ℕ) (last : OpData) (entries : List EntryData) (logs : List LogData) (refused : List (RefusedInput TextFault)) (outcome : ℕ → Outcome)
+    → AreOutcomes (IsTakenIn format strictness) texts outcome → IsCollectedWith outcome (length texts) jobs last entries logs refused
+    → AreCollectedIn format strictness texts jobs last entries logs refused
+collected_in (Tracefile version) strictness texts jobs last entries logs refused outcome are with =
+    let said = collected_said (IsOutcomeFor strictness) (input_of (Tracefile version)) texts jobs last entries logs refused (outcome, are, with) in
+    are_collected strictness (map (input_of (Tracefile version)) texts) jobs last entries logs refused said.0 said.1 said.2
+collected_in (LargeTracefile version) strictness texts jobs last entries logs refused outcome are with = (outcome, are, with)
+collected_in (GcovOutput test) strictness texts jobs last entries logs refused outcome are with =
+    let said = collected_said (IsOutcomeFor strictness) (input_of (GcovOutput test)) texts jobs last entries logs refused (outcome, are, with) in
+    are_collected strictness (map (input_of (GcovOutput test)) texts) jobs last entries logs refused said.0 said.1 said.2
+
+-- ---- inputs that are files
+
+-- a late input is this file of the folder: an outcome that it may have is one of a text of the file, and it fails only if the file may
+-- fail to be read
 pub record IsFile (folder : FolderData) (format : FileFormat) (strictness : Strictness) (file : List ℕ) (MayGive : Outcome → Type 0) (may_fail : Type 0) : Type 0 where
-  pub gives : (outcome : Outcome) → MayGive outcome → MayHaveOutcome (folder.holds file) format strictness outcome
+  pub gives : (outcome : Outcome) → MayGive outcome → (text : List ℕ) × IsTextIn format (folder.holds file) text × IsTakenIn format strictness text outcome
   pub fails : may_fail → folder.MayFail file
 
 -- each late input is the file of its name
@@ -40,109 +89,170 @@ abbrev pub AreFiles : {X : Type 0} → FolderData → FileFormat → Strictness 
 AreFiles folder format strictness name MayGive MayFail lates = AllByRecursion (λ one. IsFile folder format strictness (name one) (MayGive one) (MayFail one)) lates
 
 -- some texts of the files have these outcomes
-abbrev pub HaveTexts : FolderData → FileFormat → Strictness → (files : List (List ℕ)) → (ℕ → Outcome) → Type 0
-HaveTexts folder format strictness files outcome = (texts : List (List ℕ)) × AreTexts folder files texts × AreOutcomes (IsOutcomeFor strictness) (map (input_of format) texts) outcome
+abbrev pub HaveTextsBy : FolderData → FileFormat → Strictness → (files : List (List ℕ)) → (ℕ → Outcome) → Type 0
+HaveTextsBy folder format strictness files outcome = (texts : List (List ℕ)) × AreTextsBy format folder files texts × AreOutcomes (IsTakenIn format strictness) texts outcome
 
--- one more input, in front of the others
-outcome_in_front : (strictness : Strictness) (input : InputData) (inputs : List InputData) (outcome : ℕ → Outcome) → IsOutcomeFor strictness input (outcome 0) → AreOutcomes (IsOutcomeFor strictness) inputs (λ index. outcome (suc index))
-    → AreOutcomes (IsOutcomeFor strictness) (input ∷ inputs) outcome
-outcome_in_front strictness input inputs outcome first rest zero less = first
-outcome_in_front strictness input inputs outcome first rest (suc index) less = rest index (omega (arith, less))
+abbrev pub HaveTexts : FolderData → FileFormat → Strictness → (files : List (List ℕ)) → (ℕ → Outcome) → Type 0
+HaveTexts folder format strictness files outcome = (texts : List (List ℕ)) × (length texts ≡ length files) × AreTextsIn format folder files texts × AreOutcomes (IsTakenIn format strictness) texts outcome
+
+-- one more text, in front of the others
+outcome_in_front : (format : FileFormat) (strictness : Strictness) (text : List ℕ) (texts : List (List ℕ)) (outcome : ℕ → Outcome) → IsTakenIn format strictness text (outcome 0)
+    → AreOutcomes (IsTakenIn format strictness) texts (λ index. outcome (suc index)) → AreOutcomes (IsTakenIn format strictness) (text ∷ texts) outcome
+outcome_in_front format strictness text texts outcome first rest zero less = first
+outcome_in_front format strictness text texts outcome first rest (suc index) less = rest index (omega (arith, less))
 
 -- one more file, in front of the others
 text_in_front : (folder : FolderData) (format : FileFormat) (strictness : Strictness) (file : List ℕ) (files : List (List ℕ)) (outcome : ℕ → Outcome)
-    → MayHaveOutcome (folder.holds file) format strictness (outcome 0) → HaveTexts folder format strictness files (λ index. outcome (suc index)) → HaveTexts folder format strictness (file ∷ files) outcome
-text_in_front folder format strictness file files outcome (text, short, fits, is) (texts, (long, all, of), each) =
-    (text ∷ texts, (ap suc long, (short, all), (fits, of)), outcome_in_front strictness (input_of format text) (map (input_of format) texts) outcome is each)
+    → (text : List ℕ) × IsTextIn format (folder.holds file) text × IsTakenIn format strictness text (outcome 0)
+    → HaveTextsBy folder format strictness files (λ index. outcome (suc index)) → HaveTextsBy folder format strictness (file ∷ files) outcome
+text_in_front folder format strictness file files outcome (text, fits, is) (texts, (long, all), each) =
+    (text ∷ texts, (ap suc long, (fits, all)), outcome_in_front format strictness text texts outcome is each)
 
 -- if late inputs are files, their outcomes are those of texts of these files
 texts_of : {X : Type 0} (folder : FolderData) (format : FileFormat) (strictness : Strictness) (name : X → List ℕ) (MayGive : X → Outcome → Type 0) (MayFail : X → Type 0)
     → (lates : List X) (outcome : ℕ → Outcome) → AreFiles folder format strictness name MayGive MayFail lates → AreOutcomes MayGive lates outcome
-    → HaveTexts folder format strictness (map name lates) outcome
-texts_of folder format strictness name MayGive MayFail [] outcome are each = ([], (refl, tt, tt), λ index less. absurd (omega (arith, less)))
+    → HaveTextsBy folder format strictness (map name lates) outcome
+texts_of folder format strictness name MayGive MayFail [] outcome are each = ([], (refl, tt), λ index less. absurd (omega (arith, less)))
 texts_of folder format strictness name MayGive MayFail (one ∷ lates) outcome are each =
     text_in_front folder format strictness (name one) (map name lates) outcome (are.0.gives (outcome 0) (each 0 (omega arith)))
     (texts_of folder format strictness name MayGive MayFail lates (λ index. outcome (suc index)) are.1 (λ index less. each (suc index) (omega (arith, less))))
 
+-- this file may fail to be read, and each file before it has a text
+abbrev IsUnreadableBy : FileFormat → FolderData → (files : List (List ℕ)) → (found : List ℕ) → Type 0
+IsUnreadableBy format folder files found =
+    (before : List (List ℕ)) × (after : List (List ℕ)) × (texts : List (List ℕ)) × (files ≡ before ++ found ∷ after)
+    × AreTextsBy format folder before texts × folder.MayFail found
+
+unreadable_in : (format : FileFormat) (folder : FolderData) (files : List (List ℕ)) (found : List ℕ) → IsUnreadableBy format folder files found → IsUnreadable format folder files found
+unreadable_in format folder files found (before, after, texts, cut, are, fails) = (before, after, texts, cut, texts_in format folder before texts are, fails)
+
 -- the first file that can't be read stays the first if a file that was read is put in front
 unreadable_behind : (folder : FolderData) (format : FileFormat) (strictness : Strictness) (file : List ℕ) (files : List (List ℕ)) (found : List ℕ) (outcome : Outcome)
-    → MayHaveOutcome (folder.holds file) format strictness outcome → IsUnreadable folder files found → IsUnreadable folder (file ∷ files) found
-unreadable_behind folder format strictness file files found outcome (text, short, fits, is) (before, after, texts, cut, (long, all, of), fails) =
-    (file ∷ before, after, text ∷ texts, ap (λ (fs : List (List ℕ)). file ∷ fs) cut, (ap suc long, (short, all), (fits, of)), fails)
+    → (text : List ℕ) × IsTextIn format (folder.holds file) text × IsTakenIn format strictness text outcome → IsUnreadableBy format folder files found → IsUnreadableBy format folder (file ∷ files) found
+unreadable_behind folder format strictness file files found outcome (text, fits, is) (before, after, texts, cut, (long, all), fails) =
+    (file ∷ before, after, text ∷ texts, ap (λ (fs : List (List ℕ)). file ∷ fs) cut, (ap suc long, (fits, all)), fails)
 
 -- the first late input that can't be read is the first file that can't be read
 unreadable_first : {X : Type 0} (folder : FolderData) (format : FileFormat) (strictness : Strictness) (name : X → List ℕ) (MayGive : X → Outcome → Type 0) (MayFail : X → Type 0)
-    → (lates : List X) (index : ℕ) → AreFiles folder format strictness name MayGive MayFail lates → IsFirstUnread (λ one. IsReadWhole (MayGive one)) MayFail lates index
-    → IsUnreadable folder (map name lates) (name_at (slice_get (map name lates) index))
+    → (lates : List X) (index : ℕ) → AreFiles folder format strictness name MayGive MayFail lates → IsFirstUnread MayGive MayFail lates index
+    → IsUnreadableBy format folder (map name lates) (name_at (slice_get (map name lates) index))
 unreadable_first folder format strictness name MayGive MayFail [] index are (fails, read) = absurd fails
 unreadable_first folder format strictness name MayGive MayFail (one ∷ lates) zero are (fails, read) =
-    ([], map name lates, [], refl, (refl, tt, tt), are.0.fails fails)
-unreadable_first folder format strictness name MayGive MayFail (one ∷ lates) (suc index) are (fails, ((outcome, (result, is, gives)), read)) =
-    unreadable_behind folder format strictness (name one) (map name lates) (name_at (slice_get (map name lates) index)) result (are.0.gives result gives)
+    ([], map name lates, [], refl, (refl, tt), are.0.fails fails)
+unreadable_first folder format strictness name MayGive MayFail (one ∷ lates) (suc index) are (fails, ((outcome, gives), read)) =
+    unreadable_behind folder format strictness (name one) (map name lates) (name_at (slice_get (map name lates) index)) outcome (are.0.gives outcome gives)
     (unreadable_first folder format strictness name MayGive MayFail lates index are.1 (fails, read))
 
 -- ---- inputs that are files of one folder
 
+-- what a file may give of which nothing was read yet
+take_of : {S : Type 0} (left : S → Option (List ℕ)) (held : Option (List ℕ)) (format : FileFormat) (strictness : Strictness) (outcome : Outcome) → MayTake left held format strictness None outcome
+    → (text : List ℕ) × IsTextIn format held text × IsTakenIn format strictness text outcome
+take_of left held (Tracefile version) strictness outcome (result, is, (text, short, fits, of)) = (text, (short, fits), (result, is, of))
+take_of left held (LargeTracefile version) strictness outcome (text, all, large) = (text, all, large)
+take_of left held (GcovOutput test) strictness outcome (result, is, (text, short, fits, of)) = (text, (short, fits), (result, is, of))
+
+fail_of : {S : Type 0} (folder : FolderData) (left : S → Option (List ℕ)) (failed_reads : S → ℕ) (name : List ℕ) (format : FileFormat) → MayFailAs folder left failed_reads name format None → folder.MayFail name
+fail_of folder left failed_reads name (Tracefile version) may = may
+fail_of folder left failed_reads name (LargeTracefile version) may = may
+fail_of folder left failed_reads name (GcovOutput test) may = may
+
+-- how the parts of a late input are seen
+pub record InputView (X Folder S : Type 0) : Type 0 where
+  pub own : X → Folder
+  pub name : X → List ℕ
+  pub format : X → FileFormat
+  pub strictness : X → Strictness
+  pub opened : X → Option (StateData S)
+
+-- all late inputs are of this folder and this format, and nothing was read of them
+abbrev pub AreOwn : {X Folder S : Type 0} → InputView X Folder S → Folder → FileFormat → Strictness → List X → Type 0
+AreOwn view at format strictness lates =
+    AllByRecursion (λ one. (view.own one ≡ at) × (view.format one ≡ format) × (view.strictness one ≡ strictness) × (view.opened one ≡ None)) lates
+
+abbrev pub GivesIn : {X Folder S : Type 0} → InputView X Folder S → (of : Folder → FolderData) → (left : S → Option (List ℕ)) → X → Outcome → Type 0
+GivesIn view of left one = MayTake left ((of (view.own one)).holds (view.name one)) (view.format one) (view.strictness one) (view.opened one)
+
+abbrev pub FailsIn : {X Folder S : Type 0} → InputView X Folder S → (of : Folder → FolderData) → (left : S → Option (List ℕ)) → (failed_reads : S → ℕ) → X → Type 0
+FailsIn view of left failed_reads one = MayFailAs (of (view.own one)) left failed_reads (view.name one) (view.format one) (view.opened one)
+
+abbrev pub most_in : {X Folder S : Type 0} → InputView X Folder S → X → ℕ
+most_in view one = most_parts (view.format one) (view.opened one)
+
 -- late inputs of this folder and this format are files of the folder
-are_files : {X Folder : Type 0} (lates : List X) (at : Folder) (format : FileFormat) (strictness : Strictness) (of : Folder → FolderData) (own : X → Folder) (name : X → List ℕ) (format_of : X → FileFormat) (strictness_of : X → Strictness)
-    → AllByRecursion (λ one. (own one ≡ at) × (format_of one ≡ format) × (strictness_of one ≡ strictness)) lates
-    → AreFiles (of at) format strictness name (λ one. MayHaveOutcome ((of (own one)).holds (name one)) (format_of one) (strictness_of one)) (λ one. (of (own one)).MayFail (name one)) lates
-are_files [] at format strictness of own name format_of strictness_of all = tt
-are_files {X} {Folder} (one ∷ lates) at format strictness of own name format_of strictness_of all = (
+are_files : {X Folder S : Type 0} (view : InputView X Folder S) (lates : List X) (at : Folder) (format : FileFormat) (strictness : Strictness) (of : Folder → FolderData) (left : S → Option (List ℕ)) (failed_reads : S → ℕ)
+    → AreOwn view at format strictness lates → AreFiles (of at) format strictness view.name (GivesIn view of left) (FailsIn view of left failed_reads) lates
+are_files view [] at format strictness of left failed_reads all = tt
+are_files {X} {Folder} {S} view (one ∷ lates) at format strictness of left failed_reads all = (
   record {
-    gives = λ outcome may_have. subst (λ (f : Folder). MayHaveOutcome ((of f).holds (name one)) format strictness outcome) all.0.0
-        (subst (λ (t : FileFormat). MayHaveOutcome ((of (own one)).holds (name one)) t strictness outcome) all.0.1
-        (subst (λ (s : Strictness). MayHaveOutcome ((of (own one)).holds (name one)) (format_of one) s outcome) all.0.2 may_have));
-    fails = λ may_fail. subst (λ (f : Folder). (of f).MayFail (name one)) all.0.0 may_fail;
+    gives = λ outcome may. take_of left ((of at).holds (view.name one)) format strictness outcome
+        (subst (λ (f : Folder). MayTake left ((of f).holds (view.name one)) format strictness None outcome) all.0.0
+        (subst (λ (t : FileFormat). MayTake left ((of (view.own one)).holds (view.name one)) t strictness None outcome) all.0.1
+        (subst (λ (s : Strictness). MayTake left ((of (view.own one)).holds (view.name one)) (view.format one) s None outcome) all.0.2
+        (subst (λ (o : Option (StateData S)). MayTake left ((of (view.own one)).holds (view.name one)) (view.format one) (view.strictness one) o outcome) all.0.3 may))));
+    fails = λ may. fail_of (of at) left failed_reads (view.name one) format
+        (subst (λ (f : Folder). MayFailAs (of f) left failed_reads (view.name one) format None) all.0.0
+        (subst (λ (t : FileFormat). MayFailAs (of (view.own one)) left failed_reads (view.name one) t None) all.0.1
+        (subst (λ (o : Option (StateData S)). MayFailAs (of (view.own one)) left failed_reads (view.name one) (view.format one) o) all.0.3 may)));
   },
-  are_files lates at format strictness of own name format_of strictness_of all.1,
+  are_files view lates at format strictness of left failed_reads all.1,
 )
 
 -- the outcomes of these late inputs are those of texts of the files, and there are as many inputs as files
-pub texts_read : {X Folder : Type 0} (lates : List X) (at : Folder) (format : FileFormat) (strictness : Strictness) (of : Folder → FolderData) (own : X → Folder) (name : X → List ℕ) (format_of : X → FileFormat) (strictness_of : X → Strictness)
-    → (files : List (List ℕ)) (outcome : ℕ → Outcome) → map name lates ≡ files → AllByRecursion (λ one. (own one ≡ at) × (format_of one ≡ format) × (strictness_of one ≡ strictness)) lates
-    → AreOutcomes (λ one. MayHaveOutcome ((of (own one)).holds (name one)) (format_of one) (strictness_of one)) lates outcome → HaveTexts (of at) format strictness files outcome × (length lates ≡ length files)
-texts_read lates at format strictness of own name format_of strictness_of files outcome named all each = (
-  subst (λ (fs : List (List ℕ)). HaveTexts (of at) format strictness fs outcome) named
-      (texts_of (of at) format strictness name (λ one. MayHaveOutcome ((of (own one)).holds (name one)) (format_of one) (strictness_of one)) (λ one. (of (own one)).MayFail (name one))
-      lates outcome (are_files lates at format strictness of own name format_of strictness_of all) each),
-  sym (length-map lates name) ∙ ap length named,
-)
+pub texts_read : {X Folder S : Type 0} (lates : List X) (at : Folder) (left : S → Option (List ℕ)) (failed_reads : S → ℕ) (view : InputView X Folder S) (format : FileFormat) (strictness : Strictness) (of : Folder → FolderData)
+    → (files : List (List ℕ)) (outcome : ℕ → Outcome) → map view.name lates ≡ files → AreOwn view at format strictness lates → AreOutcomes (GivesIn view of left) lates outcome
+    → HaveTexts (of at) format strictness files outcome × (length lates ≡ length files)
+texts_read lates at left failed_reads view format strictness of files outcome named all each =
+    let have = texts_of (of at) format strictness view.name (GivesIn view of left) (FailsIn view of left failed_reads) lates outcome (are_files view lates at format strictness of left failed_reads all) each in (
+      subst (λ (fs : List (List ℕ)). HaveTexts (of at) format strictness fs outcome) named
+          (have.0, have.1.0, texts_in format (of at) (map view.name lates) have.0 have.1, have.2),
+      sym (length-map lates view.name) ∙ ap length named,
+    )
 
 -- the first of these late inputs that can't be read is the first file that can't be read
-pub unreadable_read : {X Folder : Type 0} (lates : List X) (at : Folder) (format : FileFormat) (strictness : Strictness) (of : Folder → FolderData) (own : X → Folder) (name : X → List ℕ) (format_of : X → FileFormat) (strictness_of : X → Strictness)
-    → (files : List (List ℕ)) (index : ℕ) (fault : IntoBookFault) → map name lates ≡ files → AllByRecursion (λ one. (own one ≡ at) × (format_of one ≡ format) × (strictness_of one ≡ strictness)) lates
-    → fault ≡ into_book.Unread index
-    → IsIntoBookFault (λ one. IsReadWhole (MayHaveOutcome ((of (own one)).holds (name one)) (format_of one) (strictness_of one))) (λ one. (of (own one)).MayFail (name one)) (λ one. 1) lates fault
-    → IsUnreadable (of at) files (name_at (slice_get files index))
-unreadable_read {X} lates at format strictness of own name format_of strictness_of files index fault named all is unread =
-    let MayGive : X → Outcome → Type 0 = λ one. MayHaveOutcome ((of (own one)).holds (name one)) (format_of one) (strictness_of one) in
-    let MayFail : X → Type 0 = λ one. (of (own one)).MayFail (name one) in
-    subst (λ (fs : List (List ℕ)). IsUnreadable (of at) fs (name_at (slice_get fs index))) named
-    (unreadable_first (of at) format strictness name MayGive MayFail lates index (are_files lates at format strictness of own name format_of strictness_of all)
-    (subst (λ (f : IntoBookFault). IsIntoBookFault (λ one. IsReadWhole (MayGive one)) MayFail (λ one. 1) lates f) is unread))
+pub unreadable_read : {X Folder S : Type 0} (lates : List X) (at : Folder) (left : S → Option (List ℕ)) (failed_reads : S → ℕ) (view : InputView X Folder S) (format : FileFormat) (strictness : Strictness) (of : Folder → FolderData)
+    → (files : List (List ℕ)) (index : ℕ) (fault : IntoBookFault) → map view.name lates ≡ files → AreOwn view at format strictness lates → fault ≡ into_book.Unread index
+    → IsIntoBookFault (GivesIn view of left) (FailsIn view of left failed_reads) (most_in view) lates fault
+    → IsUnreadable format (of at) files (name_at (slice_get files index))
+unreadable_read lates at left failed_reads view format strictness of files index fault named all is unread =
+    subst (λ (fs : List (List ℕ)). IsUnreadable format (of at) fs (name_at (slice_get fs index))) named
+    (unreadable_in format (of at) (map view.name lates) (name_at (slice_get (map view.name lates) index))
+    (unreadable_first (of at) format strictness view.name (GivesIn view of left) (FailsIn view of left failed_reads) lates index (are_files view lates at format strictness of left failed_reads all)
+    (subst (λ (f : IntoBookFault). IsIntoBookFault (GivesIn view of left) (FailsIn view of left failed_reads) (most_in view) lates f) is unread)))
+
+-- ---- how many parts the inputs can have
+
+sum_same : {X : Type 0} (most : X → ℕ) (n : ℕ) (lates : List X) → AllByRecursion (λ one. most one ≡ n) lates → sum_by most lates ≡ length lates * n
+sum_same most n [] all = refl
+sum_same most n (one ∷ lates) all = ap (λ (k : ℕ). k + sum_by most lates) all.0 ∙ ap (λ (k : ℕ). n + k) (sum_same most n lates all.1)
+
+same_most : {X Folder S : Type 0} (view : InputView X Folder S) (lates : List X) (at : Folder) (format : FileFormat) (strictness : Strictness) → AreOwn view at format strictness lates
+    → AllByRecursion (λ one. most_in view one ≡ most_parts {S = S} format None) lates
+same_most view [] at format strictness all = tt
+same_most {X} {Folder} {S} view (one ∷ lates) at format strictness all = (
+  ap (λ (o : Option (StateData S)). most_parts (view.format one) o) all.0.3 ∙ ap (λ (t : FileFormat). most_parts {S = S} t None) all.0.1,
+  same_most view lates at format strictness all.1,
+)
+
+times_one : (n : ℕ) → n * 1 ≡ n
+times_one zero = refl
+times_one (suc n) = ap suc (times_one n)
+
+parts_in : (S : Type 0) (format : FileFormat) (n : ℕ) → n * most_parts {S = S} format None ≡ most_submissions format n
+parts_in S (Tracefile version) n = times_one n
+parts_in S (LargeTracefile version) n = refl
+parts_in S (GcovOutput test) n = times_one n
 
 -- a fault of collecting these late inputs may come with this number of files
-pub may_come : {X : Type 0} (lates : List X) (name : X → List ℕ) (MayGive : X → OutcomeData TextFault → Type 0) (MayFail : X → Type 0)
-    → (files : List (List ℕ)) (fault : IntoBookFault) (told : CollectFault) → map name lates ≡ files
-    → fault ≡ into_book.Collect told → IsIntoBookFault MayGive MayFail (λ one. 1) lates fault → MayCome (length files) told
-may_come lates name MayGive MayFail files fault told named is may =
-    subst (λ (n : ℕ). MayCome n told) (one_each lates ∙ sym (length-map lates name) ∙ ap length named)
-    (subst (λ (f : IntoBookFault). IsIntoBookFault MayGive MayFail (λ one. 1) lates f) is may)
-
--- what is collected so far of inputs that are read as a whole: there is a result of each
-pub collected_whole : {X F : Type 0} (Gives : X → Result SubmissionData F → Type 0) (inputs : List X) (jobs : ℕ) (entries : List EntryData) (refused : List (RefusedInput F))
-    → IsCollectedSoFar (λ input. IsReadWhole (Gives input)) inputs jobs entries refused
-    → (result : ℕ → Result SubmissionData F) × AreOutcomes Gives inputs result
-    × ((last : OpData) → IsText last → (logs : List LogData) × IsCollectedWith (λ index. whole (result index)) (length inputs) jobs last (entries ++ next_entry entries 0 last ∷ []) logs refused)
-collected_whole {X} {F} Gives inputs jobs entries refused (outcome, each, collected) =
-    let result : ℕ → Result SubmissionData F = result_at Gives inputs outcome each in (
-      result,
-      results_are Gives inputs outcome each,
-      λ last asks.
-          let ended = collected last asks in
-          (ended.0, with_same outcome (λ index. whole (result index)) (length inputs) jobs last (entries ++ next_entry entries 0 last ∷ []) ended.0 refused (results_give Gives inputs outcome each) ended.1),
-    )
+pub may_come : {X Folder S : Type 0} (lates : List X) (at : Folder) (left : S → Option (List ℕ)) (view : InputView X Folder S) (format : FileFormat) (strictness : Strictness) (MayGive : X → Outcome → Type 0) (MayFail : X → Type 0)
+    → (files : List (List ℕ)) (fault : IntoBookFault) (told : CollectFault) → map view.name lates ≡ files → AreOwn view at format strictness lates
+    → fault ≡ into_book.Collect told → IsIntoBookFault MayGive MayFail (most_in view) lates fault → MayCome (most_submissions format (length files)) told
+may_come {X} {Folder} {S} lates at left view format strictness MayGive MayFail files fault told named all is may =
+    let sum : sum_by (most_in view) lates ≡ most_submissions format (length files) =
+        sum_same (most_in view) (most_parts {S = S} format None) lates (same_most view lates at format strictness all)
+        ∙ ap (λ (n : ℕ). n * most_parts {S = S} format None) (sym (length-map lates view.name) ∙ ap length named) ∙ parts_in S format (length files) in
+    subst (λ (n : ℕ). MayCome n told) sum
+    (subst (λ (f : IntoBookFault). IsIntoBookFault MayGive MayFail (most_in view) lates f) is may)
 
 -- ---- texts of files that aren't read
 
@@ -151,10 +261,24 @@ text_held : (most : ℕ) (held : Option (List ℕ)) → (text : List ℕ) × (le
 text_held most None = ([], omega arith, tt)
 text_held most (Some bytes) = (take most bytes, omega (arith, length-take most bytes), refl)
 
+all_held : (held : Option (List ℕ)) → (text : List ℕ) × IsAll held text
+all_held None = ([], tt)
+all_held (Some bytes) = (bytes, refl)
+
+text_in : (format : FileFormat) (held : Option (List ℕ)) → (text : List ℕ) × IsTextIn format held text
+text_in (Tracefile version) held = let text = text_held (suc max_bytes) held in (text.0, (text.1, text.2))
+text_in (LargeTracefile version) held = all_held held
+text_in (GcovOutput test) held = let text = text_held (suc max_bytes) held in (text.0, (text.1, text.2))
+
+held_by : (format : FileFormat) (folder : FolderData) (files : List (List ℕ)) → (texts : List (List ℕ)) × AreTextsBy format folder files texts
+held_by format folder [] = ([], (refl, tt))
+held_by format folder (file ∷ files) =
+    let this = text_in format (folder.holds file) in
+    let others = held_by format folder files in
+    (this.0 ∷ others.0, (ap suc others.1.0, (this.1, others.1.1)))
+
 -- each file has a text
-pub texts_held : (folder : FolderData) (files : List (List ℕ)) → (texts : List (List ℕ)) × AreTexts folder files texts
-texts_held folder [] = ([], (refl, tt, tt))
-texts_held folder (file ∷ files) =
-    let this : (text : List ℕ) × (length text ≤ suc max_bytes) × IsTextOf (folder.holds file) text = text_held (suc max_bytes) (folder.holds file) in
-    let others : (texts : List (List ℕ)) × AreTexts folder files texts = texts_held folder files in
-    (this.0 ∷ others.0, (ap suc others.1.0, (this.1, others.1.1), (this.2, others.1.2)))
+pub texts_held : (format : FileFormat) (folder : FolderData) (files : List (List ℕ)) → (texts : List (List ℕ)) × AreTextsIn format folder files texts
+texts_held format folder files =
+    let held = held_by format folder files in
+    (held.0, texts_in format folder files held.0 held.1)

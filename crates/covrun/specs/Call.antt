@@ -1,24 +1,30 @@
 -- What one call of the program does: the order in which it looks for faults, and what it writes to its streams.
 use Rattle.std.specs.List.{AllByRecursion}
-use Rattle.std.specs.Prelude.{◌≡◌, ◌⊎◌, ◌≤◌, ℕ, suc, List, [], ◌∷◌, ◌++◌, length, map, option_map, codes, Option, Some, None, Result, Ok, Err, IfOk, IfErr, true}
+use Rattle.std.specs.Prelude.{◌≡◌, ◌⊎◌, ◌≤◌, ◌*◌, ℕ, suc, List, [], ◌∷◌, ◌++◌, length, map, option_map, codes, Option, Some, None, Result, Ok, Err, IfOk, IfErr, true}
 use Rattle.std.specs.String.{string_bytes}
 use Rattle.clap.specs.Words.{subcommand_of, takes, fault_of}
 use Rattle.covread.specs.Outcome.{max_bytes}
-use Rattle.covbook.specs.Op.{EntryData}
+use Rattle.covbook.specs.Op.{OpData, EntryData}
 use Rattle.covbook.specs.Gather.{LogData}
+use Rattle.covjobs.specs.Collect.{IsCollectedFrom}
 use Rattle.covjobs.specs.Late.{MayCome}
+use Rattle.covlarge.specs.Large.{max_pieces}
 use Rattle.covjobs.specs.Start.{AreJobs}
 use Rattle.covjobs.specs.declared.collect_fault.CollectFault.{CollectFault}
 use Rattle.covjobs.specs.declared.collect_fault.CollectFault.TheVariants as collects
 use Rattle.covjobs.specs.declared.refused.RefusedInput.{RefusedInput}
+use Rattle.covrun.specs.Large.{AreWholeTexts, IsLargeOutcome}
 use Rattle.covrun.specs.Strict.{AreCollected}
+use Rattle.covrun.specs.declared.work.FileFormat.{FileFormat}
+use Rattle.covrun.specs.declared.work.FileFormat.TheVariants.{Tracefile, LargeTracefile, GcovOutput}
 use Rattle.covrun.specs.declared.text_fault.TextFault.{TextFault}
-use Rattle.covcommand.specs.Asked.{AsksFor, GoesTo, HasStrictness, IsInBounds, rows_met}
+use Rattle.covcommand.specs.Asked.{AsksFor, GoesTo, HasSize, HasStrictness, IsInBounds, rows_met}
 use Rattle.covcommand.specs.CommandLine.{covcollect}
 use Rattle.covcommand.specs.Fault.{IsFaultAmong}
 use Rattle.covcommand.specs.declared.asked.Asked.{Asked}
 use Rattle.covcommand.specs.declared.asked.Command.{Command}
 use Rattle.covcommand.specs.declared.asked.Strictness.{Strictness}
+use Rattle.covcommand.specs.declared.asked.TextSize.{TextSize}
 use Rattle.covcommand.specs.declared.fault.CommandFault.{CommandFault}
 use Rattle.covcommand.specs.declared.fault.CommandFault.TheVariants as line
 use Rattle.covsession.specs.Fault.{HasBegun, calls}
@@ -40,11 +46,17 @@ abbrev pub AreTexts : FolderData → List (List ℕ) → List (List ℕ) → Typ
 AreTexts folder files texts =
     (length texts ≡ length files) × AllByRecursion (λ text. length text ≤ suc max_bytes) texts × AreTextsOf folder files texts
 
+-- the texts that are read of files of this format: those of tracefiles that are read in pieces have any length
+abbrev pub AreTextsIn : FileFormat → FolderData → List (List ℕ) → List (List ℕ) → Type 0
+AreTextsIn (Tracefile version) = AreTexts
+AreTextsIn (LargeTracefile version) = AreWholeTexts
+AreTextsIn (GcovOutput test) = AreTexts
+
 -- this file may fail to be read, and each file before it has a text
-abbrev pub IsUnreadable : FolderData → List (List ℕ) → List ℕ → Type 0
-IsUnreadable folder files name =
+abbrev pub IsUnreadable : FileFormat → FolderData → List (List ℕ) → List ℕ → Type 0
+IsUnreadable format folder files name =
     (before : List (List ℕ)) × (after : List (List ℕ)) × (texts : List (List ℕ)) × (files ≡ before ++ name ∷ after)
-    × AreTexts folder before texts × folder.MayFail name
+    × AreTextsIn format folder before texts × folder.MayFail name
 
 -- what was collected: the entries, the jobs' logs and the refused inputs
 pub record CollectedData : Type 0 where
@@ -52,12 +64,24 @@ pub record CollectedData : Type 0 where
   pub logs : List LogData
   pub refused : List (RefusedInput TextFault)
 
--- the result of collecting the texts. `BadJobs` is returned only if the number of jobs is out of range, and `Full` only if there
--- are at least as many files as a full history has entries. `Gather` is never returned
+-- what is collected of texts of files of this format
+abbrev pub AreCollectedIn : FileFormat → Strictness → (texts : List (List ℕ)) → (jobs : ℕ) → (last : OpData) → List EntryData → List LogData → List (RefusedInput TextFault) → Type 0
+AreCollectedIn (Tracefile version) strictness texts = AreCollected strictness (map (input_of (Tracefile version)) texts)
+AreCollectedIn (LargeTracefile version) strictness texts = IsCollectedFrom (IsLargeOutcome version strictness) texts
+AreCollectedIn (GcovOutput test) strictness texts = AreCollected strictness (map (input_of (GcovOutput test)) texts)
+
+-- the most submissions that this number of files can have
+abbrev pub most_submissions : FileFormat → (files : ℕ) → ℕ
+most_submissions (Tracefile version) files = files
+most_submissions (LargeTracefile version) files = files * max_pieces
+most_submissions (GcovOutput test) files = files
+
+-- the result of collecting the texts. `BadJobs` is returned only if the number of jobs is out of range, and `Full` only if the files
+-- can have at least as many submissions as a full history has entries. `Gather` is never returned
 abbrev pub IsAnswer : WorkData → List (List ℕ) → Result CollectedData CollectFault → Type 0
 IsAnswer work texts (Ok c) =
-    AreCollected work.strictness (map (input_of work.format) texts) work.jobs (last_of work.asks) c.entries c.logs c.refused
-IsAnswer work texts (Err fault) = (fault ≡ collects.BadJobs → AreJobs work.jobs → ⊥) × MayCome (length work.files) fault
+    AreCollectedIn work.format work.strictness texts work.jobs (last_of work.asks) c.entries c.logs c.refused
+IsAnswer work texts (Err fault) = (fault ≡ collects.BadJobs → AreJobs work.jobs → ⊥) × MayCome (most_submissions work.format (length work.files)) fault
 
 -- the ending of a call whose collecting had this result
 abbrev pub ending_of : WorkData → Result CollectedData CollectFault → EndingData
@@ -69,9 +93,9 @@ ending_of work (Err fault) = of_collect fault
 abbrev pub WorkEnds : FolderData → WorkData → EndingData → Type 0
 WorkEnds folder work ending =
     (ending ≡ Stopped faults.Memory)
-    ⊎ (((name : List ℕ) × (ending ≡ Unreadable name) × IsUnreadable folder work.files name)
+    ⊎ (((name : List ℕ) × (ending ≡ Unreadable name) × IsUnreadable work.format folder work.files name)
     ⊎ ((texts : List (List ℕ)) × (answer : Result CollectedData CollectFault)
-    × AreTexts folder work.files texts × IsAnswer work texts answer × (ending ≡ ending_of work answer)))
+    × AreTextsIn work.format folder work.files texts × IsAnswer work texts answer × (ending ≡ ending_of work answer)))
 
 -- how a call ends before its work begins: memory ran out, or a pattern, a limit or the test's name is refused
 abbrev pub StopsEarly : Command → EndingData → Type 0
@@ -128,10 +152,11 @@ abbrev pub IsEndingReported : (file : Option (List ℕ)) → EndingData → (sta
 IsEndingReported None ending status old new files after = IsEndingPrinted ending status old new × (after ≡ files)
 IsEndingReported (Some name) ending status old new files after = IsEndingWritten name ending status old new files after
 
--- what covcommand makes of the words: this command, its strictness and the file for its text, or this fault
+-- what covcommand makes of the words: this command, its strictness, whether files are read in pieces, and the file for its text, or this fault
 pub record AreParsed (words : List (List ℕ)) (parsed : Result Asked CommandFault) : Type 0 where
   pub asks : IfOk parsed (λ asked. AsksFor (subcommand_of covcollect words) asked.command)
   pub strictness : IfOk parsed (λ asked. HasStrictness (rows_met (subcommand_of covcollect words)) asked.command asked.strictness)
+  pub size : IfOk parsed (λ asked. HasSize (rows_met (subcommand_of covcollect words)) asked.command asked.size)
   pub output : IfOk parsed (λ asked. GoesTo (rows_met (subcommand_of covcollect words)) asked.command asked.output)
   pub bounds : IfOk parsed (λ asked. IsInBounds asked.command)
   pub fits : IfOk parsed (λ asked. fault_of covcollect words ≡ [])
@@ -152,16 +177,16 @@ IsTaskDone folder (Checks format strictness jobs names) file status before after
     (after ≡ before) × (written ≡ files) × IsCheck folder format strictness names status old new
 
 -- a command ends early, and the input isn't read; or its words are accepted, and its task is done
-abbrev pub IsCommandDone : FolderData → Command → Strictness → (file : Option (List ℕ)) → (status : ℕ) → (before after : SourceData) → SinksData → SinksData → OutputFilesData → OutputFilesData → Type 0
-IsCommandDone folder command strictness file status before after old new files written =
+abbrev pub IsCommandDone : FolderData → Command → Strictness → TextSize → (file : Option (List ℕ)) → (status : ℕ) → (before after : SourceData) → SinksData → SinksData → OutputFilesData → OutputFilesData → Type 0
+IsCommandDone folder command strictness size file status before after old new files written =
     ((after ≡ before) × (written ≡ files) × (ending : EndingData) × StopsEarly command ending × IsEndingPrinted ending status old new)
-    ⊎ (AreTaken command × IsTaskDone folder (task_of command strictness) file status before after old new files written)
+    ⊎ (AreTaken command × IsTaskDone folder (task_of command strictness size) file status before after old new files written)
 
 -- what a call does after its words are parsed. If they form a command, the command is done. If they form none, the fault is
 -- reported, and the input isn't read
 abbrev pub IsCallDone : FolderData → Result Asked CommandFault → (status : ℕ) → (before after : SourceData) → SinksData → SinksData → OutputFilesData → OutputFilesData → Type 0
 IsCallDone folder (Ok asked) status before after old new files written =
-    IsCommandDone folder asked.command asked.strictness (file_of (option_map string_bytes asked.output)) status before after old new files written
+    IsCommandDone folder asked.command asked.strictness asked.size (file_of (option_map string_bytes asked.output)) status before after old new files written
 IsCallDone folder (Err fault) status before after old new files written =
     (after ≡ before) × (written ≡ files) × IsEndingPrinted (of_line fault) status old new
 

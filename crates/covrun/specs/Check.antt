@@ -1,7 +1,7 @@
 -- What a check of files reports: a line for each file that can be read, complaints, and an exit status.
 use Rattle.std.specs.Io.KnownBytes.{Appends}
 use Rattle.std.specs.List.{AllByRecursion, flat_map, list_any, zip}
-use Rattle.std.specs.Prelude.{◌≡◌, ◌⊎◌, ◌<◌, ◌≤◌, ℕ, suc, List, [], ◌∷◌, ◌++◌, length, Option, Bool, true, false, if◌then◌else◌, nat_lt, Result, Ok, Err, codes}
+use Rattle.std.specs.Prelude.{◌≡◌, ◌⊎◌, ◌<◌, ◌≤◌, ℕ, suc, List, [], ◌∷◌, ◌++◌, length, Option, Some, None, Bool, true, false, if◌then◌else◌, nat_lt, Result, Ok, Err, codes}
 use Rattle.covcheck.specs.TextSummary.{Tells}
 use Rattle.covcheck.specs.Skipped.{IsSkippedGcov, IsSkippedLcov2, IsSkippedRecord}
 use Rattle.covcheck.specs.SummaryLine.{summary_text}
@@ -11,6 +11,11 @@ use Rattle.covcommand.specs.declared.asked.Strictness.{Strictness}
 use Rattle.covcommand.specs.declared.asked.Strictness.TheVariants.{Lenient, Strict}
 use Rattle.covcommand.specs.declared.asked.TextFormat.{TextFormat}
 use Rattle.covcommand.specs.declared.asked.TextFormat.TheVariants.{Tracefile, Gcov}
+use Rattle.covlarge.specs.Large.{IsAll, IsReadAs}
+use Rattle.covlarge.specs.Summary.{SummaryData, summary_data}
+use Rattle.covrun.specs.declared.work.CheckedFormat.{CheckedFormat}
+use Rattle.covrun.specs.declared.work.CheckedFormat.TheVariants.{Text, LargeTracefile}
+use Rattle.covcommand.specs.declared.asked.LcovVersion.{LcovVersion}
 use Rattle.covline.specs.Row.{SubmissionData}
 use Rattle.covlist.specs.Shown.{shown_name}
 use Rattle.covlcov2.specs.Outcome as lcov2
@@ -41,19 +46,25 @@ IsTextOutcome (Tracefile versions.Two) text answer =
 IsTextOutcome Gcov text answer =
     (read : Result SubmissionData ReadFault) × gcov.IsOutcome [] text read × Tells IsSkippedGcov text read answer
 
--- this is the result of checking the file's text, which has at most one byte more than the limit. If the folder knows the file's
--- bytes (`held`), the text is those bytes, up to that length
-abbrev pub IsAnswered : Option (List ℕ) → TextFormat → Result TextSummary ReadFault → Type 0
-IsAnswered held format answer = (text : List ℕ) × (length text ≤ suc max_bytes) × IsTextOf held text × IsTextOutcome format text answer
+-- the result of checking a tracefile of any length: what it holds, or its fault
+abbrev pub IsLargeAnswer : LcovVersion → List ℕ → Result TextSummary ReadFault → Type 0
+IsLargeAnswer version text (Ok summary) = (read : List SubmissionData) × IsReadAs version text read (Ok (Some (summary_data summary)))
+IsLargeAnswer version text (Err fault) = (read : List SubmissionData) × IsReadAs version text read (Err fault)
+
+-- this is the result of checking the file's text, which has at most one byte more than the limit, unless it is read in pieces. If the
+-- folder knows the file's bytes (`held`), the text is those bytes, up to that length
+abbrev pub IsAnswered : Option (List ℕ) → CheckedFormat → Result TextSummary ReadFault → Type 0
+IsAnswered held (LargeTracefile version) answer = (text : List ℕ) × IsAll held text × IsLargeAnswer version text answer
+IsAnswered held (Text format) answer = (text : List ℕ) × (length text ≤ suc max_bytes) × IsTextOf held text × IsTextOutcome format text answer
 
 -- this can be the outcome for the file
-abbrev pub IsOutcome : FolderData → TextFormat → (file : List ℕ) → OutcomeData → Type 0
+abbrev pub IsOutcome : FolderData → CheckedFormat → (file : List ℕ) → OutcomeData → Type 0
 IsOutcome folder format file Unread = folder.MayFail file
 IsOutcome folder format file (Refused fault) = IsAnswered (folder.holds file) format (Err fault)
 IsOutcome folder format file (Held summary) = IsAnswered (folder.holds file) format (Ok summary)
 
 -- each outcome can be that of the file at the same index
-abbrev pub AreOutcomes : FolderData → TextFormat → (files : List (List ℕ)) → List OutcomeData → Type 0
+abbrev pub AreOutcomes : FolderData → CheckedFormat → (files : List (List ℕ)) → List OutcomeData → Type 0
 AreOutcomes folder format files outcomes =
     AllByRecursion (λ (f : List ℕ × OutcomeData). IsOutcome folder format f.0 f.1) (zip files outcomes)
 
@@ -157,7 +168,7 @@ pub record IsCheckCutShort (strictness : Strictness) (files : List (List ℕ)) (
   pub complaints : Complains (check_complaints strictness files outcomes ++ said (words_of_fault faults.Write)) old new
 
 -- files are checked one after another: all of them, or the first ones until memory ran out or a write failed
-abbrev pub IsCheck : FolderData → TextFormat → Strictness → (files : List (List ℕ)) → (status : ℕ) → SinksData → SinksData → Type 0
+abbrev pub IsCheck : FolderData → CheckedFormat → Strictness → (files : List (List ℕ)) → (status : ℕ) → SinksData → SinksData → Type 0
 IsCheck folder format strictness files status old new =
     (outcomes : List OutcomeData) × AreOutcomes folder format files outcomes
     × (IsWholeCheck strictness files outcomes status old new

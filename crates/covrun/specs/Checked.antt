@@ -14,6 +14,7 @@ use Rattle.covsession.specs.declared.session.fault.SessionFault.TheVariants as f
 use Rattle.covrun.specs.Check.{OutcomeData, Unread, Refused, Held, IsTextOutcome, IsOutcome, AreOutcomes, EndsWithin, outcome_line, outcome_complaint, check_lines, check_complaints, is_unread, is_refused, is_accepted, is_unaccepted}
 use Rattle.covrun.specs.Folder.{FolderData}
 use Rattle.covrun.specs.Streams.{SinksData, Complains}
+use Rattle.covrun.specs.declared.work.CheckedFormat.{CheckedFormat}
 use Rattle.covrun.specs.declared.check_verdict.CheckVerdict.{CheckVerdict}
 use Rattle.covrun.specs.declared.check_verdict.CheckVerdict.TheVariants as verdicts
 use Rattle.covrun.specs.declared.file_report.FileReport.{FileReport}
@@ -96,13 +97,13 @@ IsTextExamined format strictness shown text (Ok report) =
 IsTextExamined format strictness shown text (Err fault) = fault ≡ faults.Memory
 
 -- what comes of examining a file: a report on an outcome that is possible for the file, unless memory ran out
-abbrev pub IsExamined : FolderData → TextFormat → Strictness → (file : List ℕ) → Result FileReport SessionFault → Type 0
+abbrev pub IsExamined : FolderData → CheckedFormat → Strictness → (file : List ℕ) → Result FileReport SessionFault → Type 0
 IsExamined folder format strictness file (Ok report) =
     (outcome : OutcomeData) × IsOutcome folder format file outcome × IsReportOf strictness (shown_name file) outcome report
 IsExamined folder format strictness file (Err fault) = fault ≡ faults.Memory
 
 -- what comes of examining files: of each file at its index
-abbrev pub AreExamined : FolderData → TextFormat → Strictness → (files : List (List ℕ)) → List (Result FileReport SessionFault) → Type 0
+abbrev pub AreExamined : FolderData → CheckedFormat → Strictness → (files : List (List ℕ)) → List (Result FileReport SessionFault) → Type 0
 AreExamined folder format strictness files results =
     (length results ≡ length files) × ((index : ℕ) → index < length files → (file : List ℕ) (result : Result FileReport SessionFault)
     → IsExamined folder format strictness (get_or files index file) (get_or results index result))
@@ -114,13 +115,13 @@ TellsExamined (Ok report) answer old new =
 TellsExamined (Err fault) answer old new = (answer ≡ Err fault) × (new ≡ old)
 
 -- how one file is reported. If memory ran out, nothing was written
-abbrev pub TellsOne : FolderData → TextFormat → Strictness → (file : List ℕ) → Result CheckVerdict SessionFault → SinksData → SinksData → Type 0
+abbrev pub TellsOne : FolderData → CheckedFormat → Strictness → (file : List ℕ) → Result CheckVerdict SessionFault → SinksData → SinksData → Type 0
 TellsOne folder format strictness file answer old new =
     ((answer ≡ Err faults.Memory) × (new ≡ old))
     ⊎ ((outcome : OutcomeData) × IsOutcome folder format file outcome × ReportsFile strictness (shown_name file) outcome answer old new)
 
 -- how files with these outcomes are reported. If memory ran out, the last files weren't checked and have no outcome
-abbrev pub TellsAll : TextFormat → Strictness → (files : List (List ℕ)) → List OutcomeData → Result CheckVerdict SessionFault → SinksData → SinksData → Type 0
+abbrev pub TellsAll : CheckedFormat → Strictness → (files : List (List ℕ)) → List OutcomeData → Result CheckVerdict SessionFault → SinksData → SinksData → Type 0
 TellsAll format strictness files outcomes (Ok verdict) old new =
     (length outcomes ≡ length files) × (verdict ≡ worst_of strictness outcomes)
     × Appends old.output new.output (check_lines files outcomes) × (new.failed_output ≡ old.failed_output)
@@ -135,6 +136,6 @@ TellsAll format strictness files outcomes (Err faults.Read) old new = ⊥
 TellsAll format strictness files outcomes (Err faults.Full) old new = ⊥
 
 -- how files are reported: there are outcomes that are possible for the files, and these outcomes are reported
-abbrev pub TellsEach : FolderData → TextFormat → Strictness → (files : List (List ℕ)) → Result CheckVerdict SessionFault → SinksData → SinksData → Type 0
+abbrev pub TellsEach : FolderData → CheckedFormat → Strictness → (files : List (List ℕ)) → Result CheckVerdict SessionFault → SinksData → SinksData → Type 0
 TellsEach folder format strictness files answer old new =
     (outcomes : List OutcomeData) × AreOutcomes folder format files outcomes × TellsAll format strictness files outcomes answer old new

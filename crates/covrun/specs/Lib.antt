@@ -4,6 +4,7 @@ pub mod Folder
 pub mod OutputFiles
 pub mod Work
 pub mod Strict
+pub mod Large
 pub mod Ending
 pub mod Check
 pub mod Call

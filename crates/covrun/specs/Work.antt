@@ -17,10 +17,15 @@ use Rattle.covcommand.specs.declared.asked.Strictness.{Strictness}
 use Rattle.covcommand.specs.declared.asked.LcovVersion.{LcovVersion}
 use Rattle.covcommand.specs.declared.asked.LcovVersion.TheVariants as versions
 use Rattle.covcommand.specs.declared.asked.TextFormat.{TextFormat}
+use Rattle.covcommand.specs.declared.asked.TextFormat.TheVariants as texts
+use Rattle.covcommand.specs.declared.asked.TextSize.{TextSize}
+use Rattle.covcommand.specs.declared.asked.TextSize.TheVariants.{Limited, Large}
 use Rattle.covrun.specs.declared.argument_fault.ArgumentFault.{ArgumentFault}
 use Rattle.covrun.specs.declared.argument_fault.ArgumentFault.TheVariants as arguments
 use Rattle.covrun.specs.declared.work.FileFormat.{FileFormat}
-use Rattle.covrun.specs.declared.work.FileFormat.TheVariants.{Tracefile, GcovOutput}
+use Rattle.covrun.specs.declared.work.CheckedFormat.{CheckedFormat}
+use Rattle.covrun.specs.declared.work.CheckedFormat.TheVariants as checked
+use Rattle.covrun.specs.declared.work.FileFormat.TheVariants.{Tracefile, LargeTracefile, GcovOutput}
 
 -- what is asked after all files are collected: the answer to an operation; or the report, or the summary, of only the chosen
 -- source files; or the totals of these, in one of two forms, which are then compared with limits; or the list of these, in one of
@@ -81,36 +86,49 @@ abbrev pub summary_asked : TotalsForm → LimitsData → Option ChoiceData → Q
 summary_asked forms.Words limits choice = words_asked limits choice
 summary_asked forms.Json limits choice = LimitedTotals forms.Json (chosen_or_all choice) limits
 
+-- tracefiles of this version of lcov, of a limited length or of any
+abbrev pub tracefiles : TextSize → LcovVersion → FileFormat
+tracefiles Limited version = Tracefile version
+tracefiles Large version = LargeTracefile version
+
+-- how a check reads a file. What gcov wrote has a limited length
+abbrev pub checked_as : TextSize → TextFormat → CheckedFormat
+checked_as Limited format = checked.Text format
+checked_as Large (texts.Tracefile version) = checked.LargeTracefile version
+checked_as Large texts.Gcov = checked.Text texts.Gcov
+
 -- the work of `extract` and `remove`: the first name is the tracefile's, and the other names are patterns
-abbrev pub filtering : LcovVersion → Strictness → (List (List ℕ) → OpData) → List (List ℕ) → WorkData
-filtering version strictness op names =
-    record { files = take 1 names; format = Tracefile version; strictness = strictness; jobs = 1; asks = Answer (op (drop 1 names)) }
+abbrev pub filtering : LcovVersion → Strictness → TextSize → (List (List ℕ) → OpData) → List (List ℕ) → WorkData
+filtering version strictness size op names =
+    record { files = take 1 names; format = tracefiles size version; strictness = strictness; jobs = 1; asks = Answer (op (drop 1 names)) }
 
 -- what a call has to do: a session; or to collect files and then answer what is asked; or to check files, each by itself
 pub data TaskData : Type 0 where
   Serves : TaskData
   Collects : (work : WorkData) → TaskData
-  Checks : (format : TextFormat) → (strictness : Strictness) → (jobs : ℕ) → (files : List (List ℕ)) → TaskData
+  Checks : (format : CheckedFormat) → (strictness : Strictness) → (jobs : ℕ) → (files : List (List ℕ)) → TaskData
 
 -- what each subcommand has to do; a call without a subcommand is a session
-abbrev pub task_of : Command → Strictness → TaskData
-task_of Session strictness = Serves
-task_of (Merge version jobs filter names) strictness =
-    Collects (record { files = names; format = Tracefile version; strictness = strictness; jobs = jobs; asks = asked_of ReportOp ChosenReport (choice_of filter) })
-task_of (Summary version jobs filter form limits names) strictness =
-    Collects (record { files = names; format = Tracefile version; strictness = strictness; jobs = jobs; asks = summary_asked form (limits_of limits) (choice_of filter) })
-task_of (ListFiles version jobs filter form names) strictness =
-    Collects (record { files = names; format = Tracefile version; strictness = strictness; jobs = jobs; asks = ChosenList form (chosen_or_all (choice_of filter)) })
-task_of (Extract version names) strictness = Collects (filtering version strictness ExtractOp names)
-task_of (Remove version names) strictness = Collects (filtering version strictness RemoveOp names)
-task_of (Gcov test names) strictness =
+abbrev pub task_of : Command → Strictness → TextSize → TaskData
+task_of Session strictness size = Serves
+task_of (Merge version jobs filter names) strictness size =
+    Collects (record { files = names; format = tracefiles size version; strictness = strictness; jobs = jobs; asks = asked_of ReportOp ChosenReport (choice_of filter) })
+task_of (Summary version jobs filter form limits names) strictness size =
+    Collects (record { files = names; format = tracefiles size version; strictness = strictness; jobs = jobs; asks = summary_asked form (limits_of limits) (choice_of filter) })
+task_of (ListFiles version jobs filter form names) strictness size =
+    Collects (record { files = names; format = tracefiles size version; strictness = strictness; jobs = jobs; asks = ChosenList form (chosen_or_all (choice_of filter)) })
+task_of (Extract version names) strictness size = Collects (filtering version strictness size ExtractOp names)
+task_of (Remove version names) strictness size = Collects (filtering version strictness size RemoveOp names)
+task_of (Gcov test names) strictness size =
     Collects (record { files = names; format = GcovOutput test; strictness = strictness; jobs = 1; asks = Answer ReportOp })
-task_of (Check format jobs names) strictness = Checks format strictness jobs names
+task_of (Check format jobs names) strictness size = Checks (checked_as size format) strictness jobs names
 
 -- a file's text as an input of collecting: a tracefile of this version of lcov, or gcov's text of this test
 abbrev pub input_of : FileFormat → List ℕ → InputData
 input_of (Tracefile versions.One) text = TraceInput text
 input_of (Tracefile versions.Two) text = Lcov2Input text
+input_of (LargeTracefile versions.One) text = TraceInput text
+input_of (LargeTracefile versions.Two) text = Lcov2Input text
 input_of (GcovOutput test) text = GcovInput test text
 
 abbrev pub IsShort : List ℕ → Type 0

@@ -11,7 +11,8 @@ use crate::check_verdict::CheckVerdict;
 use crate::file_report::{FileReport, examine};
 use crate::folder::Folder;
 use crate::output::say;
-use covcommand::{Strictness, TextFormat};
+use crate::work::CheckedFormat;
+use covcommand::Strictness;
 use covsession::{SessionFault, Sink, line_of, status_of};
 use std::alloc::{AllocError, Global};
 use std::thread;
@@ -23,7 +24,7 @@ pub(crate) fn check_files<R: Threads + Sync, F: Folder<File: Send> + Sync, O: Si
     rt: &R,
     folder: &F,
     alloc: Global,
-    format: TextFormat,
+    format: CheckedFormat,
     strictness: Strictness,
     jobs: u32,
     files: &[String],
@@ -52,7 +53,7 @@ fn check_each<R: Threads + Sync, F: Folder<File: Send> + Sync, O: Sink, E: Sink>
     rt: &R,
     folder: &F,
     alloc: Global,
-    format: TextFormat,
+    format: CheckedFormat,
     strictness: Strictness,
     jobs: u32,
     files: &[String],
@@ -91,7 +92,7 @@ fn check_round<R: Threads + Sync, F: Folder<File: Send> + Sync, O: Sink, E: Sink
     rt: &R,
     folder: &F,
     alloc: Global,
-    format: TextFormat,
+    format: CheckedFormat,
     strictness: Strictness,
     files: &[String],
     output: &mut O,
@@ -119,7 +120,7 @@ fn examine_at_once<R: Threads + Sync, F: Folder<File: Send> + Sync>(
     rt: &R,
     folder: &F,
     alloc: Global,
-    format: TextFormat,
+    format: CheckedFormat,
     strictness: Strictness,
     files: &[String],
 ) -> Result<Vec<Result<FileReport, SessionFault>>, AllocError>

@@ -2,53 +2,118 @@
 
 use crate::files::{FileFault, file_text};
 use crate::folder::Folder;
+use crate::large_input::{late_fault, open_large, take_last};
 use crate::strict::read_strictly;
 use crate::text_fault::TextFault;
 use crate::work::FileFormat;
 use covbook::SubRef;
 use covcommand::{LcovVersion, Strictness};
 use covjobs::{Input, LateFault, LateInput, Part};
+use covlarge::{LargeTracefile, MAX_PIECES, NextPiece};
 use covline::{Bytes, Memory};
 use std::alloc::Global;
 
-/// A file of this format that is read when its turn comes.
+/// A file of this format that is read when its turn comes. A tracefile of any length is read piece by piece. `opened`: what is left of
+/// it once its first piece was read.
 #[derive(Drop)]
 pub(crate) struct FileInput<'a, F: Folder> {
     folder: &'a F,
     name: &'a str,
     format: &'a FileFormat,
     strictness: Strictness,
+    opened: Option<LargeTracefile<F::File>>,
 }
 
 impl<'a, F: Folder> LateInput<Global> for FileInput<'a, F> {
-    ghost use Rattle.covjobs.specs.Collect.{IsReadWhole};
-    ghost use Rattle.covrun.specs.Files.{MayHaveOutcome};
+    ghost use Rattle.covrun.specs.Files.{MayFailAs, MayTake, most_parts};
     ghost use Rattle.covrun.specs.Folder.{folder_data};
 
-    ghost may_give = { λ late. IsReadWhole (MayHaveOutcome (F.holds late.folder.now late.name.now) late.format.now late.strictness) };
+    ghost may_give = { λ late. MayTake F.File.left (F.holds late.folder.now late.name.now) late.format.now late.strictness late.opened };
 
-    ghost may_fail = { λ late. (folder_data (F.holds late.folder.now) (F.may_refuse late.folder.now) (F.may_open late.folder.now) F.File.left F.File.failed_reads).MayFail late.name.now };
+    ghost may_fail = { λ late. MayFailAs (folder_data (F.holds late.folder.now) (F.may_refuse late.folder.now) (F.may_open late.folder.now) F.File.left F.File.failed_reads) F.File.left F.File.failed_reads late.name.now late.format.now late.opened };
 
-    ghost most = { λ late. 1 };
+    ghost most = { λ late. most_parts late.format.now late.opened };
 
     type Fault = TextFault;
 
-    /// Reads the file, and then parses its text. Frees the text.
+    /// Reads the file, or its next piece, and then parses the text. Frees the text.
     fn read_part(self, alloc: Global) -> Result<Part<Self>, LateFault<TextFault>> {
+        match self.format {
+            FileFormat::LargeTracefile(version) => self.read_piece(alloc, *version),
+            FileFormat::Tracefile(_) | FileFormat::GcovOutput(_) =>
+                Ok(Part::Last(self.read_whole(alloc)?)),
+        }
+    }
+
+    /// A file has one part, unless it is read in pieces.
+    fn most_parts(&self) -> u64 {
+        match (self.format, &self.opened) {
+            (FileFormat::LargeTracefile(_), Some(large)) => large.most_pieces(),
+            (FileFormat::LargeTracefile(_), None) => MAX_PIECES,
+            (FileFormat::Tracefile(_) | FileFormat::GcovOutput(_), _) => 1,
+        }
+    }
+}
+
+impl<'a, F: Folder> FileInput<'a, F> {
+    ghost use Rattle.std.specs.Prelude.{◌≡◌};
+    ghost use Rattle.covjobs.specs.Late.{IsLateOutcome, IsNextPart};
+    ghost use Rattle.covrun.specs.Files.{MayFailAs, MayHaveOutcome, MayTake, most_parts};
+    ghost use Rattle.covrun.specs.Folder.{folder_data};
+    ghost use Rattle.covrun.specs.declared.work.FileFormat.TheVariants.{LargeTracefile};
+
+    /// Reads the file as a whole, and parses its text.
+    fn read_whole(&self, alloc: Global) -> Result<SubRef, LateFault<TextFault>>
+        ensures { IsLateOutcome (MayHaveOutcome (F.holds self.now.folder.now self.now.name.now) self.now.format.now self.now.strictness)
+            ((folder_data (F.holds self.now.folder.now) (F.may_refuse self.now.folder.now) (F.may_open self.now.folder.now) F.File.left F.File.failed_reads).MayFail self.now.name.now) result }
+    {
         match file_text(self.folder, alloc, self.name) {
-            Ok(text) => Ok(Part::Last(read_text(alloc, self.format, self.strictness, text)?)),
+            Ok(text) => read_text(alloc, self.format, self.strictness, text),
             Err(FileFault::Unreadable(_)) => Err(LateFault::Unreadable),
             Err(FileFault::Memory) => Err(LateFault::Memory),
         }
     }
 
-    /// A file is read as a whole.
-    fn most_parts(&self) -> u64 {
-        1
+    /// Reads the next piece of the file, and parses it.
+    fn read_piece(
+        self,
+        alloc: Global,
+        version: LcovVersion,
+    ) -> Result<Part<Self>, LateFault<TextFault>>
+        requires { self.format.now ≡ LargeTracefile version }
+        ensures { IsNextPart
+            (λ late. MayTake F.File.left (F.holds late.folder.now late.name.now) late.format.now late.strictness late.opened)
+            (λ late. MayFailAs (folder_data (F.holds late.folder.now) (F.may_refuse late.folder.now) (F.may_open late.folder.now) F.File.left F.File.failed_reads) F.File.left F.File.failed_reads late.name.now late.format.now late.opened)
+            (λ late. most_parts late.format.now late.opened) self result }
+    {
+        let FileInput {
+            folder,
+            name,
+            format,
+            strictness,
+            opened,
+        } = self;
+        let large = open_large(folder, alloc, name, version, strictness, opened)?;
+        match large.next_piece(alloc) {
+            Ok(NextPiece::More(submission, rest)) => Ok(Part::More(
+                submission,
+                FileInput {
+                    folder,
+                    name,
+                    format,
+                    strictness,
+                    opened: Some(rest),
+                },
+            )),
+            Ok(NextPiece::Last(submission, held)) => Ok(Part::Last(take_last(
+                alloc, strictness, submission, held,
+            )?)),
+            Err(fault) => Err(late_fault(fault)),
+        }
     }
 }
 
-ghost use Rattle.std.specs.Prelude.{◌≡◌, map, IfOk};
+ghost use Rattle.std.specs.Prelude.{◌≡◌, None, map, IfOk};
 ghost use Rattle.std.specs.List.{AllByRecursion};
 ghost use Rattle.std.specs.String.{string_bytes};
 ghost use Rattle.covjobs.specs.InputView.{input_data};
@@ -89,8 +154,10 @@ fn input_for(alloc: Global, format: &FileFormat, text: Bytes) -> Result<Input, M
     ensures { IfOk result (λ input. input_data input ≡ input_of format.now text) }
 {
     match format {
-        FileFormat::Tracefile(LcovVersion::One) => Ok(Input::Trace(text)),
-        FileFormat::Tracefile(LcovVersion::Two) => Ok(Input::Lcov2(text)),
+        FileFormat::Tracefile(LcovVersion::One) | FileFormat::LargeTracefile(LcovVersion::One) =>
+            Ok(Input::Trace(text)),
+        FileFormat::Tracefile(LcovVersion::Two) | FileFormat::LargeTracefile(LcovVersion::Two) =>
+            Ok(Input::Lcov2(text)),
         FileFormat::GcovOutput(test) => Ok(Input::Gcov {
             test: test.copy(alloc)?,
             text,
@@ -107,7 +174,7 @@ pub(crate) fn file_inputs<'a, F: Folder>(
     files: &'a [String],
 ) -> Result<Vec<FileInput<'a, F>>, Memory>
     ensures names { IfOk result (λ inputs. map (λ i. i.name.now) inputs.items ≡ map string_bytes files.now) }
-    ensures own { IfOk result (λ inputs. AllByRecursion (λ i. (i.folder.now ≡ folder.now) × (i.format.now ≡ format.now) × (i.strictness ≡ strictness)) inputs.items) }
+    ensures own { IfOk result (λ inputs. AllByRecursion (λ i. (i.folder.now ≡ folder.now) × (i.format.now ≡ format.now) × (i.strictness ≡ strictness) × (i.opened ≡ None)) inputs.items) }
 {
     let mut inputs = Vec::with_capacity(alloc, files.len())?;
     for name in files {
@@ -116,6 +183,7 @@ pub(crate) fn file_inputs<'a, F: Folder>(
             name: name.as_str(),
             format,
             strictness,
+            opened: None,
         })?;
     }
     Ok(inputs)

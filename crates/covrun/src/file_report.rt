@@ -9,6 +9,7 @@ ghost use Rattle.covcheck.specs.declared.text_summary.TextSummary.{TextSummary a
 ghost use Rattle.covcommand.specs.declared.asked.Strictness.{Strictness as StrictnessData};
 ghost use Rattle.covrun.specs.Folder.{folder_data};
 ghost use Rattle.covrun.specs.Streams.{sinks};
+ghost use Rattle.covrun.specs.declared.work.CheckedFormat.TheVariants.{Text, LargeTracefile};
 ghost use Rattle.covsession.specs.Fault.{HasBegun};
 ghost use Rattle.covsession.specs.declared.session.fault.SessionFault.TheVariants as session_faults;
 
@@ -17,8 +18,10 @@ use crate::files::{FileFault, file_text};
 use crate::folder::Folder;
 use crate::output::{put_out, say};
 use crate::strict::is_clean;
+use crate::work::CheckedFormat;
 use covcheck::{TextSummary, check_gcov, check_lcov2, check_trace, summary_line};
 use covcommand::{LcovVersion, Strictness, TextFormat};
+use covlarge::{PieceFault, check_large};
 use covline::Bytes;
 use covlist::put_shown_name;
 use covread::ReadFault;
@@ -89,17 +92,55 @@ fn put_line<O: Sink>(line: &[u8], output: &mut O) -> Result<(), SessionFault>
 pub(crate) fn examine<F: Folder>(
     folder: &F,
     alloc: Global,
-    format: TextFormat,
+    format: CheckedFormat,
     strictness: Strictness,
     name: &str,
 ) -> Result<FileReport, SessionFault>
     ensures { IsExamined (folder_data (F.holds folder.now) (F.may_refuse folder.now) (F.may_open folder.now) F.File.left F.File.failed_reads) format strictness name.now result }
+{
+    match format {
+        CheckedFormat::Text(format) => examine_text(folder, alloc, format, strictness, name),
+        CheckedFormat::LargeTracefile(version) => examine_large(folder, alloc, version, strictness, name),
+    }
+}
+
+/// Examines a file that is read as one text.
+fn examine_text<F: Folder>(
+    folder: &F,
+    alloc: Global,
+    format: TextFormat,
+    strictness: Strictness,
+    name: &str,
+) -> Result<FileReport, SessionFault>
+    ensures { IsExamined (folder_data (F.holds folder.now) (F.may_refuse folder.now) (F.may_open folder.now) F.File.left F.File.failed_reads) (Text format) strictness name.now result }
 {
     let shown = shown_name(alloc, name.as_bytes())?;
     match file_text(folder, alloc, name) {
         Ok(text) => report_on_text(alloc, format, strictness, &shown, text.get()),
         Err(FileFault::Unreadable(_)) => report_on_unread(alloc, &shown),
         Err(FileFault::Memory) => Err(SessionFault::Memory),
+    }
+}
+
+/// Examines a tracefile of any length, piece by piece.
+fn examine_large<F: Folder>(
+    folder: &F,
+    alloc: Global,
+    version: LcovVersion,
+    strictness: Strictness,
+    name: &str,
+) -> Result<FileReport, SessionFault>
+    ensures { IsExamined (folder_data (F.holds folder.now) (F.may_refuse folder.now) (F.may_open folder.now) F.File.left F.File.failed_reads) (LargeTracefile version) strictness name.now result }
+{
+    let shown = shown_name(alloc, name.as_bytes())?;
+    let Ok(opened) = folder.open(name) else {
+        return report_on_unread(alloc, &shown);
+    };
+    match check_large(alloc, version, opened.source) {
+        Ok(held) => report_on_summary(alloc, strictness, &shown, &held.summary()),
+        Err(PieceFault::Refused(fault)) => report_on_refusal(alloc, &shown, fault),
+        Err(PieceFault::Unreadable) => report_on_unread(alloc, &shown),
+        Err(PieceFault::Memory) => Err(SessionFault::Memory),
     }
 }
 

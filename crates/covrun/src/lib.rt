@@ -43,6 +43,7 @@ mod file_input;
 mod file_report;
 mod files;
 mod folder;
+mod large_input;
 mod output;
 mod output_folder;
 mod program;

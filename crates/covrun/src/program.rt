@@ -104,7 +104,7 @@ fn run_command<
     requires failed_writes { O.failed_writes output.old < 2 ^ 62 }
     requires failed_words { E.failed_writes faults.old < 2 ^ 62 }
     ensures { IsCommandDone (folder_data (F.holds folder.now) (F.may_refuse folder.now) (F.may_open folder.now) F.File.left F.File.failed_reads)
-        asked.command asked.strictness (file_of (option_map string_bytes asked.output)) result (source (I.left input.old) (I.reads input.old) (I.failed_reads input.old)) (source (I.left input.new) (I.reads input.new) (I.failed_reads input.new))
+        asked.command asked.strictness asked.size (file_of (option_map string_bytes asked.output)) result (source (I.left input.old) (I.reads input.old) (I.failed_reads input.old)) (source (I.left input.new) (I.reads input.new) (I.failed_reads input.new))
         (sinks (O.written output.old) (O.held output.old) (O.failed_writes output.old) (E.written faults.old) (E.failed_writes faults.old))
         (sinks (O.written output.new) (O.held output.new) (O.failed_writes output.new) (E.written faults.new) (E.failed_writes faults.new))
         (output_files (P.finished files.old) (P.begun files.old) (P.failed files.old))
@@ -113,9 +113,10 @@ fn run_command<
     let Asked {
         command,
         strictness,
+        size,
         output: file,
     } = asked;
-    match task_for(alloc, command, strictness) {
+    match task_for(alloc, command, strictness, size) {
         Ok(Task::Session) => run_session(alloc, input, output, faults),
         Ok(Task::Collect(work)) => {
             do_work(

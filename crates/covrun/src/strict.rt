@@ -1,12 +1,13 @@
 //! What a strict call refuses beside texts with a fault.
 
-ghost use Rattle.std.specs.Prelude.{◌≡◌, ◌++◌, IfOk, IfErr, OnOk};
+ghost use Rattle.std.specs.Prelude.{◌≡◌, ◌++◌, IfOk, IfErr, OnOk, IsTrue};
 ghost use Rattle.std.specs.List.{flat_map};
 ghost use Rattle.covcheck.specs.SummaryLine.{summary_text};
 ghost use Rattle.covjobs.specs.InputView.{input_data};
 ghost use Rattle.covjobs.specs.Late.{IsLateOutcome};
 ghost use Rattle.covreport.specs.ChoiceView.{choice_data};
 ghost use Rattle.covbook.specs.View.{op_data};
+ghost use Rattle.covrun.specs.Files.{IsUncleanFault};
 ghost use Rattle.covrun.specs.Strict.{HoldsIn, IsStrictOutcome, is_clean as is_clean_summary, is_matched, patterns_of_choice, patterns_of_op, unmatched_line};
 
 use crate::text_fault::TextFault;
@@ -28,10 +29,22 @@ pub(crate) fn read_strictly(alloc: Global, input: &Input) -> Result<SubRef, Late
         Err(fault) => return Err(LateFault::Refused(TextFault::Faulty(fault))),
     };
     let summary = summary_of_input(input, submission.get());
-    if is_clean(&summary) {
-        return Ok(submission);
+    refuse_unless_clean(alloc, &summary)?;
+    Ok(submission)
+}
+
+/// Refuses a text that isn't clean, with the line that says what it holds.
+pub(crate) fn refuse_unless_clean(
+    alloc: Global,
+    summary: &TextSummary<'_>,
+) -> Result<(), LateFault<TextFault>>
+    ensures clean { IfOk result (λ _. IsTrue (is_clean_summary summary.now)) }
+    ensures unclean { IfErr result (IsUncleanFault summary.now) }
+{
+    if is_clean(summary) {
+        return Ok(());
     }
-    match summary_line(alloc, &summary) {
+    match summary_line(alloc, summary) {
         Ok(line) => Err(LateFault::Refused(TextFault::Unclean(line))),
         Err(_) => Err(LateFault::Memory),
     }

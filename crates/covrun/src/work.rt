@@ -5,6 +5,7 @@ use crate::question::Question;
 use covbook::Op;
 use covcommand::{
     Command, LcovVersion, Limits as LimitWords, Names, SourceFilter, Strictness, TextFormat,
+    TextSize,
 };
 use covlimit::{Limits, Rate};
 use covline::{Bytes, Memory, good_test};
@@ -16,8 +17,19 @@ use std::alloc::{AllocError, Global};
 pub(crate) enum FileFormat {
     /// Tracefiles of this version of lcov.
     Tracefile(LcovVersion),
+    /// Tracefiles of this version, of any length. They are read in pieces, each a submission of its own.
+    LargeTracefile(LcovVersion),
     /// gcov's output, with the name of the test whose counts it has.
     GcovOutput(Bytes),
+}
+
+/// How a check reads a file.
+#[derive(Clone, Copy)]
+pub(crate) enum CheckedFormat {
+    /// As one text of this format.
+    Text(TextFormat),
+    /// As a tracefile of this version of lcov, of any length, in pieces.
+    LargeTracefile(LcovVersion),
 }
 
 /// What a subcommand that collects files has to do. `files`: the files to read. `format`: what they are. `strictness`: what is
@@ -41,7 +53,7 @@ pub(crate) enum Task {
     /// Checks files, each by itself.
     Check {
         /// How the files are read.
-        format: TextFormat,
+        format: CheckedFormat,
         /// Which texts aren't accepted.
         strictness: Strictness,
         /// The number of jobs.
@@ -103,10 +115,9 @@ ghost use Rattle.covline.specs.Lawful.{IsGoodTest};
 ghost use Rattle.covreport.specs.ChoiceView.{choice_data};
 ghost use Rattle.covrun.specs.View.{question_data, task_data};
 ghost use Rattle.covlimit.specs.LimitsView.{limits_data};
-ghost use Rattle.covrun.specs.Work.{choice_of, limits_of, task_of, ArePatterns, AreRates, AreTaken, Checks, Collects, IsFilter, IsRateIfAny};
+ghost use Rattle.covrun.specs.Work.{choice_of, limits_of, checked_as as checked_as_of, task_of, tracefiles as tracefiles_of, ArePatterns, AreRates, AreTaken, Checks, Collects, IsFilter, IsRateIfAny};
 ghost use Rattle.covrun.specs.WorkFault.{IsRefusal, IsFilterRefusal, IsLimitRefusal, IsPatternRefusal, IsTestRefusal};
 ghost use Rattle.covrun.specs.declared.argument_fault.ArgumentFault.TheVariants as arguments;
-ghost use Rattle.covrun.specs.declared.work.FileFormat.TheVariants.{Tracefile};
 ghost use Rattle.covrun.specs.declared.work.WorkFault.TheVariants as faults;
 
 /// Checks the command's patterns, limits and test name, and returns what the command has to do.
@@ -114,8 +125,9 @@ pub(crate) fn task_for(
     alloc: Global,
     command: Command,
     strictness: Strictness,
+    size: TextSize,
 ) -> Result<Task, WorkFault>
-    ensures task { IfOk result (λ task. task_data task ≡ task_of command strictness) }
+    ensures task { IfOk result (λ task. task_data task ≡ task_of command strictness size) }
     ensures taken { IfOk result (λ _. AreTaken command) }
     ensures refused { IfErr result (IsRefusal command) }
 {
@@ -128,7 +140,7 @@ pub(crate) fn task_for(
             names,
         } => {
             let report = Question::report(chosen_files(alloc, &filter)?);
-            Ok(over_tracefiles(names, version, strictness, jobs, report))
+            Ok(over_tracefiles(names, tracefiles(size, version), strictness, jobs, report))
         }
         Command::Summary {
             version,
@@ -140,7 +152,7 @@ pub(crate) fn task_for(
         } => {
             let choice = chosen_files(alloc, &filter)?;
             let summary = Question::summary(form, rates(limits)?, choice);
-            Ok(over_tracefiles(names, version, strictness, jobs, summary))
+            Ok(over_tracefiles(names, tracefiles(size, version), strictness, jobs, summary))
         }
         Command::List {
             version,
@@ -150,17 +162,17 @@ pub(crate) fn task_for(
             names,
         } => {
             let list = Question::list(form, chosen_files(alloc, &filter)?);
-            Ok(over_tracefiles(names, version, strictness, jobs, list))
+            Ok(over_tracefiles(names, tracefiles(size, version), strictness, jobs, list))
         }
         Command::Extract { version, names } => {
             let (files, patterns) = split(alloc, &names)?;
             let extract = Question::Answer(Op::Extract(patterns));
-            Ok(over_tracefiles(files, version, strictness, 1, extract))
+            Ok(over_tracefiles(files, tracefiles(size, version), strictness, 1, extract))
         }
         Command::Remove { version, names } => {
             let (files, patterns) = split(alloc, &names)?;
             let remove = Question::Answer(Op::Remove(patterns));
-            Ok(over_tracefiles(files, version, strictness, 1, remove))
+            Ok(over_tracefiles(files, tracefiles(size, version), strictness, 1, remove))
         }
         Command::Gcov { test, names } => {
             test_name(&test)?;
@@ -176,23 +188,43 @@ pub(crate) fn task_for(
             format,
             jobs,
             names,
-        } => Ok(check_of(format, strictness, jobs, names)),
+        } => Ok(check_of(checked_as(size, format), strictness, jobs, names)),
+    }
+}
+
+/// Tracefiles of this version, as files of this size.
+fn tracefiles(size: TextSize, version: LcovVersion) -> FileFormat
+    ensures { result ≡ tracefiles_of size version }
+{
+    match size {
+        TextSize::Limited => FileFormat::Tracefile(version),
+        TextSize::Large => FileFormat::LargeTracefile(version),
+    }
+}
+
+/// How a check reads files of this size and format.
+fn checked_as(size: TextSize, format: TextFormat) -> CheckedFormat
+    ensures { result ≡ checked_as_of size format }
+{
+    match (size, format) {
+        (TextSize::Large, TextFormat::Tracefile(version)) => CheckedFormat::LargeTracefile(version),
+        (TextSize::Limited, _) | (TextSize::Large, TextFormat::Gcov) => CheckedFormat::Text(format),
     }
 }
 
 /// The task of collecting these tracefiles.
 fn over_tracefiles(
     files: Names,
-    version: LcovVersion,
+    format: FileFormat,
     strictness: Strictness,
     jobs: u32,
     asks: Question,
 ) -> Task
-    ensures { task_data result ≡ Collects (record { files = files; format = Tracefile version; strictness = strictness; jobs = jobs; asks = question_data asks }) }
+    ensures { task_data result ≡ Collects (record { files = files; format = format; strictness = strictness; jobs = jobs; asks = question_data asks }) }
 {
     Task::Collect(Work {
         files,
-        format: FileFormat::Tracefile(version),
+        format,
         strictness,
         jobs,
         asks,
@@ -200,7 +232,7 @@ fn over_tracefiles(
 }
 
 /// The task of checking these files.
-fn check_of(format: TextFormat, strictness: Strictness, jobs: u32, files: Names) -> Task
+fn check_of(format: CheckedFormat, strictness: Strictness, jobs: u32, files: Names) -> Task
     ensures { task_data result ≡ Checks format strictness jobs files }
 {
     Task::Check {

@@ -7,8 +7,7 @@ use Rattle.covrun.specs.Folder.{folder_data}
 use Rattle.covrun.specs.View.{work_data}
 use Rattle.covrun.specs.declared.ending.Failure.TheVariants as failures
 use Rattle.covrun.proofs.Endings.{answer_told, ends_collected, ends_uncollected, ends_unreadable, failure_told}
-use Rattle.covrun.specs.Files.{MayHaveOutcome}
-use Rattle.covrun.proofs.Reading.{collected_whole, may_come, texts_read, unreadable_read}
+use Rattle.covrun.proofs.Reading.{may_come, texts_read, unreadable_read}
 use Rattle.covrun.proofs.collecting.do_work.Goals as goal
 
 pub returns-in_default : goal.returns-in_default
@@ -18,10 +17,12 @@ returns-in_default g c =
 
 pub returns-in-Ok-answer_of : goal.returns-in-Ok-answer_of
 returns-in-Ok-answer_of g c =
-    let collected = collected_whole (λ one. MayHaveOutcome (g.F.Folder.holds one.folder.now one.name.now) one.format.now one.strictness) c.in-Ok.inputs.items _ _ _ c.in-Ok-collect_into_book.ensures.collected in
-    let read = texts_read c.in-Ok.inputs.items c.args.folder.now c.args.work.now.format c.args.work.now.strictness
+    let collected = c.in-Ok-collect_into_book.ensures.collected in
+    let read = texts_read c.in-Ok.inputs.items c.args.folder.now g.F.File.Source.left g.F.File.Source.failed_reads
+    (record { own = λ one. one.folder.now; name = λ one. one.name.now; format = λ one. one.format.now; strictness = λ one. one.strictness; opened = λ one. one.opened })
+    c.args.work.now.format c.args.work.now.strictness
     (λ folder. folder_data (g.F.Folder.holds folder) (g.F.Folder.may_refuse folder) (g.F.Folder.may_open folder) g.F.File.Source.left g.F.File.Source.failed_reads)
-    (λ one. one.folder.now) (λ one. one.name.now) (λ one. one.format.now) (λ one. one.strictness) _ collected.0 c.in-Ok.ensures.names c.in-Ok.ensures.own collected.1 in
+    _ collected.0 c.in-Ok.ensures.names c.in-Ok.ensures.own collected.1 in
     answer_told (folder_data (g.F.Folder.holds c.args.folder.now) (g.F.Folder.may_refuse c.args.folder.now) (g.F.Folder.may_open c.args.folder.now) g.F.File.Source.left g.F.File.Source.failed_reads) (work_data c.args.work.now) _ _ _ _ _ _ _
     (ends_collected (folder_data (g.F.Folder.holds c.args.folder.now) (g.F.Folder.may_refuse c.args.folder.now) (g.F.Folder.may_open c.args.folder.now) g.F.File.Source.left g.F.File.Source.failed_reads)
     (work_data c.args.work.now) _ c.get-names.ensures collected.0 _ _ _ _ read.0 read.1 c.requires.text collected.2 (inr c.in-Ok-answer_of.ensures.answer))
@@ -29,10 +30,12 @@ returns-in-Ok-answer_of g c =
 
 pub returns-in-Ok-collect_into_book : goal.returns-in-Ok-collect_into_book
 returns-in-Ok-collect_into_book g c =
-    let collected = collected_whole (λ one. MayHaveOutcome (g.F.Folder.holds one.folder.now one.name.now) one.format.now one.strictness) c.in-Ok.inputs.items _ _ _ c.in-Ok-collect_into_book.ensures.collected in
-    let read = texts_read c.in-Ok.inputs.items c.args.folder.now c.args.work.now.format c.args.work.now.strictness
+    let collected = c.in-Ok-collect_into_book.ensures.collected in
+    let read = texts_read c.in-Ok.inputs.items c.args.folder.now g.F.File.Source.left g.F.File.Source.failed_reads
+    (record { own = λ one. one.folder.now; name = λ one. one.name.now; format = λ one. one.format.now; strictness = λ one. one.strictness; opened = λ one. one.opened })
+    c.args.work.now.format c.args.work.now.strictness
     (λ folder. folder_data (g.F.Folder.holds folder) (g.F.Folder.may_refuse folder) (g.F.Folder.may_open folder) g.F.File.Source.left g.F.File.Source.failed_reads)
-    (λ one. one.folder.now) (λ one. one.name.now) (λ one. one.format.now) (λ one. one.strictness) _ collected.0 c.in-Ok.ensures.names c.in-Ok.ensures.own collected.1 in
+    _ collected.0 c.in-Ok.ensures.names c.in-Ok.ensures.own collected.1 in
     failure_told (folder_data (g.F.Folder.holds c.args.folder.now) (g.F.Folder.may_refuse c.args.folder.now) (g.F.Folder.may_open c.args.folder.now) g.F.File.Source.left g.F.File.Source.failed_reads) (work_data c.args.work.now) _ c.in-Err.failure _
     (ends_collected (folder_data (g.F.Folder.holds c.args.folder.now) (g.F.Folder.may_refuse c.args.folder.now) (g.F.Folder.may_open c.args.folder.now) g.F.File.Source.left g.F.File.Source.failed_reads)
     (work_data c.args.work.now) _ c.get-names.ensures collected.0 _ _ _ _ read.0 read.1 c.requires.text collected.2 c.in-Err.ensures.failure)
@@ -43,9 +46,10 @@ returns-in-Err-Unread g c =
     failure_told (folder_data (g.F.Folder.holds c.args.folder.now) (g.F.Folder.may_refuse c.args.folder.now) (g.F.Folder.may_open c.args.folder.now) g.F.File.Source.left g.F.File.Source.failed_reads) (work_data c.args.work.now) _ (failures.Unreadable c.file_name.result) _
     (ends_unreadable (folder_data (g.F.Folder.holds c.args.folder.now) (g.F.Folder.may_refuse c.args.folder.now) (g.F.Folder.may_open c.args.folder.now) g.F.File.Source.left g.F.File.Source.failed_reads)
     (work_data c.args.work.now) _ c.get-names.ensures _ _
-    (unreadable_read c.in-Ok.inputs.items c.args.folder.now c.args.work.now.format c.args.work.now.strictness
+    (unreadable_read c.in-Ok.inputs.items c.args.folder.now g.F.File.Source.left g.F.File.Source.failed_reads
+    (record { own = λ one. one.folder.now; name = λ one. one.name.now; format = λ one. one.format.now; strictness = λ one. one.strictness; opened = λ one. one.opened })
+    c.args.work.now.format c.args.work.now.strictness
     (λ folder. folder_data (g.F.Folder.holds folder) (g.F.Folder.may_refuse folder) (g.F.Folder.may_open folder) g.F.File.Source.left g.F.File.Source.failed_reads)
-    (λ one. one.folder.now) (λ one. one.name.now) (λ one. one.format.now) (λ one. one.strictness)
     (map string_bytes c.get-names.result.now) c.in-Err-Unread.index _ c.in-Ok.ensures.names c.in-Ok.ensures.own c.in-Err-Unread.field-0-is c.in-Err-Unread.ensures.unread)
     (ap Unreadable (c.file_name.ensures ∙ ap (λ index. name_at (slice_get (map string_bytes c.get-names.result.now) index)) c.in-Err-Unread.index-is)))
     c.report_failure-in-Err-Unread.ensures.status _ _ _ _ _ _ _ c.report_failure-in-Err-Unread.ensures.said _
@@ -55,6 +59,8 @@ returns g c =
     failure_told (folder_data (g.F.Folder.holds c.args.folder.now) (g.F.Folder.may_refuse c.args.folder.now) (g.F.Folder.may_open c.args.folder.now) g.F.File.Source.left g.F.File.Source.failed_reads) (work_data c.args.work.now) _ c.failure_of_collect.result _
     (ends_uncollected (folder_data (g.F.Folder.holds c.args.folder.now) (g.F.Folder.may_refuse c.args.folder.now) (g.F.Folder.may_open c.args.folder.now) g.F.File.Source.left g.F.File.Source.failed_reads)
     (work_data c.args.work.now) _ _ (λ is. (c.in-Err-Collect.ensures.bad).0 (ap (λ fault. Err fault) (c.in-Err-Collect.field-0-is ∙ ap (λ fault. into_book.Collect fault) is)))
-    (may_come c.in-Ok.inputs.items (λ one. one.name.now) _ _ _ _ c.in-Err-Collect.fault (c.in-Ok.ensures.names ∙ c.get-names.ensures) c.in-Err-Collect.field-0-is c.in-Err-Collect.ensures.unread)
+    (may_come c.in-Ok.inputs.items c.args.folder.now g.F.File.Source.left
+    (record { own = λ one. one.folder.now; name = λ one. one.name.now; format = λ one. one.format.now; strictness = λ one. one.strictness; opened = λ one. one.opened })
+    c.args.work.now.format c.args.work.now.strictness _ _ _ _ c.in-Err-Collect.fault (c.in-Ok.ensures.names ∙ c.get-names.ensures) c.in-Ok.ensures.own c.in-Err-Collect.field-0-is c.in-Err-Collect.ensures.unread)
     (c.failure_of_collect.ensures ∙ ap of_collect c.in-Err-Collect.fault-is))
     c.report_failure-in-Err-Collect.ensures.status _ _ _ _ _ _ _ c.report_failure-in-Err-Collect.ensures.said _

@@ -6,7 +6,7 @@ use Rattle.covrun.proofs.program.run_command.Goals as goal
 
 pub do_work-requires-clause-text : goal.do_work-requires-clause-text
 do_work-requires-clause-text g c κs within =
-    asks_text c.args.asked.command c.args.asked.strictness (work_data c.in-Ok-Collect.work) (ap task_data (sym c.in-Ok-Collect.field-0-is) ∙ c.in-Ok-Collect.ensures.task)
+    asks_text c.args.asked.command c.args.asked.strictness c.args.asked.size (work_data c.in-Ok-Collect.work) (ap task_data (sym c.in-Ok-Collect.field-0-is) ∙ c.in-Ok-Collect.ensures.task)
 
 pub returns-in-Ok-Collect : goal.returns-in-Ok-Collect
 returns-in-Ok-Collect g c =

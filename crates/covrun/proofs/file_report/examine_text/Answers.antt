@@ -3,8 +3,9 @@ use Rattle.covlist.specs.Shown.{shown_name}
 use Rattle.covread.specs.Outcome.{max_bytes}
 use Rattle.covrun.specs.Folder.{IsTextOf, folder_data}
 use Rattle.covrun.specs.declared.files.FileFault.TheVariants as files
+use Rattle.covrun.specs.declared.work.CheckedFormat.TheVariants.{Text}
 use Rattle.covrun.proofs.Checks.{examined_text, examined_unread, may_fail_of}
-use Rattle.covrun.proofs.file_report.examine.Goals as goal
+use Rattle.covrun.proofs.file_report.examine_text.Goals as goal
 
 pub returns-in-Ok : goal.returns-in-Ok
 returns-in-Ok g c =
@@ -19,5 +20,5 @@ pub returns-in-Err-Unreadable : goal.returns-in-Err-Unreadable
 returns-in-Err-Unreadable g c =
     let other : c.in-Err-Unreadable.field-0 ≡ files.Memory → ⊥ = search rules in
     examined_unread (folder_data (g.F.Folder.holds c.args.folder.now) (g.F.Folder.may_refuse c.args.folder.now) (g.F.Folder.may_open c.args.folder.now) g.F.File.Source.left g.F.File.Source.failed_reads)
-    c.args.format c.args.strictness c.args.name.now c.in_ok-shown.shown (c.in_ok-shown.ensures.name ∙ ap shown_name c.as_bytes.ensures.value)
+    (Text c.args.format) c.args.strictness c.args.name.now c.in_ok-shown.shown (c.in_ok-shown.ensures.name ∙ ap shown_name c.as_bytes.ensures.value)
     (may_fail_of (folder_data (g.F.Folder.holds c.args.folder.now) (g.F.Folder.may_refuse c.args.folder.now) (g.F.Folder.may_open c.args.folder.now) g.F.File.Source.left g.F.File.Source.failed_reads) c.args.name.now c.in-Err-Unreadable.field-0 other c.in-Err-Unreadable.ensures.unread) c.report_on_unread.result (c.report_on_unread.ensures.report c.args.strictness) c.report_on_unread.ensures.fault

@@ -1,0 +1,92 @@
+//! A tracefile of any length as an input of collecting, piece by piece.
+
+ghost use Rattle.std.specs.Prelude.{◌≡◌, List, Option, Result, IfOk, IfErr};
+ghost use Rattle.covjobs.specs.declared.late_fault.LateFault.TheVariants.{Unreadable};
+ghost use Rattle.covlarge.specs.Large.{MayBeReadAs, max_pieces};
+ghost use Rattle.covlarge.specs.State.{MayGive};
+ghost use Rattle.covlarge.specs.Summary.{SummaryData};
+ghost use Rattle.covline.specs.Row.{SubmissionData};
+ghost use Rattle.covread.specs.declared.fault.ReadFault.{ReadFault};
+ghost use Rattle.covrun.specs.Files.{IsOpenedFor, IsToldFor, MayFailLarge, TakesLast, late_of};
+ghost use Rattle.covrun.specs.Folder.{folder_data};
+
+use crate::folder::Folder;
+use crate::strict::refuse_unless_clean;
+use crate::text_fault::TextFault;
+use covbook::SubRef;
+use covcommand::{LcovVersion, Strictness};
+use covjobs::LateFault;
+use covlarge::{Held, LargeTracefile, PieceFault};
+use covsession::Source;
+use std::alloc::Global;
+
+/// What is left of the tracefile of this name: `opened`, or if it isn't opened yet, the whole file.
+pub(crate) fn open_large<F: Folder>(
+    folder: &F,
+    alloc: Global,
+    name: &str,
+    version: LcovVersion,
+    strictness: Strictness,
+    opened: Option<LargeTracefile<F::File>>,
+) -> Result<LargeTracefile<F::File>, LateFault<TextFault>>
+    ensures opened { IfOk result (IsOpenedFor F.File.left F.File.failed_reads (folder_data (F.holds folder.now) (F.may_refuse folder.now) (F.may_open folder.now) F.File.left F.File.failed_reads) name.now version strictness opened) }
+    ensures fault { IfErr result (λ fault. fault ≡ Unreadable) }
+    ensures fails { IfErr result (λ _. MayFailLarge F.File.left F.File.failed_reads (folder_data (F.holds folder.now) (F.may_refuse folder.now) (F.may_open folder.now) F.File.left F.File.failed_reads) name.now opened) }
+{
+    if let Some(large) = opened {
+        return Ok(large);
+    }
+    match folder.open(name) {
+        Ok(file) => Ok(begin_large(alloc, version, strictness, file.source)),
+        Err(_) => Err(LateFault::Unreadable),
+    }
+}
+
+/// A tracefile of which nothing is read yet. What it holds is told only if the call is strict.
+fn begin_large<S: Source>(
+    alloc: Global,
+    version: LcovVersion,
+    strictness: Strictness,
+    source: S,
+) -> LargeTracefile<S>
+    requires reads { S.reads source ≡ 0 }
+    requires failed { S.failed_reads source ≡ 0 }
+    ensures whole { (read : List SubmissionData) (end : Result (Option SummaryData) ReadFault) → MayGive S.left result read end → MayBeReadAs version (S.left source) read end }
+    ensures told { (read : List SubmissionData) (end : Result (Option SummaryData) ReadFault) → MayGive S.left result read end → IsToldFor strictness end }
+    ensures source { result.source ≡ source }
+    ensures left { result.left ≡ max_pieces }
+{
+    match strictness {
+        Strictness::Lenient => LargeTracefile::new(alloc, version, source),
+        Strictness::Strict => LargeTracefile::summed(alloc, version, source),
+    }
+}
+
+/// The submission of the last piece of a tracefile that holds this. If the call is strict, it is taken only if the tracefile is clean.
+pub(crate) fn take_last(
+    alloc: Global,
+    strictness: Strictness,
+    submission: SubRef,
+    held: Option<Held>,
+) -> Result<SubRef, LateFault<TextFault>>
+    ensures { TakesLast strictness held submission result }
+{
+    match (strictness, held) {
+        (Strictness::Strict, Some(held)) => {
+            refuse_unless_clean(alloc, &held.summary())?;
+            Ok(submission)
+        }
+        (Strictness::Lenient, _) | (Strictness::Strict, None) => Ok(submission),
+    }
+}
+
+/// Why an input gives no more submissions, if a tracefile gives no more pieces for this reason.
+pub(crate) fn late_fault(fault: PieceFault) -> LateFault<TextFault>
+    ensures { result ≡ late_of fault }
+{
+    match fault {
+        PieceFault::Refused(fault) => LateFault::Refused(TextFault::Faulty(fault)),
+        PieceFault::Unreadable => LateFault::Unreadable,
+        PieceFault::Memory => LateFault::Memory,
+    }
+}
