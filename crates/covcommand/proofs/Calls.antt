@@ -1,5 +1,5 @@
 -- The laws of single calls in `src/laws.rt`. Each is proved by computing what clap's definitions give.
-use Rattle.std.proofs.Common.{◌≡◌, List, [], ◌∷◌, Option, Some, None, String, true, refl, codes, option_map, string_bytes}
+use Rattle.std.proofs.Common.{◌≡◌, List, [], ◌∷◌, Option, Some, None, String, true, refl, ap, codes, option_map, string_bytes}
 use Rattle.std.specs.declared.alloc.Global.{Global}
 use Rattle.clap.proofs.OnLiterals.{clap_on_literals}
 use Rattle.clap.specs.Walk.{Row, Text, first_of}
@@ -175,97 +175,104 @@ check_large_taken = refl
 abbrev rows_for : List Text → List Row
 rows_for words = rows_met (subcommand_of covcollect words)
 
+-- a subcommand is its name and its rows. By this the rows aren't compared with themselves, which takes too many steps
+named : (name : Text) (met : Option (Text × List Row)) → option_map (λ s. s.0) met ≡ Some name → met ≡ Some (name, rows_met met)
+named name None is = absurd cc
+named name (Some (other, rows)) is =
+    let same : other ≡ name = cc in
+    ap (λ (text : Text). Some (text, rows)) same
+
 pub tracefile_asked : AsksFor (subcommand_of covcollect (codes "covcollect" ∷ codes "check" ∷ codes "a.info" ∷ [])) (Check (format.Tracefile One) 1 (codes "a.info" ∷ []))
 unfolding clap_on_literals
-tracefile_asked = (rows_for (codes "covcollect" ∷ codes "check" ∷ codes "a.info" ∷ []), refl, (refl, refl), (codes "1", refl, refl), refl)
+tracefile_asked = (rows_for (codes "covcollect" ∷ codes "check" ∷ codes "a.info" ∷ []), named (codes "check") (subcommand_of covcollect (codes "covcollect" ∷ codes "check" ∷ codes "a.info" ∷ [])) refl, (refl, refl), (codes "1", refl, refl), refl)
 
 pub before_asked : AsksFor (subcommand_of covcollect (codes "covcollect" ∷ codes "check" ∷ codes "--gcov" ∷ codes "a.c.gcov" ∷ [])) (Check format.Gcov 1 (codes "a.c.gcov" ∷ []))
 unfolding clap_on_literals
-before_asked = (rows_for (codes "covcollect" ∷ codes "check" ∷ codes "--gcov" ∷ codes "a.c.gcov" ∷ []), refl, refl, (codes "1", refl, refl), refl)
+before_asked = (rows_for (codes "covcollect" ∷ codes "check" ∷ codes "--gcov" ∷ codes "a.c.gcov" ∷ []), named (codes "check") (subcommand_of covcollect (codes "covcollect" ∷ codes "check" ∷ codes "--gcov" ∷ codes "a.c.gcov" ∷ [])) refl, refl, (codes "1", refl, refl), refl)
 
 pub after_asked : AsksFor (subcommand_of covcollect (codes "covcollect" ∷ codes "check" ∷ codes "a.c.gcov" ∷ codes "--gcov" ∷ [])) (Check format.Gcov 1 (codes "a.c.gcov" ∷ []))
 unfolding clap_on_literals
-after_asked = (rows_for (codes "covcollect" ∷ codes "check" ∷ codes "a.c.gcov" ∷ codes "--gcov" ∷ []), refl, refl, (codes "1", refl, refl), refl)
+after_asked = (rows_for (codes "covcollect" ∷ codes "check" ∷ codes "a.c.gcov" ∷ codes "--gcov" ∷ []), named (codes "check") (subcommand_of covcollect (codes "covcollect" ∷ codes "check" ∷ codes "a.c.gcov" ∷ codes "--gcov" ∷ [])) refl, refl, (codes "1", refl, refl), refl)
 
 pub name_asked : AsksFor (subcommand_of covcollect (codes "covcollect" ∷ codes "check" ∷ codes "--" ∷ codes "--gcov" ∷ [])) (Check (format.Tracefile One) 1 (codes "--gcov" ∷ []))
 unfolding clap_on_literals
-name_asked = (rows_for (codes "covcollect" ∷ codes "check" ∷ codes "--" ∷ codes "--gcov" ∷ []), refl, (refl, refl), (codes "1", refl, refl), refl)
+name_asked = (rows_for (codes "covcollect" ∷ codes "check" ∷ codes "--" ∷ codes "--gcov" ∷ []), named (codes "check") (subcommand_of covcollect (codes "covcollect" ∷ codes "check" ∷ codes "--" ∷ codes "--gcov" ∷ [])) refl, (refl, refl), (codes "1", refl, refl), refl)
 
 pub lcov2_asked : AsksFor (subcommand_of covcollect (codes "covcollect" ∷ codes "check" ∷ codes "--lcov2" ∷ codes "a.info" ∷ [])) (Check (format.Tracefile Two) 1 (codes "a.info" ∷ []))
 unfolding clap_on_literals
-lcov2_asked = (rows_for (codes "covcollect" ∷ codes "check" ∷ codes "--lcov2" ∷ codes "a.info" ∷ []), refl, (refl, refl), (codes "1", refl, refl), refl)
+lcov2_asked = (rows_for (codes "covcollect" ∷ codes "check" ∷ codes "--lcov2" ∷ codes "a.info" ∷ []), named (codes "check") (subcommand_of covcollect (codes "covcollect" ∷ codes "check" ∷ codes "--lcov2" ∷ codes "a.info" ∷ [])) refl, (refl, refl), (codes "1", refl, refl), refl)
 
 pub both_asked : AsksFor (subcommand_of covcollect (codes "covcollect" ∷ codes "check" ∷ codes "--gcov" ∷ codes "--lcov2" ∷ codes "a.c.gcov" ∷ [])) (Check format.Gcov 1 (codes "a.c.gcov" ∷ []))
 unfolding clap_on_literals
-both_asked = (rows_for (codes "covcollect" ∷ codes "check" ∷ codes "--gcov" ∷ codes "--lcov2" ∷ codes "a.c.gcov" ∷ []), refl, refl, (codes "1", refl, refl), refl)
+both_asked = (rows_for (codes "covcollect" ∷ codes "check" ∷ codes "--gcov" ∷ codes "--lcov2" ∷ codes "a.c.gcov" ∷ []), named (codes "check") (subcommand_of covcollect (codes "covcollect" ∷ codes "check" ∷ codes "--gcov" ∷ codes "--lcov2" ∷ codes "a.c.gcov" ∷ [])) refl, refl, (codes "1", refl, refl), refl)
 
 pub jobs_asked : AsksFor (subcommand_of covcollect (codes "covcollect" ∷ codes "check" ∷ codes "-j" ∷ codes "3" ∷ codes "--gcov" ∷ codes "a.c.gcov" ∷ codes "b.c.gcov" ∷ [])) (Check format.Gcov 3 (codes "a.c.gcov" ∷ codes "b.c.gcov" ∷ []))
 unfolding clap_on_literals
-jobs_asked = (rows_for (codes "covcollect" ∷ codes "check" ∷ codes "-j" ∷ codes "3" ∷ codes "--gcov" ∷ codes "a.c.gcov" ∷ codes "b.c.gcov" ∷ []), refl, refl, (codes "3", refl, refl), refl)
+jobs_asked = (rows_for (codes "covcollect" ∷ codes "check" ∷ codes "-j" ∷ codes "3" ∷ codes "--gcov" ∷ codes "a.c.gcov" ∷ codes "b.c.gcov" ∷ []), named (codes "check") (subcommand_of covcollect (codes "covcollect" ∷ codes "check" ∷ codes "-j" ∷ codes "3" ∷ codes "--gcov" ∷ codes "a.c.gcov" ∷ codes "b.c.gcov" ∷ [])) refl, refl, (codes "3", refl, refl), refl)
 
 pub merge_filter_asked : AsksFor (subcommand_of covcollect (codes "covcollect" ∷ codes "merge" ∷ codes "--include" ∷ codes "b" ∷ codes "--exclude" ∷ codes "x" ∷ codes "--include=a" ∷ codes "--exclude" ∷ codes "y" ∷ codes "f" ∷ []))
     (Merge One 1 (record { includes = codes "b" ∷ codes "a" ∷ []; excludes = codes "x" ∷ codes "y" ∷ [] }) (codes "f" ∷ []))
 unfolding clap_on_literals
-merge_filter_asked = (rows_for (codes "covcollect" ∷ codes "merge" ∷ codes "--include" ∷ codes "b" ∷ codes "--exclude" ∷ codes "x" ∷ codes "--include=a" ∷ codes "--exclude" ∷ codes "y" ∷ codes "f" ∷ []), refl, refl, (codes "1", refl, refl), (refl, refl), refl)
+merge_filter_asked = (rows_for (codes "covcollect" ∷ codes "merge" ∷ codes "--include" ∷ codes "b" ∷ codes "--exclude" ∷ codes "x" ∷ codes "--include=a" ∷ codes "--exclude" ∷ codes "y" ∷ codes "f" ∷ []), named (codes "merge") (subcommand_of covcollect (codes "covcollect" ∷ codes "merge" ∷ codes "--include" ∷ codes "b" ∷ codes "--exclude" ∷ codes "x" ∷ codes "--include=a" ∷ codes "--exclude" ∷ codes "y" ∷ codes "f" ∷ [])) refl, refl, (codes "1", refl, refl), (refl, refl), refl)
 
 pub summary_filter_asked : AsksFor (subcommand_of covcollect (codes "covcollect" ∷ codes "summary" ∷ codes "f" ∷ codes "--exclude=x" ∷ codes "--lcov2" ∷ []))
     (Summary Two 1 (record { includes = []; excludes = codes "x" ∷ [] }) Words (record { lines = None; functions = None; branches = None }) (codes "f" ∷ []))
 unfolding clap_on_literals
-summary_filter_asked = (rows_for (codes "covcollect" ∷ codes "summary" ∷ codes "f" ∷ codes "--exclude=x" ∷ codes "--lcov2" ∷ []), refl, refl, (codes "1", refl, refl), (refl, refl), refl, (refl, refl, refl), refl)
+summary_filter_asked = (rows_for (codes "covcollect" ∷ codes "summary" ∷ codes "f" ∷ codes "--exclude=x" ∷ codes "--lcov2" ∷ []), named (codes "summary") (subcommand_of covcollect (codes "covcollect" ∷ codes "summary" ∷ codes "f" ∷ codes "--exclude=x" ∷ codes "--lcov2" ∷ [])) refl, refl, (codes "1", refl, refl), (refl, refl), refl, (refl, refl, refl), refl)
 
 pub neither_filter_asked : AsksFor (subcommand_of covcollect (codes "covcollect" ∷ codes "merge" ∷ codes "f" ∷ []))
     (Merge One 1 (record { includes = []; excludes = [] }) (codes "f" ∷ []))
 unfolding clap_on_literals
-neither_filter_asked = (rows_for (codes "covcollect" ∷ codes "merge" ∷ codes "f" ∷ []), refl, refl, (codes "1", refl, refl), (refl, refl), refl)
+neither_filter_asked = (rows_for (codes "covcollect" ∷ codes "merge" ∷ codes "f" ∷ []), named (codes "merge") (subcommand_of covcollect (codes "covcollect" ∷ codes "merge" ∷ codes "f" ∷ [])) refl, refl, (codes "1", refl, refl), (refl, refl), refl)
 
 pub name_filter_asked : AsksFor (subcommand_of covcollect (codes "covcollect" ∷ codes "merge" ∷ codes "--" ∷ codes "--include" ∷ codes "a" ∷ []))
     (Merge One 1 (record { includes = []; excludes = [] }) (codes "--include" ∷ codes "a" ∷ []))
 unfolding clap_on_literals
-name_filter_asked = (rows_for (codes "covcollect" ∷ codes "merge" ∷ codes "--" ∷ codes "--include" ∷ codes "a" ∷ []), refl, refl, (codes "1", refl, refl), (refl, refl), refl)
+name_filter_asked = (rows_for (codes "covcollect" ∷ codes "merge" ∷ codes "--" ∷ codes "--include" ∷ codes "a" ∷ []), named (codes "merge") (subcommand_of covcollect (codes "covcollect" ∷ codes "merge" ∷ codes "--" ∷ codes "--include" ∷ codes "a" ∷ [])) refl, refl, (codes "1", refl, refl), (refl, refl), refl)
 
 pub summary_total_asked : AsksFor (subcommand_of covcollect (codes "covcollect" ∷ codes "summary" ∷ codes "--json" ∷ codes "--fail-under-lines" ∷ codes "80" ∷ codes "--fail-under-branches" ∷ codes "79.5" ∷ codes "a" ∷ []))
     (Summary One 1 (record { includes = []; excludes = [] }) Json (record { lines = Some (codes "80"); functions = None; branches = Some (codes "79.5") }) (codes "a" ∷ []))
 unfolding clap_on_literals
-summary_total_asked = (rows_for (codes "covcollect" ∷ codes "summary" ∷ codes "--json" ∷ codes "--fail-under-lines" ∷ codes "80" ∷ codes "--fail-under-branches" ∷ codes "79.5" ∷ codes "a" ∷ []), refl, refl, (codes "1", refl, refl), (refl, refl), refl, (refl, refl, refl), refl)
+summary_total_asked = (rows_for (codes "covcollect" ∷ codes "summary" ∷ codes "--json" ∷ codes "--fail-under-lines" ∷ codes "80" ∷ codes "--fail-under-branches" ∷ codes "79.5" ∷ codes "a" ∷ []), named (codes "summary") (subcommand_of covcollect (codes "covcollect" ∷ codes "summary" ∷ codes "--json" ∷ codes "--fail-under-lines" ∷ codes "80" ∷ codes "--fail-under-branches" ∷ codes "79.5" ∷ codes "a" ∷ [])) refl, refl, (codes "1", refl, refl), (refl, refl), refl, (refl, refl, refl), refl)
 
 pub functions_total_asked : AsksFor (subcommand_of covcollect (codes "covcollect" ∷ codes "summary" ∷ codes "a" ∷ codes "--fail-under-functions=x" ∷ []))
     (Summary One 1 (record { includes = []; excludes = [] }) Words (record { lines = None; functions = Some (codes "x"); branches = None }) (codes "a" ∷ []))
 unfolding clap_on_literals
-functions_total_asked = (rows_for (codes "covcollect" ∷ codes "summary" ∷ codes "a" ∷ codes "--fail-under-functions=x" ∷ []), refl, refl, (codes "1", refl, refl), (refl, refl), refl, (refl, refl, refl), refl)
+functions_total_asked = (rows_for (codes "covcollect" ∷ codes "summary" ∷ codes "a" ∷ codes "--fail-under-functions=x" ∷ []), named (codes "summary") (subcommand_of covcollect (codes "covcollect" ∷ codes "summary" ∷ codes "a" ∷ codes "--fail-under-functions=x" ∷ [])) refl, refl, (codes "1", refl, refl), (refl, refl), refl, (refl, refl, refl), refl)
 
 pub list_total_asked : AsksFor (subcommand_of covcollect (codes "covcollect" ∷ codes "list" ∷ codes "--lcov2" ∷ codes "--include" ∷ codes "b" ∷ codes "--exclude" ∷ codes "x" ∷ codes "--json" ∷ codes "a" ∷ []))
     (commands.List Two 1 (record { includes = codes "b" ∷ []; excludes = codes "x" ∷ [] }) Json (codes "a" ∷ []))
 unfolding clap_on_literals
-list_total_asked = (rows_for (codes "covcollect" ∷ codes "list" ∷ codes "--lcov2" ∷ codes "--include" ∷ codes "b" ∷ codes "--exclude" ∷ codes "x" ∷ codes "--json" ∷ codes "a" ∷ []), refl, refl, (codes "1", refl, refl), (refl, refl), refl, refl)
+list_total_asked = (rows_for (codes "covcollect" ∷ codes "list" ∷ codes "--lcov2" ∷ codes "--include" ∷ codes "b" ∷ codes "--exclude" ∷ codes "x" ∷ codes "--json" ∷ codes "a" ∷ []), named (codes "list") (subcommand_of covcollect (codes "covcollect" ∷ codes "list" ∷ codes "--lcov2" ∷ codes "--include" ∷ codes "b" ∷ codes "--exclude" ∷ codes "x" ∷ codes "--json" ∷ codes "a" ∷ [])) refl, refl, (codes "1", refl, refl), (refl, refl), refl, refl)
 
 pub name_total_asked : AsksFor (subcommand_of covcollect (codes "covcollect" ∷ codes "list" ∷ codes "--" ∷ codes "--json" ∷ []))
     (commands.List One 1 (record { includes = []; excludes = [] }) Words (codes "--json" ∷ []))
 unfolding clap_on_literals
-name_total_asked = (rows_for (codes "covcollect" ∷ codes "list" ∷ codes "--" ∷ codes "--json" ∷ []), refl, refl, (codes "1", refl, refl), (refl, refl), refl, refl)
+name_total_asked = (rows_for (codes "covcollect" ∷ codes "list" ∷ codes "--" ∷ codes "--json" ∷ []), named (codes "list") (subcommand_of covcollect (codes "covcollect" ∷ codes "list" ∷ codes "--" ∷ codes "--json" ∷ [])) refl, refl, (codes "1", refl, refl), (refl, refl), refl, refl)
 
 pub merge_output_asked : (output : Option (String Global)) → Some (codes "out") ≡ option_map string_bytes output
     → AsksForAll (subcommand_of covcollect (codes "covcollect" ∷ codes "merge" ∷ codes "-o" ∷ codes "out" ∷ codes "f" ∷ []))
     (record { command = Merge One 1 (record { includes = []; excludes = [] }) (codes "f" ∷ []); strictness = Lenient; size = Limited; output = output })
 unfolding clap_on_literals
-merge_output_asked output is = ((rows_for (codes "covcollect" ∷ codes "merge" ∷ codes "-o" ∷ codes "out" ∷ codes "f" ∷ []), refl, refl, (codes "1", refl, refl), (refl, refl), refl), refl, refl, is)
+merge_output_asked output is = ((rows_for (codes "covcollect" ∷ codes "merge" ∷ codes "-o" ∷ codes "out" ∷ codes "f" ∷ []), named (codes "merge") (subcommand_of covcollect (codes "covcollect" ∷ codes "merge" ∷ codes "-o" ∷ codes "out" ∷ codes "f" ∷ [])) refl, refl, (codes "1", refl, refl), (refl, refl), refl), refl, refl, is)
 
 pub extract_output_asked : (output : Option (String Global)) → Some (codes "out") ≡ option_map string_bytes output
     → AsksForAll (subcommand_of covcollect (codes "covcollect" ∷ codes "extract" ∷ codes "f" ∷ codes "p" ∷ codes "--output=out" ∷ []))
     (record { command = Extract One (codes "f" ∷ codes "p" ∷ []); strictness = Lenient; size = Limited; output = output })
 unfolding clap_on_literals
-extract_output_asked output is = ((rows_for (codes "covcollect" ∷ codes "extract" ∷ codes "f" ∷ codes "p" ∷ codes "--output=out" ∷ []), refl, refl, refl), refl, refl, is)
+extract_output_asked output is = ((rows_for (codes "covcollect" ∷ codes "extract" ∷ codes "f" ∷ codes "p" ∷ codes "--output=out" ∷ []), named (codes "extract") (subcommand_of covcollect (codes "covcollect" ∷ codes "extract" ∷ codes "f" ∷ codes "p" ∷ codes "--output=out" ∷ [])) refl, refl, refl), refl, refl, is)
 
 pub remove_output_asked : (output : Option (String Global)) → Some (codes "out") ≡ option_map string_bytes output
     → AsksForAll (subcommand_of covcollect (codes "covcollect" ∷ codes "remove" ∷ codes "-oout" ∷ codes "--lcov2" ∷ codes "f" ∷ codes "p" ∷ []))
     (record { command = Remove Two (codes "f" ∷ codes "p" ∷ []); strictness = Lenient; size = Limited; output = output })
 unfolding clap_on_literals
-remove_output_asked output is = ((rows_for (codes "covcollect" ∷ codes "remove" ∷ codes "-oout" ∷ codes "--lcov2" ∷ codes "f" ∷ codes "p" ∷ []), refl, refl, refl), refl, refl, is)
+remove_output_asked output is = ((rows_for (codes "covcollect" ∷ codes "remove" ∷ codes "-oout" ∷ codes "--lcov2" ∷ codes "f" ∷ codes "p" ∷ []), named (codes "remove") (subcommand_of covcollect (codes "covcollect" ∷ codes "remove" ∷ codes "-oout" ∷ codes "--lcov2" ∷ codes "f" ∷ codes "p" ∷ [])) refl, refl, refl), refl, refl, is)
 
 pub gcov_output_asked : (output : Option (String Global)) → Some (codes "out") ≡ option_map string_bytes output
     → AsksForAll (subcommand_of covcollect (codes "covcollect" ∷ codes "gcov" ∷ codes "--test" ∷ codes "t" ∷ codes "-o" ∷ codes "out" ∷ codes "f" ∷ []))
     (record { command = Gcov (codes "t") (codes "f" ∷ []); strictness = Lenient; size = Limited; output = output })
 unfolding clap_on_literals
-gcov_output_asked output is = ((rows_for (codes "covcollect" ∷ codes "gcov" ∷ codes "--test" ∷ codes "t" ∷ codes "-o" ∷ codes "out" ∷ codes "f" ∷ []), refl, refl, refl), refl, refl, is)
+gcov_output_asked output is = ((rows_for (codes "covcollect" ∷ codes "gcov" ∷ codes "--test" ∷ codes "t" ∷ codes "-o" ∷ codes "out" ∷ codes "f" ∷ []), named (codes "gcov") (subcommand_of covcollect (codes "covcollect" ∷ codes "gcov" ∷ codes "--test" ∷ codes "t" ∷ codes "-o" ∷ codes "out" ∷ codes "f" ∷ [])) refl, refl, refl), refl, refl, is)
 
 pub summary_output_asked : first_of (codes "output") (rows_met (subcommand_of covcollect (codes "covcollect" ∷ codes "summary" ∷ codes "f" ∷ codes "--output" ∷ codes "out" ∷ codes "--json" ∷ []))) ≡ Some (codes "out")
 unfolding clap_on_literals
@@ -282,47 +289,47 @@ dash_output_asked = refl
 pub neither_output_asked : AsksForAll (subcommand_of covcollect (codes "covcollect" ∷ codes "merge" ∷ codes "f" ∷ []))
     (record { command = Merge One 1 (record { includes = []; excludes = [] }) (codes "f" ∷ []); strictness = Lenient; size = Limited; output = None })
 unfolding clap_on_literals
-neither_output_asked = ((rows_for (codes "covcollect" ∷ codes "merge" ∷ codes "f" ∷ []), refl, refl, (codes "1", refl, refl), (refl, refl), refl), refl, refl, refl)
+neither_output_asked = ((rows_for (codes "covcollect" ∷ codes "merge" ∷ codes "f" ∷ []), named (codes "merge") (subcommand_of covcollect (codes "covcollect" ∷ codes "merge" ∷ codes "f" ∷ [])) refl, refl, (codes "1", refl, refl), (refl, refl), refl), refl, refl, refl)
 
 pub name_output_asked : AsksForAll (subcommand_of covcollect (codes "covcollect" ∷ codes "extract" ∷ codes "f" ∷ codes "--" ∷ codes "-o" ∷ []))
     (record { command = Extract One (codes "f" ∷ codes "-o" ∷ []); strictness = Lenient; size = Limited; output = None })
 unfolding clap_on_literals
-name_output_asked = ((rows_for (codes "covcollect" ∷ codes "extract" ∷ codes "f" ∷ codes "--" ∷ codes "-o" ∷ []), refl, refl, refl), refl, refl, refl)
+name_output_asked = ((rows_for (codes "covcollect" ∷ codes "extract" ∷ codes "f" ∷ codes "--" ∷ codes "-o" ∷ []), named (codes "extract") (subcommand_of covcollect (codes "covcollect" ∷ codes "extract" ∷ codes "f" ∷ codes "--" ∷ codes "-o" ∷ [])) refl, refl, refl), refl, refl, refl)
 
 pub check_output_asked : AsksForAll (subcommand_of covcollect (codes "covcollect" ∷ codes "check" ∷ codes "f" ∷ []))
     (record { command = Check (format.Tracefile One) 1 (codes "f" ∷ []); strictness = Lenient; size = Limited; output = None })
 unfolding clap_on_literals
-check_output_asked = ((rows_for (codes "covcollect" ∷ codes "check" ∷ codes "f" ∷ []), refl, (refl, refl), (codes "1", refl, refl), refl), refl, refl, refl)
+check_output_asked = ((rows_for (codes "covcollect" ∷ codes "check" ∷ codes "f" ∷ []), named (codes "check") (subcommand_of covcollect (codes "covcollect" ∷ codes "check" ∷ codes "f" ∷ [])) refl, (refl, refl), (codes "1", refl, refl), refl), refl, refl, refl)
 
 pub merge_strict_asked : AsksForAll (subcommand_of covcollect (codes "covcollect" ∷ codes "merge" ∷ codes "--strict" ∷ codes "f" ∷ []))
     (record { command = Merge One 1 (record { includes = []; excludes = [] }) (codes "f" ∷ []); strictness = Strict; size = Limited; output = None })
 unfolding clap_on_literals
-merge_strict_asked = ((rows_for (codes "covcollect" ∷ codes "merge" ∷ codes "--strict" ∷ codes "f" ∷ []), refl, refl, (codes "1", refl, refl), (refl, refl), refl), refl, refl, refl)
+merge_strict_asked = ((rows_for (codes "covcollect" ∷ codes "merge" ∷ codes "--strict" ∷ codes "f" ∷ []), named (codes "merge") (subcommand_of covcollect (codes "covcollect" ∷ codes "merge" ∷ codes "--strict" ∷ codes "f" ∷ [])) refl, refl, (codes "1", refl, refl), (refl, refl), refl), refl, refl, refl)
 
 pub summary_strict_asked : AsksForAll (subcommand_of covcollect (codes "covcollect" ∷ codes "summary" ∷ codes "f" ∷ codes "--strict" ∷ codes "--json" ∷ []))
     (record { command = Summary One 1 (record { includes = []; excludes = [] }) Json (record { lines = None; functions = None; branches = None }) (codes "f" ∷ []); strictness = Strict; size = Limited; output = None })
 unfolding clap_on_literals
-summary_strict_asked = ((rows_for (codes "covcollect" ∷ codes "summary" ∷ codes "f" ∷ codes "--strict" ∷ codes "--json" ∷ []), refl, refl, (codes "1", refl, refl), (refl, refl), refl, (refl, refl, refl), refl), refl, refl, refl)
+summary_strict_asked = ((rows_for (codes "covcollect" ∷ codes "summary" ∷ codes "f" ∷ codes "--strict" ∷ codes "--json" ∷ []), named (codes "summary") (subcommand_of covcollect (codes "covcollect" ∷ codes "summary" ∷ codes "f" ∷ codes "--strict" ∷ codes "--json" ∷ [])) refl, refl, (codes "1", refl, refl), (refl, refl), refl, (refl, refl, refl), refl), refl, refl, refl)
 
 pub list_strict_asked : AsksForAll (subcommand_of covcollect (codes "covcollect" ∷ codes "list" ∷ codes "--lcov2" ∷ codes "--strict" ∷ codes "f" ∷ codes "g" ∷ []))
     (record { command = commands.List Two 1 (record { includes = []; excludes = [] }) Words (codes "f" ∷ codes "g" ∷ []); strictness = Strict; size = Limited; output = None })
 unfolding clap_on_literals
-list_strict_asked = ((rows_for (codes "covcollect" ∷ codes "list" ∷ codes "--lcov2" ∷ codes "--strict" ∷ codes "f" ∷ codes "g" ∷ []), refl, refl, (codes "1", refl, refl), (refl, refl), refl, refl), refl, refl, refl)
+list_strict_asked = ((rows_for (codes "covcollect" ∷ codes "list" ∷ codes "--lcov2" ∷ codes "--strict" ∷ codes "f" ∷ codes "g" ∷ []), named (codes "list") (subcommand_of covcollect (codes "covcollect" ∷ codes "list" ∷ codes "--lcov2" ∷ codes "--strict" ∷ codes "f" ∷ codes "g" ∷ [])) refl, refl, (codes "1", refl, refl), (refl, refl), refl, refl), refl, refl, refl)
 
 pub extract_strict_asked : AsksForAll (subcommand_of covcollect (codes "covcollect" ∷ codes "extract" ∷ codes "f" ∷ codes "--strict" ∷ codes "p" ∷ []))
     (record { command = Extract One (codes "f" ∷ codes "p" ∷ []); strictness = Strict; size = Limited; output = None })
 unfolding clap_on_literals
-extract_strict_asked = ((rows_for (codes "covcollect" ∷ codes "extract" ∷ codes "f" ∷ codes "--strict" ∷ codes "p" ∷ []), refl, refl, refl), refl, refl, refl)
+extract_strict_asked = ((rows_for (codes "covcollect" ∷ codes "extract" ∷ codes "f" ∷ codes "--strict" ∷ codes "p" ∷ []), named (codes "extract") (subcommand_of covcollect (codes "covcollect" ∷ codes "extract" ∷ codes "f" ∷ codes "--strict" ∷ codes "p" ∷ [])) refl, refl, refl), refl, refl, refl)
 
 pub remove_strict_asked : AsksForAll (subcommand_of covcollect (codes "covcollect" ∷ codes "remove" ∷ codes "f" ∷ codes "p" ∷ codes "--strict" ∷ []))
     (record { command = Remove One (codes "f" ∷ codes "p" ∷ []); strictness = Strict; size = Limited; output = None })
 unfolding clap_on_literals
-remove_strict_asked = ((rows_for (codes "covcollect" ∷ codes "remove" ∷ codes "f" ∷ codes "p" ∷ codes "--strict" ∷ []), refl, refl, refl), refl, refl, refl)
+remove_strict_asked = ((rows_for (codes "covcollect" ∷ codes "remove" ∷ codes "f" ∷ codes "p" ∷ codes "--strict" ∷ []), named (codes "remove") (subcommand_of covcollect (codes "covcollect" ∷ codes "remove" ∷ codes "f" ∷ codes "p" ∷ codes "--strict" ∷ [])) refl, refl, refl), refl, refl, refl)
 
 pub check_strict_asked : AsksForAll (subcommand_of covcollect (codes "covcollect" ∷ codes "check" ∷ codes "--strict" ∷ codes "--gcov" ∷ codes "f" ∷ []))
     (record { command = Check format.Gcov 1 (codes "f" ∷ []); strictness = Strict; size = Limited; output = None })
 unfolding clap_on_literals
-check_strict_asked = ((rows_for (codes "covcollect" ∷ codes "check" ∷ codes "--strict" ∷ codes "--gcov" ∷ codes "f" ∷ []), refl, refl, (codes "1", refl, refl), refl), refl, refl, refl)
+check_strict_asked = ((rows_for (codes "covcollect" ∷ codes "check" ∷ codes "--strict" ∷ codes "--gcov" ∷ codes "f" ∷ []), named (codes "check") (subcommand_of covcollect (codes "covcollect" ∷ codes "check" ∷ codes "--strict" ∷ codes "--gcov" ∷ codes "f" ∷ [])) refl, refl, (codes "1", refl, refl), refl), refl, refl, refl)
 
 pub merge_without_strict_asked : IsStrictnessOf (rows_met (subcommand_of covcollect (codes "covcollect" ∷ codes "merge" ∷ codes "--lcov2" ∷ codes "f" ∷ []))) Lenient
 unfolding clap_on_literals
@@ -351,7 +358,7 @@ check_without_strict_asked = refl
 pub gcov_strict_asked : AsksForAll (subcommand_of covcollect (codes "covcollect" ∷ codes "gcov" ∷ codes "--test" ∷ codes "t" ∷ codes "f" ∷ []))
     (record { command = Gcov (codes "t") (codes "f" ∷ []); strictness = Lenient; size = Limited; output = None })
 unfolding clap_on_literals
-gcov_strict_asked = ((rows_for (codes "covcollect" ∷ codes "gcov" ∷ codes "--test" ∷ codes "t" ∷ codes "f" ∷ []), refl, refl, refl), refl, refl, refl)
+gcov_strict_asked = ((rows_for (codes "covcollect" ∷ codes "gcov" ∷ codes "--test" ∷ codes "t" ∷ codes "f" ∷ []), named (codes "gcov") (subcommand_of covcollect (codes "covcollect" ∷ codes "gcov" ∷ codes "--test" ∷ codes "t" ∷ codes "f" ∷ [])) refl, refl, refl), refl, refl, refl)
 
 pub session_strict_asked : AsksForAll (subcommand_of covcollect (codes "covcollect" ∷ []))
     (record { command = Session; strictness = Lenient; size = Limited; output = None })
@@ -361,42 +368,42 @@ session_strict_asked = (refl, refl, refl, refl)
 pub name_strict_asked : AsksForAll (subcommand_of covcollect (codes "covcollect" ∷ codes "merge" ∷ codes "--" ∷ codes "--strict" ∷ []))
     (record { command = Merge One 1 (record { includes = []; excludes = [] }) (codes "--strict" ∷ []); strictness = Lenient; size = Limited; output = None })
 unfolding clap_on_literals
-name_strict_asked = ((rows_for (codes "covcollect" ∷ codes "merge" ∷ codes "--" ∷ codes "--strict" ∷ []), refl, refl, (codes "1", refl, refl), (refl, refl), refl), refl, refl, refl)
+name_strict_asked = ((rows_for (codes "covcollect" ∷ codes "merge" ∷ codes "--" ∷ codes "--strict" ∷ []), named (codes "merge") (subcommand_of covcollect (codes "covcollect" ∷ codes "merge" ∷ codes "--" ∷ codes "--strict" ∷ [])) refl, refl, (codes "1", refl, refl), (refl, refl), refl), refl, refl, refl)
 
 pub merge_large_asked : AsksForAll (subcommand_of covcollect (codes "covcollect" ∷ codes "merge" ∷ codes "--large" ∷ codes "f" ∷ []))
     (record { command = Merge One 1 (record { includes = []; excludes = [] }) (codes "f" ∷ []); strictness = Lenient; size = Large; output = None })
 unfolding clap_on_literals
-merge_large_asked = ((rows_for (codes "covcollect" ∷ codes "merge" ∷ codes "--large" ∷ codes "f" ∷ []), refl, refl, (codes "1", refl, refl), (refl, refl), refl), refl, refl, refl)
+merge_large_asked = ((rows_for (codes "covcollect" ∷ codes "merge" ∷ codes "--large" ∷ codes "f" ∷ []), named (codes "merge") (subcommand_of covcollect (codes "covcollect" ∷ codes "merge" ∷ codes "--large" ∷ codes "f" ∷ [])) refl, refl, (codes "1", refl, refl), (refl, refl), refl), refl, refl, refl)
 
 pub summary_large_asked : AsksForAll (subcommand_of covcollect (codes "covcollect" ∷ codes "summary" ∷ codes "f" ∷ codes "--large" ∷ codes "--json" ∷ []))
     (record { command = Summary One 1 (record { includes = []; excludes = [] }) Json (record { lines = None; functions = None; branches = None }) (codes "f" ∷ []); strictness = Lenient; size = Large; output = None })
 unfolding clap_on_literals
-summary_large_asked = ((rows_for (codes "covcollect" ∷ codes "summary" ∷ codes "f" ∷ codes "--large" ∷ codes "--json" ∷ []), refl, refl, (codes "1", refl, refl), (refl, refl), refl, (refl, refl, refl), refl), refl, refl, refl)
+summary_large_asked = ((rows_for (codes "covcollect" ∷ codes "summary" ∷ codes "f" ∷ codes "--large" ∷ codes "--json" ∷ []), named (codes "summary") (subcommand_of covcollect (codes "covcollect" ∷ codes "summary" ∷ codes "f" ∷ codes "--large" ∷ codes "--json" ∷ [])) refl, refl, (codes "1", refl, refl), (refl, refl), refl, (refl, refl, refl), refl), refl, refl, refl)
 
 pub list_large_asked : AsksForAll (subcommand_of covcollect (codes "covcollect" ∷ codes "list" ∷ codes "--lcov2" ∷ codes "--large" ∷ codes "f" ∷ codes "g" ∷ []))
     (record { command = commands.List Two 1 (record { includes = []; excludes = [] }) Words (codes "f" ∷ codes "g" ∷ []); strictness = Lenient; size = Large; output = None })
 unfolding clap_on_literals
-list_large_asked = ((rows_for (codes "covcollect" ∷ codes "list" ∷ codes "--lcov2" ∷ codes "--large" ∷ codes "f" ∷ codes "g" ∷ []), refl, refl, (codes "1", refl, refl), (refl, refl), refl, refl), refl, refl, refl)
+list_large_asked = ((rows_for (codes "covcollect" ∷ codes "list" ∷ codes "--lcov2" ∷ codes "--large" ∷ codes "f" ∷ codes "g" ∷ []), named (codes "list") (subcommand_of covcollect (codes "covcollect" ∷ codes "list" ∷ codes "--lcov2" ∷ codes "--large" ∷ codes "f" ∷ codes "g" ∷ [])) refl, refl, (codes "1", refl, refl), (refl, refl), refl, refl), refl, refl, refl)
 
 pub extract_large_asked : AsksForAll (subcommand_of covcollect (codes "covcollect" ∷ codes "extract" ∷ codes "f" ∷ codes "--large" ∷ codes "p" ∷ []))
     (record { command = Extract One (codes "f" ∷ codes "p" ∷ []); strictness = Lenient; size = Large; output = None })
 unfolding clap_on_literals
-extract_large_asked = ((rows_for (codes "covcollect" ∷ codes "extract" ∷ codes "f" ∷ codes "--large" ∷ codes "p" ∷ []), refl, refl, refl), refl, refl, refl)
+extract_large_asked = ((rows_for (codes "covcollect" ∷ codes "extract" ∷ codes "f" ∷ codes "--large" ∷ codes "p" ∷ []), named (codes "extract") (subcommand_of covcollect (codes "covcollect" ∷ codes "extract" ∷ codes "f" ∷ codes "--large" ∷ codes "p" ∷ [])) refl, refl, refl), refl, refl, refl)
 
 pub remove_large_asked : AsksForAll (subcommand_of covcollect (codes "covcollect" ∷ codes "remove" ∷ codes "f" ∷ codes "p" ∷ codes "--large" ∷ []))
     (record { command = Remove One (codes "f" ∷ codes "p" ∷ []); strictness = Lenient; size = Large; output = None })
 unfolding clap_on_literals
-remove_large_asked = ((rows_for (codes "covcollect" ∷ codes "remove" ∷ codes "f" ∷ codes "p" ∷ codes "--large" ∷ []), refl, refl, refl), refl, refl, refl)
+remove_large_asked = ((rows_for (codes "covcollect" ∷ codes "remove" ∷ codes "f" ∷ codes "p" ∷ codes "--large" ∷ []), named (codes "remove") (subcommand_of covcollect (codes "covcollect" ∷ codes "remove" ∷ codes "f" ∷ codes "p" ∷ codes "--large" ∷ [])) refl, refl, refl), refl, refl, refl)
 
 pub check_large_asked : AsksForAll (subcommand_of covcollect (codes "covcollect" ∷ codes "check" ∷ codes "--large" ∷ codes "--gcov" ∷ codes "f" ∷ []))
     (record { command = Check format.Gcov 1 (codes "f" ∷ []); strictness = Lenient; size = Large; output = None })
 unfolding clap_on_literals
-check_large_asked = ((rows_for (codes "covcollect" ∷ codes "check" ∷ codes "--large" ∷ codes "--gcov" ∷ codes "f" ∷ []), refl, refl, (codes "1", refl, refl), refl), refl, refl, refl)
+check_large_asked = ((rows_for (codes "covcollect" ∷ codes "check" ∷ codes "--large" ∷ codes "--gcov" ∷ codes "f" ∷ []), named (codes "check") (subcommand_of covcollect (codes "covcollect" ∷ codes "check" ∷ codes "--large" ∷ codes "--gcov" ∷ codes "f" ∷ [])) refl, refl, (codes "1", refl, refl), refl), refl, refl, refl)
 
 pub both_large_asked : AsksForAll (subcommand_of covcollect (codes "covcollect" ∷ codes "merge" ∷ codes "--strict" ∷ codes "f" ∷ codes "--large" ∷ []))
     (record { command = Merge One 1 (record { includes = []; excludes = [] }) (codes "f" ∷ []); strictness = Strict; size = Large; output = None })
 unfolding clap_on_literals
-both_large_asked = ((rows_for (codes "covcollect" ∷ codes "merge" ∷ codes "--strict" ∷ codes "f" ∷ codes "--large" ∷ []), refl, refl, (codes "1", refl, refl), (refl, refl), refl), refl, refl, refl)
+both_large_asked = ((rows_for (codes "covcollect" ∷ codes "merge" ∷ codes "--strict" ∷ codes "f" ∷ codes "--large" ∷ []), named (codes "merge") (subcommand_of covcollect (codes "covcollect" ∷ codes "merge" ∷ codes "--strict" ∷ codes "f" ∷ codes "--large" ∷ [])) refl, refl, (codes "1", refl, refl), (refl, refl), refl), refl, refl, refl)
 
 pub merge_without_large_asked : IsSizeOf (rows_met (subcommand_of covcollect (codes "covcollect" ∷ codes "merge" ∷ codes "--lcov2" ∷ codes "--strict" ∷ codes "f" ∷ []))) Limited
 unfolding clap_on_literals
@@ -425,7 +432,7 @@ check_without_large_asked = refl
 pub gcov_large_asked : AsksForAll (subcommand_of covcollect (codes "covcollect" ∷ codes "gcov" ∷ codes "--test" ∷ codes "t" ∷ codes "f" ∷ []))
     (record { command = Gcov (codes "t") (codes "f" ∷ []); strictness = Lenient; size = Limited; output = None })
 unfolding clap_on_literals
-gcov_large_asked = ((rows_for (codes "covcollect" ∷ codes "gcov" ∷ codes "--test" ∷ codes "t" ∷ codes "f" ∷ []), refl, refl, refl), refl, refl, refl)
+gcov_large_asked = ((rows_for (codes "covcollect" ∷ codes "gcov" ∷ codes "--test" ∷ codes "t" ∷ codes "f" ∷ []), named (codes "gcov") (subcommand_of covcollect (codes "covcollect" ∷ codes "gcov" ∷ codes "--test" ∷ codes "t" ∷ codes "f" ∷ [])) refl, refl, refl), refl, refl, refl)
 
 pub session_large_asked : AsksForAll (subcommand_of covcollect (codes "covcollect" ∷ []))
     (record { command = Session; strictness = Lenient; size = Limited; output = None })
@@ -435,7 +442,7 @@ session_large_asked = (refl, refl, refl, refl)
 pub name_large_asked : AsksForAll (subcommand_of covcollect (codes "covcollect" ∷ codes "merge" ∷ codes "--" ∷ codes "--large" ∷ []))
     (record { command = Merge One 1 (record { includes = []; excludes = [] }) (codes "--large" ∷ []); strictness = Lenient; size = Limited; output = None })
 unfolding clap_on_literals
-name_large_asked = ((rows_for (codes "covcollect" ∷ codes "merge" ∷ codes "--" ∷ codes "--large" ∷ []), refl, refl, (codes "1", refl, refl), (refl, refl), refl), refl, refl, refl)
+name_large_asked = ((rows_for (codes "covcollect" ∷ codes "merge" ∷ codes "--" ∷ codes "--large" ∷ []), named (codes "merge") (subcommand_of covcollect (codes "covcollect" ∷ codes "merge" ∷ codes "--" ∷ codes "--large" ∷ [])) refl, refl, (codes "1", refl, refl), (refl, refl), refl), refl, refl, refl)
 
 pub jobs_refused : fault_of covcollect (codes "covcollect" ∷ codes "merge" ∷ codes "--jobs" ∷ codes "65" ∷ codes "a.info" ∷ []) ≡ kind.ValueValidation ∷ []
 unfolding clap_on_literals
