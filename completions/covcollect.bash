@@ -92,12 +92,12 @@ _covcollect() {
             local options='-h --help'
             case $subcommand in
                 '') options+=' -V --version' ;;
-                merge | summary | list) options+=' -j --jobs -o --output --lcov2 --strict --include --exclude' ;;&
+                merge | summary | list) options+=' -j --jobs -o --output --lcov2 --strict --large --include --exclude' ;;&
                 summary | list) options+=' --json' ;;&
                 summary) options+=' --fail-under-lines --fail-under-functions --fail-under-branches' ;;
-                extract | remove) options+=' -o --output --lcov2 --strict' ;;
+                extract | remove) options+=' -o --output --lcov2 --strict --large' ;;
                 gcov) options+=' --test -o --output' ;;
-                check) options+=' -j --jobs --gcov --lcov2 --strict' ;;
+                check) options+=' -j --jobs --gcov --lcov2 --strict --large' ;;
             esac
             mapfile -t COMPREPLY < <(compgen -W "$options" -- "$cur")
             return

@@ -1,15 +1,16 @@
 -- The laws of single calls in `src/laws.rt`. Each is proved by computing what clap's definitions give.
-use Rattle.std.proofs.Common.{◌≡◌, List, [], ◌∷◌, Option, Some, None, String, true, refl, codes, option_map, string_bytes}
+use Rattle.std.proofs.Common.{◌≡◌, List, [], ◌∷◌, Option, Some, None, String, true, refl, ap, codes, option_map, string_bytes}
 use Rattle.std.specs.declared.alloc.Global.{Global}
 use Rattle.clap.proofs.OnLiterals.{clap_on_literals}
 use Rattle.clap.specs.Walk.{Row, Text, first_of}
 use Rattle.clap.specs.Words.{takes, fault_of, subcommand_of}
 use Rattle.clap.specs.declared.error.kind.ErrorKind.TheVariants as kind
-use Rattle.covcommand.specs.Asked.{AsksFor, AsksForAll, IsStrictnessOf, rows_met}
+use Rattle.covcommand.specs.Asked.{AsksFor, AsksForAll, IsSizeOf, IsStrictnessOf, rows_met}
 use Rattle.covcommand.specs.CommandLine.{covcollect}
 use Rattle.covcommand.specs.declared.asked.Command.TheVariants.{Check, Extract, Gcov, Merge, Remove, Session, Summary}
 use Rattle.covcommand.specs.declared.asked.Command.TheVariants as commands
 use Rattle.covcommand.specs.declared.asked.Strictness.TheVariants.{Lenient, Strict}
+use Rattle.covcommand.specs.declared.asked.TextSize.TheVariants.{Limited, Large}
 use Rattle.covcommand.specs.declared.asked.TotalsForm.TheVariants.{Words, Json}
 use Rattle.covcommand.specs.declared.asked.TextFormat.TheVariants as format
 use Rattle.covcommand.specs.declared.asked.LcovVersion.TheVariants.{One, Two}
@@ -146,101 +147,132 @@ pub check_strict_taken : takes covcollect (codes "covcollect" ∷ codes "check" 
 unfolding clap_on_literals
 check_strict_taken = refl
 
+pub merge_large_taken : takes covcollect (codes "covcollect" ∷ codes "merge" ∷ codes "--large" ∷ codes "-j" ∷ codes "2" ∷ codes "a.info" ∷ codes "b.info" ∷ []) ≡ true
+unfolding clap_on_literals
+merge_large_taken = refl
+
+pub summary_large_taken : takes covcollect (codes "covcollect" ∷ codes "summary" ∷ codes "a.info" ∷ codes "--large" ∷ []) ≡ true
+unfolding clap_on_literals
+summary_large_taken = refl
+
+pub list_large_taken : takes covcollect (codes "covcollect" ∷ codes "list" ∷ codes "--large" ∷ codes "--json" ∷ codes "a.info" ∷ []) ≡ true
+unfolding clap_on_literals
+list_large_taken = refl
+
+pub extract_large_taken : takes covcollect (codes "covcollect" ∷ codes "extract" ∷ codes "--large" ∷ codes "a.info" ∷ codes "*.c" ∷ []) ≡ true
+unfolding clap_on_literals
+extract_large_taken = refl
+
+pub remove_large_taken : takes covcollect (codes "covcollect" ∷ codes "remove" ∷ codes "a.info" ∷ codes "*.c" ∷ codes "--large" ∷ codes "--strict" ∷ codes "--lcov2" ∷ []) ≡ true
+unfolding clap_on_literals
+remove_large_taken = refl
+
+pub check_large_taken : takes covcollect (codes "covcollect" ∷ codes "check" ∷ codes "--large" ∷ codes "--strict" ∷ codes "--gcov" ∷ codes "a.c.gcov" ∷ []) ≡ true
+unfolding clap_on_literals
+check_large_taken = refl
+
 -- the rows of the subcommand that the words name
 abbrev rows_for : List Text → List Row
 rows_for words = rows_met (subcommand_of covcollect words)
 
+-- a subcommand is its name and its rows. By this the rows aren't compared with themselves, which takes too many steps
+named : (name : Text) (met : Option (Text × List Row)) → option_map (λ s. s.0) met ≡ Some name → met ≡ Some (name, rows_met met)
+named name None is = absurd cc
+named name (Some (other, rows)) is =
+    let same : other ≡ name = cc in
+    ap (λ (text : Text). Some (text, rows)) same
+
 pub tracefile_asked : AsksFor (subcommand_of covcollect (codes "covcollect" ∷ codes "check" ∷ codes "a.info" ∷ [])) (Check (format.Tracefile One) 1 (codes "a.info" ∷ []))
 unfolding clap_on_literals
-tracefile_asked = (rows_for (codes "covcollect" ∷ codes "check" ∷ codes "a.info" ∷ []), refl, (refl, refl), (codes "1", refl, refl), refl)
+tracefile_asked = (rows_for (codes "covcollect" ∷ codes "check" ∷ codes "a.info" ∷ []), named (codes "check") (subcommand_of covcollect (codes "covcollect" ∷ codes "check" ∷ codes "a.info" ∷ [])) refl, (refl, refl), (codes "1", refl, refl), refl)
 
 pub before_asked : AsksFor (subcommand_of covcollect (codes "covcollect" ∷ codes "check" ∷ codes "--gcov" ∷ codes "a.c.gcov" ∷ [])) (Check format.Gcov 1 (codes "a.c.gcov" ∷ []))
 unfolding clap_on_literals
-before_asked = (rows_for (codes "covcollect" ∷ codes "check" ∷ codes "--gcov" ∷ codes "a.c.gcov" ∷ []), refl, refl, (codes "1", refl, refl), refl)
+before_asked = (rows_for (codes "covcollect" ∷ codes "check" ∷ codes "--gcov" ∷ codes "a.c.gcov" ∷ []), named (codes "check") (subcommand_of covcollect (codes "covcollect" ∷ codes "check" ∷ codes "--gcov" ∷ codes "a.c.gcov" ∷ [])) refl, refl, (codes "1", refl, refl), refl)
 
 pub after_asked : AsksFor (subcommand_of covcollect (codes "covcollect" ∷ codes "check" ∷ codes "a.c.gcov" ∷ codes "--gcov" ∷ [])) (Check format.Gcov 1 (codes "a.c.gcov" ∷ []))
 unfolding clap_on_literals
-after_asked = (rows_for (codes "covcollect" ∷ codes "check" ∷ codes "a.c.gcov" ∷ codes "--gcov" ∷ []), refl, refl, (codes "1", refl, refl), refl)
+after_asked = (rows_for (codes "covcollect" ∷ codes "check" ∷ codes "a.c.gcov" ∷ codes "--gcov" ∷ []), named (codes "check") (subcommand_of covcollect (codes "covcollect" ∷ codes "check" ∷ codes "a.c.gcov" ∷ codes "--gcov" ∷ [])) refl, refl, (codes "1", refl, refl), refl)
 
 pub name_asked : AsksFor (subcommand_of covcollect (codes "covcollect" ∷ codes "check" ∷ codes "--" ∷ codes "--gcov" ∷ [])) (Check (format.Tracefile One) 1 (codes "--gcov" ∷ []))
 unfolding clap_on_literals
-name_asked = (rows_for (codes "covcollect" ∷ codes "check" ∷ codes "--" ∷ codes "--gcov" ∷ []), refl, (refl, refl), (codes "1", refl, refl), refl)
+name_asked = (rows_for (codes "covcollect" ∷ codes "check" ∷ codes "--" ∷ codes "--gcov" ∷ []), named (codes "check") (subcommand_of covcollect (codes "covcollect" ∷ codes "check" ∷ codes "--" ∷ codes "--gcov" ∷ [])) refl, (refl, refl), (codes "1", refl, refl), refl)
 
 pub lcov2_asked : AsksFor (subcommand_of covcollect (codes "covcollect" ∷ codes "check" ∷ codes "--lcov2" ∷ codes "a.info" ∷ [])) (Check (format.Tracefile Two) 1 (codes "a.info" ∷ []))
 unfolding clap_on_literals
-lcov2_asked = (rows_for (codes "covcollect" ∷ codes "check" ∷ codes "--lcov2" ∷ codes "a.info" ∷ []), refl, (refl, refl), (codes "1", refl, refl), refl)
+lcov2_asked = (rows_for (codes "covcollect" ∷ codes "check" ∷ codes "--lcov2" ∷ codes "a.info" ∷ []), named (codes "check") (subcommand_of covcollect (codes "covcollect" ∷ codes "check" ∷ codes "--lcov2" ∷ codes "a.info" ∷ [])) refl, (refl, refl), (codes "1", refl, refl), refl)
 
 pub both_asked : AsksFor (subcommand_of covcollect (codes "covcollect" ∷ codes "check" ∷ codes "--gcov" ∷ codes "--lcov2" ∷ codes "a.c.gcov" ∷ [])) (Check format.Gcov 1 (codes "a.c.gcov" ∷ []))
 unfolding clap_on_literals
-both_asked = (rows_for (codes "covcollect" ∷ codes "check" ∷ codes "--gcov" ∷ codes "--lcov2" ∷ codes "a.c.gcov" ∷ []), refl, refl, (codes "1", refl, refl), refl)
+both_asked = (rows_for (codes "covcollect" ∷ codes "check" ∷ codes "--gcov" ∷ codes "--lcov2" ∷ codes "a.c.gcov" ∷ []), named (codes "check") (subcommand_of covcollect (codes "covcollect" ∷ codes "check" ∷ codes "--gcov" ∷ codes "--lcov2" ∷ codes "a.c.gcov" ∷ [])) refl, refl, (codes "1", refl, refl), refl)
 
 pub jobs_asked : AsksFor (subcommand_of covcollect (codes "covcollect" ∷ codes "check" ∷ codes "-j" ∷ codes "3" ∷ codes "--gcov" ∷ codes "a.c.gcov" ∷ codes "b.c.gcov" ∷ [])) (Check format.Gcov 3 (codes "a.c.gcov" ∷ codes "b.c.gcov" ∷ []))
 unfolding clap_on_literals
-jobs_asked = (rows_for (codes "covcollect" ∷ codes "check" ∷ codes "-j" ∷ codes "3" ∷ codes "--gcov" ∷ codes "a.c.gcov" ∷ codes "b.c.gcov" ∷ []), refl, refl, (codes "3", refl, refl), refl)
+jobs_asked = (rows_for (codes "covcollect" ∷ codes "check" ∷ codes "-j" ∷ codes "3" ∷ codes "--gcov" ∷ codes "a.c.gcov" ∷ codes "b.c.gcov" ∷ []), named (codes "check") (subcommand_of covcollect (codes "covcollect" ∷ codes "check" ∷ codes "-j" ∷ codes "3" ∷ codes "--gcov" ∷ codes "a.c.gcov" ∷ codes "b.c.gcov" ∷ [])) refl, refl, (codes "3", refl, refl), refl)
 
 pub merge_filter_asked : AsksFor (subcommand_of covcollect (codes "covcollect" ∷ codes "merge" ∷ codes "--include" ∷ codes "b" ∷ codes "--exclude" ∷ codes "x" ∷ codes "--include=a" ∷ codes "--exclude" ∷ codes "y" ∷ codes "f" ∷ []))
     (Merge One 1 (record { includes = codes "b" ∷ codes "a" ∷ []; excludes = codes "x" ∷ codes "y" ∷ [] }) (codes "f" ∷ []))
 unfolding clap_on_literals
-merge_filter_asked = (rows_for (codes "covcollect" ∷ codes "merge" ∷ codes "--include" ∷ codes "b" ∷ codes "--exclude" ∷ codes "x" ∷ codes "--include=a" ∷ codes "--exclude" ∷ codes "y" ∷ codes "f" ∷ []), refl, refl, (codes "1", refl, refl), (refl, refl), refl)
+merge_filter_asked = (rows_for (codes "covcollect" ∷ codes "merge" ∷ codes "--include" ∷ codes "b" ∷ codes "--exclude" ∷ codes "x" ∷ codes "--include=a" ∷ codes "--exclude" ∷ codes "y" ∷ codes "f" ∷ []), named (codes "merge") (subcommand_of covcollect (codes "covcollect" ∷ codes "merge" ∷ codes "--include" ∷ codes "b" ∷ codes "--exclude" ∷ codes "x" ∷ codes "--include=a" ∷ codes "--exclude" ∷ codes "y" ∷ codes "f" ∷ [])) refl, refl, (codes "1", refl, refl), (refl, refl), refl)
 
 pub summary_filter_asked : AsksFor (subcommand_of covcollect (codes "covcollect" ∷ codes "summary" ∷ codes "f" ∷ codes "--exclude=x" ∷ codes "--lcov2" ∷ []))
     (Summary Two 1 (record { includes = []; excludes = codes "x" ∷ [] }) Words (record { lines = None; functions = None; branches = None }) (codes "f" ∷ []))
 unfolding clap_on_literals
-summary_filter_asked = (rows_for (codes "covcollect" ∷ codes "summary" ∷ codes "f" ∷ codes "--exclude=x" ∷ codes "--lcov2" ∷ []), refl, refl, (codes "1", refl, refl), (refl, refl), refl, (refl, refl, refl), refl)
+summary_filter_asked = (rows_for (codes "covcollect" ∷ codes "summary" ∷ codes "f" ∷ codes "--exclude=x" ∷ codes "--lcov2" ∷ []), named (codes "summary") (subcommand_of covcollect (codes "covcollect" ∷ codes "summary" ∷ codes "f" ∷ codes "--exclude=x" ∷ codes "--lcov2" ∷ [])) refl, refl, (codes "1", refl, refl), (refl, refl), refl, (refl, refl, refl), refl)
 
 pub neither_filter_asked : AsksFor (subcommand_of covcollect (codes "covcollect" ∷ codes "merge" ∷ codes "f" ∷ []))
     (Merge One 1 (record { includes = []; excludes = [] }) (codes "f" ∷ []))
 unfolding clap_on_literals
-neither_filter_asked = (rows_for (codes "covcollect" ∷ codes "merge" ∷ codes "f" ∷ []), refl, refl, (codes "1", refl, refl), (refl, refl), refl)
+neither_filter_asked = (rows_for (codes "covcollect" ∷ codes "merge" ∷ codes "f" ∷ []), named (codes "merge") (subcommand_of covcollect (codes "covcollect" ∷ codes "merge" ∷ codes "f" ∷ [])) refl, refl, (codes "1", refl, refl), (refl, refl), refl)
 
 pub name_filter_asked : AsksFor (subcommand_of covcollect (codes "covcollect" ∷ codes "merge" ∷ codes "--" ∷ codes "--include" ∷ codes "a" ∷ []))
     (Merge One 1 (record { includes = []; excludes = [] }) (codes "--include" ∷ codes "a" ∷ []))
 unfolding clap_on_literals
-name_filter_asked = (rows_for (codes "covcollect" ∷ codes "merge" ∷ codes "--" ∷ codes "--include" ∷ codes "a" ∷ []), refl, refl, (codes "1", refl, refl), (refl, refl), refl)
+name_filter_asked = (rows_for (codes "covcollect" ∷ codes "merge" ∷ codes "--" ∷ codes "--include" ∷ codes "a" ∷ []), named (codes "merge") (subcommand_of covcollect (codes "covcollect" ∷ codes "merge" ∷ codes "--" ∷ codes "--include" ∷ codes "a" ∷ [])) refl, refl, (codes "1", refl, refl), (refl, refl), refl)
 
 pub summary_total_asked : AsksFor (subcommand_of covcollect (codes "covcollect" ∷ codes "summary" ∷ codes "--json" ∷ codes "--fail-under-lines" ∷ codes "80" ∷ codes "--fail-under-branches" ∷ codes "79.5" ∷ codes "a" ∷ []))
     (Summary One 1 (record { includes = []; excludes = [] }) Json (record { lines = Some (codes "80"); functions = None; branches = Some (codes "79.5") }) (codes "a" ∷ []))
 unfolding clap_on_literals
-summary_total_asked = (rows_for (codes "covcollect" ∷ codes "summary" ∷ codes "--json" ∷ codes "--fail-under-lines" ∷ codes "80" ∷ codes "--fail-under-branches" ∷ codes "79.5" ∷ codes "a" ∷ []), refl, refl, (codes "1", refl, refl), (refl, refl), refl, (refl, refl, refl), refl)
+summary_total_asked = (rows_for (codes "covcollect" ∷ codes "summary" ∷ codes "--json" ∷ codes "--fail-under-lines" ∷ codes "80" ∷ codes "--fail-under-branches" ∷ codes "79.5" ∷ codes "a" ∷ []), named (codes "summary") (subcommand_of covcollect (codes "covcollect" ∷ codes "summary" ∷ codes "--json" ∷ codes "--fail-under-lines" ∷ codes "80" ∷ codes "--fail-under-branches" ∷ codes "79.5" ∷ codes "a" ∷ [])) refl, refl, (codes "1", refl, refl), (refl, refl), refl, (refl, refl, refl), refl)
 
 pub functions_total_asked : AsksFor (subcommand_of covcollect (codes "covcollect" ∷ codes "summary" ∷ codes "a" ∷ codes "--fail-under-functions=x" ∷ []))
     (Summary One 1 (record { includes = []; excludes = [] }) Words (record { lines = None; functions = Some (codes "x"); branches = None }) (codes "a" ∷ []))
 unfolding clap_on_literals
-functions_total_asked = (rows_for (codes "covcollect" ∷ codes "summary" ∷ codes "a" ∷ codes "--fail-under-functions=x" ∷ []), refl, refl, (codes "1", refl, refl), (refl, refl), refl, (refl, refl, refl), refl)
+functions_total_asked = (rows_for (codes "covcollect" ∷ codes "summary" ∷ codes "a" ∷ codes "--fail-under-functions=x" ∷ []), named (codes "summary") (subcommand_of covcollect (codes "covcollect" ∷ codes "summary" ∷ codes "a" ∷ codes "--fail-under-functions=x" ∷ [])) refl, refl, (codes "1", refl, refl), (refl, refl), refl, (refl, refl, refl), refl)
 
 pub list_total_asked : AsksFor (subcommand_of covcollect (codes "covcollect" ∷ codes "list" ∷ codes "--lcov2" ∷ codes "--include" ∷ codes "b" ∷ codes "--exclude" ∷ codes "x" ∷ codes "--json" ∷ codes "a" ∷ []))
     (commands.List Two 1 (record { includes = codes "b" ∷ []; excludes = codes "x" ∷ [] }) Json (codes "a" ∷ []))
 unfolding clap_on_literals
-list_total_asked = (rows_for (codes "covcollect" ∷ codes "list" ∷ codes "--lcov2" ∷ codes "--include" ∷ codes "b" ∷ codes "--exclude" ∷ codes "x" ∷ codes "--json" ∷ codes "a" ∷ []), refl, refl, (codes "1", refl, refl), (refl, refl), refl, refl)
+list_total_asked = (rows_for (codes "covcollect" ∷ codes "list" ∷ codes "--lcov2" ∷ codes "--include" ∷ codes "b" ∷ codes "--exclude" ∷ codes "x" ∷ codes "--json" ∷ codes "a" ∷ []), named (codes "list") (subcommand_of covcollect (codes "covcollect" ∷ codes "list" ∷ codes "--lcov2" ∷ codes "--include" ∷ codes "b" ∷ codes "--exclude" ∷ codes "x" ∷ codes "--json" ∷ codes "a" ∷ [])) refl, refl, (codes "1", refl, refl), (refl, refl), refl, refl)
 
 pub name_total_asked : AsksFor (subcommand_of covcollect (codes "covcollect" ∷ codes "list" ∷ codes "--" ∷ codes "--json" ∷ []))
     (commands.List One 1 (record { includes = []; excludes = [] }) Words (codes "--json" ∷ []))
 unfolding clap_on_literals
-name_total_asked = (rows_for (codes "covcollect" ∷ codes "list" ∷ codes "--" ∷ codes "--json" ∷ []), refl, refl, (codes "1", refl, refl), (refl, refl), refl, refl)
+name_total_asked = (rows_for (codes "covcollect" ∷ codes "list" ∷ codes "--" ∷ codes "--json" ∷ []), named (codes "list") (subcommand_of covcollect (codes "covcollect" ∷ codes "list" ∷ codes "--" ∷ codes "--json" ∷ [])) refl, refl, (codes "1", refl, refl), (refl, refl), refl, refl)
 
 pub merge_output_asked : (output : Option (String Global)) → Some (codes "out") ≡ option_map string_bytes output
     → AsksForAll (subcommand_of covcollect (codes "covcollect" ∷ codes "merge" ∷ codes "-o" ∷ codes "out" ∷ codes "f" ∷ []))
-    (record { command = Merge One 1 (record { includes = []; excludes = [] }) (codes "f" ∷ []); strictness = Lenient; output = output })
+    (record { command = Merge One 1 (record { includes = []; excludes = [] }) (codes "f" ∷ []); strictness = Lenient; size = Limited; output = output })
 unfolding clap_on_literals
-merge_output_asked output is = ((rows_for (codes "covcollect" ∷ codes "merge" ∷ codes "-o" ∷ codes "out" ∷ codes "f" ∷ []), refl, refl, (codes "1", refl, refl), (refl, refl), refl), refl, is)
+merge_output_asked output is = ((rows_for (codes "covcollect" ∷ codes "merge" ∷ codes "-o" ∷ codes "out" ∷ codes "f" ∷ []), named (codes "merge") (subcommand_of covcollect (codes "covcollect" ∷ codes "merge" ∷ codes "-o" ∷ codes "out" ∷ codes "f" ∷ [])) refl, refl, (codes "1", refl, refl), (refl, refl), refl), refl, refl, is)
 
 pub extract_output_asked : (output : Option (String Global)) → Some (codes "out") ≡ option_map string_bytes output
     → AsksForAll (subcommand_of covcollect (codes "covcollect" ∷ codes "extract" ∷ codes "f" ∷ codes "p" ∷ codes "--output=out" ∷ []))
-    (record { command = Extract One (codes "f" ∷ codes "p" ∷ []); strictness = Lenient; output = output })
+    (record { command = Extract One (codes "f" ∷ codes "p" ∷ []); strictness = Lenient; size = Limited; output = output })
 unfolding clap_on_literals
-extract_output_asked output is = ((rows_for (codes "covcollect" ∷ codes "extract" ∷ codes "f" ∷ codes "p" ∷ codes "--output=out" ∷ []), refl, refl, refl), refl, is)
+extract_output_asked output is = ((rows_for (codes "covcollect" ∷ codes "extract" ∷ codes "f" ∷ codes "p" ∷ codes "--output=out" ∷ []), named (codes "extract") (subcommand_of covcollect (codes "covcollect" ∷ codes "extract" ∷ codes "f" ∷ codes "p" ∷ codes "--output=out" ∷ [])) refl, refl, refl), refl, refl, is)
 
 pub remove_output_asked : (output : Option (String Global)) → Some (codes "out") ≡ option_map string_bytes output
     → AsksForAll (subcommand_of covcollect (codes "covcollect" ∷ codes "remove" ∷ codes "-oout" ∷ codes "--lcov2" ∷ codes "f" ∷ codes "p" ∷ []))
-    (record { command = Remove Two (codes "f" ∷ codes "p" ∷ []); strictness = Lenient; output = output })
+    (record { command = Remove Two (codes "f" ∷ codes "p" ∷ []); strictness = Lenient; size = Limited; output = output })
 unfolding clap_on_literals
-remove_output_asked output is = ((rows_for (codes "covcollect" ∷ codes "remove" ∷ codes "-oout" ∷ codes "--lcov2" ∷ codes "f" ∷ codes "p" ∷ []), refl, refl, refl), refl, is)
+remove_output_asked output is = ((rows_for (codes "covcollect" ∷ codes "remove" ∷ codes "-oout" ∷ codes "--lcov2" ∷ codes "f" ∷ codes "p" ∷ []), named (codes "remove") (subcommand_of covcollect (codes "covcollect" ∷ codes "remove" ∷ codes "-oout" ∷ codes "--lcov2" ∷ codes "f" ∷ codes "p" ∷ [])) refl, refl, refl), refl, refl, is)
 
 pub gcov_output_asked : (output : Option (String Global)) → Some (codes "out") ≡ option_map string_bytes output
     → AsksForAll (subcommand_of covcollect (codes "covcollect" ∷ codes "gcov" ∷ codes "--test" ∷ codes "t" ∷ codes "-o" ∷ codes "out" ∷ codes "f" ∷ []))
-    (record { command = Gcov (codes "t") (codes "f" ∷ []); strictness = Lenient; output = output })
+    (record { command = Gcov (codes "t") (codes "f" ∷ []); strictness = Lenient; size = Limited; output = output })
 unfolding clap_on_literals
-gcov_output_asked output is = ((rows_for (codes "covcollect" ∷ codes "gcov" ∷ codes "--test" ∷ codes "t" ∷ codes "-o" ∷ codes "out" ∷ codes "f" ∷ []), refl, refl, refl), refl, is)
+gcov_output_asked output is = ((rows_for (codes "covcollect" ∷ codes "gcov" ∷ codes "--test" ∷ codes "t" ∷ codes "-o" ∷ codes "out" ∷ codes "f" ∷ []), named (codes "gcov") (subcommand_of covcollect (codes "covcollect" ∷ codes "gcov" ∷ codes "--test" ∷ codes "t" ∷ codes "-o" ∷ codes "out" ∷ codes "f" ∷ [])) refl, refl, refl), refl, refl, is)
 
 pub summary_output_asked : first_of (codes "output") (rows_met (subcommand_of covcollect (codes "covcollect" ∷ codes "summary" ∷ codes "f" ∷ codes "--output" ∷ codes "out" ∷ codes "--json" ∷ []))) ≡ Some (codes "out")
 unfolding clap_on_literals
@@ -255,49 +287,49 @@ unfolding clap_on_literals
 dash_output_asked = refl
 
 pub neither_output_asked : AsksForAll (subcommand_of covcollect (codes "covcollect" ∷ codes "merge" ∷ codes "f" ∷ []))
-    (record { command = Merge One 1 (record { includes = []; excludes = [] }) (codes "f" ∷ []); strictness = Lenient; output = None })
+    (record { command = Merge One 1 (record { includes = []; excludes = [] }) (codes "f" ∷ []); strictness = Lenient; size = Limited; output = None })
 unfolding clap_on_literals
-neither_output_asked = ((rows_for (codes "covcollect" ∷ codes "merge" ∷ codes "f" ∷ []), refl, refl, (codes "1", refl, refl), (refl, refl), refl), refl, refl)
+neither_output_asked = ((rows_for (codes "covcollect" ∷ codes "merge" ∷ codes "f" ∷ []), named (codes "merge") (subcommand_of covcollect (codes "covcollect" ∷ codes "merge" ∷ codes "f" ∷ [])) refl, refl, (codes "1", refl, refl), (refl, refl), refl), refl, refl, refl)
 
 pub name_output_asked : AsksForAll (subcommand_of covcollect (codes "covcollect" ∷ codes "extract" ∷ codes "f" ∷ codes "--" ∷ codes "-o" ∷ []))
-    (record { command = Extract One (codes "f" ∷ codes "-o" ∷ []); strictness = Lenient; output = None })
+    (record { command = Extract One (codes "f" ∷ codes "-o" ∷ []); strictness = Lenient; size = Limited; output = None })
 unfolding clap_on_literals
-name_output_asked = ((rows_for (codes "covcollect" ∷ codes "extract" ∷ codes "f" ∷ codes "--" ∷ codes "-o" ∷ []), refl, refl, refl), refl, refl)
+name_output_asked = ((rows_for (codes "covcollect" ∷ codes "extract" ∷ codes "f" ∷ codes "--" ∷ codes "-o" ∷ []), named (codes "extract") (subcommand_of covcollect (codes "covcollect" ∷ codes "extract" ∷ codes "f" ∷ codes "--" ∷ codes "-o" ∷ [])) refl, refl, refl), refl, refl, refl)
 
 pub check_output_asked : AsksForAll (subcommand_of covcollect (codes "covcollect" ∷ codes "check" ∷ codes "f" ∷ []))
-    (record { command = Check (format.Tracefile One) 1 (codes "f" ∷ []); strictness = Lenient; output = None })
+    (record { command = Check (format.Tracefile One) 1 (codes "f" ∷ []); strictness = Lenient; size = Limited; output = None })
 unfolding clap_on_literals
-check_output_asked = ((rows_for (codes "covcollect" ∷ codes "check" ∷ codes "f" ∷ []), refl, (refl, refl), (codes "1", refl, refl), refl), refl, refl)
+check_output_asked = ((rows_for (codes "covcollect" ∷ codes "check" ∷ codes "f" ∷ []), named (codes "check") (subcommand_of covcollect (codes "covcollect" ∷ codes "check" ∷ codes "f" ∷ [])) refl, (refl, refl), (codes "1", refl, refl), refl), refl, refl, refl)
 
 pub merge_strict_asked : AsksForAll (subcommand_of covcollect (codes "covcollect" ∷ codes "merge" ∷ codes "--strict" ∷ codes "f" ∷ []))
-    (record { command = Merge One 1 (record { includes = []; excludes = [] }) (codes "f" ∷ []); strictness = Strict; output = None })
+    (record { command = Merge One 1 (record { includes = []; excludes = [] }) (codes "f" ∷ []); strictness = Strict; size = Limited; output = None })
 unfolding clap_on_literals
-merge_strict_asked = ((rows_for (codes "covcollect" ∷ codes "merge" ∷ codes "--strict" ∷ codes "f" ∷ []), refl, refl, (codes "1", refl, refl), (refl, refl), refl), refl, refl)
+merge_strict_asked = ((rows_for (codes "covcollect" ∷ codes "merge" ∷ codes "--strict" ∷ codes "f" ∷ []), named (codes "merge") (subcommand_of covcollect (codes "covcollect" ∷ codes "merge" ∷ codes "--strict" ∷ codes "f" ∷ [])) refl, refl, (codes "1", refl, refl), (refl, refl), refl), refl, refl, refl)
 
 pub summary_strict_asked : AsksForAll (subcommand_of covcollect (codes "covcollect" ∷ codes "summary" ∷ codes "f" ∷ codes "--strict" ∷ codes "--json" ∷ []))
-    (record { command = Summary One 1 (record { includes = []; excludes = [] }) Json (record { lines = None; functions = None; branches = None }) (codes "f" ∷ []); strictness = Strict; output = None })
+    (record { command = Summary One 1 (record { includes = []; excludes = [] }) Json (record { lines = None; functions = None; branches = None }) (codes "f" ∷ []); strictness = Strict; size = Limited; output = None })
 unfolding clap_on_literals
-summary_strict_asked = ((rows_for (codes "covcollect" ∷ codes "summary" ∷ codes "f" ∷ codes "--strict" ∷ codes "--json" ∷ []), refl, refl, (codes "1", refl, refl), (refl, refl), refl, (refl, refl, refl), refl), refl, refl)
+summary_strict_asked = ((rows_for (codes "covcollect" ∷ codes "summary" ∷ codes "f" ∷ codes "--strict" ∷ codes "--json" ∷ []), named (codes "summary") (subcommand_of covcollect (codes "covcollect" ∷ codes "summary" ∷ codes "f" ∷ codes "--strict" ∷ codes "--json" ∷ [])) refl, refl, (codes "1", refl, refl), (refl, refl), refl, (refl, refl, refl), refl), refl, refl, refl)
 
 pub list_strict_asked : AsksForAll (subcommand_of covcollect (codes "covcollect" ∷ codes "list" ∷ codes "--lcov2" ∷ codes "--strict" ∷ codes "f" ∷ codes "g" ∷ []))
-    (record { command = commands.List Two 1 (record { includes = []; excludes = [] }) Words (codes "f" ∷ codes "g" ∷ []); strictness = Strict; output = None })
+    (record { command = commands.List Two 1 (record { includes = []; excludes = [] }) Words (codes "f" ∷ codes "g" ∷ []); strictness = Strict; size = Limited; output = None })
 unfolding clap_on_literals
-list_strict_asked = ((rows_for (codes "covcollect" ∷ codes "list" ∷ codes "--lcov2" ∷ codes "--strict" ∷ codes "f" ∷ codes "g" ∷ []), refl, refl, (codes "1", refl, refl), (refl, refl), refl, refl), refl, refl)
+list_strict_asked = ((rows_for (codes "covcollect" ∷ codes "list" ∷ codes "--lcov2" ∷ codes "--strict" ∷ codes "f" ∷ codes "g" ∷ []), named (codes "list") (subcommand_of covcollect (codes "covcollect" ∷ codes "list" ∷ codes "--lcov2" ∷ codes "--strict" ∷ codes "f" ∷ codes "g" ∷ [])) refl, refl, (codes "1", refl, refl), (refl, refl), refl, refl), refl, refl, refl)
 
 pub extract_strict_asked : AsksForAll (subcommand_of covcollect (codes "covcollect" ∷ codes "extract" ∷ codes "f" ∷ codes "--strict" ∷ codes "p" ∷ []))
-    (record { command = Extract One (codes "f" ∷ codes "p" ∷ []); strictness = Strict; output = None })
+    (record { command = Extract One (codes "f" ∷ codes "p" ∷ []); strictness = Strict; size = Limited; output = None })
 unfolding clap_on_literals
-extract_strict_asked = ((rows_for (codes "covcollect" ∷ codes "extract" ∷ codes "f" ∷ codes "--strict" ∷ codes "p" ∷ []), refl, refl, refl), refl, refl)
+extract_strict_asked = ((rows_for (codes "covcollect" ∷ codes "extract" ∷ codes "f" ∷ codes "--strict" ∷ codes "p" ∷ []), named (codes "extract") (subcommand_of covcollect (codes "covcollect" ∷ codes "extract" ∷ codes "f" ∷ codes "--strict" ∷ codes "p" ∷ [])) refl, refl, refl), refl, refl, refl)
 
 pub remove_strict_asked : AsksForAll (subcommand_of covcollect (codes "covcollect" ∷ codes "remove" ∷ codes "f" ∷ codes "p" ∷ codes "--strict" ∷ []))
-    (record { command = Remove One (codes "f" ∷ codes "p" ∷ []); strictness = Strict; output = None })
+    (record { command = Remove One (codes "f" ∷ codes "p" ∷ []); strictness = Strict; size = Limited; output = None })
 unfolding clap_on_literals
-remove_strict_asked = ((rows_for (codes "covcollect" ∷ codes "remove" ∷ codes "f" ∷ codes "p" ∷ codes "--strict" ∷ []), refl, refl, refl), refl, refl)
+remove_strict_asked = ((rows_for (codes "covcollect" ∷ codes "remove" ∷ codes "f" ∷ codes "p" ∷ codes "--strict" ∷ []), named (codes "remove") (subcommand_of covcollect (codes "covcollect" ∷ codes "remove" ∷ codes "f" ∷ codes "p" ∷ codes "--strict" ∷ [])) refl, refl, refl), refl, refl, refl)
 
 pub check_strict_asked : AsksForAll (subcommand_of covcollect (codes "covcollect" ∷ codes "check" ∷ codes "--strict" ∷ codes "--gcov" ∷ codes "f" ∷ []))
-    (record { command = Check format.Gcov 1 (codes "f" ∷ []); strictness = Strict; output = None })
+    (record { command = Check format.Gcov 1 (codes "f" ∷ []); strictness = Strict; size = Limited; output = None })
 unfolding clap_on_literals
-check_strict_asked = ((rows_for (codes "covcollect" ∷ codes "check" ∷ codes "--strict" ∷ codes "--gcov" ∷ codes "f" ∷ []), refl, refl, (codes "1", refl, refl), refl), refl, refl)
+check_strict_asked = ((rows_for (codes "covcollect" ∷ codes "check" ∷ codes "--strict" ∷ codes "--gcov" ∷ codes "f" ∷ []), named (codes "check") (subcommand_of covcollect (codes "covcollect" ∷ codes "check" ∷ codes "--strict" ∷ codes "--gcov" ∷ codes "f" ∷ [])) refl, refl, (codes "1", refl, refl), refl), refl, refl, refl)
 
 pub merge_without_strict_asked : IsStrictnessOf (rows_met (subcommand_of covcollect (codes "covcollect" ∷ codes "merge" ∷ codes "--lcov2" ∷ codes "f" ∷ []))) Lenient
 unfolding clap_on_literals
@@ -324,19 +356,93 @@ unfolding clap_on_literals
 check_without_strict_asked = refl
 
 pub gcov_strict_asked : AsksForAll (subcommand_of covcollect (codes "covcollect" ∷ codes "gcov" ∷ codes "--test" ∷ codes "t" ∷ codes "f" ∷ []))
-    (record { command = Gcov (codes "t") (codes "f" ∷ []); strictness = Lenient; output = None })
+    (record { command = Gcov (codes "t") (codes "f" ∷ []); strictness = Lenient; size = Limited; output = None })
 unfolding clap_on_literals
-gcov_strict_asked = ((rows_for (codes "covcollect" ∷ codes "gcov" ∷ codes "--test" ∷ codes "t" ∷ codes "f" ∷ []), refl, refl, refl), refl, refl)
+gcov_strict_asked = ((rows_for (codes "covcollect" ∷ codes "gcov" ∷ codes "--test" ∷ codes "t" ∷ codes "f" ∷ []), named (codes "gcov") (subcommand_of covcollect (codes "covcollect" ∷ codes "gcov" ∷ codes "--test" ∷ codes "t" ∷ codes "f" ∷ [])) refl, refl, refl), refl, refl, refl)
 
 pub session_strict_asked : AsksForAll (subcommand_of covcollect (codes "covcollect" ∷ []))
-    (record { command = Session; strictness = Lenient; output = None })
+    (record { command = Session; strictness = Lenient; size = Limited; output = None })
 unfolding clap_on_literals
-session_strict_asked = (refl, refl, refl)
+session_strict_asked = (refl, refl, refl, refl)
 
 pub name_strict_asked : AsksForAll (subcommand_of covcollect (codes "covcollect" ∷ codes "merge" ∷ codes "--" ∷ codes "--strict" ∷ []))
-    (record { command = Merge One 1 (record { includes = []; excludes = [] }) (codes "--strict" ∷ []); strictness = Lenient; output = None })
+    (record { command = Merge One 1 (record { includes = []; excludes = [] }) (codes "--strict" ∷ []); strictness = Lenient; size = Limited; output = None })
 unfolding clap_on_literals
-name_strict_asked = ((rows_for (codes "covcollect" ∷ codes "merge" ∷ codes "--" ∷ codes "--strict" ∷ []), refl, refl, (codes "1", refl, refl), (refl, refl), refl), refl, refl)
+name_strict_asked = ((rows_for (codes "covcollect" ∷ codes "merge" ∷ codes "--" ∷ codes "--strict" ∷ []), named (codes "merge") (subcommand_of covcollect (codes "covcollect" ∷ codes "merge" ∷ codes "--" ∷ codes "--strict" ∷ [])) refl, refl, (codes "1", refl, refl), (refl, refl), refl), refl, refl, refl)
+
+pub merge_large_asked : AsksForAll (subcommand_of covcollect (codes "covcollect" ∷ codes "merge" ∷ codes "--large" ∷ codes "f" ∷ []))
+    (record { command = Merge One 1 (record { includes = []; excludes = [] }) (codes "f" ∷ []); strictness = Lenient; size = Large; output = None })
+unfolding clap_on_literals
+merge_large_asked = ((rows_for (codes "covcollect" ∷ codes "merge" ∷ codes "--large" ∷ codes "f" ∷ []), named (codes "merge") (subcommand_of covcollect (codes "covcollect" ∷ codes "merge" ∷ codes "--large" ∷ codes "f" ∷ [])) refl, refl, (codes "1", refl, refl), (refl, refl), refl), refl, refl, refl)
+
+pub summary_large_asked : AsksForAll (subcommand_of covcollect (codes "covcollect" ∷ codes "summary" ∷ codes "f" ∷ codes "--large" ∷ codes "--json" ∷ []))
+    (record { command = Summary One 1 (record { includes = []; excludes = [] }) Json (record { lines = None; functions = None; branches = None }) (codes "f" ∷ []); strictness = Lenient; size = Large; output = None })
+unfolding clap_on_literals
+summary_large_asked = ((rows_for (codes "covcollect" ∷ codes "summary" ∷ codes "f" ∷ codes "--large" ∷ codes "--json" ∷ []), named (codes "summary") (subcommand_of covcollect (codes "covcollect" ∷ codes "summary" ∷ codes "f" ∷ codes "--large" ∷ codes "--json" ∷ [])) refl, refl, (codes "1", refl, refl), (refl, refl), refl, (refl, refl, refl), refl), refl, refl, refl)
+
+pub list_large_asked : AsksForAll (subcommand_of covcollect (codes "covcollect" ∷ codes "list" ∷ codes "--lcov2" ∷ codes "--large" ∷ codes "f" ∷ codes "g" ∷ []))
+    (record { command = commands.List Two 1 (record { includes = []; excludes = [] }) Words (codes "f" ∷ codes "g" ∷ []); strictness = Lenient; size = Large; output = None })
+unfolding clap_on_literals
+list_large_asked = ((rows_for (codes "covcollect" ∷ codes "list" ∷ codes "--lcov2" ∷ codes "--large" ∷ codes "f" ∷ codes "g" ∷ []), named (codes "list") (subcommand_of covcollect (codes "covcollect" ∷ codes "list" ∷ codes "--lcov2" ∷ codes "--large" ∷ codes "f" ∷ codes "g" ∷ [])) refl, refl, (codes "1", refl, refl), (refl, refl), refl, refl), refl, refl, refl)
+
+pub extract_large_asked : AsksForAll (subcommand_of covcollect (codes "covcollect" ∷ codes "extract" ∷ codes "f" ∷ codes "--large" ∷ codes "p" ∷ []))
+    (record { command = Extract One (codes "f" ∷ codes "p" ∷ []); strictness = Lenient; size = Large; output = None })
+unfolding clap_on_literals
+extract_large_asked = ((rows_for (codes "covcollect" ∷ codes "extract" ∷ codes "f" ∷ codes "--large" ∷ codes "p" ∷ []), named (codes "extract") (subcommand_of covcollect (codes "covcollect" ∷ codes "extract" ∷ codes "f" ∷ codes "--large" ∷ codes "p" ∷ [])) refl, refl, refl), refl, refl, refl)
+
+pub remove_large_asked : AsksForAll (subcommand_of covcollect (codes "covcollect" ∷ codes "remove" ∷ codes "f" ∷ codes "p" ∷ codes "--large" ∷ []))
+    (record { command = Remove One (codes "f" ∷ codes "p" ∷ []); strictness = Lenient; size = Large; output = None })
+unfolding clap_on_literals
+remove_large_asked = ((rows_for (codes "covcollect" ∷ codes "remove" ∷ codes "f" ∷ codes "p" ∷ codes "--large" ∷ []), named (codes "remove") (subcommand_of covcollect (codes "covcollect" ∷ codes "remove" ∷ codes "f" ∷ codes "p" ∷ codes "--large" ∷ [])) refl, refl, refl), refl, refl, refl)
+
+pub check_large_asked : AsksForAll (subcommand_of covcollect (codes "covcollect" ∷ codes "check" ∷ codes "--large" ∷ codes "--gcov" ∷ codes "f" ∷ []))
+    (record { command = Check format.Gcov 1 (codes "f" ∷ []); strictness = Lenient; size = Large; output = None })
+unfolding clap_on_literals
+check_large_asked = ((rows_for (codes "covcollect" ∷ codes "check" ∷ codes "--large" ∷ codes "--gcov" ∷ codes "f" ∷ []), named (codes "check") (subcommand_of covcollect (codes "covcollect" ∷ codes "check" ∷ codes "--large" ∷ codes "--gcov" ∷ codes "f" ∷ [])) refl, refl, (codes "1", refl, refl), refl), refl, refl, refl)
+
+pub both_large_asked : AsksForAll (subcommand_of covcollect (codes "covcollect" ∷ codes "merge" ∷ codes "--strict" ∷ codes "f" ∷ codes "--large" ∷ []))
+    (record { command = Merge One 1 (record { includes = []; excludes = [] }) (codes "f" ∷ []); strictness = Strict; size = Large; output = None })
+unfolding clap_on_literals
+both_large_asked = ((rows_for (codes "covcollect" ∷ codes "merge" ∷ codes "--strict" ∷ codes "f" ∷ codes "--large" ∷ []), named (codes "merge") (subcommand_of covcollect (codes "covcollect" ∷ codes "merge" ∷ codes "--strict" ∷ codes "f" ∷ codes "--large" ∷ [])) refl, refl, (codes "1", refl, refl), (refl, refl), refl), refl, refl, refl)
+
+pub merge_without_large_asked : IsSizeOf (rows_met (subcommand_of covcollect (codes "covcollect" ∷ codes "merge" ∷ codes "--lcov2" ∷ codes "--strict" ∷ codes "f" ∷ []))) Limited
+unfolding clap_on_literals
+merge_without_large_asked = refl
+
+pub summary_without_large_asked : IsSizeOf (rows_met (subcommand_of covcollect (codes "covcollect" ∷ codes "summary" ∷ codes "--json" ∷ codes "f" ∷ []))) Limited
+unfolding clap_on_literals
+summary_without_large_asked = refl
+
+pub list_without_large_asked : IsSizeOf (rows_met (subcommand_of covcollect (codes "covcollect" ∷ codes "list" ∷ codes "f" ∷ []))) Limited
+unfolding clap_on_literals
+list_without_large_asked = refl
+
+pub extract_without_large_asked : IsSizeOf (rows_met (subcommand_of covcollect (codes "covcollect" ∷ codes "extract" ∷ codes "f" ∷ codes "p" ∷ []))) Limited
+unfolding clap_on_literals
+extract_without_large_asked = refl
+
+pub remove_without_large_asked : IsSizeOf (rows_met (subcommand_of covcollect (codes "covcollect" ∷ codes "remove" ∷ codes "f" ∷ codes "p" ∷ []))) Limited
+unfolding clap_on_literals
+remove_without_large_asked = refl
+
+pub check_without_large_asked : IsSizeOf (rows_met (subcommand_of covcollect (codes "covcollect" ∷ codes "check" ∷ codes "--strict" ∷ codes "f" ∷ []))) Limited
+unfolding clap_on_literals
+check_without_large_asked = refl
+
+pub gcov_large_asked : AsksForAll (subcommand_of covcollect (codes "covcollect" ∷ codes "gcov" ∷ codes "--test" ∷ codes "t" ∷ codes "f" ∷ []))
+    (record { command = Gcov (codes "t") (codes "f" ∷ []); strictness = Lenient; size = Limited; output = None })
+unfolding clap_on_literals
+gcov_large_asked = ((rows_for (codes "covcollect" ∷ codes "gcov" ∷ codes "--test" ∷ codes "t" ∷ codes "f" ∷ []), named (codes "gcov") (subcommand_of covcollect (codes "covcollect" ∷ codes "gcov" ∷ codes "--test" ∷ codes "t" ∷ codes "f" ∷ [])) refl, refl, refl), refl, refl, refl)
+
+pub session_large_asked : AsksForAll (subcommand_of covcollect (codes "covcollect" ∷ []))
+    (record { command = Session; strictness = Lenient; size = Limited; output = None })
+unfolding clap_on_literals
+session_large_asked = (refl, refl, refl, refl)
+
+pub name_large_asked : AsksForAll (subcommand_of covcollect (codes "covcollect" ∷ codes "merge" ∷ codes "--" ∷ codes "--large" ∷ []))
+    (record { command = Merge One 1 (record { includes = []; excludes = [] }) (codes "--large" ∷ []); strictness = Lenient; size = Limited; output = None })
+unfolding clap_on_literals
+name_large_asked = ((rows_for (codes "covcollect" ∷ codes "merge" ∷ codes "--" ∷ codes "--large" ∷ []), named (codes "merge") (subcommand_of covcollect (codes "covcollect" ∷ codes "merge" ∷ codes "--" ∷ codes "--large" ∷ [])) refl, refl, (codes "1", refl, refl), (refl, refl), refl), refl, refl, refl)
 
 pub jobs_refused : fault_of covcollect (codes "covcollect" ∷ codes "merge" ∷ codes "--jobs" ∷ codes "65" ∷ codes "a.info" ∷ []) ≡ kind.ValueValidation ∷ []
 unfolding clap_on_literals
@@ -437,6 +543,22 @@ strict_twice_refused = refl
 pub strict_value_refused : fault_of covcollect (codes "covcollect" ∷ codes "check" ∷ codes "--strict=yes" ∷ codes "a.info" ∷ []) ≡ kind.TooManyValues ∷ []
 unfolding clap_on_literals
 strict_value_refused = refl
+
+pub gcov_large_refused : fault_of covcollect (codes "covcollect" ∷ codes "gcov" ∷ codes "--test=t" ∷ codes "--large" ∷ codes "a.c.gcov" ∷ []) ≡ kind.UnknownArgument ∷ []
+unfolding clap_on_literals
+gcov_large_refused = refl
+
+pub session_large_refused : fault_of covcollect (codes "covcollect" ∷ codes "--large" ∷ []) ≡ kind.UnknownArgument ∷ []
+unfolding clap_on_literals
+session_large_refused = refl
+
+pub large_twice_refused : fault_of covcollect (codes "covcollect" ∷ codes "extract" ∷ codes "--large" ∷ codes "a.info" ∷ codes "*.c" ∷ codes "--large" ∷ []) ≡ kind.ArgumentConflict ∷ []
+unfolding clap_on_literals
+large_twice_refused = refl
+
+pub large_value_refused : fault_of covcollect (codes "covcollect" ∷ codes "check" ∷ codes "--large=yes" ∷ codes "a.info" ∷ []) ≡ kind.TooManyValues ∷ []
+unfolding clap_on_literals
+large_value_refused = refl
 
 pub help_refused : fault_of covcollect (codes "covcollect" ∷ codes "merge" ∷ codes "--help" ∷ []) ≡ kind.DisplayHelp ∷ []
 unfolding clap_on_literals

@@ -139,14 +139,16 @@ module _ {s : Shape} {rows : List Row} (left : Left s rows) where
   some_left id given = has_some id rows (given_row id rows left.fit given)
 
   -- the flags of all subcommands but `gcov`
-  flags_left : has_default (codes "lcov2") s.rules ≡ true → has_default (codes "strict") s.rules ≡ true → HasFlags rows
-  flags_left lcov2 strict = (flag_left (codes "lcov2") refl lcov2, flag_left (codes "strict") refl strict)
+  flags_left : has_default (codes "lcov2") s.rules ≡ true → has_default (codes "strict") s.rules ≡ true → has_default (codes "large") s.rules ≡ true
+      → HasFlags rows
+  flags_left lcov2 strict large =
+      (flag_left (codes "lcov2") refl lcov2, flag_left (codes "strict") refl strict, flag_left (codes "large") refl large)
 
   -- the options of `merge`, which has files too
-  merging_left : has_default (codes "lcov2") s.rules ≡ true → has_default (codes "strict") s.rules ≡ true
+  merging_left : has_default (codes "lcov2") s.rules ≡ true → has_default (codes "strict") s.rules ≡ true → has_default (codes "large") s.rules ≡ true
       → has_default (codes "jobs") s.rules ≡ true → is_given (codes "FILE") rows ≡ true → HasMerging rows
-  merging_left lcov2 strict number given =
-      (flags_left lcov2 strict, has_jobs rows (row_left (codes "jobs") number), some_left (codes "FILE") given)
+  merging_left lcov2 strict large number given =
+      (flags_left lcov2 strict large, has_jobs rows (row_left (codes "jobs") number), some_left (codes "FILE") given)
 
 -- words without a fault for the subcommand leave rows of this kind
 abbrev Leaves : Shape → (List Row → Type 0) → Type 0
@@ -164,18 +166,21 @@ merge_leaves words none =
             flag_keeps (codes "lcov2") 2 refl,
             (
               flag_keeps (codes "strict") 2 refl,
-              (patterns_keeps (codes "include") 2 (refl, refl), (patterns_keeps (codes "exclude") 2 (refl, refl), (help_keeps 2, tt))),
+              (
+                flag_keeps (codes "large") 2 refl,
+                (patterns_keeps (codes "include") 2 (refl, refl), (patterns_keeps (codes "exclude") 2 (refl, refl), (help_keeps 2, tt))),
+              ),
             ),
           ),
         ),
       ),
     ) in
     let defaults : EachDefaultFits (built_below merge).rules =
-    (tt, (one_job_fits, (tt, (unset_fits (codes "lcov2") refl, (unset_fits (codes "strict") refl, (tt, (tt, (tt, tt)))))))) in
+    (tt, (one_job_fits, (tt, (unset_fits (codes "lcov2") refl, (unset_fits (codes "strict") refl, (unset_fits (codes "large") refl, (tt, (tt, (tt, tt))))))))) in
     of_left _ (left_after (built_below merge) words each defaults none)
   where
     of_left : (rows : List Row) → Left (built_below merge) rows → HasMerging rows
-    of_left rows left = merging_left left refl refl refl (wanted _ _ _ left.none).0
+    of_left rows left = merging_left left refl refl refl refl (wanted _ _ _ left.none).0
 
 summary_leaves : Leaves (built_below summary) HasListing
 summary_leaves words none =
@@ -195,18 +200,21 @@ summary_leaves words none =
             flag_keeps (codes "lcov2") 2 refl,
             (
               flag_keeps (codes "strict") 2 refl,
-              (patterns_keeps (codes "include") 2 (refl, refl), (patterns_keeps (codes "exclude") 2 (refl, refl), (flag_keeps (codes "json") 2 refl, limits))),
+              (
+                flag_keeps (codes "large") 2 refl,
+                (patterns_keeps (codes "include") 2 (refl, refl), (patterns_keeps (codes "exclude") 2 (refl, refl), (flag_keeps (codes "json") 2 refl, limits))),
+              ),
             ),
           ),
         ),
       ),
     ) in
     let defaults : EachDefaultFits (built_below summary).rules =
-    (tt, (one_job_fits, (tt, (unset_fits (codes "lcov2") refl, (unset_fits (codes "strict") refl, (tt, (tt, (unset_fits (codes "json") refl, (tt, (tt, (tt, (tt, tt)))))))))))) in
+    (tt, (one_job_fits, (tt, (unset_fits (codes "lcov2") refl, (unset_fits (codes "strict") refl, (unset_fits (codes "large") refl, (tt, (tt, (unset_fits (codes "json") refl, (tt, (tt, (tt, (tt, tt))))))))))))) in
     of_left _ (left_after (built_below summary) words each defaults none)
   where
     of_left : (rows : List Row) → Left (built_below summary) rows → HasListing rows
-    of_left rows left = (flag_left left (codes "json") refl refl, merging_left left refl refl refl (wanted _ _ _ left.none).0)
+    of_left rows left = (flag_left left (codes "json") refl refl, merging_left left refl refl refl refl (wanted _ _ _ left.none).0)
 
 list_leaves : Leaves (built_below list) HasListing
 list_leaves words none =
@@ -221,8 +229,11 @@ list_leaves words none =
             (
               flag_keeps (codes "strict") 2 refl,
               (
-                patterns_keeps (codes "include") 2 (refl, refl),
-                (patterns_keeps (codes "exclude") 2 (refl, refl), (flag_keeps (codes "json") 2 refl, (help_keeps 2, tt))),
+                flag_keeps (codes "large") 2 refl,
+                (
+                  patterns_keeps (codes "include") 2 (refl, refl),
+                  (patterns_keeps (codes "exclude") 2 (refl, refl), (flag_keeps (codes "json") 2 refl, (help_keeps 2, tt))),
+                ),
               ),
             ),
           ),
@@ -230,11 +241,11 @@ list_leaves words none =
       ),
     ) in
     let defaults : EachDefaultFits (built_below list).rules =
-    (tt, (one_job_fits, (tt, (unset_fits (codes "lcov2") refl, (unset_fits (codes "strict") refl, (tt, (tt, (unset_fits (codes "json") refl, (tt, tt))))))))) in
+    (tt, (one_job_fits, (tt, (unset_fits (codes "lcov2") refl, (unset_fits (codes "strict") refl, (unset_fits (codes "large") refl, (tt, (tt, (unset_fits (codes "json") refl, (tt, tt)))))))))) in
     of_left _ (left_after (built_below list) words each defaults none)
   where
     of_left : (rows : List Row) → Left (built_below list) rows → HasListing rows
-    of_left rows left = (flag_left left (codes "json") refl refl, merging_left left refl refl refl (wanted _ _ _ left.none).0)
+    of_left rows left = (flag_left left (codes "json") refl refl, merging_left left refl refl refl refl (wanted _ _ _ left.none).0)
 
 -- `extract` and `remove`
 filtering_leaves : (name : Text) → Leaves (built_below (filtering name)) HasFiltering
@@ -243,18 +254,21 @@ filtering_leaves name words none =
       single_keeps (codes "TRACEFILE") 1 (refl, refl),
       (
         several_keeps (codes "PATTERN") 2 (refl, refl),
-        (output_keeps 3, (flag_keeps (codes "lcov2") 3 refl, (flag_keeps (codes "strict") 3 refl, (help_keeps 3, tt)))),
+        (
+          output_keeps 3,
+          (flag_keeps (codes "lcov2") 3 refl, (flag_keeps (codes "strict") 3 refl, (flag_keeps (codes "large") 3 refl, (help_keeps 3, tt)))),
+        ),
       ),
     ) in
     let defaults : EachDefaultFits (built_below (filtering name)).rules =
-    (tt, (tt, (tt, (unset_fits (codes "lcov2") refl, (unset_fits (codes "strict") refl, (tt, tt)))))) in
+    (tt, (tt, (tt, (unset_fits (codes "lcov2") refl, (unset_fits (codes "strict") refl, (unset_fits (codes "large") refl, (tt, tt))))))) in
     of_left _ (left_after (built_below (filtering name)) words each defaults none)
   where
     of_left : (rows : List Row) → Left (built_below (filtering name)) rows → HasFiltering rows
     of_left rows left =
         let tracefile = wanted _ _ _ left.none in
         let patterns = wanted _ _ _ tracefile.1 in (
-          flags_left left refl refl,
+          flags_left left refl refl refl,
           (some_left left (codes "TRACEFILE") tracefile.0, some_left left (codes "PATTERN") patterns.0),
         )
 
@@ -275,17 +289,20 @@ check_leaves words none =
       several_keeps (codes "FILE") 1 (refl, refl),
       (
         jobs_keeps 2,
-        (flag_keeps (codes "gcov") 2 refl, (flag_keeps (codes "lcov2") 2 refl, (flag_keeps (codes "strict") 2 refl, (help_keeps 2, tt)))),
+        (
+          flag_keeps (codes "gcov") 2 refl,
+          (flag_keeps (codes "lcov2") 2 refl, (flag_keeps (codes "strict") 2 refl, (flag_keeps (codes "large") 2 refl, (help_keeps 2, tt)))),
+        ),
       ),
     ) in
     let defaults : EachDefaultFits (built_below check).rules =
-    (tt, (one_job_fits, (unset_fits (codes "gcov") refl, (unset_fits (codes "lcov2") refl, (unset_fits (codes "strict") refl, (tt, tt)))))) in
+    (tt, (one_job_fits, (unset_fits (codes "gcov") refl, (unset_fits (codes "lcov2") refl, (unset_fits (codes "strict") refl, (unset_fits (codes "large") refl, (tt, tt))))))) in
     of_left _ (left_after (built_below check) words each defaults none)
   where
     of_left : (rows : List Row) → Left (built_below check) rows → HasCheck rows
     of_left rows left = (
       flag_left left (codes "gcov") refl refl,
-      flags_left left refl refl,
+      flags_left left refl refl refl,
       has_jobs rows (row_left left (codes "jobs") refl),
       some_left left (codes "FILE") (wanted _ _ _ left.none).0,
     )

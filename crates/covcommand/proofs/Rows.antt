@@ -26,6 +26,7 @@ numbers = parser.Signed (pos 1) (pos 64)
 
 abbrev pub is_flag : Text → Bool
 is_flag id = bytes_eq id (codes "gcov") || bytes_eq id (codes "lcov2") || bytes_eq id (codes "json") || bytes_eq id (codes "strict")
+    || bytes_eq id (codes "large")
 
 -- the argument has a value, and its first value fits, as does the way in which the values are read
 abbrev pub FitsValues : Text → Reading → List Text → Type 0

@@ -12,6 +12,8 @@ use Rattle.covcommand.specs.declared.asked.Command.TheVariants as commands
 use Rattle.covcommand.specs.declared.asked.SourceFilter.{SourceFilter}
 use Rattle.covcommand.specs.declared.asked.Strictness.{Strictness}
 use Rattle.covcommand.specs.declared.asked.Strictness.TheVariants.{Lenient, Strict}
+use Rattle.covcommand.specs.declared.asked.TextSize.{TextSize}
+use Rattle.covcommand.specs.declared.asked.TextSize.TheVariants.{Limited, Large}
 use Rattle.covcommand.specs.declared.asked.TotalsForm.{TotalsForm}
 use Rattle.covcommand.specs.declared.asked.TotalsForm.TheVariants.{Words, Json}
 use Rattle.covcommand.specs.declared.asked.Limits.{Limits}
@@ -99,6 +101,23 @@ HasStrictness rows (Remove version names) strictness = IsStrictnessOf rows stric
 HasStrictness rows (Gcov test names) strictness = strictness ≡ Lenient
 HasStrictness rows (Check how jobs names) strictness = IsStrictnessOf rows strictness
 
+-- a call reads tracefiles above the limit if clap sets the flag `--large`, and refuses them if it doesn't
+abbrev pub IsSizeOf : List Row → TextSize → Type 0
+IsSizeOf rows Limited = one_of (codes "large") rows ≡ Some (codes "false")
+IsSizeOf rows Large = one_of (codes "large") rows ≡ Some (codes "true")
+
+-- whether the call of this command reads tracefiles above the limit, by the flag `--large`. A session and `gcov`, which have no such
+-- flag, are limited
+abbrev pub HasSize : List Row → Command → TextSize → Type 0
+HasSize rows Session size = size ≡ Limited
+HasSize rows (Merge version jobs filter names) size = IsSizeOf rows size
+HasSize rows (Summary version jobs filter form limits names) size = IsSizeOf rows size
+HasSize rows (commands.List version jobs filter form names) size = IsSizeOf rows size
+HasSize rows (Extract version names) size = IsSizeOf rows size
+HasSize rows (Remove version names) size = IsSizeOf rows size
+HasSize rows (Gcov test names) size = size ≡ Limited
+HasSize rows (Check how jobs names) size = IsSizeOf rows size
+
 -- the word that clap found for `--output`, as it is, and `None` if the option isn't given
 abbrev pub IsOutputOf : List Row → Option (String Global) → Type 0
 IsOutputOf rows output = first_of (codes "output") rows ≡ option_map string_bytes output
@@ -119,10 +138,10 @@ GoesTo rows (Check how jobs names) output = output ≡ None
 abbrev pub rows_met : Option (Text × List Row) → List Row
 rows_met met = option_map_or (λ subcommand. subcommand.1) met []
 
--- a call asks for this command, with this strictness, and for its text to go there
+-- a call asks for this command, with this strictness and this size, and for its text to go there
 abbrev pub AsksForAll : Option (Text × List Row) → Asked → Type 0
 AsksForAll met asked = AsksFor met asked.command × HasStrictness (rows_met met) asked.command asked.strictness
-    × GoesTo (rows_met met) asked.command asked.output
+    × HasSize (rows_met met) asked.command asked.size × GoesTo (rows_met met) asked.command asked.output
 
 -- `merge`, `summary`, `list` and `check` have 1 to 64 jobs. Each subcommand has at least one name, and `extract` and `remove` have at
 -- least two

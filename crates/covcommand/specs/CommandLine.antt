@@ -64,6 +64,10 @@ lcov2 = flag (codes "lcov2")
 abbrev pub strict : Rule
 strict = flag (codes "strict")
 
+-- `--large`
+abbrev pub large : Rule
+large = flag (codes "large")
+
 -- `--json`
 abbrev pub json : Rule
 json = flag (codes "json")
@@ -84,11 +88,11 @@ limit id = record (new_rule id) {
   action = Some Set;
 }
 
--- a subcommand that takes tracefiles, a number of jobs, a file for its text, two flags, and patterns of source files: `merge`, and
--- with more options `summary` and `list`
+-- a subcommand that takes tracefiles, a number of jobs, a file for its text, three flags, and patterns of source files: `merge`,
+-- and with more options `summary` and `list`
 abbrev pub merging : Text → App
-merging name = with_rule (with_rule (with_rule (with_rule (with_rule (with_rule (with_rule (new_app name) (several (codes "FILE"))) jobs)
-    output) lcov2) strict) (patterns (codes "include"))) (patterns (codes "exclude"))
+merging name = with_rule (with_rule (with_rule (with_rule (with_rule (with_rule (with_rule (with_rule (new_app name)
+    (several (codes "FILE"))) jobs) output) lcov2) strict) large) (patterns (codes "include"))) (patterns (codes "exclude"))
 
 abbrev pub merge : App
 merge = merging (codes "merge")
@@ -104,10 +108,10 @@ summary = with_rule (with_rule (with_rule (listing (codes "summary")) (limit (co
 abbrev pub list : App
 list = listing (codes "list")
 
--- a subcommand that takes a tracefile, patterns, a file for its text, and two flags: `extract` and `remove`
+-- a subcommand that takes a tracefile, patterns, a file for its text, and three flags: `extract` and `remove`
 abbrev pub filtering : Text → App
-filtering name = with_rule (with_rule (with_rule (with_rule (with_rule (new_app name) (single (codes "TRACEFILE")))
-    (several (codes "PATTERN"))) output) lcov2) strict
+filtering name = with_rule (with_rule (with_rule (with_rule (with_rule (with_rule (new_app name) (single (codes "TRACEFILE")))
+    (several (codes "PATTERN"))) output) lcov2) strict) large
 
 abbrev pub extract : App
 extract = filtering (codes "extract")
@@ -119,8 +123,8 @@ abbrev pub gcov : App
 gcov = with_rule (with_rule (with_rule (new_app (codes "gcov")) (several (codes "FILE"))) test) output
 
 abbrev pub check : App
-check = with_rule (with_rule (with_rule (with_rule (with_rule (new_app (codes "check")) (several (codes "FILE"))) jobs) annotated)
-    lcov2) strict
+check = with_rule (with_rule (with_rule (with_rule (with_rule (with_rule (new_app (codes "check")) (several (codes "FILE"))) jobs)
+    annotated) lcov2) strict) large
 
 -- the program, which has a version and no subcommand `help`
 abbrev pub program : App

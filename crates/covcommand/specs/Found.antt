@@ -25,9 +25,9 @@ HasJobs rows = (text : Text) × (one_of (codes "jobs") rows ≡ Some (without_mi
 abbrev pub HasFlag : Text → List Row → Type 0
 HasFlag id rows = (one_of id rows ≡ Some (codes "true")) ⊎ (one_of id rows ≡ Some (codes "false"))
 
--- clap says of `--lcov2` and of `--strict` whether they are set
+-- clap says of `--lcov2`, of `--strict` and of `--large` whether they are set
 abbrev pub HasFlags : List Row → Type 0
-HasFlags rows = HasFlag (codes "lcov2") rows × HasFlag (codes "strict") rows
+HasFlags rows = HasFlag (codes "lcov2") rows × HasFlag (codes "strict") rows × HasFlag (codes "large") rows
 
 -- clap found what `merge` requires. It requires nothing of `--include` and `--exclude`, which may have no row
 abbrev pub HasMerging : List Row → Type 0
@@ -62,13 +62,13 @@ pub record Fits (name : Text) (rows : List Row) : Type 0 where
       → bytes_eq name (codes "remove") ≡ false → bytes_eq name (codes "gcov") ≡ false
       → (name ≡ codes "check") × HasCheck rows
 
--- clap says of `--strict` whether it is set, if the command has this flag
-abbrev pub TellsStrictness : List Row → Command → Type 0
-TellsStrictness rows Session = Unit {0}
-TellsStrictness rows (Merge version jobs filter names) = HasFlag (codes "strict") rows
-TellsStrictness rows (Summary version jobs filter form limits names) = HasFlag (codes "strict") rows
-TellsStrictness rows (commands.List version jobs filter form names) = HasFlag (codes "strict") rows
-TellsStrictness rows (Extract version names) = HasFlag (codes "strict") rows
-TellsStrictness rows (Remove version names) = HasFlag (codes "strict") rows
-TellsStrictness rows (Gcov test names) = Unit {0}
-TellsStrictness rows (Check how jobs names) = HasFlag (codes "strict") rows
+-- clap says of the flags of all subcommands but `gcov` whether they are set, if the command has them
+abbrev pub TellsFlags : List Row → Command → Type 0
+TellsFlags rows Session = Unit {0}
+TellsFlags rows (Merge version jobs filter names) = HasFlags rows
+TellsFlags rows (Summary version jobs filter form limits names) = HasFlags rows
+TellsFlags rows (commands.List version jobs filter form names) = HasFlags rows
+TellsFlags rows (Extract version names) = HasFlags rows
+TellsFlags rows (Remove version names) = HasFlags rows
+TellsFlags rows (Gcov test names) = Unit {0}
+TellsFlags rows (Check how jobs names) = HasFlags rows

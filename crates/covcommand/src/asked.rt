@@ -3,13 +3,15 @@
 use crate::names::Names;
 use covline::Bytes;
 
-/// What the words of a call ask for: a command, how strict it is, and where its text goes.
+/// What the words of a call ask for: a command, how strict it is, how long its tracefiles may be, and where its text goes.
 #[derive(Drop)]
 pub struct Asked {
     /// The command.
     pub command: Command,
     /// How the call takes files and patterns that look wrong.
     pub strictness: Strictness,
+    /// How long a tracefile of the call may be.
+    pub size: TextSize,
     /// The path of the file that the text goes to, or `None`: to standard output.
     pub output: Option<String>,
 }
@@ -108,6 +110,16 @@ pub enum Strictness {
     /// With `--strict`: a file with no item, an odd line or a skipped line is refused, and so is a pattern that matches no source
     /// file.
     Strict,
+}
+
+/// How long a tracefile may be that a call reads.
+#[derive(Clone, Copy)]
+pub enum TextSize {
+    /// Without `--large`: a file that is longer than 64 MiB is refused. A session and `gcov`, which have no such flag, are always
+    /// limited.
+    Limited,
+    /// With `--large`: a tracefile that is longer than 64 MiB is read in pieces that end with a section.
+    Large,
 }
 
 /// The form in which totals are printed.

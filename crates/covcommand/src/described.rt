@@ -67,8 +67,8 @@ fn listing<'a>(alloc: Global, name: &'a str) -> Result<Command<'a>, AllocError>
     merging(alloc, name)?.arg(json(alloc))
 }
 
-/// A command that takes tracefiles, which jobs may read at once, a file for its text, two flags, and patterns of the source files
-/// to keep and to leave out.
+/// A command that takes tracefiles, which jobs may read at once, a file for its text, three flags, and patterns of the source
+/// files to keep and to leave out.
 fn merging<'a>(alloc: Global, name: &'a str) -> Result<Command<'a>, AllocError>
     ensures { IfOk result (HasNoGlobals (line.merging name.entry.now)) }
 {
@@ -79,6 +79,7 @@ fn merging<'a>(alloc: Global, name: &'a str) -> Result<Command<'a>, AllocError>
         .arg(output(alloc))?
         .arg(lcov2(alloc))?
         .arg(strict(alloc, help::STRICT))?
+        .arg(large(alloc))?
         .arg(patterns(alloc, "include", help::INCLUDE))?
         .arg(patterns(alloc, "exclude", help::EXCLUDE))
 }
@@ -97,7 +98,7 @@ fn remove<'a>(alloc: Global) -> Result<Command<'a>, AllocError>
     Ok(remove.about(help::REMOVE).after_help(help::REMOVE_END))
 }
 
-/// A command that takes a tracefile, patterns, a file for its text, and two flags.
+/// A command that takes a tracefile, patterns, a file for its text, and three flags.
 fn filter<'a>(alloc: Global, name: &'a str) -> Result<Command<'a>, AllocError>
     ensures { IfOk result (HasNoGlobals (line.filtering name.entry.now)) }
 {
@@ -107,7 +108,8 @@ fn filter<'a>(alloc: Global, name: &'a str) -> Result<Command<'a>, AllocError>
         .arg(several(alloc, "PATTERN", help::PATTERNS))?
         .arg(output(alloc))?
         .arg(lcov2(alloc))?
-        .arg(strict(alloc, help::STRICT))
+        .arg(strict(alloc, help::STRICT))?
+        .arg(large(alloc))
 }
 
 fn gcov<'a>(alloc: Global) -> Result<Command<'a>, AllocError>
@@ -132,7 +134,8 @@ fn check<'a>(alloc: Global) -> Result<Command<'a>, AllocError>
         .arg(jobs(alloc))?
         .arg(annotated(alloc))?
         .arg(lcov2(alloc))?
-        .arg(strict(alloc, help::STRICT_CHECK))
+        .arg(strict(alloc, help::STRICT_CHECK))?
+        .arg(large(alloc))
 }
 
 /// A required argument of one word or more.
@@ -235,6 +238,13 @@ fn strict<'a>(alloc: Global, help: &'a str) -> Arg<'a>
     ensures { IsRule line.strict result }
 {
     flag(alloc, "strict", help)
+}
+
+/// The flag `--large`, which says that tracefiles above the limit are read in pieces.
+fn large<'a>(alloc: Global) -> Arg<'a>
+    ensures { IsRule line.large result }
+{
+    flag(alloc, "large", help::LARGE)
 }
 
 /// The flag `--json`, which says that totals are printed as JSON.

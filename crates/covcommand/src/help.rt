@@ -173,11 +173,16 @@ pub(crate) const TEST: &str = "Test that the counts are of; --test= is the empty
 /// The help of `--lcov2`.
 pub(crate) const LCOV2: &str = "Tracefiles of LCOV 2 are read too";
 
-/// The help of `--strict`.
-pub(crate) const STRICT: &str = "Refuse odd or empty files, unmatched patterns";
+/// The help of `--strict`. Of the longest option of `summary` 46 columns are left, so it has two lines.
+pub(crate) const STRICT: &str = "\
+Refuse files with no items, odd or skipped
+lines; unmatched patterns";
 
 /// The help of `--strict` of `check`.
 pub(crate) const STRICT_CHECK: &str = "Fail for odd or skipped lines too";
+
+/// The help of `--large`.
+pub(crate) const LARGE: &str = "Read tracefiles above 64 MiB in pieces";
 
 /// The help of `--include`.
 pub(crate) const INCLUDE: &str = "Only source files that match; may be repeated";

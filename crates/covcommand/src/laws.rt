@@ -6,11 +6,12 @@ ghost use Rattle.std.specs.declared.alloc.Global.{Global};
 ghost use Rattle.clap.specs.Words.{takes, fault_of};
 ghost use Rattle.clap.specs.declared.error.kind.ErrorKind.TheVariants as kind;
 ghost use Rattle.clap.specs.Words.{subcommand_of, first_of};
-ghost use Rattle.covcommand.specs.Asked.{AsksFor, AsksForAll, IsStrictnessOf, rows_met};
+ghost use Rattle.covcommand.specs.Asked.{AsksFor, AsksForAll, IsSizeOf, IsStrictnessOf, rows_met};
 ghost use Rattle.covcommand.specs.CommandLine.{covcollect};
 ghost use Rattle.covcommand.specs.declared.asked.Command.TheVariants.{Check, Extract, Gcov, Merge, Remove, Session, Summary};
 ghost use Rattle.covcommand.specs.declared.asked.Command.TheVariants as commands;
 ghost use Rattle.covcommand.specs.declared.asked.Strictness.TheVariants.{Lenient, Strict};
+ghost use Rattle.covcommand.specs.declared.asked.TextSize.TheVariants.{Limited, Large};
 ghost use Rattle.covcommand.specs.declared.asked.TotalsForm.TheVariants.{Words, Json};
 ghost use Rattle.covcommand.specs.declared.asked.TextFormat.TheVariants as format;
 ghost use Rattle.covcommand.specs.declared.asked.LcovVersion.TheVariants.{One, Two};
@@ -50,6 +51,12 @@ pub fn calls_are_taken()
     ensures extract_strict { takes covcollect (codes "covcollect" ∷ codes "extract" ∷ codes "--strict" ∷ codes "a.info" ∷ codes "*.c" ∷ []) ≡ true }
     ensures remove_strict { takes covcollect (codes "covcollect" ∷ codes "remove" ∷ codes "a.info" ∷ codes "*.c" ∷ codes "--strict" ∷ codes "--lcov2" ∷ []) ≡ true }
     ensures check_strict { takes covcollect (codes "covcollect" ∷ codes "check" ∷ codes "--strict" ∷ codes "--gcov" ∷ codes "a.c.gcov" ∷ []) ≡ true }
+    ensures merge_large { takes covcollect (codes "covcollect" ∷ codes "merge" ∷ codes "--large" ∷ codes "-j" ∷ codes "2" ∷ codes "a.info" ∷ codes "b.info" ∷ []) ≡ true }
+    ensures summary_large { takes covcollect (codes "covcollect" ∷ codes "summary" ∷ codes "a.info" ∷ codes "--large" ∷ []) ≡ true }
+    ensures list_large { takes covcollect (codes "covcollect" ∷ codes "list" ∷ codes "--large" ∷ codes "--json" ∷ codes "a.info" ∷ []) ≡ true }
+    ensures extract_large { takes covcollect (codes "covcollect" ∷ codes "extract" ∷ codes "--large" ∷ codes "a.info" ∷ codes "*.c" ∷ []) ≡ true }
+    ensures remove_large { takes covcollect (codes "covcollect" ∷ codes "remove" ∷ codes "a.info" ∷ codes "*.c" ∷ codes "--large" ∷ codes "--strict" ∷ codes "--lcov2" ∷ []) ≡ true }
+    ensures check_large { takes covcollect (codes "covcollect" ∷ codes "check" ∷ codes "--large" ∷ codes "--strict" ∷ codes "--gcov" ∷ codes "a.c.gcov" ∷ []) ≡ true }
 {}
 
 /// What calls of `check` ask for. With the flag `--gcov`, before or after the files, the files are gcov's, also beside `--lcov2`;
@@ -102,42 +109,42 @@ pub fn totals_by_their_words()
 pub fn outputs_by_their_words()
     ensures merge { (output : Option (String Global)) → Some (codes "out") ≡ option_map string_bytes output
         → AsksForAll (subcommand_of covcollect (codes "covcollect" ∷ codes "merge" ∷ codes "-o" ∷ codes "out" ∷ codes "f" ∷ []))
-        (record { command = Merge One 1 (record { includes = []; excludes = [] }) (codes "f" ∷ []); strictness = Lenient; output = output }) }
+        (record { command = Merge One 1 (record { includes = []; excludes = [] }) (codes "f" ∷ []); strictness = Lenient; size = Limited; output = output }) }
     ensures extract { (output : Option (String Global)) → Some (codes "out") ≡ option_map string_bytes output
         → AsksForAll (subcommand_of covcollect (codes "covcollect" ∷ codes "extract" ∷ codes "f" ∷ codes "p" ∷ codes "--output=out" ∷ []))
-        (record { command = Extract One (codes "f" ∷ codes "p" ∷ []); strictness = Lenient; output = output }) }
+        (record { command = Extract One (codes "f" ∷ codes "p" ∷ []); strictness = Lenient; size = Limited; output = output }) }
     ensures remove { (output : Option (String Global)) → Some (codes "out") ≡ option_map string_bytes output
         → AsksForAll (subcommand_of covcollect (codes "covcollect" ∷ codes "remove" ∷ codes "-oout" ∷ codes "--lcov2" ∷ codes "f" ∷ codes "p" ∷ []))
-        (record { command = Remove Two (codes "f" ∷ codes "p" ∷ []); strictness = Lenient; output = output }) }
+        (record { command = Remove Two (codes "f" ∷ codes "p" ∷ []); strictness = Lenient; size = Limited; output = output }) }
     ensures gcov { (output : Option (String Global)) → Some (codes "out") ≡ option_map string_bytes output
         → AsksForAll (subcommand_of covcollect (codes "covcollect" ∷ codes "gcov" ∷ codes "--test" ∷ codes "t" ∷ codes "-o" ∷ codes "out" ∷ codes "f" ∷ []))
-        (record { command = Gcov (codes "t") (codes "f" ∷ []); strictness = Lenient; output = output }) }
+        (record { command = Gcov (codes "t") (codes "f" ∷ []); strictness = Lenient; size = Limited; output = output }) }
     ensures summary { first_of (codes "output") (rows_met (subcommand_of covcollect (codes "covcollect" ∷ codes "summary" ∷ codes "f" ∷ codes "--output" ∷ codes "out" ∷ codes "--json" ∷ []))) ≡ Some (codes "out") }
     ensures list { first_of (codes "output") (rows_met (subcommand_of covcollect (codes "covcollect" ∷ codes "list" ∷ codes "f" ∷ codes "-o=out" ∷ []))) ≡ Some (codes "out") }
     ensures dash { first_of (codes "output") (rows_met (subcommand_of covcollect (codes "covcollect" ∷ codes "merge" ∷ codes "--output=-o" ∷ codes "f" ∷ []))) ≡ Some (codes "-o") }
     ensures neither { AsksForAll (subcommand_of covcollect (codes "covcollect" ∷ codes "merge" ∷ codes "f" ∷ []))
-        (record { command = Merge One 1 (record { includes = []; excludes = [] }) (codes "f" ∷ []); strictness = Lenient; output = None }) }
+        (record { command = Merge One 1 (record { includes = []; excludes = [] }) (codes "f" ∷ []); strictness = Lenient; size = Limited; output = None }) }
     ensures name { AsksForAll (subcommand_of covcollect (codes "covcollect" ∷ codes "extract" ∷ codes "f" ∷ codes "--" ∷ codes "-o" ∷ []))
-        (record { command = Extract One (codes "f" ∷ codes "-o" ∷ []); strictness = Lenient; output = None }) }
+        (record { command = Extract One (codes "f" ∷ codes "-o" ∷ []); strictness = Lenient; size = Limited; output = None }) }
     ensures check { AsksForAll (subcommand_of covcollect (codes "covcollect" ∷ codes "check" ∷ codes "f" ∷ []))
-        (record { command = Check (format.Tracefile One) 1 (codes "f" ∷ []); strictness = Lenient; output = None }) }
+        (record { command = Check (format.Tracefile One) 1 (codes "f" ∷ []); strictness = Lenient; size = Limited; output = None }) }
 {}
 
 /// How strict calls are by `--strict`: `Strict` with the flag, before, between or after other words, and `Lenient` without it. A
 /// session and `gcov`, which don't take it, are lenient. After `--` it is the name of a file.
 pub fn strict_by_their_words()
     ensures merge { AsksForAll (subcommand_of covcollect (codes "covcollect" ∷ codes "merge" ∷ codes "--strict" ∷ codes "f" ∷ []))
-        (record { command = Merge One 1 (record { includes = []; excludes = [] }) (codes "f" ∷ []); strictness = Strict; output = None }) }
+        (record { command = Merge One 1 (record { includes = []; excludes = [] }) (codes "f" ∷ []); strictness = Strict; size = Limited; output = None }) }
     ensures summary { AsksForAll (subcommand_of covcollect (codes "covcollect" ∷ codes "summary" ∷ codes "f" ∷ codes "--strict" ∷ codes "--json" ∷ []))
-        (record { command = Summary One 1 (record { includes = []; excludes = [] }) Json (record { lines = None; functions = None; branches = None }) (codes "f" ∷ []); strictness = Strict; output = None }) }
+        (record { command = Summary One 1 (record { includes = []; excludes = [] }) Json (record { lines = None; functions = None; branches = None }) (codes "f" ∷ []); strictness = Strict; size = Limited; output = None }) }
     ensures list { AsksForAll (subcommand_of covcollect (codes "covcollect" ∷ codes "list" ∷ codes "--lcov2" ∷ codes "--strict" ∷ codes "f" ∷ codes "g" ∷ []))
-        (record { command = commands.List Two 1 (record { includes = []; excludes = [] }) Words (codes "f" ∷ codes "g" ∷ []); strictness = Strict; output = None }) }
+        (record { command = commands.List Two 1 (record { includes = []; excludes = [] }) Words (codes "f" ∷ codes "g" ∷ []); strictness = Strict; size = Limited; output = None }) }
     ensures extract { AsksForAll (subcommand_of covcollect (codes "covcollect" ∷ codes "extract" ∷ codes "f" ∷ codes "--strict" ∷ codes "p" ∷ []))
-        (record { command = Extract One (codes "f" ∷ codes "p" ∷ []); strictness = Strict; output = None }) }
+        (record { command = Extract One (codes "f" ∷ codes "p" ∷ []); strictness = Strict; size = Limited; output = None }) }
     ensures remove { AsksForAll (subcommand_of covcollect (codes "covcollect" ∷ codes "remove" ∷ codes "f" ∷ codes "p" ∷ codes "--strict" ∷ []))
-        (record { command = Remove One (codes "f" ∷ codes "p" ∷ []); strictness = Strict; output = None }) }
+        (record { command = Remove One (codes "f" ∷ codes "p" ∷ []); strictness = Strict; size = Limited; output = None }) }
     ensures check { AsksForAll (subcommand_of covcollect (codes "covcollect" ∷ codes "check" ∷ codes "--strict" ∷ codes "--gcov" ∷ codes "f" ∷ []))
-        (record { command = Check format.Gcov 1 (codes "f" ∷ []); strictness = Strict; output = None }) }
+        (record { command = Check format.Gcov 1 (codes "f" ∷ []); strictness = Strict; size = Limited; output = None }) }
     ensures merge_without { IsStrictnessOf (rows_met (subcommand_of covcollect (codes "covcollect" ∷ codes "merge" ∷ codes "--lcov2" ∷ codes "f" ∷ []))) Lenient }
     ensures summary_without { IsStrictnessOf (rows_met (subcommand_of covcollect (codes "covcollect" ∷ codes "summary" ∷ codes "--json" ∷ codes "f" ∷ []))) Lenient }
     ensures list_without { IsStrictnessOf (rows_met (subcommand_of covcollect (codes "covcollect" ∷ codes "list" ∷ codes "f" ∷ []))) Lenient }
@@ -145,11 +152,42 @@ pub fn strict_by_their_words()
     ensures remove_without { IsStrictnessOf (rows_met (subcommand_of covcollect (codes "covcollect" ∷ codes "remove" ∷ codes "f" ∷ codes "p" ∷ []))) Lenient }
     ensures check_without { IsStrictnessOf (rows_met (subcommand_of covcollect (codes "covcollect" ∷ codes "check" ∷ codes "--lcov2" ∷ codes "f" ∷ []))) Lenient }
     ensures gcov { AsksForAll (subcommand_of covcollect (codes "covcollect" ∷ codes "gcov" ∷ codes "--test" ∷ codes "t" ∷ codes "f" ∷ []))
-        (record { command = Gcov (codes "t") (codes "f" ∷ []); strictness = Lenient; output = None }) }
+        (record { command = Gcov (codes "t") (codes "f" ∷ []); strictness = Lenient; size = Limited; output = None }) }
     ensures session { AsksForAll (subcommand_of covcollect (codes "covcollect" ∷ []))
-        (record { command = Session; strictness = Lenient; output = None }) }
+        (record { command = Session; strictness = Lenient; size = Limited; output = None }) }
     ensures name { AsksForAll (subcommand_of covcollect (codes "covcollect" ∷ codes "merge" ∷ codes "--" ∷ codes "--strict" ∷ []))
-        (record { command = Merge One 1 (record { includes = []; excludes = [] }) (codes "--strict" ∷ []); strictness = Lenient; output = None }) }
+        (record { command = Merge One 1 (record { includes = []; excludes = [] }) (codes "--strict" ∷ []); strictness = Lenient; size = Limited; output = None }) }
+{}
+
+/// How long the tracefiles of calls may be by `--large`: `Large` with the flag, before, between or after other words, and `Limited`
+/// without it. A session and `gcov`, which don't take it, are limited. After `--` it is the name of a file.
+pub fn large_by_their_words()
+    ensures merge { AsksForAll (subcommand_of covcollect (codes "covcollect" ∷ codes "merge" ∷ codes "--large" ∷ codes "f" ∷ []))
+        (record { command = Merge One 1 (record { includes = []; excludes = [] }) (codes "f" ∷ []); strictness = Lenient; size = Large; output = None }) }
+    ensures summary { AsksForAll (subcommand_of covcollect (codes "covcollect" ∷ codes "summary" ∷ codes "f" ∷ codes "--large" ∷ codes "--json" ∷ []))
+        (record { command = Summary One 1 (record { includes = []; excludes = [] }) Json (record { lines = None; functions = None; branches = None }) (codes "f" ∷ []); strictness = Lenient; size = Large; output = None }) }
+    ensures list { AsksForAll (subcommand_of covcollect (codes "covcollect" ∷ codes "list" ∷ codes "--lcov2" ∷ codes "--large" ∷ codes "f" ∷ codes "g" ∷ []))
+        (record { command = commands.List Two 1 (record { includes = []; excludes = [] }) Words (codes "f" ∷ codes "g" ∷ []); strictness = Lenient; size = Large; output = None }) }
+    ensures extract { AsksForAll (subcommand_of covcollect (codes "covcollect" ∷ codes "extract" ∷ codes "f" ∷ codes "--large" ∷ codes "p" ∷ []))
+        (record { command = Extract One (codes "f" ∷ codes "p" ∷ []); strictness = Lenient; size = Large; output = None }) }
+    ensures remove { AsksForAll (subcommand_of covcollect (codes "covcollect" ∷ codes "remove" ∷ codes "f" ∷ codes "p" ∷ codes "--large" ∷ []))
+        (record { command = Remove One (codes "f" ∷ codes "p" ∷ []); strictness = Lenient; size = Large; output = None }) }
+    ensures check { AsksForAll (subcommand_of covcollect (codes "covcollect" ∷ codes "check" ∷ codes "--large" ∷ codes "--gcov" ∷ codes "f" ∷ []))
+        (record { command = Check format.Gcov 1 (codes "f" ∷ []); strictness = Lenient; size = Large; output = None }) }
+    ensures both { AsksForAll (subcommand_of covcollect (codes "covcollect" ∷ codes "merge" ∷ codes "--strict" ∷ codes "f" ∷ codes "--large" ∷ []))
+        (record { command = Merge One 1 (record { includes = []; excludes = [] }) (codes "f" ∷ []); strictness = Strict; size = Large; output = None }) }
+    ensures merge_without { IsSizeOf (rows_met (subcommand_of covcollect (codes "covcollect" ∷ codes "merge" ∷ codes "--lcov2" ∷ codes "--strict" ∷ codes "f" ∷ []))) Limited }
+    ensures summary_without { IsSizeOf (rows_met (subcommand_of covcollect (codes "covcollect" ∷ codes "summary" ∷ codes "--json" ∷ codes "f" ∷ []))) Limited }
+    ensures list_without { IsSizeOf (rows_met (subcommand_of covcollect (codes "covcollect" ∷ codes "list" ∷ codes "f" ∷ []))) Limited }
+    ensures extract_without { IsSizeOf (rows_met (subcommand_of covcollect (codes "covcollect" ∷ codes "extract" ∷ codes "f" ∷ codes "p" ∷ []))) Limited }
+    ensures remove_without { IsSizeOf (rows_met (subcommand_of covcollect (codes "covcollect" ∷ codes "remove" ∷ codes "f" ∷ codes "p" ∷ []))) Limited }
+    ensures check_without { IsSizeOf (rows_met (subcommand_of covcollect (codes "covcollect" ∷ codes "check" ∷ codes "--strict" ∷ codes "f" ∷ []))) Limited }
+    ensures gcov { AsksForAll (subcommand_of covcollect (codes "covcollect" ∷ codes "gcov" ∷ codes "--test" ∷ codes "t" ∷ codes "f" ∷ []))
+        (record { command = Gcov (codes "t") (codes "f" ∷ []); strictness = Lenient; size = Limited; output = None }) }
+    ensures session { AsksForAll (subcommand_of covcollect (codes "covcollect" ∷ []))
+        (record { command = Session; strictness = Lenient; size = Limited; output = None }) }
+    ensures name { AsksForAll (subcommand_of covcollect (codes "covcollect" ∷ codes "merge" ∷ codes "--" ∷ codes "--large" ∷ []))
+        (record { command = Merge One 1 (record { includes = []; excludes = [] }) (codes "--large" ∷ []); strictness = Lenient; size = Limited; output = None }) }
 {}
 
 /// Calls that are refused, with clap's kind of error for each. The program takes `--version`, but its subcommands don't.
@@ -203,6 +241,14 @@ pub fn calls_are_refused()
     ensures strict_twice { fault_of covcollect (codes "covcollect" ∷ codes "extract" ∷ codes "--strict" ∷ codes "a.info" ∷ codes "*.c" ∷ codes "--strict" ∷ [])
         ≡ kind.ArgumentConflict ∷ [] }
     ensures strict_value { fault_of covcollect (codes "covcollect" ∷ codes "check" ∷ codes "--strict=yes" ∷ codes "a.info" ∷ [])
+        ≡ kind.TooManyValues ∷ [] }
+    ensures gcov_large { fault_of covcollect (codes "covcollect" ∷ codes "gcov" ∷ codes "--test=t" ∷ codes "--large" ∷ codes "a.c.gcov" ∷ [])
+        ≡ kind.UnknownArgument ∷ [] }
+    ensures session_large { fault_of covcollect (codes "covcollect" ∷ codes "--large" ∷ [])
+        ≡ kind.UnknownArgument ∷ [] }
+    ensures large_twice { fault_of covcollect (codes "covcollect" ∷ codes "extract" ∷ codes "--large" ∷ codes "a.info" ∷ codes "*.c" ∷ codes "--large" ∷ [])
+        ≡ kind.ArgumentConflict ∷ [] }
+    ensures large_value { fault_of covcollect (codes "covcollect" ∷ codes "check" ∷ codes "--large=yes" ∷ codes "a.info" ∷ [])
         ≡ kind.TooManyValues ∷ [] }
     ensures help { fault_of covcollect (codes "covcollect" ∷ codes "merge" ∷ codes "--help" ∷ [])
         ≡ kind.DisplayHelp ∷ [] }

@@ -27,13 +27,13 @@ mod parsing;
 mod word;
 
 pub use asked::{
-    Asked, Command, LcovVersion, Limits, SourceFilter, Strictness, TextFormat, TotalsForm,
+    Asked, Command, LcovVersion, Limits, SourceFilter, Strictness, TextFormat, TextSize, TotalsForm,
 };
 pub use fault::CommandFault;
 pub use help::VERSION;
 pub use laws::{
     calls_are_refused, calls_are_taken, checks_by_their_words, filters_by_their_words,
-    outputs_by_their_words, strict_by_their_words, totals_by_their_words,
+    large_by_their_words, outputs_by_their_words, strict_by_their_words, totals_by_their_words,
 };
 pub use names::Names;
 pub use parsing::command;

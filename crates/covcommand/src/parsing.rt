@@ -4,13 +4,13 @@ ghost use Rattle.std.specs.Prelude.{◌≡◌, ◌≤◌, ◌++◌, [], IfOk, If
 ghost use Rattle.std.specs.String.{string_bytes};
 ghost use Rattle.clap.specs.Words.{rows_of, found_of, subcommand_of, takes, fault_of, first_of};
 ghost use Rattle.covcommand.specs.CommandLine.{covcollect};
-ghost use Rattle.covcommand.specs.Asked.{AreLimitsOf, AsksFor, GoesTo, HasStrictness, IsFilterOf, IsFormOf, IsFormatOf, IsInBounds, IsLimitOf, IsNumberOf, IsOutputOf, IsStrictnessOf, IsVersionOf, rows_met, tracefile_and_patterns, values_of};
-ghost use Rattle.covcommand.specs.Found.{Fits, HasFilter, HasFlag, HasJobs, HasSome, HasTest, TellsStrictness};
+ghost use Rattle.covcommand.specs.Asked.{AreLimitsOf, AsksFor, GoesTo, HasSize, HasStrictness, IsFilterOf, IsFormOf, IsFormatOf, IsInBounds, IsLimitOf, IsNumberOf, IsOutputOf, IsSizeOf, IsStrictnessOf, IsVersionOf, rows_met, tracefile_and_patterns, values_of};
+ghost use Rattle.covcommand.specs.Found.{Fits, HasFilter, HasFlag, HasJobs, HasSome, HasTest, TellsFlags};
 ghost use Rattle.covcommand.specs.Fault.{IsFaultAmong};
 ghost use Rattle.covcommand.specs.declared.fault.CommandFault.TheVariants as faults;
 
 use crate::asked::{
-    Asked, Command, LcovVersion, Limits, SourceFilter, Strictness, TextFormat, TotalsForm,
+    Asked, Command, LcovVersion, Limits, SourceFilter, Strictness, TextFormat, TextSize, TotalsForm,
 };
 use crate::described::described;
 use crate::fault::CommandFault;
@@ -26,6 +26,7 @@ use std::alloc::Global;
 pub fn command(alloc: Global, words: &[String]) -> Result<Asked, CommandFault>
     ensures asks { IfOk result (λ asked. AsksFor (subcommand_of covcollect (map string_bytes words.now)) asked.command) }
     ensures strictness { IfOk result (λ asked. HasStrictness (rows_met (subcommand_of covcollect (map string_bytes words.now))) asked.command asked.strictness) }
+    ensures size { IfOk result (λ asked. HasSize (rows_met (subcommand_of covcollect (map string_bytes words.now))) asked.command asked.size) }
     ensures output { IfOk result (λ asked. GoesTo (rows_met (subcommand_of covcollect (map string_bytes words.now))) asked.command asked.output) }
     ensures bounds { IfOk result (λ asked. IsInBounds asked.command) }
     ensures fits { IfOk result (λ _. fault_of covcollect (map string_bytes words.now) ≡ []) }
@@ -42,33 +43,37 @@ pub fn command(alloc: Global, words: &[String]) -> Result<Asked, CommandFault>
         None => Ok(Asked {
             command: Command::Session,
             strictness: Strictness::Lenient,
+            size: TextSize::Limited,
             output: None,
         }),
     }
 }
 
-/// What the subcommand of this name asks for, how strict it is, and where its text goes.
+/// What the subcommand of this name asks for, how strict it is, how long its tracefiles may be, and where its text goes.
 fn asked_from(alloc: Global, name: &str, found: &ArgMatches<'_>) -> Result<Asked, CommandFault>
     requires { Fits name.now (rows_of (found_of found.now)) }
     ensures asks { IfOk result (λ asked. AsksFor (Some (name.now, rows_of (found_of found.now))) asked.command) }
     ensures strictness { IfOk result (λ asked. HasStrictness (rows_of (found_of found.now)) asked.command asked.strictness) }
+    ensures size { IfOk result (λ asked. HasSize (rows_of (found_of found.now)) asked.command asked.size) }
     ensures output { IfOk result (λ asked. GoesTo (rows_of (found_of found.now)) asked.command asked.output) }
     ensures bounds { IfOk result (λ asked. IsInBounds asked.command) }
     ensures memory { IfErr result (λ f. f ≡ faults.Memory) }
 {
     let command = command_from(alloc, name, found)?;
     let strictness = strictness_for(&command, found);
+    let size = size_for(&command, found);
     let output = output_for(alloc, &command, found)?;
     Ok(Asked {
         command,
         strictness,
+        size,
         output,
     })
 }
 
 /// How strict the command is, by what clap found for its arguments.
 fn strictness_for(command: &Command, found: &ArgMatches<'_>) -> Strictness
-    requires { TellsStrictness (rows_of (found_of found.now)) command.now }
+    requires { TellsFlags (rows_of (found_of found.now)) command.now }
     ensures { HasStrictness (rows_of (found_of found.now)) command.now result }
 {
     match command {
@@ -86,6 +91,29 @@ fn strictness_of(found: &ArgMatches<'_>) -> Strictness
         Strictness::Strict
     } else {
         Strictness::Lenient
+    }
+}
+
+/// How long a tracefile of the command may be, by what clap found for its arguments.
+fn size_for(command: &Command, found: &ArgMatches<'_>) -> TextSize
+    requires { TellsFlags (rows_of (found_of found.now)) command.now }
+    ensures { HasSize (rows_of (found_of found.now)) command.now result }
+{
+    match command {
+        Command::Session | Command::Gcov { .. } => TextSize::Limited,
+        _ => size_of(found),
+    }
+}
+
+/// How long a tracefile of the call may be: longer than the limit if clap found the flag `--large`, else within it.
+fn size_of(found: &ArgMatches<'_>) -> TextSize
+    requires { HasFlag (codes "large") (rows_of (found_of found.now)) }
+    ensures { IsSizeOf (rows_of (found_of found.now)) result }
+{
+    if found.get_flag("large") {
+        TextSize::Large
+    } else {
+        TextSize::Limited
     }
 }
 
@@ -117,7 +145,7 @@ fn output_of(alloc: Global, found: &ArgMatches<'_>) -> Result<Option<String>, Me
 fn command_from(alloc: Global, name: &str, found: &ArgMatches<'_>) -> Result<Command, CommandFault>
     requires { Fits name.now (rows_of (found_of found.now)) }
     ensures asks { IfOk result (AsksFor (Some (name.now, rows_of (found_of found.now)))) }
-    ensures strictness { IfOk result (TellsStrictness (rows_of (found_of found.now))) }
+    ensures flags { IfOk result (TellsFlags (rows_of (found_of found.now))) }
     ensures bounds { IfOk result IsInBounds }
     ensures memory { IfErr result (λ f. f ≡ faults.Memory) }
 {

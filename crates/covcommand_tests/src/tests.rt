@@ -5,7 +5,7 @@
 
 use covcommand::{
     Asked, Command, CommandFault, LcovVersion, Limits, Names, SourceFilter, Strictness, TextFormat,
-    TotalsForm, command,
+    TextSize, TotalsForm, command,
 };
 use std::alloc::Global;
 use std::process::Abort;
@@ -46,10 +46,11 @@ fn refused(alloc: Global, fault: &CommandFault) -> Result<String, Fail> {
     Ok(format!(in alloc; "{} {} {first}", fault.number(), fault.status())?)
 }
 
-/// What is asked for in words: the command, how strict it is, and the file for its text.
+/// What is asked for in words: the command, how strict it is, how long its tracefiles may be, and the file for its text.
 fn told(alloc: Global, whole: &Asked) -> Result<String, Fail> {
     let command = command_in_words(alloc, &whole.command)?;
-    with_output(with_strictness(command, &whole.strictness)?, &whole.output)
+    let command = with_strictness(command, &whole.strictness)?;
+    with_output(with_size(command, &whole.size)?, &whole.output)
 }
 
 /// The command in words: its subcommand, its version of LCOV, its number of jobs, its test or its format, then its filter, its
@@ -162,6 +163,14 @@ fn with_limit(alloc: Global, text: String, of: &str, limit: &[u8]) -> Result<Str
 fn with_strictness(mut text: String, strictness: &Strictness) -> Result<String, Fail> {
     if let Strictness::Strict = strictness {
         text.push_str(" strict")?;
+    }
+    Ok(text)
+}
+
+/// The text with `large` after it if the call reads tracefiles above the limit.
+fn with_size(mut text: String, size: &TextSize) -> Result<String, Fail> {
+    if let TextSize::Large = size {
+        text.push_str(" large")?;
     }
     Ok(text)
 }

@@ -175,6 +175,59 @@ covcollect list -s a.info => 2 2 error: unexpected argument '-s' found
     )
 }
 
+/// The flag `--large`, of each subcommand that has it, before, between and after other words, and beside `--strict`.
+#[test]
+fn large(rt: HostRuntime) -> Result<(), Fail> {
+    check_all(
+        &rt,
+        "\
+covcollect merge --large a.info => merge (1 1) [a.info] large
+covcollect merge a.info --large b.info => merge (1 1) [a.info] [b.info] large
+covcollect merge -j2 --large -o out.info --lcov2 --exclude x a.info => merge (2 2) -[x] [a.info] large >[out.info]
+covcollect merge --large --strict a.info => merge (1 1) [a.info] strict large
+covcollect merge -- --large => merge (1 1) [--large]
+covcollect merge large => merge (1 1) [large]
+covcollect merge --exclude=--large a.info => merge (1 1) -[--large] [a.info]
+covcollect merge --strict -- --large => merge (1 1) [--large] strict
+covcollect summary a.info --large => summary (1 1) [a.info] large
+covcollect summary --large --json --fail-under-lines 80 a.info => summary (1 1) json lines(80) [a.info] large
+covcollect list --json --large b.info a.info => list (1 1) json [b.info] [a.info] large
+covcollect list --large --lcov2 --include '*.c' -- a.info => list (2 1) +[*.c] [a.info] large
+covcollect extract --large a.info '*/src/*' => extract (1) [a.info] [*/src/*] large
+covcollect extract a.info '*/src/*' '*.h' --lcov2 --large => extract (2) [a.info] [*/src/*] [*.h] large
+covcollect extract a.info -- --large => extract (1) [a.info] [--large]
+covcollect remove a.info --large '/usr/*' -o a.info => remove (1) [a.info] [/usr/*] large >[a.info]
+covcollect remove --strict a.info '*.h' --large => remove (1) [a.info] [*.h] strict large
+covcollect check --large a.info => check (tracefile 1 1) [a.info] large
+covcollect check a.info -j 3 --lcov2 --large b.info => check (tracefile 2 3) [a.info] [b.info] large
+covcollect check --gcov --large main.c.gcov => check (gcov 1) [main.c.gcov] large
+",
+    )
+}
+
+/// The flag `--large` twice, with a value, without the words that are required, misspelt, and where nothing takes it.
+#[test]
+fn large_that_is_refused(rt: HostRuntime) -> Result<(), Fail> {
+    check_all(
+        &rt,
+        "\
+covcollect gcov --large --test unit main.c.gcov => 2 2 error: unexpected argument '--large' found
+covcollect gcov --test unit main.c.gcov --large => 2 2 error: unexpected argument '--large' found
+covcollect --large => 2 2 error: unexpected argument '--large' found
+covcollect --large merge a.info => 2 2 error: unexpected argument '--large' found
+covcollect merge --large --large a.info => 2 2 error: the argument '--large' cannot be used multiple times
+covcollect check --large a.info --large => 2 2 error: the argument '--large' cannot be used multiple times
+covcollect merge --large=yes a.info => 2 2 error: unexpected value 'yes' for '--large' found; no more were expected
+covcollect check --large=true a.info => 2 2 error: unexpected value 'true' for '--large' found; no more were expected
+covcollect remove a.info '*.h' --large=no => 2 2 error: unexpected value 'no' for '--large' found; no more were expected
+covcollect merge --large => 2 2 error: the following required arguments were not provided:
+covcollect extract --large a.info => 2 2 error: the following required arguments were not provided:
+covcollect summary --larger a.info => 2 2 error: unexpected argument '--larger' found
+covcollect list -l a.info => 2 2 error: unexpected argument '-l' found
+",
+    )
+}
+
 /// The options `--include` and `--exclude`: each several times, mixed with each other and with other words. Each takes one word.
 #[test]
 fn filters(rt: HostRuntime) -> Result<(), Fail> {

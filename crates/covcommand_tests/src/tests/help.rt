@@ -163,7 +163,9 @@ Arguments:
 Options:
   -o, --output <FILE>  Write to FILE, which may be one of the inputs
       --lcov2          Tracefiles of LCOV 2 are read too
-      --strict         Refuse odd or empty files, unmatched patterns
+      --strict         Refuse files with no items, odd or skipped
+                       lines; unmatched patterns
+      --large          Read tracefiles above 64 MiB in pieces
   -h, --help           Print help
 
 Prints the tracefile of the other source files. A pattern has to match the whole
@@ -199,7 +201,9 @@ Options:
   -j, --jobs <N>                  Files read at once, from 1 to 64 [default: 1]
   -o, --output <FILE>             Write to FILE, which may be one of the inputs
       --lcov2                     Tracefiles of LCOV 2 are read too
-      --strict                    Refuse odd or empty files, unmatched patterns
+      --strict                    Refuse files with no items, odd or skipped
+                                  lines; unmatched patterns
+      --large                     Read tracefiles above 64 MiB in pieces
       --include <PATTERN>         Only source files that match; may be repeated
       --exclude <PATTERN>         No source files that match; may be repeated
       --json                      Print JSON
@@ -242,7 +246,9 @@ Options:
   -j, --jobs <N>           Files read at once, from 1 to 64 [default: 1]
   -o, --output <FILE>      Write to FILE, which may be one of the inputs
       --lcov2              Tracefiles of LCOV 2 are read too
-      --strict             Refuse odd or empty files, unmatched patterns
+      --strict             Refuse files with no items, odd or skipped
+                           lines; unmatched patterns
+      --large              Read tracefiles above 64 MiB in pieces
       --include <PATTERN>  Only source files that match; may be repeated
       --exclude <PATTERN>  No source files that match; may be repeated
       --json               Print JSON
@@ -281,6 +287,7 @@ Options:
       --gcov      The files are what gcov wrote, and not tracefiles
       --lcov2     Tracefiles of LCOV 2 are read too
       --strict    Fail for odd or skipped lines too
+      --large     Read tracefiles above 64 MiB in pieces
   -h, --help      Print help
 
 Prints a line for each file: how many sections, items and odd lines it has, how

@@ -1,6 +1,6 @@
 use Rattle.std.proofs.Common.{codes}
 use Rattle.std.proofs.lemmas.Result.{IfOk-weaker}
-use Rattle.covcommand.specs.CommandLine.{jobs, lcov2, output, patterns, several, strict}
+use Rattle.covcommand.specs.CommandLine.{jobs, large, lcov2, output, patterns, several, strict}
 use Rattle.clap.specs.Simple.{new_app}
 use Rattle.covcommand.specs.Built.{HasNoGlobals}
 use Rattle.covcommand.proofs.Arguments.{added}
@@ -14,6 +14,7 @@ returns c =
     let with_output = added _ output _ _ _ with_jobs c.in_ok-arg-3.ensures c.output.ensures in
     let with_lcov2 = added _ lcov2 _ _ _ with_output c.in_ok-arg-4.ensures c.lcov2.ensures in
     let with_strict = added _ strict _ _ _ with_lcov2 c.in_ok-arg-5.ensures c.strict.ensures in
-    let with_includes = added _ (patterns (codes "include")) _ _ _ with_strict c.in_ok-arg-6.ensures c.patterns.ensures in
-    IfOk-weaker c.arg-7.result _ _
-    (λ r h. added _ (patterns (codes "exclude")) _ r _ with_includes h c.patterns-2.ensures) c.arg-7.ensures
+    let with_large = added _ large _ _ _ with_strict c.in_ok-arg-6.ensures c.large.ensures in
+    let with_includes = added _ (patterns (codes "include")) _ _ _ with_large c.in_ok-arg-7.ensures c.patterns.ensures in
+    IfOk-weaker c.arg-8.result _ _
+    (λ r h. added _ (patterns (codes "exclude")) _ r _ with_includes h c.patterns-2.ensures) c.arg-8.ensures

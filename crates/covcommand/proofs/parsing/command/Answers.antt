@@ -7,7 +7,7 @@ use Rattle.clap.specs.Walk.{Row, Text}
 use Rattle.clap.specs.Words.{fault_of, found_of, rows_of, subcommand_rows_of, takes}
 use Rattle.clap.specs.Faults.{is_simple_and_free}
 use Rattle.clap.specs.Kinds.{HasKind}
-use Rattle.covcommand.specs.Asked.{AsksFor, GoesTo, HasStrictness, rows_met}
+use Rattle.covcommand.specs.Asked.{AsksFor, GoesTo, HasSize, HasStrictness, rows_met}
 use Rattle.covcommand.specs.CommandLine.{covcollect}
 use Rattle.covcommand.proofs.Told.{both_halves, same_name, told_memory, told_of}
 use Rattle.covcommand.proofs.Fitting.{fits}
@@ -57,6 +57,15 @@ returns-in-Some-clause-strictness c =
     let rows = rows_of (found_of c.in-Some.found.now) in
     let is = sym met ∙ both_halves (subcommand_rows_of c.in-Ok.matches) c.in-Some.name.now rows (c.in-Some.ensures.name ∙ same_name c.in-Ok.matches) c.in-Some.ensures.rows in
     subst (λ (m : Option (Text × List Row)). IfOk c.asked_from.result (λ asked. HasStrictness (rows_met m) asked.command asked.strictness)) (sym is) c.asked_from.ensures.strictness
+
+pub returns-in-Some-clause-size : goal.returns-in-Some-clause-size
+returns-in-Some-clause-size c =
+    let words = map string_bytes c.args.words.now in
+    let met = (c.in-Ok.ensures.matches (ap is_simple c.in_ok-described.ensures ∙ simple)).1
+    ∙ ap (λ (a : App). subcommand_of a words) c.in_ok-described.ensures in
+    let rows = rows_of (found_of c.in-Some.found.now) in
+    let is = sym met ∙ both_halves (subcommand_rows_of c.in-Ok.matches) c.in-Some.name.now rows (c.in-Some.ensures.name ∙ same_name c.in-Ok.matches) c.in-Some.ensures.rows in
+    subst (λ (m : Option (Text × List Row)). IfOk c.asked_from.result (λ asked. HasSize (rows_met m) asked.command asked.size)) (sym is) c.asked_from.ensures.size
 
 pub returns-in-Some-clause-output : goal.returns-in-Some-clause-output
 returns-in-Some-clause-output c =
