@@ -26,6 +26,7 @@ mod fault;
 mod held;
 mod large_tracefile;
 mod piece_text;
+mod so_far;
 
 pub use blocks::read_at_most;
 pub use check::check_large;
