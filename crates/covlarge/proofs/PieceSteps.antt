@@ -33,11 +33,11 @@ behind_piece n text bytes rest is same =
     is ∙ ap (λ (k : ℕ). take k (drop n text)) (sym (length-drop n text)) ∙ take-length (drop n text) ∙ ap (drop n) same
 
 -- the numbers after one more piece
-pub within_more : (left lines reads failed lines_after reads_after failed_after : ℕ) → IsWithin left lines reads failed → 0 < left → lines_after ≤ lines + max_bytes → reads_after < reads + 2 ^ 28 → failed_after ≡ failed
-    → IsWithin (left - 1) lines_after reads_after failed_after
-within_more left lines reads failed lines_after reads_after failed_after within some few_lines few_reads same = record {
-  few_lines = omega (arith, within.few_lines, few_lines, some);
-  few_reads = omega (arith, within.few_reads, few_reads, some);
+pub within_more : (left left_after lines reads failed lines_after reads_after failed_after : ℕ) → IsWithin left lines reads failed → left ≡ left_after + 1 → lines_after ≤ lines + max_bytes
+    → reads_after < reads + 2 ^ 28 → failed_after ≡ failed → IsWithin left_after lines_after reads_after failed_after
+within_more left left_after lines reads failed lines_after reads_after failed_after within one few_lines few_reads same = record {
+  few_lines = omega (arith, within.few_lines, few_lines, one);
+  few_reads = omega (arith, within.few_reads, few_reads, one);
   no_failure = same ∙ within.no_failure;
 }
 

@@ -2,7 +2,6 @@ use Rattle.std.proofs.Common.{◌-◌, ◌<◌, ◌≤◌, arith, refl}
 use Rattle.std.proofs.lemmas.Result.{err_from_is_err_and}
 use Rattle.covread.specs.Outcome.{max_bytes}
 use Rattle.covlarge.proofs.PieceSteps.{behind_piece, no_more, some_left, unread, long, last_unread, last_read, sections, piece_unread, piece_read, within_more, few_lines_more}
-use Rattle.covlarge.specs.StateData.{StateData}
 use Rattle.covlarge.proofs.large_tracefile.LargeTracefile.next_piece.Goals as goal
 
 pub returns-then-self-eq0 : goal.returns-then-self-eq0
@@ -27,11 +26,10 @@ returns-in_err-submission-in-Sections g c =
 
 pub invariant_of-next : goal.invariant_of-next
 invariant_of-next g c =
-    let some : 0 < c.self.inside.left = omega (arith, c.if-self-eq0.false) in
     let found = sections g.S.Source.left g.S.Source.failed_reads _ c.args.self c.self.view_is c.read_on.new.source _ _ _ _ _
     c.in_ok-text.ensures.found c.in_ok-text.ensures.front c.in_ok-begun.ensures.front c.in_ok-begun.ensures.bytes c.in-Sections.len c.in-Sections.is in
     let few : c.in-Sections.len ≤ max_bytes = omega (arith, found.1) in
-    within_more c.self.inside.left c.self.inside.so_far.carried.lines (g.S.Source.reads c.self.inside.source) (g.S.Source.failed_reads c.self.inside.source) _ _ _ c.self.invariant some
+    within_more c.self.inside.left _ c.self.inside.so_far.carried.lines (g.S.Source.reads c.self.inside.source) (g.S.Source.failed_reads c.self.inside.source) _ _ _ c.self.invariant (omega (arith, c.if-self-eq0.false))
     (few_lines_more c.self.inside.so_far.version c.self.inside.so_far.carried c.next_piece.new.self.carried c.in_ok-text.text.bytes c.in-Sections.len c.in_ok-submission-in-Sections.submission.sects c.in_ok-submission-in-Sections.ensures.carried few) c.in_ok-text.ensures.counted c.in_ok-text.ensures.good
 
 pub returns-in_ok-submission-in-Last : goal.returns-in_ok-submission-in-Last
@@ -45,18 +43,17 @@ returns-in_ok-submission-in-Last g c =
 
 pub returns-in_ok-rest-in-Sections : goal.returns-in_ok-rest-in-Sections
 returns-in_ok-rest-in-Sections g c =
-    let next : StateData g.row.S.Denot = record {
-      version = c.next_piece.new.self.version;
-      carried = c.next_piece.new.self.carried;
-      held = c.next_piece.new.self.held;
-      left = c.self.inside.left - 1;
-      rest = c.in_ok-rest-in-Sections.rest;
-      source = c.read_on.new.source;
-    } in
     let read = c.in_ok-submission-in-Sections.ensures.read in
     piece_read g.S.Source.left g.S.Source.failed_reads _ c.args.self c.self.view_is c.read_on.new.source _ _ _ _ _
     c.in_ok-text.ensures.found c.in_ok-text.ensures.front c.in_ok-begun.ensures.front c.in_ok-begun.ensures.bytes c.in-Sections.len c.in-Sections.is
-    next c.in_ok-submission-in-Sections.submission refl (behind_piece c.in-Sections.len c.bytes.result.now _ _ c.in_ok-rest-in-Sections.ensures c.bytes.ensures) c.in_ok-submission-in-Sections.ensures.version c.in_ok-submission-in-Sections.ensures.carried (omega (arith, c.if-self-eq0.false)) c.in_ok-text.ensures.good
+    (record {
+      version = c.next_piece.new.self.version;
+      carried = c.next_piece.new.self.carried;
+      held = c.next_piece.new.self.held;
+      left = _;
+      rest = c.in_ok-rest-in-Sections.rest;
+      source = c.read_on.new.source;
+    }) c.in_ok-submission-in-Sections.submission refl (behind_piece c.in-Sections.len c.bytes.result.now _ _ c.in_ok-rest-in-Sections.ensures c.bytes.ensures) c.in_ok-submission-in-Sections.ensures.version c.in_ok-submission-in-Sections.ensures.carried (omega (arith, c.if-self-eq0.false)) c.in_ok-text.ensures.good
     read.0 read.1
 
 pub returns-in-TooLong : goal.returns-in-TooLong
