@@ -7,7 +7,7 @@ use covline::Bytes;
 use covsession::{SessionFault, Source};
 
 /// How many bytes one read asks for.
-pub(crate) const BLOCK_BYTES: usize = 65_536;
+pub const BLOCK_BYTES: usize = 65_536;
 
 /// Reads the bytes that are left in the source, at most `most`, and appends them to the text. Each read fills a part of `block`.
 /// `most` is a parameter so that no proof has to count up to the limit of a text. The fault is `Read` if a read failed, and
