@@ -108,6 +108,10 @@ END
     call "$COVCOLLECT" check --large seventy.info
     ended 0 'check --large: 70 MiB'
     says "$work/out" 'check --large: its line' 'seventy.info: sections 71680 items 7741440 odd 0 skipped 0'
+    # It is never held as a whole.
+    call bash -c 'ulimit -v 65536; exec "$COVCOLLECT" check --large seventy.info'
+    ended 0 'check --large: 70 MiB in 64 MiB of memory'
+    says "$work/out" 'check --large: the same line' 'seventy.info: sections 71680 items 7741440 odd 0 skipped 0'
     # Pipes have no length.
     call bash -c 'exec "$COVCOLLECT" merge --large <(cat seventy.info)'
     ended 0 'merge --large: 70 MiB from a pipe'
@@ -426,6 +430,13 @@ line2='sections 10240 items 1105920 odd 3 skipped 1 first COUNT at 560000'
     told_alone 4 'merge --large: the first piece and the last one clash' 'clash /project/ab/000001.c 100 a b'
     call "$COVCOLLECT" merge three.info
     told_alone 4 'merge: so they do without the option' 'clash /project/ab/000001.c 100 a b'
+    # Each piece that clashes is told: it is a submission of its own. Without the option the first line of the file is.
+    sed -e "$(at 1 1)s/$/,a/" -e "$(at 10240 1)s/$/,b/" ten.info >three.info
+    printf 'SF:/project/ab/%s.c\nDA:100,1,%s\nend_of_record\n' 000001 x 010240 y >two.info
+    call "$COVCOLLECT" merge --large two.info three.info
+    told_alone 4 'merge --large: two pieces clash' 'clash /project/ab/000001.c 100 x a' 'clash /project/ab/010240.c 100 y b'
+    call "$COVCOLLECT" merge two.info three.info
+    told_alone 4 'merge: the file clashes once' 'clash /project/ab/000001.c 100 x a'
     # The pieces before a fault stay.
     sed -e "$(at 1 1)s/$/,a/" -e '$d' ten.info >one.info
     printf 'SF:/project/ab/000001.c\nDA:100,1,b\nend_of_record\n' >two.info
