@@ -6,15 +6,15 @@
 
 load common
 
-# A section here has 1,024 bytes and 112 lines, so a piece of 4 MiB has 4,095 of them behind the line TN:t. Nothing that is wanted
+# A section here has 1,030 bytes and 112 lines, so a piece of 4 MiB has 4,072 of them, also behind the line TN:t. Nothing that is wanted
 # depends on it: it decides where faults and names are put.
 #
-# The sections FIRST to LAST of the sources /project/ab/NUMBER.c, with the lines 100 to 207 of this count, and FRONT before each.
+# The sections FIRST to LAST of the sources /projects/library/NUMBER.c, with the lines 100 to 207 of this count, and FRONT before each.
 sections() { # FIRST LAST COUNT [FRONT]
     awk -v first="$1" -v last="$2" -v count="$3" -v front="${4-}" 'BEGIN {
         for (line = 100; line < 208; line++) lines = lines "DA:" line "," count "\n"
         for (number = first; number <= last; number++)
-            printf "%sSF:/project/ab/%06d.c\n%sLF:108\nLH:108\nend_of_record\n", front, number, lines
+            printf "%sSF:/projects/library/%06d.c\n%sLF:108\nLH:108\nend_of_record\n", front, number, lines
     }'
 }
 # The line of ten.info in which a section begins, or one so many lines below it: its DA: lines are 1 to 108, LF: 109, LH: 110, and the
@@ -82,7 +82,7 @@ END
     head -c -1 ten.info >other.info
     both wanted.1 'merge --large: no final line feed' merge other.info
     # Blank lines between the pieces, and many at the end.
-    { sed "$(at 4096)s/^/\n\n\n/" ten.info; head -c 5000000 /dev/zero | tr '\0' '\n'; } >other.info
+    { sed "$(at 4073)s/^/\n\n\n/" ten.info; head -c 5000000 /dev/zero | tr '\0' '\n'; } >other.info
     both wanted.1 'merge --large: blank lines' merge other.info
 }
 
@@ -145,9 +145,9 @@ END
     ended 0 'list --large: three files of 70 MiB'
     cat >wanted <<'END'
          Lines   Functions    Branches  File
-100.0% 108/108       - 0/0       - 0/0  /project/ab/000001.c
-100.0% 108/108       - 0/0       - 0/0  /project/ab/000002.c
-100.0% 108/108       - 0/0       - 0/0  /project/ab/010240.c
+100.0% 108/108       - 0/0       - 0/0  /projects/library/000001.c
+100.0% 108/108       - 0/0       - 0/0  /projects/library/000002.c
+100.0% 108/108       - 0/0       - 0/0  /projects/library/010240.c
 100.0% 324/324       - 0/0       - 0/0  Total
 END
     same wanted "$work/out" 'list --large: the table'
@@ -155,11 +155,11 @@ END
     ended 0 'list --json --large: a file of 70 MiB'
     cat >wanted <<'END'
 {"files":[
-{"file":"/project/ab/010240.c","lines":{"found":108,"hit":108},"functions":{"found":0,"hit":0},"branches":{"found":0,"hit":0}}
+{"file":"/projects/library/010240.c","lines":{"found":108,"hit":108},"functions":{"found":0,"hit":0},"branches":{"found":0,"hit":0}}
 ],"total":{"lines":{"found":108,"hit":108},"functions":{"found":0,"hit":0},"branches":{"found":0,"hit":0}}}
 END
     same wanted "$work/out" 'list --json --large: the list'
-    call "$COVCOLLECT" extract --large seventy.info '*/010240.c' '/project/ab/000001.?'
+    call "$COVCOLLECT" extract --large seventy.info '*/010240.c' '/projects/library/000001.?'
     ended 0 'extract --large: two files of 70 MiB'
     { sections 1 1 7 'TN:t\n'; sections 10240 10240 7 'TN:t\n'; } >wanted
     same wanted "$work/out" 'extract --large: their sections'
@@ -194,19 +194,19 @@ END
     changed '3s/.*/DA:x/'
     refused 'BadLine at 3'
     # The first line of a piece, and its last one.
-    changed "$(at 4096)s/.*/DA:1,1/"
-    refused 'Outside at 458642'
-    changed "$(at 4096)s/.*/SF:/"
-    refused 'EmptyPath at 458642'
-    changed "$(at 4095 111)s/.*/TN:u/"
-    refused 'Inside at 458641'
-    changed "$(at 4095 111)d"
-    refused 'Inside at 458641'
+    changed "$(at 4073)s/.*/DA:1,1/"
+    refused 'Outside at 456066'
+    changed "$(at 4073)s/.*/SF:/"
+    refused 'EmptyPath at 456066'
+    changed "$(at 4072 111)s/.*/TN:u/"
+    refused 'Inside at 456065'
+    changed "$(at 4072 111)d"
+    refused 'Inside at 456065'
     # Within the second one and the third.
     changed "$(at 5000 1)s/.*/DA:100,340282366920938463463374607431768211456/"
     refused 'NumberTooLarge at 559891'
-    changed "$(at 8191 50)s/.*/TN:u/"
-    refused 'Inside at 917332'
+    changed "$(at 8145 50)s/.*/TN:u/"
+    refused 'Inside at 912180'
     changed "$(at 10240 110)s/.*/LH:-1/"
     refused 'BadLine at 1146880'
     changed '$d'
@@ -230,24 +230,24 @@ END
     sed '$d' seventy.info >bad.info
     call "$COVCOLLECT" summary --large --jobs 2 bad.info ten.info
     told_alone 4 'summary --large: 70 MiB that were cut off' 'bad.info: refused OpenEnd'
-    changed "$(at 4096)s/.*/DA:1,1/"
+    changed "$(at 4073)s/.*/DA:1,1/"
     call "$COVCOLLECT" extract --large bad.info '*'
-    told_alone 4 'extract --large: a fault in the second piece' 'bad.info: refused Outside at 458642'
+    told_alone 4 'extract --large: a fault in the second piece' 'bad.info: refused Outside at 456066'
 }
 
 @test "names of tests go over" {
     local long
     {
-        echo TN:t; sections 1 4094 1
-        echo TN:u; sections 4095 8000 1
+        echo TN:t; sections 1 4071 1
+        echo TN:u; sections 4072 8000 1
         printf '\nTN:x\nTN:v\n\n'; sections 8001 10000 1
         echo TN:; sections 10001 10240 1
     } >names.info
-    { sections 1 4094 1 'TN:t\n'; sections 4095 8000 1 'TN:u\n'; sections 8001 10000 1 'TN:v\n'; sections 10001 10240 1 'TN:\n'; } >wanted
+    { sections 1 4071 1 'TN:t\n'; sections 4072 8000 1 'TN:u\n'; sections 8001 10000 1 'TN:v\n'; sections 10001 10240 1 'TN:\n'; } >wanted
     both wanted 'merge --large: names that go over' merge names.info
     # The name changes just between the pieces.
-    { echo TN:t; sections 1 4095 1; printf 'TN:u\r\n'; sections 4096 8190 1; echo TN:; sections 8191 10240 1; } >names.info
-    { sections 1 4095 1 'TN:t\n'; sections 4096 8190 1 'TN:u\n'; sections 8191 10240 1 'TN:\n'; } >wanted
+    { echo TN:t; sections 1 4072 1; printf 'TN:u\r\n'; sections 4073 8144 1; echo TN:; sections 8145 10240 1; } >names.info
+    { sections 1 4072 1 'TN:t\n'; sections 4073 8144 1 'TN:u\n'; sections 8145 10240 1 'TN:\n'; } >wanted
     both wanted 'merge --large: names between pieces' merge names.info
     # No name at all, and a long one. The file has two pieces of the same sections.
     { sections 1 4000 1; sections 1 4000 1; } >names.info
@@ -261,21 +261,21 @@ END
 
 @test "groups of functions go over" {
     bring ten.info wanted.1
-    # Section 4095 is the last of its piece. Totals behind it say nothing, as long as its FNL: line is the last one.
-    sed -e "$(at 4095)s/$/\nFNL:0,5\nFNA:0,3,f\nFNA:0,0,g\nFNF:1/" -e "$(at 4095 111)s/$/\nFNF:1\nFNH:1/" ten.info >bad.info
-    sed "/004095/s/$/\nFN:5,f\nFN:5,g\nFNDA:3,f\nFNDA:0,g\nFNF:2\nFNH:1/" wanted.1 >wanted
+    # Section 4072 is the last of its piece. Totals behind it say nothing, as long as its FNL: line is the last one.
+    sed -e "$(at 4072)s/$/\nFNL:0,5\nFNA:0,3,f\nFNA:0,0,g\nFNF:1/" -e "$(at 4072 111)s/$/\nFNF:1\nFNH:1/" ten.info >bad.info
+    sed "/004072/s/$/\nFN:5,f\nFN:5,g\nFNDA:3,f\nFNDA:0,g\nFNF:2\nFNH:1/" wanted.1 >wanted
     both wanted 'merge --large --lcov2: a total in the next piece' merge --lcov2 bad.info
     echo 'bad.info: sections 10240 items 1105924 odd 0 skipped 0' >wanted
     both wanted 'check --large --lcov2: the same' check --lcov2 bad.info
-    refused 'Outside at 458646'
-    sed -e "$(at 4095)s/$/\nFNL:0,5/" -e "$(at 4096 111)s/$/\nFNF:1/" ten.info >bad.info
-    refused 'Outside at 458755' --lcov2
-    sed -e "$(at 4095)s/$/\nFNL:0,5/" -e "$(at 4096)s/$/\nFNA:0,1,f/" ten.info >bad.info
-    refused 'Misplaced at 458644' --lcov2
-    changed "$(at 4095 111)s/$/\nFNH:1/"
-    refused 'Outside at 458642' --lcov2
+    refused 'Outside at 456070'
+    sed -e "$(at 4072)s/$/\nFNL:0,5/" -e "$(at 4073 111)s/$/\nFNF:1/" ten.info >bad.info
+    refused 'Outside at 456179' --lcov2
+    sed -e "$(at 4072)s/$/\nFNL:0,5/" -e "$(at 4073)s/$/\nFNA:0,1,f/" ten.info >bad.info
+    refused 'Misplaced at 456068' --lcov2
+    changed "$(at 4072 111)s/$/\nFNH:1/"
+    refused 'Outside at 456066' --lcov2
     # Below an FNL: line of its own section a total says nothing, below that of another one it is odd.
-    sed -e "$(at 4095)s/$/\nFNL:0,5/" -e "$(at 4096)s/$/\nFNF:1/" -e "$(at 4097)s/$/\nFNL:1,2\nFNF:1/" ten.info >other.info
+    sed -e "$(at 4072)s/$/\nFNL:0,5/" -e "$(at 4073)s/$/\nFNF:1/" -e "$(at 4074)s/$/\nFNL:1,2\nFNF:1/" ten.info >other.info
     echo 'other.info: sections 10240 items 1105920 odd 1 skipped 0' >wanted
     both wanted 'check --large --lcov2: the next path ends a group' check --lcov2 other.info
 }
@@ -410,38 +410,38 @@ line2='sections 10240 items 1105920 odd 3 skipped 1 first COUNT at 560000'
     bring ten.info
     # The last piece has a checksum, and so has another file.
     sed "$(at 10240 1)s/$/,x/" ten.info >one.info
-    printf 'SF:/project/ab/010240.c\nDA:100,1,y\nend_of_record\n' >two.info
+    printf 'SF:/projects/library/010240.c\nDA:100,1,y\nend_of_record\n' >two.info
     for words in 'one.info two.info' 'two.info one.info'; do
         # shellcheck disable=SC2086
         call "$COVCOLLECT" merge --large $words
         [ "${words%% *}" = one.info ] && set -- x y || set -- y x
-        told_alone 4 "merge --large: $words clash" "clash /project/ab/010240.c 100 $1 $2"
+        told_alone 4 "merge --large: $words clash" "clash /projects/library/010240.c 100 $1 $2"
     done
     call "$COVCOLLECT" merge --large --jobs 2 one.info two.info
     ended 4 'merge --large: a clash by two jobs'
-    clashes 'merge --large: it is told' /project/ab/010240.c 100 x y
+    clashes 'merge --large: it is told' /projects/library/010240.c 100 x y
     # Within one file, and then within one piece.
     { cat one.info; sed 's/,y/,z/' two.info; } >three.info
     call "$COVCOLLECT" merge --large three.info
-    told_alone 4 'merge --large: a piece clashes with itself' 'clash /project/ab/010240.c 100 x z'
+    told_alone 4 'merge --large: a piece clashes with itself' 'clash /projects/library/010240.c 100 x z'
     sed "$(at 1 1)s/$/,a/" ten.info >three.info
-    printf 'SF:/project/ab/000001.c\nDA:7,1\nDA:100,1,b\nend_of_record\n' >>three.info
+    printf 'SF:/projects/library/000001.c\nDA:7,1\nDA:100,1,b\nend_of_record\n' >>three.info
     call "$COVCOLLECT" merge --large three.info
-    told_alone 4 'merge --large: the first piece and the last one clash' 'clash /project/ab/000001.c 100 a b'
+    told_alone 4 'merge --large: the first piece and the last one clash' 'clash /projects/library/000001.c 100 a b'
     call "$COVCOLLECT" merge three.info
-    told_alone 4 'merge: so they do without the option' 'clash /project/ab/000001.c 100 a b'
+    told_alone 4 'merge: so they do without the option' 'clash /projects/library/000001.c 100 a b'
     # Each piece that clashes is told: it is a submission of its own. Without the option the first line of the file is.
     sed -e "$(at 1 1)s/$/,a/" -e "$(at 10240 1)s/$/,b/" ten.info >three.info
-    printf 'SF:/project/ab/%s.c\nDA:100,1,%s\nend_of_record\n' 000001 x 010240 y >two.info
+    printf 'SF:/projects/library/%s.c\nDA:100,1,%s\nend_of_record\n' 000001 x 010240 y >two.info
     call "$COVCOLLECT" merge --large two.info three.info
-    told_alone 4 'merge --large: two pieces clash' 'clash /project/ab/000001.c 100 x a' 'clash /project/ab/010240.c 100 y b'
+    told_alone 4 'merge --large: two pieces clash' 'clash /projects/library/000001.c 100 x a' 'clash /projects/library/010240.c 100 y b'
     call "$COVCOLLECT" merge two.info three.info
-    told_alone 4 'merge: the file clashes once' 'clash /project/ab/000001.c 100 x a'
+    told_alone 4 'merge: the file clashes once' 'clash /projects/library/000001.c 100 x a'
     # The pieces before a fault stay.
     sed -e "$(at 1 1)s/$/,a/" -e '$d' ten.info >one.info
-    printf 'SF:/project/ab/000001.c\nDA:100,1,b\nend_of_record\n' >two.info
+    printf 'SF:/projects/library/000001.c\nDA:100,1,b\nend_of_record\n' >two.info
     call "$COVCOLLECT" merge --large one.info two.info
-    told_alone 4 'merge --large: a piece before a fault clashes' 'one.info: refused OpenEnd' 'clash /project/ab/000001.c 100 a b'
+    told_alone 4 'merge --large: a piece before a fault clashes' 'one.info: refused OpenEnd' 'clash /projects/library/000001.c 100 a b'
 }
 
 @test "files that can't be read" {

@@ -116,7 +116,7 @@ fn the_longest_section(rt: HostRuntime) -> Result<(), Fail> {
         let mut text =
             Vec::from_slice(rt.alloc(), b"TN:t\nSF:/a.c\nend_of_record\nSF:/b.c\nDA:7,0\n")?;
         text.extend_from_slice(&line.as_slice()[..67_108_829 + more])?;
-        text.extend_from_slice(b"\nend_of_record\n")?;
+        text.extend_from_slice(b"\nend_of_record\nx\n")?;
         let told = read_pieces(rt.alloc(), LcovVersion::One, text.as_slice(), WELL)?;
         check_words(&rt, &told, wanted);
     }

@@ -210,6 +210,8 @@ fn other_words(rt: HostRuntime) -> Result<(), Fail> {
         &rt,
         process::id(rt.process()),
         "\
+> /dev/zero: refused TooLong
+$ 4 covcollect check --gcov --large /dev/zero
         -:    0:Source:a.c
         2:    1:f();
 @ a.gcov
@@ -218,8 +220,6 @@ $ 0 covcollect check --gcov --large ~/a.gcov
 > ~/a.gcov: sections 0 items 0 odd 0 skipped 2 first ????????- at 1
 ! ~/a.gcov: no items
 $ 5 covcollect check --large ~/a.gcov
-> /dev/zero: refused TooLong
-$ 4 covcollect check --gcov --large /dev/zero
 ! error: unexpected argument '--large' found...
 $ 2 covcollect gcov --test t --large ~/a.gcov
 ! error: unexpected argument '--large' found...
