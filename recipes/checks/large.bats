@@ -392,6 +392,14 @@ line2='sections 10240 items 1105920 odd 3 skipped 1 first COUNT at 560000'
 
 @test "no section" {
     local flag
+    # What follows the last section is a piece of its own.
+    { printf 'SF:/a.c\nDA:1,1\nend_of_record\n'; head -c 67108000 /dev/zero | tr '\0' '\n'; } >long.info
+    printf 'TN:\nSF:/a.c\nDA:1,1\nLF:1\nLH:1\nend_of_record\n' >wanted
+    both wanted 'merge --large: 64 MB of line feeds at the end' merge long.info
+    head -c 67109000 /dev/zero | tr '\0' '\n' >>long.info
+    call "$COVCOLLECT" merge --large long.info
+    told_alone 4 'merge --large: more than a piece may have without a section' 'long.info: refused TooLong'
+    rm long.info
     both /dev/null 'merge --large: an empty file' merge /dev/null
     repeated '# no section' 800000 >none.info
     both /dev/null 'merge --large: 10 MB of other lines' merge none.info

@@ -8,8 +8,8 @@ use std::alloc::Global;
 use std::process::Abort;
 use std::test::*;
 
-/// What is read of `bytes` behind `text`, and how many reads were made. A source that gives at most two bytes in a read is asked for at
-/// most three.
+/// What is read of `bytes` behind `text`, at most `most` bytes and 100, and how many reads were made. A source that gives at most two
+/// bytes in a read is asked for at most three.
 fn read(
     alloc: Global,
     text: &[u8],
@@ -26,7 +26,7 @@ fn read(
     };
     let mut block = vec![in alloc; 0; 3]?;
     let begun = Bytes::of(alloc, text)?;
-    match read_at_most(begun, &mut source, block.as_mut_slice(), most) {
+    match read_at_most(begun, &mut source, block.as_mut_slice(), most.min(100)) {
         Ok(all) => Ok(Ok((all, source.reads))),
         Err(fault) => Ok(Err(fault)),
     }
@@ -60,10 +60,10 @@ fn reads(rt: HostRuntime) -> Result<(), Fail> {
 #[test]
 fn failed_reads(rt: HostRuntime) -> Result<(), Fail> {
     let first = read(rt.alloc(), b"x", b"abc", 1, 4)?;
-    assert!(&rt; matches!(first, Err(SessionFault::Read)), "the first read");
+    assert!(rt; matches!(first, Err(SessionFault::Read)), "the first read");
     let third = read(rt.alloc(), b"", b"abcdef", 3, 5)?;
-    assert!(&rt; matches!(third, Err(SessionFault::Read)), "the third read");
+    assert!(rt; matches!(third, Err(SessionFault::Read)), "the third read");
     let two = read(rt.alloc(), b"", b"abcdef", 3, 4)?;
-    assert!(&rt; matches!(two, Ok((_, 2))), "two reads");
+    assert!(rt; matches!(two, Ok((_, 2))), "two reads");
     Ok(())
 }
