@@ -450,6 +450,13 @@ line2='sections 10240 items 1105920 odd 3 skipped 1 first COUNT at 560000'
     printf 'SF:/projects/library/000001.c\nDA:100,1,b\nend_of_record\n' >two.info
     call "$COVCOLLECT" merge --large one.info two.info
     told_alone 4 'merge --large: a piece before a fault clashes' 'one.info: refused OpenEnd' 'clash /projects/library/000001.c 100 a b'
+    # So do all but the last piece of a file that isn't clean, which is told only if nothing clashes.
+    { sed "$(at 1 1)s/$/,a/" ten.info; echo x; } >one.info
+    call "$COVCOLLECT" merge --large --strict one.info two.info
+    told_alone 4 'merge --large --strict: a piece of an unclean file clashes' 'clash /projects/library/000001.c 100 a b'
+    sed -i 's/,b$/,a/' two.info
+    call "$COVCOLLECT" merge --large --strict one.info two.info
+    told_alone 5 'merge --large --strict: and without a clash' 'one.info: sections 10240 items 1105920 odd 0 skipped 1 first x at 1146882'
 }
 
 @test "files that can't be read" {

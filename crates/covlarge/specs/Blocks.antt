@@ -1,12 +1,19 @@
 -- Private steps: how blocks of a source are read.
 use Rattle.std.specs.Io.KnownBytes.{Consumes, IsAtEnd}
 use Rattle.std.specs.Prelude.{◌≡◌, ◌⊎◌, ◌<◌, ◌≤◌, ℕ, suc, List, ◌++◌, length, Option}
+use Rattle.covlarge.specs.declared.fault.PieceFault.{PieceFault}
+use Rattle.covlarge.specs.declared.fault.PieceFault.TheVariants.{Unreadable, Memory}
 use Rattle.covsession.specs.declared.session.fault.SessionFault.{SessionFault}
 use Rattle.covsession.specs.declared.session.fault.SessionFault.TheVariants as faults
 
 -- all bytes that were left were read, or exactly `most` bytes
 abbrev pub HasReadAtMost : ℕ → Option (List ℕ) → Option (List ℕ) → List ℕ → Type 0
 HasReadAtMost most left left_after text = Consumes left left_after text × (IsAtEnd left_after ⊎ (length text ≡ most))
+
+-- these bytes were read so, and they were appended to the text
+abbrev pub HasReadOn : ℕ → (left left_after : Option (List ℕ)) → (text text_after : List ℕ) → Type 0
+HasReadOn most left left_after text text_after =
+    (bytes : List ℕ) × HasReadAtMost most left left_after bytes × (text_after ≡ text ++ bytes) × (length bytes ≤ most)
 
 -- one read of at most `room` bytes, which are appended to the text. If the read gave no bytes, the source is at its end, unless
 -- `room` is 0
@@ -21,3 +28,10 @@ IsReadFault left left_after failed failed_after faults.Read = (bytes : List ℕ)
 IsReadFault left left_after failed failed_after faults.Memory = Unit {0}
 IsReadFault left left_after failed failed_after faults.Write = ⊥
 IsReadFault left left_after failed failed_after faults.Full = ⊥
+
+-- a fault of reading, as the fault of a piece
+abbrev pub of_read : SessionFault → PieceFault
+of_read faults.Memory = Memory
+of_read faults.Read = Unreadable
+of_read faults.Write = Unreadable
+of_read faults.Full = Unreadable

@@ -1,5 +1,10 @@
 pub mod Version
 pub mod Summary
+pub mod HeldView
 pub mod Large
+pub mod StateData
 pub mod State
 pub mod Blocks
+pub mod PieceData
+pub mod Found
+pub mod Piece

@@ -1,9 +1,10 @@
 -- Private steps: a tracefile of which some pieces were read, and what may still come of it.
 use Rattle.std.specs.Io.KnownBytes.{Consumes}
-use Rattle.std.specs.Prelude.{◌≡◌, ◌⊎◌, ◌<◌, ◌≤◌, ◌+◌, ℕ, List, [], ◌∷◌, ◌++◌, length, option_map, Option, Some, None, Result, Ok, Err}
+use Rattle.std.specs.Prelude.{◌≡◌, ◌⊎◌, ◌<◌, ◌≤◌, ℕ, List, [], ◌∷◌, ◌++◌, length, option_map, Option, Some, Result, Ok, Err}
 use Rattle.std.specs.List.{concat}
 use Rattle.covcommand.specs.declared.asked.LcovVersion.{LcovVersion}
 use Rattle.covlarge.specs.Large.{BeginsTooLong, IsAll, MayBeReadAs, max_pieces}
+use Rattle.covlarge.specs.StateData.{StateData}
 use Rattle.covlarge.specs.Summary.{HoldsOnIfTold, SummaryData}
 use Rattle.covlarge.specs.Version.{IsOutcomeOf, IsSkippedOf, carried_over}
 use Rattle.covlarge.specs.declared.fault.PieceFault.{PieceFault}
@@ -16,15 +17,9 @@ use Rattle.covpieces.specs.Sections.{EndsSection}
 use Rattle.covread.specs.declared.fault.ReadFault.{ReadFault}
 use Rattle.covread.specs.declared.fault.ReadFault.TheVariants.{TooLong}
 
--- a tracefile of which some pieces were read: its version; what goes over to the next piece; what the pieces hold, if that is asked
--- for; how many more pieces may be read; the bytes that were read and aren't in a piece yet; and the source of the bytes after them
-pub record StateData (S : Type 0) : Type 0 where
-  pub version : LcovVersion
-  pub carried : CarriedData
-  pub held : Option SummaryData
-  pub left : ℕ
-  pub rest : List ℕ
-  pub source : S
+-- before the first piece
+abbrev pub begun_state : {S : Type 0} → LcovVersion → Option SummaryData → S → StateData S
+begun_state version held source = record { version = version; carried = nothing_carried; held = held; left = max_pieces; rest = []; source = source }
 
 -- the bytes of the tracefile that are still to come, if they are known
 abbrev pub to_come : {S : Type 0} → (left : S → Option (List ℕ)) → StateData S → Option (List ℕ)
@@ -41,16 +36,6 @@ pub record IsFaultyPiece (version : LcovVersion) (carried : CarriedData) (rest :
   pub outcome : IsOutcomeOf version (front_text carried ++ piece) (Err found)
   pub is : fault ≡ told carried found
 
--- some pieces of the text were read, from a state on, and then its end is read, or reading stops
-pub record GoesOn {S : Type 0} (state : StateData S) (text : List ℕ) (read : List SubmissionData) (end : Result (Option SummaryData) ReadFault) : Type 0 where
-  pub pieces : List (List ℕ)
-  pub before : List SubmissionData
-  pub last : CarriedData
-  pub rest : List ℕ
-  pub together : text ≡ concat pieces ++ rest
-  pub each : HaveBeenRead (IsOutcomeOf state.version) (carried_over state.version) state.carried pieces before last
-  pub ends : EndsAs state text before last rest read end
-
 -- how reading ends: the rest is the last piece; or a piece is refused, or the rest begins with a section that is too long, or no
 -- more pieces are read
 abbrev pub EndsAs : {S : Type 0} → StateData S → (text : List ℕ) → (before : List SubmissionData) → (last : CarriedData) → (rest : List ℕ) → (read : List SubmissionData)
@@ -62,6 +47,16 @@ EndsAs state text before last rest read (Err fault) =
     (read ≡ before)
     × (IsFaultyPiece state.version last rest fault
     ⊎ ((fault ≡ TooLong) × (BeginsTooLong (front_text last) rest ⊎ (state.left ≤ length before))))
+
+-- some pieces of the text were read, from a state on, and then its end is read, or reading stops
+pub record GoesOn {S : Type 0} (state : StateData S) (text : List ℕ) (read : List SubmissionData) (end : Result (Option SummaryData) ReadFault) : Type 0 where
+  pub pieces : List (List ℕ)
+  pub before : List SubmissionData
+  pub last : CarriedData
+  pub rest : List ℕ
+  pub together : text ≡ concat pieces ++ rest
+  pub each : HaveBeenRead (IsOutcomeOf state.version) (carried_over state.version) state.carried pieces before last
+  pub ends : EndsAs state text before last rest read end
 
 -- what may come of the tracefile from a state on
 abbrev pub MayGive : {S : Type 0} → (left : S → Option (List ℕ)) → StateData S → (read : List SubmissionData) → Result (Option SummaryData) ReadFault → Type 0

@@ -1,5 +1,5 @@
 -- What a tracefile of any length holds: as covcheck has it, with numbers of 64 bits.
-use Rattle.std.specs.Prelude.{◌≡◌, ◌×◌, ℕ, ◌+◌, ◌-◌, ◌^◌, min, List, [], ◌∷◌, length, Option, Some, None}
+use Rattle.std.specs.Prelude.{◌≡◌, ℕ, ◌+◌, ◌-◌, ◌^◌, min, List, [], ◌∷◌, length, Option, Some, None}
 use Rattle.std.specs.List.{enumerate_from}
 use Rattle.covcheck.specs.Skipped.{AreAllThat, start_of}
 use Rattle.covcheck.specs.TextSummary.{AreLinesThat}

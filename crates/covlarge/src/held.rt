@@ -1,9 +1,9 @@
 //! What the pieces of a tracefile hold together.
 
-ghost use Rattle.std.specs.Prelude.{◌≡◌, ◌≤◌, ◌^◌, length, IfOk, OnOk, option_map};
-ghost use Rattle.covlarge.specs.Summary.{HoldsOn, nothing_held, or_first, skipped_data, summary_data};
+ghost use Rattle.std.specs.Prelude.{◌≡◌, IfOk, OnOk, OnErr};
+ghost use Rattle.covlarge.specs.HeldView.{first_data, format_of, moved_line, with_first, with_numbers};
+ghost use Rattle.covlarge.specs.Summary.{HoldsOn, nothing_held, skipped_data, summary_data};
 ghost use Rattle.covlarge.specs.Version.{IsSkippedOf};
-ghost use Rattle.covline.specs.Row.{SubmissionData};
 
 use covcheck::{Format, SkippedLine, TextSummary, summary_of};
 use covcommand::LcovVersion;
@@ -11,7 +11,7 @@ use covline::{Bytes, Memory, Submission};
 use std::alloc::Global;
 use std::marker::Model;
 
-/// The first line that isn't read: its number, and its beginning.
+/// The first line that isn't read: its number in the whole text, and its beginning.
 #[derive(Drop)]
 struct FirstSkipped {
     at: u64,
@@ -52,7 +52,8 @@ impl Held {
         }
     }
 
-    /// Adds what the next piece holds, which was read as this submission. `lines`: how many lines the pieces before it have.
+    /// Adds what the next piece holds, which was read as this submission. The pieces before it have `lines` lines. Nothing is added
+    /// if memory runs out.
     pub(crate) fn add(
         &mut self,
         alloc: Global,
@@ -61,17 +62,39 @@ impl Held {
         piece: &[u8],
         submission: &Submission,
     ) -> Result<(), Memory>
-        ensures { OnOk result (HoldsOn (IsSkippedOf version) lines self.old piece.now submission.now self.new) }
+        ensures added { OnOk result (HoldsOn (IsSkippedOf version) lines self.old piece.now submission.now self.new) }
+        ensures kept { OnErr result (self.new ≡ self.old) }
     {
         let summary = summary_of(submission, piece, format_of(version));
+        self.keep_first(alloc, lines, summary.first)?;
+        self.add_numbers(&summary);
+        Ok(())
+    }
+
+    /// Keeps the line of the next piece if no line was kept before. The pieces before it have `lines` lines.
+    fn keep_first(
+        &mut self,
+        alloc: Global,
+        lines: u64,
+        line: Option<SkippedLine<'_>>,
+    ) -> Result<(), Memory>
+        ensures added { OnOk result (self.new ≡ with_first self.old (moved_line lines line.entry)) }
+        ensures kept { OnErr result (self.new ≡ self.old) }
+    {
         if self.first.is_none() {
-            self.first = first_skipped(alloc, lines, summary.first)?;
+            self.first = first_skipped(alloc, lines, line)?;
         }
+        Ok(())
+    }
+
+    /// Adds the numbers of the next piece.
+    fn add_numbers(&mut self, summary: &TextSummary<'_>)
+        ensures { self.new ≡ with_numbers self.old summary.now }
+    {
         self.sections = self.sections.saturating_add(summary.sections);
         self.items = self.items.saturating_add(summary.items);
         self.odd = self.odd.saturating_add(summary.odd);
         self.skipped = self.skipped.saturating_add(summary.skipped);
-        Ok(())
     }
 
     /// The same as covcheck has it.
@@ -88,8 +111,39 @@ impl Held {
     }
 }
 
+/// A copy of a piece's line, with its number in the whole text. The pieces before it have `lines` lines.
+fn first_skipped(
+    alloc: Global,
+    lines: u64,
+    line: Option<SkippedLine<'_>>,
+) -> Result<Option<FirstSkipped>, Memory>
+    ensures { IfOk result (λ first. first_data first ≡ moved_line lines line.entry) }
+{
+    match line {
+        Some(line) => Ok(Some(FirstSkipped {
+            at: lines.saturating_add(line.at),
+            start: Bytes::of(alloc, line.start)?,
+        })),
+        None => Ok(None),
+    }
+}
+
+/// The line as covcheck has it.
+fn skipped_line(first: &Option<FirstSkipped>) -> Option<SkippedLine<'_>>
+    ensures { skipped_data result ≡ first_data first.now }
+{
+    match first {
+        Some(line) => Some(SkippedLine {
+            start: line.start.get(),
+            at: line.at,
+        }),
+        None => None,
+    }
+}
+
 /// How covcheck names tracefiles of this version.
 fn format_of(version: LcovVersion) -> Format
+    ensures { result ≡ format_of version }
 {
     match version {
         LcovVersion::One => Format::Trace,

@@ -1,40 +1,167 @@
 //! A tracefile that is read piece by piece.
 
-ghost use Rattle.std.specs.Prelude.{◌≡◌, ◌<◌, ◌≤◌, ◌+◌, ◌-◌, ◌*◌, ◌^◌, IfOk};
+ghost use Rattle.std.specs.Prelude.{◌≡◌, ℕ, List, [], ◌∷◌, None, Some, Option, Result, Ok as Fine, IfOk, IsSome};
 ghost use Rattle.covlarge.specs.Large.{MayBeReadAs, max_pieces};
-ghost use Rattle.covlarge.specs.State.{IsNextPiece, MayGive};
+ghost use Rattle.covlarge.specs.State.{IsNextPiece, MayGive, begun_state};
+ghost use Rattle.covlarge.specs.Summary.{SummaryData, nothing_held};
+ghost use Rattle.covline.specs.Row.{SubmissionData};
+ghost use Rattle.covpieces.specs.Pieces.{front_text};
+ghost use Rattle.covread.specs.declared.fault.ReadFault.{ReadFault as Fault};
 
+use crate::blocks::BLOCK_BYTES;
 use crate::fault::PieceFault;
 use crate::held::Held;
+use crate::piece_text::{Found, PieceText};
+use crate::so_far::SoFar;
 use covbook::SubRef;
 use covcommand::LcovVersion;
-use covline::Bytes;
-use covpieces::Carried;
+use covline::{Bytes, Memory};
+use covpieces::{Carried, pieces_are_read_one_by_one};
+use covread::ReadFault;
 use covsession::Source;
 use std::alloc::Global;
 use std::marker::Model;
 
-/// The most pieces that a tracefile may have. Two pieces after each other have together at least 4 MiB, so a tracefile of less than
-/// 2 TiB has fewer.
-const MAX_PIECES: u64 = 1_048_576;
+/// The most pieces that a tracefile may have. Two pieces after each other have together at least 4 MiB, unless a test's name is nearly
+/// as long as a text may be. So a tracefile of less than 2 TiB has fewer.
+pub const MAX_PIECES: u64 = 1_048_576;
 
 /// A tracefile that is read piece by piece, from a source of its bytes. Contracts see its version, what goes over to the next piece,
 /// what the pieces so far hold, how many pieces may be left, and the bytes to come.
 #[derive(Drop)]
-pub struct LargeTracefile<S> {
-    version: LcovVersion,
-    carried: Carried,
-    held: Option<Held>,
+pub struct LargeTracefile<S: Source> {
+    so_far: SoFar,
     left: u64,
     rest: Bytes,
     source: S,
 }
 
+impl<S: Source> Model for LargeTracefile<S> {
+    ghost use Rattle.covlarge.specs.StateData.{StateData, IsWithin};
+
+    ghost Value = { StateData S };
+
+    ghost view = { λ a. record {
+      version = a.so_far.version;
+      carried = a.so_far.carried;
+      held = a.so_far.held;
+      left = a.left;
+      rest = a.rest;
+      source = a.source;
+    } };
+
+    ghost invariant = { λ a. IsWithin a.left a.so_far.carried.lines (S.reads a.source) (S.failed_reads a.source) };
+}
+
 /// The next piece of a tracefile.
 #[derive(Drop)]
-pub enum NextPiece<S> {
+pub enum NextPiece<S: Source> {
     /// The last piece, and what the whole tracefile holds, if that was asked for.
     Last(SubRef, Option<Held>),
     /// A piece, and the rest of the tracefile.
     More(SubRef, LargeTracefile<S>),
+}
+
+impl<S: Source + Drop> LargeTracefile<S> {
+    /// The tracefile of the bytes that are left in the source. Whatever is read of it, piece by piece, is what the whole is read as.
+    pub fn new(alloc: Global, version: LcovVersion, source: S) -> LargeTracefile<S>
+        requires reads { S.reads source ≡ 0 }
+        requires failed_reads { S.failed_reads source ≡ 0 }
+        ensures whole { (read : List SubmissionData) (end : Result (Option SummaryData) Fault) → MayGive S.left result read end → MayBeReadAs version (S.left source) read end }
+        ensures source { result.source ≡ source }
+        ensures left { result.left ≡ max_pieces }
+        ensures held { result.held ≡ None }
+    {
+        pieces_are_read_one_by_one();
+        LargeTracefile::begun(alloc, version, None, source)
+    }
+
+    /// The same. At its end what the whole tracefile holds is told.
+    pub fn summed(alloc: Global, version: LcovVersion, source: S) -> LargeTracefile<S>
+        requires reads { S.reads source ≡ 0 }
+        requires failed_reads { S.failed_reads source ≡ 0 }
+        ensures whole { (read : List SubmissionData) (end : Result (Option SummaryData) Fault) → MayGive S.left result read end → MayBeReadAs version (S.left source) read end }
+        ensures told { (read : List SubmissionData) (told : Option SummaryData) → MayGive S.left result read (Fine told) → IsSome told }
+        ensures source { result.source ≡ source }
+        ensures left { result.left ≡ max_pieces }
+        ensures held { result.held ≡ Some nothing_held }
+    {
+        pieces_are_read_one_by_one();
+        LargeTracefile::begun(alloc, version, Some(Held::new()), source)
+    }
+
+    /// The tracefile before its first piece.
+    fn begun(
+        alloc: Global,
+        version: LcovVersion,
+        held: Option<Held>,
+        source: S,
+    ) -> LargeTracefile<S>
+        requires reads { S.reads source ≡ 0 }
+        requires failed_reads { S.failed_reads source ≡ 0 }
+        ensures { result ≡ begun_state version held source }
+    {
+        LargeTracefile {
+            so_far: SoFar {
+                version,
+                carried: Carried::new(alloc),
+                held,
+            },
+            left: MAX_PIECES,
+            rest: Bytes::new(alloc),
+            source,
+        }
+    }
+
+    /// How many pieces may still be read.
+    pub fn most_pieces(&self) -> u64
+        ensures { result ≡ self.now.left }
+    {
+        self.left
+    }
+
+    /// Reads the next piece: whole sections, or the end of the tracefile. Whatever the rest gives, the tracefile gives with this
+    /// piece's submission in front.
+    pub fn next_piece(self, alloc: Global) -> Result<NextPiece<S>, PieceFault>
+        ensures { IsNextPiece S.left S.failed_reads self result }
+    {
+        if self.left == 0 {
+            return Err(PieceFault::Refused(ReadFault::TooLong));
+        }
+        let LargeTracefile {
+            mut so_far,
+            left,
+            rest,
+            mut source,
+        } = self;
+        let begun = begun_text(alloc, &so_far.carried, rest)?;
+        let mut block = vec![in alloc; 0; BLOCK_BYTES]?;
+        let (text, found) = begun.read_on(&mut source, block.as_mut_slice())?;
+        match found {
+            Found::Last => {
+                let (submission, held) = so_far.last_piece(alloc, &text)?;
+                Ok(NextPiece::Last(submission, held))
+            }
+            Found::Sections(len) => {
+                let submission = so_far.next_piece(alloc, &text, len)?;
+                let rest = Bytes::of(alloc, &text.bytes()[len..])?;
+                let next = LargeTracefile {
+                    so_far,
+                    left: left - 1,
+                    rest,
+                    source,
+                };
+                Ok(NextPiece::More(submission, next))
+            }
+            Found::TooLong => Err(PieceFault::Refused(ReadFault::TooLong)),
+        }
+    }
+}
+
+/// The front of the next piece, and behind it the bytes that are in no piece yet.
+fn begun_text(alloc: Global, carried: &Carried, rest: Bytes) -> Result<PieceText, Memory>
+    ensures front { IfOk result (λ t. t.front ≡ front_text carried.now) }
+    ensures bytes { IfOk result (λ t. t.bytes ≡ rest) }
+{
+    PieceText::begun(alloc, carried, rest.get())
 }

@@ -26,9 +26,10 @@ mod fault;
 mod held;
 mod large_tracefile;
 mod piece_text;
+mod so_far;
 
-pub use blocks::read_at_most;
+pub use blocks::{BLOCK_BYTES, read_at_most};
 pub use check::check_large;
 pub use fault::PieceFault;
 pub use held::Held;
-pub use large_tracefile::{LargeTracefile, NextPiece};
+pub use large_tracefile::{LargeTracefile, MAX_PIECES, NextPiece};

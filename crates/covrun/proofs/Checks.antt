@@ -150,6 +150,14 @@ examined_unread folder format strictness file shown is may (Ok report) reported 
     (Unread, may, subst (λ (name : List ℕ). IsReportOf strictness name Unread report) is reported)
 examined_unread folder format strictness file shown is may (Err fault) reported ended = ended
 
+-- a file with this outcome is reported as such
+pub examined_outcome : (folder : FolderData) (format : CheckedFormat) (strictness : Strictness) (file shown : List ℕ) → shown ≡ shown_name file → (outcome : OutcomeData) → IsOutcome folder format file outcome
+    → (result : Result FileReport SessionFault) → IfOk result (IsReportOf strictness shown outcome) → IfErr result (λ fault. fault ≡ faults.Memory)
+    → IsExamined folder format strictness file result
+examined_outcome folder format strictness file shown is outcome may (Ok report) reported ended =
+    (outcome, may, subst (λ (name : List ℕ). IsReportOf strictness name outcome report) is reported)
+examined_outcome folder format strictness file shown is outcome may (Err fault) reported ended = ended
+
 -- the report on an outcome is written as the outcome is reported
 written_report : (strictness : Strictness) (shown : List ℕ) (outcome : OutcomeData) (report : FileReport) (answer : Result CheckVerdict SessionFault) (b d : SinksData) → IsReportOf strictness shown outcome report
     → Reports report.line.items report.complaint.items report.verdict answer b d → ReportsFile strictness shown outcome answer b d

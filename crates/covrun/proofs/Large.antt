@@ -1,26 +1,37 @@
 -- Tracefiles of any length: what the file of an open source may give, and how one piece is taken after others.
 use Rattle.std.specs.Io.KnownBytes.{Keeps}
-use Rattle.std.proofs.Common.{◌≡◌, ◌⊎◌, inl, inr, ℕ, ◌<◌, Bool, true, false, List, [], ◌∷◌, ◌++◌, Option, Some, None, Result, Ok, Err, refl, sym, ap, ◌∙◌, subst}
+use Rattle.std.proofs.Common.{◌≡◌, ◌⊎◌, inl, inr, ℕ, ◌<◌, Bool, true, false, List, [], ◌∷◌, ◌++◌, Option, Some, None, Result, Ok, Err, refl, sym, ap, ◌∙◌, subst, arith}
 use Rattle.covcheck.specs.SummaryLine.{summary_text}
 use Rattle.covcheck.specs.declared.text_summary.TextSummary.{TextSummary}
 use Rattle.covcommand.specs.declared.asked.LcovVersion.{LcovVersion}
 use Rattle.covcommand.specs.declared.asked.Strictness.{Strictness}
 use Rattle.covcommand.specs.declared.asked.Strictness.TheVariants.{Lenient, Strict}
 use Rattle.covjobs.specs.Collect.{OutcomeData}
+use Rattle.covjobs.specs.Late.{IsLateOutcome, IsNextPart}
 use Rattle.covjobs.specs.Work.{in_front}
+use Rattle.covjobs.specs.declared.late_fault.LateFault.{LateFault}
+use Rattle.covjobs.specs.declared.late_fault.LateFault.TheVariants as late
+use Rattle.covjobs.specs.declared.part.Part.{Part}
 use Rattle.covlarge.specs.Large.{IsAll, IsReadAs, MayBeReadAs, max_pieces}
-use Rattle.covlarge.specs.State.{MayFailFrom, MayGive, StateData}
+use Rattle.covlarge.specs.State.{IsChecked, IsNextPiece, MayFailFrom, MayGive}
+use Rattle.covlarge.specs.StateData.{StateData}
 use Rattle.covlarge.specs.Summary.{SummaryData, summary_data}
+use Rattle.covlarge.specs.declared.fault.PieceFault.{PieceFault}
+use Rattle.covlarge.specs.declared.fault.PieceFault.TheVariants as pieces
+use Rattle.covlarge.specs.declared.large_tracefile.NextPiece.{NextPiece}
+use Rattle.covlarge.specs.declared.large_tracefile.NextPiece.TheVariants as parts
 use Rattle.covline.specs.Row.{SubmissionData}
 use Rattle.covread.specs.declared.fault.ReadFault.{ReadFault}
 use Rattle.covrun.specs.Check.{IsAnswered}
-use Rattle.covrun.specs.Files.{IsOpenedFor, IsTakenFrom, IsToldFor, MayTakeLarge}
+use Rattle.covrun.specs.Files.{EndsBy, IsOpenedFor, IsTakenFrom, IsToldFor, IsWholeFormat, MayFailAs, MayFailLarge, MayHaveOutcome, MayTake, MayTakeLarge, TakesLast, most_parts}
 use Rattle.covrun.specs.Folder.{FolderData, HasFailed, folder_data}
 use Rattle.covrun.specs.Large.{IsRefusedFor, IsTaken, IsTakenIf}
 use Rattle.covrun.specs.Strict.{is_clean}
 use Rattle.covrun.specs.declared.text_fault.TextFault.{TextFault}
 use Rattle.covrun.specs.declared.text_fault.TextFault.TheVariants.{Faulty, Unclean}
 use Rattle.covrun.specs.declared.work.CheckedFormat.TheVariants.{LargeTracefile}
+use Rattle.covrun.specs.declared.work.FileFormat.{FileFormat}
+use Rattle.covrun.specs.declared.work.FileFormat.TheVariants as formats
 
 -- the bytes that a source gives are those of its file
 pub all_kept : (held left : Option (List ℕ)) (text : List ℕ) → Keeps held left → IsAll left text → IsAll held text
@@ -42,9 +53,15 @@ pub large_held : (held left : Option (List ℕ)) (version : LcovVersion) (summar
 large_held held left version summary told keeps same (read, (text, all, is)) =
     (text, all_kept held left text keeps all, (read, subst (λ (s : SummaryData). IsReadAs version text read (Ok (Some s))) (sym same) is))
 
-pub large_refused : (held left : Option (List ℕ)) (version : LcovVersion) (fault : ReadFault) → Keeps held left
-    → (read : List SubmissionData) × MayBeReadAs version left read (Err fault) → IsAnswered held (LargeTracefile version) (Err fault)
-large_refused held left version fault keeps (read, (text, all, is)) = (text, all_kept held left text keeps all, (read, is))
+pub large_refused : {S : Type 0} (held : Option (List ℕ)) (left : S → Option (List ℕ)) (failed_reads : S → ℕ) (source : S) (version : LcovVersion) (fault : ReadFault) (found : PieceFault) → found ≡ pieces.Refused fault → Keeps held (left source)
+    → IsChecked left failed_reads version source (Err found) → IsAnswered held (LargeTracefile version) (Err fault)
+large_refused held left failed_reads source version fault found same keeps checked =
+    let (read, (text, all, is)) = subst (λ (f : PieceFault). IsChecked left failed_reads version source (Err f)) same checked in
+    (text, all_kept held (left source) text keeps all, (read, is))
+
+pub source_failed : {S : Type 0} (left : S → Option (List ℕ)) (failed_reads : S → ℕ) (version : LcovVersion) (source : S) (found : PieceFault) → found ≡ pieces.Unreadable
+    → IsChecked left failed_reads version source (Err found) → MayFailFrom left failed_reads source
+source_failed left failed_reads version source found same checked = subst (λ (f : PieceFault). IsChecked left failed_reads version source (Err f)) same checked
 
 -- ---- collecting
 
@@ -95,3 +112,86 @@ taken_in_front Lenient read (Err fault) submission outcome is = ap (λ (o : Outc
 taken_in_front Strict read (Ok None) submission outcome is = ap (λ (o : OutcomeData TextFault). in_front submission o) is
 taken_in_front Strict read (Ok (Some held)) submission outcome (summary, same, is) = (summary, same, front_if (is_clean summary) summary read submission outcome is)
 taken_in_front Strict read (Err fault) submission outcome is = ap (λ (o : OutcomeData TextFault). in_front submission o) is
+
+-- ---- one piece
+
+module _ {File : Type 0} (left : File → Option (List ℕ)) (failed_reads : File → ℕ) (folder : FolderData) (name : List ℕ) (version : LcovVersion) (strictness : Strictness) (opened : Option (StateData File)) (large : StateData File)
+    (is_opened : IsOpenedFor left failed_reads folder name version strictness opened large) (format : FileFormat) (large_format : format ≡ formats.LargeTracefile version) where
+  -- a piece and the rest of the file
+  pub more_part : (submission : SubmissionData) (next : StateData File) (piece : NextPiece File) → piece ≡ parts.More submission next → IsNextPiece left failed_reads large (Ok piece)
+      → (most_parts format (Some next) < most_parts format opened)
+      × (MayFailAs folder left failed_reads name format (Some next) → MayFailAs folder left failed_reads name format opened)
+      × ((outcome : OutcomeData TextFault) → MayTake left (folder.holds name) format strictness (Some next) outcome → MayTake left (folder.holds name) format strictness opened (in_front submission outcome))
+  more_part submission next piece is may =
+      let (less, fails, gives) = subst (λ (p : NextPiece File). IsNextPiece left failed_reads large (Ok p)) is may in
+      subst (λ (t : FileFormat).
+      (most_parts t (Some next) < most_parts t opened)
+      × (MayFailAs folder left failed_reads name t (Some next) → MayFailAs folder left failed_reads name t opened)
+      × ((outcome : OutcomeData TextFault) → MayTake left (folder.holds name) t strictness (Some next) outcome → MayTake left (folder.holds name) t strictness opened (in_front submission outcome)))
+      (sym large_format) (
+        subst (λ (n : ℕ). next.left < n) is_opened.most less,
+        λ may_fail. is_opened.fails (fails may_fail),
+        λ outcome (read, end, rest, taken).
+            is_opened.gives (in_front submission outcome) (submission ∷ read, end, gives read end rest, taken_in_front strictness read end submission outcome taken),
+      )
+
+  -- the last piece
+  pub last_part : (submission : SubmissionData) (told : Option SummaryData) (taken : SubmissionData) (piece : NextPiece File) → piece ≡ parts.Last submission told → IsNextPiece left failed_reads large (Ok piece) → TakesLast strictness told submission (Ok taken)
+      → (0 < most_parts format opened) × MayTake left (folder.holds name) format strictness opened (record { read = taken ∷ []; fault = None })
+  last_part submission told taken piece is last takes =
+      let (some, may) = subst (λ (p : NextPiece File). IsNextPiece left failed_reads large (Ok p)) is last in
+      subst (λ (t : FileFormat). (0 < most_parts t opened) × MayTake left (folder.holds name) t strictness opened (record { read = taken ∷ []; fault = None })) (sym large_format) (
+        subst (λ (n : ℕ). 0 < n) is_opened.most some,
+        is_opened.gives (record { read = taken ∷ []; fault = None }) (submission ∷ [], Ok told, may, takes),
+      )
+
+  faulty_taken : (strict : Strictness) (fault : ReadFault) → IsTakenFrom strict [] (Err fault) (record { read = []; fault = Some (Faulty fault) })
+  faulty_taken Lenient fault = refl
+  faulty_taken Strict fault = refl
+
+  -- a piece is refused
+  pub faulty_part : (found : PieceFault) (fault told : ReadFault) → found ≡ pieces.Refused fault → told ≡ fault → IsNextPiece left failed_reads large (Err found)
+      → MayTake left (folder.holds name) format strictness opened (record { read = []; fault = Some (Faulty told) })
+  faulty_part found fault told is same piece =
+      let may = subst (λ (f : PieceFault). IsNextPiece left failed_reads large (Err f)) is piece in
+      subst (λ (f : ReadFault). MayTake left (folder.holds name) format strictness opened (record { read = []; fault = Some (Faulty f) })) (sym same)
+      (subst (λ (t : FileFormat). MayTake left (folder.holds name) t strictness opened (record { read = []; fault = Some (Faulty fault) })) (sym large_format)
+      (is_opened.gives (record { read = []; fault = Some (Faulty fault) }) ([], Err fault, may, faulty_taken strictness fault)))
+
+  -- no piece can be read
+  pub no_part : (found : PieceFault) → found ≡ pieces.Unreadable → IsNextPiece left failed_reads large (Err found) → MayFailAs folder left failed_reads name format opened
+  no_part found is piece =
+      let may = subst (λ (f : PieceFault). IsNextPiece left failed_reads large (Err f)) is piece in
+      subst (λ (t : FileFormat). MayFailAs folder left failed_reads name t opened) (sym large_format) (is_opened.fails may)
+
+-- an input's fault, as the result of reading its next part
+pub part_faults : {X A : Type 0} (result : Result (Part X A) (LateFault TextFault)) (MayTakes : X → OutcomeData TextFault → Type 0) (MayFails : X → Type 0) (most : X → ℕ) (input : X) (fault found : LateFault TextFault)
+    → result ≡ Err found → found ≡ fault → EndsBy (MayTakes input) (MayFails input) fault → IsNextPart MayTakes MayFails most input result
+part_faults {X} {A} result MayTakes MayFails most input fault found is same ends =
+    subst (λ (r : Result (Part X A) (LateFault TextFault)). IsNextPart MayTakes MayFails most input r) (sym (is ∙ ap (λ (f : LateFault TextFault). Err f) same)) (ended fault ends)
+  where
+    ended : (fault : LateFault TextFault) → EndsBy (MayTakes input) (MayFails input) fault → IsNextPart {A = A} MayTakes MayFails most input (Err fault)
+    ended (late.Refused fault) ends = ends
+    ended late.Unreadable ends = ends
+    ended late.Memory ends = ends
+
+-- ---- files that are read as a whole
+
+module _ {File : Type 0} (left : File → Option (List ℕ)) (failed_reads : File → ℕ) (folder : FolderData) (name : List ℕ) (strictness : Strictness) (opened : Option (StateData File)) where
+  -- what a file gives that is read as a whole
+  pub whole_taken : (format : FileFormat) → IsWholeFormat format → (submission : SubmissionData) → MayHaveOutcome (folder.holds name) format strictness (Ok submission)
+      → (0 < most_parts format opened) × MayTake left (folder.holds name) format strictness opened (record { read = submission ∷ []; fault = None })
+  whole_taken (formats.Tracefile version) is submission may = (omega arith, (Ok submission, refl, may))
+  whole_taken (formats.LargeTracefile version) is submission may = absurd is
+  whole_taken (formats.GcovOutput test) is submission may = (omega arith, (Ok submission, refl, may))
+
+  -- why such a file gives nothing
+  pub whole_ends : (format : FileFormat) → IsWholeFormat format → (fault : LateFault TextFault) → IsLateOutcome (MayHaveOutcome (folder.holds name) format strictness) (folder.MayFail name) (Err fault)
+      → EndsBy (MayTake left (folder.holds name) format strictness opened) (MayFailAs folder left failed_reads name format opened) fault
+  whole_ends (formats.Tracefile version) is (late.Refused fault) may = (Err fault, refl, may)
+  whole_ends (formats.Tracefile version) is late.Unreadable may = may
+  whole_ends (formats.Tracefile version) is late.Memory may = tt
+  whole_ends (formats.LargeTracefile version) is fault may = absurd is
+  whole_ends (formats.GcovOutput test) is (late.Refused fault) may = (Err fault, refl, may)
+  whole_ends (formats.GcovOutput test) is late.Unreadable may = may
+  whole_ends (formats.GcovOutput test) is late.Memory may = tt

@@ -1,4 +1,3 @@
-pub mod Blocks
 pub mod Checks
 pub mod Large
 pub mod Lenient

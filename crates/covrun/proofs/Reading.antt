@@ -1,6 +1,8 @@
 -- The files' texts: which texts the inputs have, and what they are taken as.
 use Rattle.std.proofs.Common.{◌≡◌, ◌⊎◌, ℕ, zero, suc, ◌+◌, ◌*◌, ◌<◌, ◌≤◌, List, [], ◌∷◌, ◌++◌, length, take, map, Option, Some, None, Result, slice_get, refl, sym, ap, ◌∙◌, subst, arith}
+use Rattle.std.proofs.Math.Nat.{add_comm, mul-one, suc-mul, zero-mul}
 use Rattle.std.proofs.lemmas.List.{length-map, length-take}
+use Rattle.std.proofs.lemmas.List.Sums.{sum_by-cons}
 use Rattle.std.specs.List.{AllByRecursion, sum_by, zip}
 use Rattle.covread.specs.Outcome.{max_bytes}
 use Rattle.covcommand.specs.declared.asked.Strictness.{Strictness}
@@ -14,7 +16,7 @@ use Rattle.covjobs.specs.declared.book_fault.IntoBookFault.{IntoBookFault}
 use Rattle.covjobs.specs.declared.book_fault.IntoBookFault.TheVariants as into_book
 use Rattle.covjobs.specs.declared.collect_fault.CollectFault.{CollectFault}
 use Rattle.covlarge.specs.Large.{IsAll, max_pieces}
-use Rattle.covlarge.specs.State.{StateData}
+use Rattle.covlarge.specs.StateData.{StateData}
 use Rattle.covrun.proofs.Lenient.{are_collected}
 use Rattle.covrun.specs.Call.{AreCollectedIn, AreTextsIn, IsUnreadable, most_submissions}
 use Rattle.covrun.specs.Ending.{name_at}
@@ -60,9 +62,9 @@ each_short folder (file ∷ files) (text ∷ texts) long all =
     ((all.0.0, others.0), (all.0.1, others.1))
 
 texts_in : (format : FileFormat) (folder : FolderData) (files texts : List (List ℕ)) → AreTextsBy format folder files texts → AreTextsIn format folder files texts
-texts_in (Tracefile version) folder files texts (long, all) = (long, each_short folder files texts long all)
+texts_in (Tracefile version) folder files texts (long, all) = let each = each_short folder files texts long all in (long, each.0, each.1)
 texts_in (LargeTracefile version) folder files texts (long, all) = (long, all)
-texts_in (GcovOutput test) folder files texts (long, all) = (long, each_short folder files texts long all)
+texts_in (GcovOutput test) folder files texts (long, all) = let each = each_short folder files texts long all in (long, each.0, each.1)
 
 -- what is collected with outcomes of texts is collected of the texts
 pub collected_in : (format : FileFormat) (strictness : Strictness) (texts : List (List ℕ)) (jobs : ℕ) (last : OpData) (entries : List EntryData) (logs : List LogData) (refused : List (RefusedInput TextFault)) (outcome : ℕ → Outcome)
@@ -223,8 +225,10 @@ unreadable_read lates at left failed_reads view format strictness of files index
 -- ---- how many parts the inputs can have
 
 sum_same : {X : Type 0} (most : X → ℕ) (n : ℕ) (lates : List X) → AllByRecursion (λ one. most one ≡ n) lates → sum_by most lates ≡ length lates * n
-sum_same most n [] all = refl
-sum_same most n (one ∷ lates) all = ap (λ (k : ℕ). k + sum_by most lates) all.0 ∙ ap (λ (k : ℕ). n + k) (sum_same most n lates all.1)
+sum_same most n [] all = sym (zero-mul n)
+sum_same most n (one ∷ lates) all =
+    sum_by-cons most one lates ∙ ap (λ (k : ℕ). k + sum_by most lates) all.0 ∙ ap (λ (k : ℕ). n + k) (sum_same most n lates all.1)
+    ∙ add_comm n (length lates * n) ∙ sym (suc-mul (length lates) n)
 
 same_most : {X Folder S : Type 0} (view : InputView X Folder S) (lates : List X) (at : Folder) (format : FileFormat) (strictness : Strictness) → AreOwn view at format strictness lates
     → AllByRecursion (λ one. most_in view one ≡ most_parts {S = S} format None) lates
@@ -234,14 +238,10 @@ same_most {X} {Folder} {S} view (one ∷ lates) at format strictness all = (
   same_most view lates at format strictness all.1,
 )
 
-times_one : (n : ℕ) → n * 1 ≡ n
-times_one zero = refl
-times_one (suc n) = ap suc (times_one n)
-
 parts_in : (S : Type 0) (format : FileFormat) (n : ℕ) → n * most_parts {S = S} format None ≡ most_submissions format n
-parts_in S (Tracefile version) n = times_one n
+parts_in S (Tracefile version) n = mul-one n
 parts_in S (LargeTracefile version) n = refl
-parts_in S (GcovOutput test) n = times_one n
+parts_in S (GcovOutput test) n = mul-one n
 
 -- a fault of collecting these late inputs may come with this number of files
 pub may_come : {X Folder S : Type 0} (lates : List X) (at : Folder) (left : S → Option (List ℕ)) (view : InputView X Folder S) (format : FileFormat) (strictness : Strictness) (MayGive : X → Outcome → Type 0) (MayFail : X → Type 0)
@@ -249,8 +249,8 @@ pub may_come : {X Folder S : Type 0} (lates : List X) (at : Folder) (left : S �
     → fault ≡ into_book.Collect told → IsIntoBookFault MayGive MayFail (most_in view) lates fault → MayCome (most_submissions format (length files)) told
 may_come {X} {Folder} {S} lates at left view format strictness MayGive MayFail files fault told named all is may =
     let sum : sum_by (most_in view) lates ≡ most_submissions format (length files) =
-        sum_same (most_in view) (most_parts {S = S} format None) lates (same_most view lates at format strictness all)
-        ∙ ap (λ (n : ℕ). n * most_parts {S = S} format None) (sym (length-map lates view.name) ∙ ap length named) ∙ parts_in S format (length files) in
+    sum_same (most_in view) (most_parts {S = S} format None) lates (same_most view lates at format strictness all)
+    ∙ ap (λ (n : ℕ). n * most_parts {S = S} format None) (sym (length-map lates view.name) ∙ ap length named) ∙ parts_in S format (length files) in
     subst (λ (n : ℕ). MayCome n told) sum
     (subst (λ (f : IntoBookFault). IsIntoBookFault MayGive MayFail (most_in view) lates f) is may)
 

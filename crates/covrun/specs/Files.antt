@@ -1,16 +1,15 @@
 -- Private steps: how a file is read.
-use Rattle.std.specs.Io.KnownBytes.{Consumes, IsAtEnd}
 use Rattle.std.specs.Prelude.{◌≡◌, ◌⊎◌, ◌<◌, ◌≤◌, ℕ, suc, false, List, [], ◌∷◌, ◌++◌, length, Option, Some, None, Result, Ok, Err}
 use Rattle.covcheck.specs.SummaryLine.{summary_text}
 use Rattle.covcheck.specs.declared.text_summary.TextSummary.{TextSummary}
 use Rattle.covjobs.specs.Collect.{IsReadWhole, OutcomeData}
 use Rattle.covjobs.specs.declared.late_fault.LateFault.{LateFault}
 use Rattle.covjobs.specs.declared.late_fault.LateFault.TheVariants as late
+use Rattle.covlarge.specs.Blocks.{HasReadAtMost}
 use Rattle.covlarge.specs.Large.{IsAll, max_pieces}
-use Rattle.covlarge.specs.State.{MayFailFrom, MayGive, StateData}
+use Rattle.covlarge.specs.State.{MayFailFrom, MayGive}
+use Rattle.covlarge.specs.StateData.{StateData}
 use Rattle.covlarge.specs.Summary.{SummaryData}
-use Rattle.covlarge.specs.declared.fault.PieceFault.{PieceFault}
-use Rattle.covlarge.specs.declared.fault.PieceFault.TheVariants as pieces
 use Rattle.covline.specs.Row.{SubmissionData}
 use Rattle.covread.specs.declared.fault.ReadFault.{ReadFault}
 use Rattle.covread.specs.Outcome.{max_bytes}
@@ -23,34 +22,14 @@ use Rattle.covrun.specs.Strict.{IsOutcomeFor, is_clean}
 use Rattle.covrun.specs.Work.{input_of}
 use Rattle.covrun.specs.declared.text_fault.TextFault.{TextFault}
 use Rattle.covrun.specs.declared.text_fault.TextFault.TheVariants.{Faulty, Unclean}
-use Rattle.covsession.specs.declared.session.fault.SessionFault.{SessionFault}
-use Rattle.covsession.specs.declared.session.fault.SessionFault.TheVariants as faults
 use Rattle.covrun.specs.declared.files.FileFault.{FileFault}
 use Rattle.covrun.specs.declared.work.FileFormat.{FileFormat}
 use Rattle.covrun.specs.declared.work.FileFormat.TheVariants.{Tracefile, LargeTracefile, GcovOutput}
 use Rattle.covrun.specs.declared.files.FileFault.TheVariants.{Unreadable, Memory}
 
--- all bytes that were left were read, or exactly `most` bytes
-abbrev pub HasReadAtMost : ℕ → Option (List ℕ) → Option (List ℕ) → List ℕ → Type 0
-HasReadAtMost most left left_after text = Consumes left left_after text × (IsAtEnd left_after ⊎ (length text ≡ most))
-
 -- all bytes that were left were read, or exactly one byte more than a text may have
 abbrev pub HasRead : Option (List ℕ) → Option (List ℕ) → List ℕ → Type 0
 HasRead left left_after text = HasReadAtMost (suc max_bytes) left left_after text
-
--- one read of at most `room` bytes, which are appended to the text. If the read gave no bytes, the source is at its end, unless
--- `room` is 0
-abbrev pub HasReadBlock : (left left_after : Option (List ℕ)) → (text text_after : List ℕ) → (room count : ℕ) → Type 0
-HasReadBlock left left_after text text_after room count =
-    (bytes : List ℕ) × Consumes left left_after bytes × (text_after ≡ text ++ bytes) × (length bytes ≡ count) × (count ≤ room)
-    × (count ≡ 0 → 0 < room → IsAtEnd left_after)
-
--- why no text was read: a read failed after these bytes, or memory ran out
-abbrev pub IsReadFault : (left left_after : Option (List ℕ)) → (failed failed_after : ℕ) → SessionFault → Type 0
-IsReadFault left left_after failed failed_after faults.Read = (bytes : List ℕ) × Consumes left left_after bytes × (failed_after ≡ suc failed)
-IsReadFault left left_after failed failed_after faults.Memory = Unit {0}
-IsReadFault left left_after failed failed_after faults.Write = ⊥
-IsReadFault left left_after failed failed_after faults.Full = ⊥
 
 -- the file of this name can't be read, or memory ran out
 abbrev pub IsUnread : FolderData → List ℕ → FileFault → Type 0
@@ -91,6 +70,12 @@ abbrev pub MayTakeLarge : {S : Type 0} → (left : S → Option (List ℕ)) → 
 MayTakeLarge left held version strictness None outcome = (text : List ℕ) × IsAll held text × IsLargeOutcome version strictness text outcome
 MayTakeLarge left held version strictness (Some state) outcome =
     (read : List SubmissionData) × (end : Result (Option SummaryData) ReadFault) × MayGive left state read end × IsTakenFrom strictness read end outcome
+
+-- files of this format are read as a whole
+abbrev pub IsWholeFormat : FileFormat → Type 0
+IsWholeFormat (Tracefile version) = Unit {0}
+IsWholeFormat (LargeTracefile version) = ⊥
+IsWholeFormat (GcovOutput test) = Unit {0}
 
 -- what may be taken of a file of this format
 abbrev pub MayTake : {S : Type 0} → (left : S → Option (List ℕ)) → (held : Option (List ℕ)) → FileFormat → Strictness → Option (StateData S) → OutcomeData TextFault → Type 0
@@ -133,8 +118,8 @@ TakesLast strictness told submission (Err (late.Refused fault)) = IsTakenFrom st
 TakesLast strictness told submission (Err late.Unreadable) = ⊥
 TakesLast strictness told submission (Err late.Memory) = Unit {0}
 
--- why an input gives no more submissions, if a tracefile gives no more pieces for this reason
-abbrev pub late_of : PieceFault → LateFault TextFault
-late_of (pieces.Refused fault) = late.Refused (Faulty fault)
-late_of pieces.Unreadable = late.Unreadable
-late_of pieces.Memory = late.Memory
+-- an input ends with this fault: for a fault of its text, or since it can't be read, or since memory ran out
+abbrev pub EndsBy : (MayGive : OutcomeData TextFault → Type 0) → (MayFail : Type 0) → LateFault TextFault → Type 0
+EndsBy MayGive MayFail (late.Refused fault) = MayGive (record { read = []; fault = Some fault })
+EndsBy MayGive MayFail late.Unreadable = MayFail
+EndsBy MayGive MayFail late.Memory = Unit {0}

@@ -2,14 +2,14 @@
 
 use crate::files::{FileFault, file_text};
 use crate::folder::Folder;
-use crate::large_input::{late_fault, open_large, take_last};
+use crate::large_input::{open_large, take_last};
 use crate::strict::read_strictly;
 use crate::text_fault::TextFault;
 use crate::work::FileFormat;
 use covbook::SubRef;
 use covcommand::{LcovVersion, Strictness};
 use covjobs::{Input, LateFault, LateInput, Part};
-use covlarge::{LargeTracefile, MAX_PIECES, NextPiece};
+use covlarge::{LargeTracefile, MAX_PIECES, NextPiece, PieceFault};
 use covline::{Bytes, Memory};
 use std::alloc::Global;
 
@@ -40,8 +40,8 @@ impl<'a, F: Folder> LateInput<Global> for FileInput<'a, F> {
     fn read_part(self, alloc: Global) -> Result<Part<Self>, LateFault<TextFault>> {
         match self.format {
             FileFormat::LargeTracefile(version) => self.read_piece(alloc, *version),
-            FileFormat::Tracefile(_) | FileFormat::GcovOutput(_) =>
-                Ok(Part::Last(self.read_whole(alloc)?)),
+            FileFormat::Tracefile(_) => self.read_at_once(alloc),
+            FileFormat::GcovOutput(_) => self.read_at_once(alloc),
         }
     }
 
@@ -58,9 +58,20 @@ impl<'a, F: Folder> LateInput<Global> for FileInput<'a, F> {
 impl<'a, F: Folder> FileInput<'a, F> {
     ghost use Rattle.std.specs.Prelude.{◌≡◌};
     ghost use Rattle.covjobs.specs.Late.{IsLateOutcome, IsNextPart};
-    ghost use Rattle.covrun.specs.Files.{MayFailAs, MayHaveOutcome, MayTake, most_parts};
+    ghost use Rattle.covrun.specs.Files.{IsWholeFormat, MayFailAs, MayHaveOutcome, MayTake, most_parts};
     ghost use Rattle.covrun.specs.Folder.{folder_data};
-    ghost use Rattle.covrun.specs.declared.work.FileFormat.TheVariants.{LargeTracefile};
+    ghost use Rattle.covrun.specs.declared.work.FileFormat.TheVariants as formats;
+
+    /// Reads the file as its only part.
+    fn read_at_once(self, alloc: Global) -> Result<Part<Self>, LateFault<TextFault>>
+        requires { IsWholeFormat self.format.now }
+        ensures { IsNextPart
+            (λ late. MayTake F.File.left (F.holds late.folder.now late.name.now) late.format.now late.strictness late.opened)
+            (λ late. MayFailAs (folder_data (F.holds late.folder.now) (F.may_refuse late.folder.now) (F.may_open late.folder.now) F.File.left F.File.failed_reads) F.File.left F.File.failed_reads late.name.now late.format.now late.opened)
+            (λ late. most_parts late.format.now late.opened) self.entry result }
+    {
+        Ok(Part::Last(self.read_whole(alloc)?))
+    }
 
     /// Reads the file as a whole, and parses its text.
     fn read_whole(&self, alloc: Global) -> Result<SubRef, LateFault<TextFault>>
@@ -80,11 +91,11 @@ impl<'a, F: Folder> FileInput<'a, F> {
         alloc: Global,
         version: LcovVersion,
     ) -> Result<Part<Self>, LateFault<TextFault>>
-        requires { self.format.now ≡ LargeTracefile version }
+        requires { self.format.now ≡ formats.LargeTracefile version }
         ensures { IsNextPart
             (λ late. MayTake F.File.left (F.holds late.folder.now late.name.now) late.format.now late.strictness late.opened)
             (λ late. MayFailAs (folder_data (F.holds late.folder.now) (F.may_refuse late.folder.now) (F.may_open late.folder.now) F.File.left F.File.failed_reads) F.File.left F.File.failed_reads late.name.now late.format.now late.opened)
-            (λ late. most_parts late.format.now late.opened) self result }
+            (λ late. most_parts late.format.now late.opened) self.entry result }
     {
         let FileInput {
             folder,
@@ -108,7 +119,9 @@ impl<'a, F: Folder> FileInput<'a, F> {
             Ok(NextPiece::Last(submission, held)) => Ok(Part::Last(take_last(
                 alloc, strictness, submission, held,
             )?)),
-            Err(fault) => Err(late_fault(fault)),
+            Err(PieceFault::Refused(fault)) => Err(LateFault::Refused(TextFault::Faulty(fault))),
+            Err(PieceFault::Unreadable) => Err(LateFault::Unreadable),
+            Err(PieceFault::Memory) => Err(LateFault::Memory),
         }
     }
 }

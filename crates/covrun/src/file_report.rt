@@ -100,7 +100,9 @@ pub(crate) fn examine<F: Folder>(
 {
     match format {
         CheckedFormat::Text(format) => examine_text(folder, alloc, format, strictness, name),
-        CheckedFormat::LargeTracefile(version) => examine_large(folder, alloc, version, strictness, name),
+        CheckedFormat::LargeTracefile(version) => examine_large(
+            folder, alloc, version, strictness, name,
+        ),
     }
 }
 

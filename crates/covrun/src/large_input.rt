@@ -1,13 +1,13 @@
 //! A tracefile of any length as an input of collecting, piece by piece.
 
-ghost use Rattle.std.specs.Prelude.{◌≡◌, List, Option, Result, IfOk, IfErr};
+ghost use Rattle.std.specs.Prelude.{◌≡◌, List, Option, None, Result, IfOk, IfErr};
 ghost use Rattle.covjobs.specs.declared.late_fault.LateFault.TheVariants.{Unreadable};
 ghost use Rattle.covlarge.specs.Large.{MayBeReadAs, max_pieces};
 ghost use Rattle.covlarge.specs.State.{MayGive};
 ghost use Rattle.covlarge.specs.Summary.{SummaryData};
 ghost use Rattle.covline.specs.Row.{SubmissionData};
 ghost use Rattle.covread.specs.declared.fault.ReadFault.{ReadFault};
-ghost use Rattle.covrun.specs.Files.{IsOpenedFor, IsToldFor, MayFailLarge, TakesLast, late_of};
+ghost use Rattle.covrun.specs.Files.{IsOpenedFor, IsToldFor, MayFailLarge, TakesLast};
 ghost use Rattle.covrun.specs.Folder.{folder_data};
 
 use crate::folder::Folder;
@@ -16,7 +16,7 @@ use crate::text_fault::TextFault;
 use covbook::SubRef;
 use covcommand::{LcovVersion, Strictness};
 use covjobs::LateFault;
-use covlarge::{Held, LargeTracefile, PieceFault};
+use covlarge::{Held, LargeTracefile};
 use covsession::Source;
 use std::alloc::Global;
 
@@ -33,9 +33,24 @@ pub(crate) fn open_large<F: Folder>(
     ensures fault { IfErr result (λ fault. fault ≡ Unreadable) }
     ensures fails { IfErr result (λ _. MayFailLarge F.File.left F.File.failed_reads (folder_data (F.holds folder.now) (F.may_refuse folder.now) (F.may_open folder.now) F.File.left F.File.failed_reads) name.now opened) }
 {
-    if let Some(large) = opened {
-        return Ok(large);
+    match opened {
+        Some(large) => Ok(large),
+        None => open_whole(folder, alloc, name, version, strictness),
     }
+}
+
+/// The tracefile of this name, of which nothing is read yet.
+fn open_whole<F: Folder>(
+    folder: &F,
+    alloc: Global,
+    name: &str,
+    version: LcovVersion,
+    strictness: Strictness,
+) -> Result<LargeTracefile<F::File>, LateFault<TextFault>>
+    ensures opened { IfOk result (IsOpenedFor F.File.left F.File.failed_reads (folder_data (F.holds folder.now) (F.may_refuse folder.now) (F.may_open folder.now) F.File.left F.File.failed_reads) name.now version strictness None) }
+    ensures fault { IfErr result (λ fault. fault ≡ Unreadable) }
+    ensures fails { IfErr result (λ _. (folder_data (F.holds folder.now) (F.may_refuse folder.now) (F.may_open folder.now) F.File.left F.File.failed_reads).MayFail name.now) }
+{
     match folder.open(name) {
         Ok(file) => Ok(begin_large(alloc, version, strictness, file.source)),
         Err(_) => Err(LateFault::Unreadable),
@@ -43,7 +58,7 @@ pub(crate) fn open_large<F: Folder>(
 }
 
 /// A tracefile of which nothing is read yet. What it holds is told only if the call is strict.
-fn begin_large<S: Source>(
+fn begin_large<S: Source + Drop>(
     alloc: Global,
     version: LcovVersion,
     strictness: Strictness,
@@ -77,16 +92,5 @@ pub(crate) fn take_last(
             Ok(submission)
         }
         (Strictness::Lenient, _) | (Strictness::Strict, None) => Ok(submission),
-    }
-}
-
-/// Why an input gives no more submissions, if a tracefile gives no more pieces for this reason.
-pub(crate) fn late_fault(fault: PieceFault) -> LateFault<TextFault>
-    ensures { result ≡ late_of fault }
-{
-    match fault {
-        PieceFault::Refused(fault) => LateFault::Refused(TextFault::Faulty(fault)),
-        PieceFault::Unreadable => LateFault::Unreadable,
-        PieceFault::Memory => LateFault::Memory,
     }
 }

@@ -1,13 +1,12 @@
 use Rattle.std.specs.Prelude.{◌≡◌, ◌+◌, ◌≤◌, length}
-use Rattle.std.specs.Io.KnownBytes.{Consumes}
-use Rattle.covrun.proofs.files.read_at_most.Given as goal
+use Rattle.covlarge.proofs.ReadBlocks.{HasReadSo}
+use Rattle.covlarge.proofs.blocks.read_at_most.Given as goal
 
 -- all bytes that were read so far are in the text, and each read gave at least one byte
 abbrev pub invariant-loop-room : goal.invariant-loop-room
 invariant-loop-room g l = record {
-  took : Consumes (g.S.Source.left l.initial.source) (g.S.Source.left l.source) l.text;
-  room : length l.text + l.room ≡ l.most;
-  reads : g.S.Source.reads l.source ≤ g.S.Source.reads l.initial.source + length l.text;
+  took : HasReadSo l.most (g.S.Source.left l.initial.source) (g.S.Source.left l.source) l.initial.all l.all l.room;
+  reads : g.S.Source.reads l.source + length l.initial.all ≤ g.S.Source.reads l.initial.source + length l.all;
   failed : g.S.Source.failed_reads l.source ≡ g.S.Source.failed_reads l.initial.source;
 }
 

@@ -1,7 +1,7 @@
 use Rattle.std.proofs.Common.{length, arith}
 use Rattle.std.proofs.lemmas.List.{length-take}
-use Rattle.covrun.proofs.Blocks.{read_within}
-use Rattle.covrun.proofs.files.read_some.Goals as goal
+use Rattle.covlarge.proofs.ReadBlocks.{read_within}
+use Rattle.covlarge.proofs.blocks.read_some.Goals as goal
 
 pub returns-clause-read : goal.returns-clause-read
 returns-clause-read g c =

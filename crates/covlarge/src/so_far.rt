@@ -1,0 +1,157 @@
+//! How one piece is read after others.
+
+ghost use Rattle.std.specs.Prelude.{◌≡◌, ◌<◌, ◌≤◌, ◌+◌, ◌^◌, ◌++◌, length, take, IfOk, OnOk};
+ghost use Rattle.covlarge.specs.Piece.{AnswersOf, IsFaultOf, IsLastPiece, IsPieceRead, IsReadAs};
+ghost use Rattle.covlarge.specs.Summary.{HoldsOnIfTold};
+ghost use Rattle.covlarge.specs.Version.{IsSkippedOf, carried_over};
+ghost use Rattle.covpieces.specs.Sections.{EndsSection};
+ghost use Rattle.covread.specs.Outcome.{max_bytes};
+
+use crate::fault::PieceFault;
+use crate::held::Held;
+use crate::piece_text::PieceText;
+use covbook::SubRef;
+use covcommand::LcovVersion;
+use covlcov2::read_lcov2;
+use covline::{Memory, Submission};
+use covpieces::Carried;
+use covread::{ReadFault, read_trace};
+use std::alloc::Global;
+
+/// What is kept of the pieces so far: the tracefile's version, what goes over to the next piece, and what they hold, if that is
+/// asked for.
+#[derive(Drop)]
+pub(crate) struct SoFar {
+    pub(crate) version: LcovVersion,
+    pub(crate) carried: Carried,
+    pub(crate) held: Option<Held>,
+}
+
+impl SoFar {
+    /// Reads the last piece, which is all of the text behind its front. Returns its submission, and what all pieces hold.
+    pub(crate) fn last_piece(
+        self,
+        alloc: Global,
+        text: &PieceText,
+    ) -> Result<(SubRef, Option<Held>), PieceFault>
+        requires { length text.now.front + length text.now.bytes ≤ max_bytes }
+        ensures { IsLastPiece self.version self.carried self.held text.now.front text.now.bytes result }
+    {
+        let SoFar {
+            version,
+            carried,
+            mut held,
+        } = self;
+        let submission = read_piece(alloc, version, &carried, text.get())?;
+        hold(
+            &mut held,
+            alloc,
+            version,
+            carried.lines(),
+            text.bytes(),
+            &submission,
+        )?;
+        Ok((SubRef::of(alloc, submission)?, held))
+    }
+
+    /// Reads a piece, which is the first `len` bytes of the text behind its front, and goes on to the next one.
+    pub(crate) fn next_piece(
+        &mut self,
+        alloc: Global,
+        text: &PieceText,
+        len: usize,
+    ) -> Result<SubRef, PieceFault>
+        requires within { len ≤ length text.now.bytes }
+        requires few { length text.now.front + len ≤ max_bytes }
+        requires ends { EndsSection (take len text.now.bytes) }
+        requires lines { self.old.carried.lines < 2 ^ 60 }
+        ensures read { IsPieceRead self.old.version self.old.carried self.old.held text.now.front (take len text.now.bytes) self.new.held result }
+        ensures version { self.new.version ≡ self.old.version }
+        ensures carried { IfOk result (λ submission. self.new.carried ≡ carried_over self.old.version self.old.carried (take len text.now.bytes) submission.sects) }
+    {
+        let submission = read_piece(alloc, self.version, &self.carried, text.with_front(len))?;
+        let piece = &text.bytes()[..len];
+        hold(
+            &mut self.held,
+            alloc,
+            self.version,
+            self.carried.lines(),
+            piece,
+            &submission,
+        )?;
+        pass(&mut self.carried, alloc, self.version, piece, &submission)?;
+        Ok(SubRef::of(alloc, submission)?)
+    }
+}
+
+/// What the text of a piece is read as, behind its front. The fault is that of the whole tracefile.
+fn read_piece(
+    alloc: Global,
+    version: LcovVersion,
+    carried: &Carried,
+    text: &[u8],
+) -> Result<Submission, PieceFault>
+    requires { length text.now ≤ max_bytes }
+    ensures { IsReadAs version carried.now text.now result }
+{
+    match read_text(alloc, version, text) {
+        Ok(submission) => Ok(submission),
+        Err(fault) => Err(piece_fault(carried, fault)),
+    }
+}
+
+/// What the text is read as.
+fn read_text(alloc: Global, version: LcovVersion, text: &[u8]) -> Result<Submission, ReadFault>
+    ensures { AnswersOf version text.now result }
+{
+    match version {
+        LcovVersion::One => read_trace(alloc, text),
+        LcovVersion::Two => read_lcov2(alloc, text),
+    }
+}
+
+/// The fault of a piece as that of the whole tracefile.
+fn piece_fault(carried: &Carried, fault: ReadFault) -> PieceFault
+    ensures { IsFaultOf carried.now fault result }
+{
+    match fault {
+        ReadFault::Memory => PieceFault::Memory,
+        _ => PieceFault::Refused(carried.moved(fault)),
+    }
+}
+
+/// Adds what the next piece holds, if that is asked for.
+fn hold(
+    held: &mut Option<Held>,
+    alloc: Global,
+    version: LcovVersion,
+    lines: u64,
+    piece: &[u8],
+    submission: &Submission,
+) -> Result<(), Memory>
+    ensures { OnOk result (HoldsOnIfTold (IsSkippedOf version) lines held.old piece.now submission.now held.new) }
+{
+    if let Some(held) = held {
+        held.add(alloc, version, lines, piece, submission)?;
+        return Ok(());
+    }
+    Ok(())
+}
+
+/// Goes on to the next piece.
+fn pass(
+    carried: &mut Carried,
+    alloc: Global,
+    version: LcovVersion,
+    piece: &[u8],
+    submission: &Submission,
+) -> Result<(), Memory>
+    requires ends { EndsSection piece.now }
+    requires few { carried.old.lines + length piece.now < 2 ^ 64 }
+    ensures { OnOk result (carried.new ≡ carried_over version carried.old piece.now submission.now.sects) }
+{
+    match version {
+        LcovVersion::One => carried.pass(alloc, piece, submission),
+        LcovVersion::Two => carried.pass_lcov2(alloc, piece, submission),
+    }
+}
