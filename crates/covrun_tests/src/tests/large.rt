@@ -232,13 +232,22 @@ $ 1 covcollect merge -- ~/a.gcov --large
     )
 }
 
-/// Appends this text 2^18 times, and then the last lines.
-fn repeated(alloc: Global, text: &str, last: &str) -> Result<Vec<u8>, Fail> {
-    let mut all = Vec::from_slice(alloc, text.as_bytes())?;
-    for _time in 0..18 {
+/// The text doubled `times` times.
+fn doubled(alloc: Global, text: &[u8], times: usize) -> Result<Vec<u8>, Fail> {
+    let mut all = Vec::from_slice(alloc, text)?;
+    for _time in 0..times {
         let half = all.clone()?;
         all.extend_from_slice(half.as_slice())?;
     }
+    Ok(all)
+}
+
+/// 8 MiB: the section `SF:/a.c` with the line `DA:1,1`, 16 times, and then these lines. Each count has 524,288 zeros in front.
+fn two_pieces(alloc: Global, last: &str) -> Result<Vec<u8>, Fail> {
+    let mut section = Vec::from_slice(alloc, b"SF:/a.c\nDA:1,")?;
+    section.extend_from_slice(doubled(alloc, b"0", 19)?.as_slice())?;
+    section.extend_from_slice(b"1\nend_of_record\n")?;
+    let mut all = doubled(alloc, section.as_slice(), 4)?;
     all.extend_from_slice(last.as_bytes())?;
     Ok(all)
 }
@@ -262,19 +271,19 @@ fn check<
     check_told(rt, asked, &told, (status, output, faults.as_str()))
 }
 
-/// 7.6 MB in 262,144 sections, which are more than one piece.
+/// A file of more than one piece: its merge, a fault, and a line that isn't read.
 #[test]
 fn several_pieces(rt: HostRuntime) -> Result<(), Fail> {
     let process = process::id(rt.process());
-    let section = "SF:/a.c\nDA:1,1\nend_of_record\n";
-    let merged = "TN:\nSF:/a.c\nDA:1,262144\nLF:1\nLH:1\nend_of_record\n";
-    let text = repeated(rt.alloc(), section, "")?;
-    check(&rt, process, "covcollect merge --large", text.as_slice(), (0, merged, ""))?;
-    let text = repeated(rt.alloc(), section, "x\nDA:1,1\n")?;
-    let outside = "refused Outside at 786434";
-    check(&rt, process, "covcollect merge --large --strict", text.as_slice(), (4, "", outside))?;
-    check(&rt, process, "covcollect summary --large", text.as_slice(), (4, "", outside))?;
-    let text = repeated(rt.alloc(), section, "x\n")?;
-    let held = "sections 262144 items 262144 odd 0 skipped 1 first x at 786433";
-    check(&rt, process, "covcollect merge --strict --large", text.as_slice(), (5, "", held))
+    let merged = "TN:\nSF:/a.c\nDA:1,16\nLF:1\nLH:1\nend_of_record\n";
+    let text = two_pieces(rt.alloc(), "")?;
+    let asked = "covcollect merge --large";
+    check(&rt, process, asked, text.as_slice(), (0, merged, ""))?;
+    let text = two_pieces(rt.alloc(), "x\nDA:1,1\n")?;
+    let outside = "refused Outside at 50";
+    check(&rt, process, asked, text.as_slice(), (4, "", outside))?;
+    let text = two_pieces(rt.alloc(), "x\n")?;
+    let held = "sections 16 items 16 odd 0 skipped 1 first x at 49";
+    let asked = "covcollect merge --large --strict";
+    check(&rt, process, asked, text.as_slice(), (5, "", held))
 }
