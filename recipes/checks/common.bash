@@ -120,6 +120,14 @@ says() { # FILE WHAT LINE...: whether the file has each line, as it is
     verdict $bad "$what"
     [ $bad -eq 0 ] || { told "        not there: $line; there is:"; head -n 20 "$file" | show; }
 }
+told_alone() { # STATUS WHAT LINE...: whether the last call ended so, printed nothing, and told these lines alone
+    local number=$1 what=$2
+    shift 2
+    ended "$number" "$what"
+    printf '%s\n' "$@" >"$work/wanted"
+    same "$work/wanted" "$work/err" "$what: what is told"
+    same /dev/null "$work/out" "$what: nothing is printed"
+}
 clashes() { # WHAT FILE LINE CHECKSUM CHECKSUM: with more than one job either file may be read first
     if grep -qxF -e "clash $2 $3 $4 $5" -e "clash $2 $3 $5 $4" "$work/err"; then
         verdict 0 "$1"

@@ -46,15 +46,6 @@ line() { # KIND
         skipped) echo 'sections 1 items 1 odd 0 skipped 1 first COUNT at 3' ;;
     esac
 }
-# The last call ended with this status, printed nothing, and told these lines alone.
-told_alone() { # STATUS WHAT LINE...
-    local number=$1 what=$2
-    shift 2
-    ended "$number" "$what"
-    printf '%s\n' "$@" >"$work/wanted"
-    same "$work/wanted" "$work/err" "$what: what is told"
-    same /dev/null "$work/out" "$what: nothing is printed"
-}
 farm=("$COVCOLLECT" merge --lcov2 --strict --jobs 4 --exclude '/usr/*' -o own.info)
 
 @test "the call of a farm" {

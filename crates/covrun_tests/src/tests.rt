@@ -22,6 +22,7 @@ mod faults;
 mod files;
 mod filters;
 mod folders;
+mod large;
 mod lcov2;
 mod limits;
 mod lists;

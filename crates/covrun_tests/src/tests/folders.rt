@@ -168,6 +168,8 @@ fn a_read_fails_within_a_file(rt: HostRuntime) -> Result<(), Fail> {
         "covcollect check torn.info",
         "covcollect summary torn.info",
         "covcollect merge --jobs 2 torn.info other.info",
+        "covcollect check --large torn.info",
+        "covcollect merge --large --strict torn.info",
     ] {
         check_over(&rt, &TornFiles, asked, "", "torn.info: can't read\n")?;
     }

@@ -1,0 +1,189 @@
+//! What is wanted was worked out by hand from geninfo(1), section FILES, never taken from an output.
+
+use covcheck::summary_line;
+use covcommand::LcovVersion;
+use covlarge::{Held, LargeTracefile, NextPiece, PieceFault, check_large};
+use covline::{Sect, Submission};
+use covsession::{Failed, Source};
+use std::alloc::Global;
+use std::process::Abort;
+use std::test::*;
+
+mod blocks;
+mod checks;
+mod longer;
+mod pieces;
+mod texts;
+
+/// A source of bytes. A read gives at most `most` of them. From the read with the number `fails` on, counted from 1, each read fails.
+#[derive(Drop)]
+struct Given<'a> {
+    bytes: &'a [u8],
+    most: usize,
+    fails: u64,
+    reads: u64,
+    failed: u64,
+}
+
+impl<'a> Source for Given<'a> {
+    ghost left = { λ _. None };
+
+    ghost reads = { λ s. s.reads };
+
+    ghost failed_reads = { λ s. s.failed };
+
+    fn read(&mut self, buffer: &mut [u8]) -> Result<usize, Failed> {
+        self.reads += 1;
+        if self.reads >= self.fails {
+            self.failed += 1;
+            return Err(Failed);
+        }
+        let count = self.bytes.len().min(self.most).min(buffer.len());
+        buffer[..count].copy_from_slice(&self.bytes[..count]);
+        self.bytes = &self.bytes[count..];
+        Ok(count)
+    }
+}
+
+/// How a source gives its bytes: how many in a read, and the number of the first read that fails.
+#[derive(Clone, Copy)]
+struct Way {
+    most: usize,
+    fails: u64,
+}
+
+/// As files do.
+const WELL: Way = Way {
+    most: 1_000_000,
+    fails: 1_000_000_000,
+};
+
+/// The words of a fault.
+fn fault_words(alloc: Global, fault: PieceFault) -> Result<String, Fail> {
+    match fault {
+        PieceFault::Refused(fault) => Ok(format!(in alloc; "refused {fault}")?),
+        PieceFault::Unreadable => Ok(String::from_str(alloc, "unreadable")?),
+        PieceFault::Memory => Ok(String::from_str(alloc, "memory")?),
+    }
+}
+
+/// What the whole holds, in covcheck's words, with a line feed.
+fn held_words(alloc: Global, held: &Held) -> Result<String, Fail> {
+    let line = summary_line(alloc, &held.summary())?;
+    Ok(String::from_utf8_lossy(alloc, line.as_slice())?)
+}
+
+/// How many items the sections have.
+fn items_in(sects: &[Sect]) -> u64 {
+    let mut items: u64 = 0;
+    for sect in sects {
+        items = items.saturating_add(sect.items.len() as u64);
+    }
+    items
+}
+
+/// Appends what a piece holds: the test of its first section, or `-` if it has none, and how many sections, items and odd lines.
+fn push_piece(alloc: Global, told: &mut String, piece: &Submission) -> Result<(), Fail> {
+    let sects = piece.sects();
+    let test: String = match sects.first() {
+        Some(first) => String::from_utf8_lossy(alloc, first.test.get())?,
+        None => String::from_str(alloc, "-")?,
+    };
+    let words = format!(in alloc; "{test} {} {} {}\n", sects.len(), items_in(sects), piece.odd())?;
+    told.push_str(words.as_str())?;
+    Ok(())
+}
+
+/// A line for each piece of the tracefile, and one for its end: what the whole holds, `end` if that isn't told, or the fault.
+fn pieces_of<S: Source + Drop>(
+    alloc: Global,
+    large: LargeTracefile<S>,
+) -> Result<String, Fail> {
+    let mut told = String::new(alloc);
+    let mut left = large;
+    loop {
+        match left.next_piece(alloc) {
+            Ok(NextPiece::More(piece, rest)) => {
+                push_piece(alloc, &mut told, piece.get())?;
+                left = rest;
+            }
+            Ok(NextPiece::Last(piece, held)) => {
+                push_piece(alloc, &mut told, piece.get())?;
+                let end = match held {
+                    Some(held) => held_words(alloc, &held)?,
+                    None => String::from_str(alloc, "end\n")?,
+                };
+                told.push_str(end.as_str())?;
+                return Ok(told);
+            }
+            Err(fault) => {
+                let end = fault_words(alloc, fault)?;
+                told.push_str(end.as_str())?;
+                told.push('\n')?;
+                return Ok(told);
+            }
+        }
+    }
+}
+
+/// The pieces of a tracefile whose source gives its bytes in this way.
+fn read_pieces(
+    alloc: Global,
+    version: LcovVersion,
+    text: &[u8],
+    way: Way,
+) -> Result<String, Fail> {
+    let source = Given {
+        bytes: text,
+        most: way.most,
+        fails: way.fails,
+        reads: 0,
+        failed: 0,
+    };
+    pieces_of(alloc, LargeTracefile::new(alloc, version, source))
+}
+
+/// The same, and what the whole holds.
+fn read_summed(
+    alloc: Global,
+    version: LcovVersion,
+    text: &[u8],
+    way: Way,
+) -> Result<String, Fail> {
+    let source = Given {
+        bytes: text,
+        most: way.most,
+        fails: way.fails,
+        reads: 0,
+        failed: 0,
+    };
+    pieces_of(alloc, LargeTracefile::summed(alloc, version, source))
+}
+
+/// What a check of the whole tracefile says.
+fn check_whole(
+    alloc: Global,
+    version: LcovVersion,
+    text: &[u8],
+    way: Way,
+) -> Result<String, Fail> {
+    let source = Given {
+        bytes: text,
+        most: way.most,
+        fails: way.fails,
+        reads: 0,
+        failed: 0,
+    };
+    match check_large(alloc, version, source) {
+        Ok(held) => held_words(alloc, &held),
+        Err(fault) => {
+            let words = fault_words(alloc, fault)?;
+            Ok(format!(in alloc; "{words}\n")?)
+        }
+    }
+}
+
+/// Checks that these words are told.
+fn check_words(rt: &impl Abort, told: &String, wanted: &str) {
+    assert!(rt; told.as_str() == wanted, "{told}");
+}

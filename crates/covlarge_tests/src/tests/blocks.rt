@@ -1,0 +1,69 @@
+//! `read_at_most`.
+
+use super::Given;
+use covlarge::read_at_most;
+use covline::Bytes;
+use covsession::SessionFault;
+use std::alloc::Global;
+use std::process::Abort;
+use std::test::*;
+
+/// What is read of `bytes` behind `text`, at most `most` bytes and 100, and how many reads were made. A source that gives at most two
+/// bytes in a read is asked for at most three.
+fn read(
+    alloc: Global,
+    text: &[u8],
+    bytes: &[u8],
+    fails: u64,
+    most: usize,
+) -> Result<Result<(Bytes, u64), SessionFault>, Fail> {
+    let mut source = Given {
+        bytes,
+        most: 2,
+        fails,
+        reads: 0,
+        failed: 0,
+    };
+    let mut block = vec![in alloc; 0; 3]?;
+    let begun = Bytes::of(alloc, text)?;
+    match read_at_most(begun, &mut source, block.as_mut_slice(), most.min(100)) {
+        Ok(all) => Ok(Ok((all, source.reads))),
+        Err(fault) => Ok(Err(fault)),
+    }
+}
+
+/// Checks what is read, by how many reads.
+fn check(
+    rt: &(impl Abort + AllocGlobal),
+    text: &[u8],
+    bytes: &[u8],
+    most: usize,
+    wanted: (&[u8], u64),
+) -> Result<(), Fail> {
+    let (all, reads) = read(rt.alloc(), text, bytes, 100, most)??;
+    assert!(rt; all.get() == wanted.0 && reads == wanted.1, "{:?} by {reads} reads", all.get());
+    Ok(())
+}
+
+/// The bytes are appended, until there are enough or the source is at its end.
+#[test]
+fn reads(rt: HostRuntime) -> Result<(), Fail> {
+    check(&rt, b"", b"abcdef", 4, (b"abcd", 2))?;
+    check(&rt, b"x", b"abcdef", 5, (b"xabcde", 3))?;
+    check(&rt, b"xy", b"abcdef", 6, (b"xyabcdef", 3))?;
+    check(&rt, b"xy", b"abc", 6, (b"xyabc", 3))?;
+    check(&rt, b"xy", b"", 6, (b"xy", 1))?;
+    check(&rt, b"xy", b"abc", 0, (b"xy", 0))
+}
+
+/// A read that fails is the fault, unless it isn't made.
+#[test]
+fn failed_reads(rt: HostRuntime) -> Result<(), Fail> {
+    let first = read(rt.alloc(), b"x", b"abc", 1, 4)?;
+    assert!(rt; matches!(first, Err(SessionFault::Read)), "the first read");
+    let third = read(rt.alloc(), b"", b"abcdef", 3, 5)?;
+    assert!(rt; matches!(third, Err(SessionFault::Read)), "the third read");
+    let two = read(rt.alloc(), b"", b"abcdef", 3, 4)?;
+    assert!(rt; matches!(two, Ok((_, 2))), "two reads");
+    Ok(())
+}

@@ -1,0 +1,103 @@
+//! Tracefiles of one piece, which are read as a whole.
+
+use super::{Given, WELL, Way, check_words, read_pieces, read_summed};
+use covcommand::LcovVersion;
+use covlarge::{LargeTracefile, NextPiece};
+use covread::read_trace;
+use std::process::Abort;
+use std::test::*;
+
+/// Two sections, whatever a read gives.
+const TWO: &[u8] = b"TN:t\nSF:/a.c\nFN:1,f\nFNDA:2,f\nDA:1,2,x\nDA:2,0\nLF:3\nend_of_record\n\nx\nSF:/b.c\nend_of_record\n";
+
+/// The submission of the only piece is that of the whole text, and no more are left.
+#[test]
+fn one_piece(rt: HostRuntime) -> Result<(), Fail> {
+    let source = Given {
+        bytes: TWO,
+        most: 7,
+        fails: 100,
+        reads: 0,
+        failed: 0,
+    };
+    let large = LargeTracefile::new(rt.alloc(), LcovVersion::One, source);
+    assert!(rt; large.most_pieces() == 1_048_576, "the most pieces");
+    let whole = read_trace(rt.alloc(), TWO)?;
+    match large.next_piece(rt.alloc()) {
+        Ok(NextPiece::Last(piece, None)) => {
+            assert!(rt; piece.get().is_same(&whole), "the piece is the whole");
+        }
+        _ => panic!(rt; "there is another end"),
+    }
+    Ok(())
+}
+
+/// However many bytes a read gives.
+#[test]
+fn small_reads(rt: HostRuntime) -> Result<(), Fail> {
+    for most in [1, 2, 13, 1_000] {
+        let way = Way {
+            most,
+            fails: 1_000_000,
+        };
+        let told = read_summed(rt.alloc(), LcovVersion::One, TWO, way)?;
+        check_words(
+            &rt,
+            &told,
+            "t 2 4 1\nsections 2 items 4 odd 1 skipped 1 first x at 10\n",
+        );
+    }
+    Ok(())
+}
+
+/// Checks a tracefile: the words of its only piece and of its end.
+fn check(
+    rt: &(impl Abort + AllocGlobal),
+    version: LcovVersion,
+    text: &[u8],
+    wanted: &str,
+) -> Result<(), Fail> {
+    let told = read_pieces(rt.alloc(), version, text, WELL)?;
+    check_words(rt, &told, wanted);
+    Ok(())
+}
+
+/// Texts without sections, and faults.
+#[test]
+fn other_texts(rt: HostRuntime) -> Result<(), Fail> {
+    check(&rt, LcovVersion::One, b"", "- 0 0 0\nend\n")?;
+    check(&rt, LcovVersion::One, b"TN:t\nx", "- 0 0 0\nend\n")?;
+    check(&rt, LcovVersion::Two, b"\n#x\n", "- 0 0 0\nend\n")?;
+    check(&rt, LcovVersion::One, b"SF:/a.c\r\nend_of_record", " 1 0 0\nend\n")?;
+    check(&rt, LcovVersion::One, b"DA:1,1\n", "refused Outside at 1\n")?;
+    check(
+        &rt,
+        LcovVersion::One,
+        b"SF:/a.c\nend_of_record\nSF:/b.c\nDA:1\n",
+        "refused BadLine at 4\n",
+    )?;
+    check(&rt, LcovVersion::One, b"SF:/a.c\nDA:1,1", "refused OpenEnd\n")?;
+    check(
+        &rt,
+        LcovVersion::One,
+        b"SF:/a.c\nFNL:0,1\nend_of_record\nFNF:1\n",
+        "refused Outside at 4\n",
+    )?;
+    check(
+        &rt,
+        LcovVersion::Two,
+        b"SF:/a.c\nFNL:0,1\nFNA:0,2,f\nend_of_record\nFNF:1\n",
+        " 1 2 0\nend\n",
+    )
+}
+
+/// A read that fails.
+#[test]
+fn failed_reads(rt: HostRuntime) -> Result<(), Fail> {
+    for fails in [1, 2, 5] {
+        let way = Way { most: 20, fails };
+        let told = read_pieces(rt.alloc(), LcovVersion::One, TWO, way)?;
+        check_words(&rt, &told, "unreadable\n");
+    }
+    Ok(())
+}
