@@ -2,7 +2,7 @@
 //!
 //! A piece is some whole sections, as in covpieces, and each piece is a submission of its own. The sections of the submissions, in
 //! order, are those of the whole tracefile, and their odd lines add up. The first fault is that of the whole tracefile, with its
-//! line's number. A section with more bytes than a text may have (64 MiB) is refused.
+//! line's number. A section that has more bytes than a text may have (64 MiB), with the front of its piece, is refused.
 //!
 //! An example: the submissions of a tracefile, one after another.
 //!

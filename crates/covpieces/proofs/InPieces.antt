@@ -1,5 +1,5 @@
 -- Reading in pieces is reading the whole text: for both versions, from what is known of two texts one after another.
-use Rattle.std.proofs.Common.{◌≡◌, ◌⊎◌, ℕ, ◌+◌, ◌-◌, Bool, true, false, List, [], ◌∷◌, ◌++◌, length, Result, Ok, Err, refl, sym, ap, subst, ◌∙◌, append_assoc, length-append, arith, inl, inr}
+use Rattle.std.proofs.Common.{◌≡◌, ◌⊎◌, ℕ, ◌+◌, ◌-◌, Bool, true, false, List, [], ◌∷◌, ◌++◌, length, Result, Ok, Err, refl, sym, ap, subst, ◌∙◌, append_assoc, length-append, arith, inl, inr, if◌then◌else◌}
 use Rattle.std.specs.Prelude.{All, codes}
 use Rattle.std.specs.List.{concat}
 use Rattle.std.proofs.lemmas.List.{append-nil}
@@ -11,7 +11,7 @@ use Rattle.covline.proofs.Cut.{lines-append, lines_at, strip-none}
 use Rattle.covread.specs.declared.fault.ReadFault.{ReadFault}
 use Rattle.covread.specs.declared.fault.ReadFault.TheVariants.{TooLong, Line, Outside, Inside, OpenEnd, BadMark, NoSource, Percent, Instances, Misplaced, LostFunction, BadTest, Memory}
 use Rattle.covpieces.specs.Sections.{EndsSection}
-use Rattle.covpieces.specs.Pieces.{EndSections, IsCut, CarriedData, nothing_carried, group_line, front_lines, front_text, renumbered, moved_number, moved, joined, no_sections, with_first, ReadsInPieces}
+use Rattle.covpieces.specs.Pieces.{EndSections, IsCut, CarriedData, nothing_carried, group_line, with_name, front_lines, name_text, front_text, renumbered, moved_number, moved, joined, no_sections, with_first, ReadsInPieces}
 use Rattle.covpieces.proofs.Faults.{Reading, GoAlike}
 use Rattle.covpieces.proofs.GoodTests.{IsGoodTest-key, IsGoodTest-group}
 
@@ -27,19 +27,22 @@ lines_after piece rest ends =
 lines_after_line : (line rest : List ℕ) → IsGoodTest line → lines_of (line ++ line_feed ∷ rest) ≡ line ∷ lines_of rest
 lines_after_line line rest good = lines_at line rest good.one_line ∙ ap (λ (l : List ℕ). l ∷ lines_of rest) (strip-none line good.no_return)
 
-lines_behind : (test : List ℕ) (is_grouped : Bool) (lines : ℕ) (text : List ℕ) → IsGoodTest test
-    → let c : CarriedData = record { test = test; is_grouped = is_grouped; lines = lines } in
-    lines_of (front_text c ++ text) ≡ front_lines c ++ lines_of text
-lines_behind test false lines text good =
-    ap lines_of (append_assoc (codes "TN:" ++ test) (line_feed ∷ []) text) ∙ lines_after_line (codes "TN:" ++ test) text (IsGoodTest-key test good)
-lines_behind test true lines text good =
-    ap lines_of (append_assoc (codes "TN:" ++ test) (line_feed ∷ (group_line ++ line_feed ∷ [])) text)
-    ∙ lines_after_line (codes "TN:" ++ test) ((group_line ++ line_feed ∷ []) ++ text) (IsGoodTest-key test good)
-    ∙ ap (λ (ls : List (List ℕ)). (codes "TN:" ++ test) ∷ ls) (ap lines_of (append_assoc group_line (line_feed ∷ []) text) ∙ lines_after_line group_line text IsGoodTest-group)
+lines_behind_group : (is_grouped : Bool) (text : List ℕ)
+    → lines_of ((if is_grouped then group_line ++ line_feed ∷ [] else []) ++ text) ≡ (if is_grouped then group_line ∷ [] else []) ++ lines_of text
+lines_behind_group false text = refl
+lines_behind_group true text = ap lines_of (append_assoc group_line (line_feed ∷ []) text) ∙ lines_after_line group_line text IsGoodTest-group
+
+lines_behind_name : (name front text : List ℕ) (lines : List (List ℕ)) → IsGoodTest name → lines_of (front ++ text) ≡ lines ++ lines_of text
+    → lines_of (name_text name front ++ text) ≡ with_name name lines ++ lines_of text
+lines_behind_name [] front text lines good behind = behind
+lines_behind_name (b ∷ bs) front text lines good behind =
+    ap lines_of (append_assoc (codes "TN:" ++ (b ∷ bs)) (line_feed ∷ front) text)
+    ∙ lines_after_line (codes "TN:" ++ (b ∷ bs)) (front ++ text) (IsGoodTest-key (b ∷ bs) good) ∙ ap (λ (ls : List (List ℕ)). (codes "TN:" ++ (b ∷ bs)) ∷ ls) behind
 
 -- the lines of a piece behind its front
 pub lines_with_front : (c : CarriedData) (text : List ℕ) → IsGoodTest c.test → lines_of (front_text c ++ text) ≡ front_lines c ++ lines_of text
-lines_with_front c text good = lines_behind c.test c.is_grouped c.lines text good
+lines_with_front c text good =
+    lines_behind_name c.test (if c.is_grouped then group_line ++ line_feed ∷ [] else []) text (if c.is_grouped then group_line ∷ [] else []) good (lines_behind_group c.is_grouped text)
 
 -- ---- numbers
 
@@ -92,9 +95,6 @@ pub record FormatLaw (Reads : Reading) (IsFault : Faults) (IsOutcome : Outcomes)
   pub good : (c : CarriedData) → IsCarried c → IsGoodTest c.test
   pub carries : (c : CarriedData) (piece : List ℕ) (s : SubmissionData) → IsCarried c → All IsLawfulSect s.sects → IsCarried (next c piece s.sects)
   pub counts : (c : CarriedData) (piece : List ℕ) (sects : List SectData) → (next c piece sects).lines ≡ c.lines + length (lines_of piece)
-  pub starts : GoAlike Reads [] (front_lines nothing_carried)
-  pub without_front : (lines : List (List ℕ)) (s : SubmissionData) → Reads (front_lines nothing_carried ++ lines) s → Reads lines s
-  pub with_front : (lines : List (List ℕ)) (s : SubmissionData) → Reads lines s → Reads (front_lines nothing_carried ++ lines) s
   pub alike : (c : CarriedData) (piece : List ℕ) (s : SubmissionData) → IsCarried c → EndsSection piece → Reads (behind_front c piece) s
       → GoAlike Reads (behind_front c piece) (front_lines (next c piece s.sects))
   pub joins : (c : CarriedData) (piece : List ℕ) (s : SubmissionData) → IsCarried c → EndsSection piece → Reads (behind_front c piece) s
@@ -203,11 +203,15 @@ module _ (Reads : Reading) (IsFault : Faults) (IsOutcome : Outcomes) (IsCarried 
       let others = told c2 other pieces (Err fault) (next_carried c piece later.0 is later.1) ends.1 later.2 in
       err_after c piece (concat (other ∷ pieces)) later.0 fault is ends.0 read others
 
+  -- the first piece has no front
+  starts : GoAlike Reads [] (front_lines nothing_carried)
+  starts = record { whole = (no_sections, law.nothing); to_first = λ rest text. text; to_front = λ rest text. text }
+
   started : (text : List ℕ) (r : Result SubmissionData ReadFault) → Told nothing_carried text r → (r ≡ Err TooLong) ⊎ IsWhole text r
-  started text (Ok s) reads = inr (law.without_front (lines_of text) s reads)
+  started text (Ok s) reads = inr reads
   started text (Err fault) (inl long) = inl (ap (λ (f : ReadFault). Err f) long)
   started text (Err fault) (inr first) =
-      inr (subst (λ (f : ReadFault). IsFault (lines_of text) f) (sym first.1) (law.moves [] (front_lines nothing_carried) law.starts (lines_of text) first.0 first.2))
+      inr (subst (λ (f : ReadFault). IsFault (lines_of text) f) (sym first.1) (law.moves [] (front_lines nothing_carried) starts (lines_of text) first.0 first.2))
 
   -- what the pieces say together is what the whole text says, unless a piece is too long
   pub whole : (text : List ℕ) (pieces : List (List ℕ)) (r : Result SubmissionData ReadFault) → IsCut text pieces → ReadsInPieces IsOutcome next nothing_carried pieces r → (r ≡ Err TooLong) ⊎ IsWhole text r
@@ -226,14 +230,13 @@ module _ (Reads : Reading) (IsFault : Faults) (IsOutcome : Outcomes) (IsCarried 
       let c = next nothing_carried first s.sects in
       let is = law.carries nothing_carried first s law.begins (law.lawful_of first s outcome).texts in
       let behind = subst (λ (x : List (List ℕ)). Reads x t) (lines_with_front c rest (law.good c is)) later in
-      let read = law.with_front (lines_of first) s (law.reads_of first s outcome) in
-      law.without_front (lines_of (first ++ rest)) (joined s t) (ok_after nothing_carried first rest s t law.begins ends read behind)
+      ok_after nothing_carried first rest s t law.begins ends (law.reads_of first s outcome) behind
   after_first first rest s (Err told) ends outcome later =
       let c = next nothing_carried first s.sects in
       let is = law.carries nothing_carried first s law.begins (law.lawful_of first s outcome).texts in
       let behind = subst (λ (x : List (List ℕ)). IsFault x told) (lines_with_front c rest (law.good c is)) later in
-      let read = law.with_front (lines_of first) s (law.reads_of first s outcome) in
-      let moved_on = law.moves [] (front_lines nothing_carried) law.starts (lines_of (first ++ rest)) (renumbered (number_after nothing_carried first s) told)
+      let read = law.reads_of first s outcome in
+      let moved_on = law.moves [] (front_lines nothing_carried) starts (lines_of (first ++ rest)) (renumbered (number_after nothing_carried first s) told)
       (fault_then nothing_carried first rest s told law.begins ends read behind) in
       subst (λ (f : ReadFault). IsFault (lines_of (first ++ rest)) f)
       (renumbered_twice (moved_number nothing_carried) (number_after nothing_carried first s) (moved_number c) (numbers nothing_carried first s) told) moved_on

@@ -1,5 +1,5 @@
 -- What is known of tracefiles of LCOV 2.
-use Rattle.std.proofs.Common.{◌≡◌, ◌⊎◌, ℕ, false, List, [], ◌∷◌, ◌++◌, Result, Ok, Err, refl, sym, ap, ◌∙◌, append_assoc, inl, inr}
+use Rattle.std.proofs.Common.{◌≡◌, ◌⊎◌, ℕ, List, [], ◌∷◌, ◌++◌, Result, Ok, Err, refl, sym, ap, ◌∙◌, append_assoc, inl, inr}
 use Rattle.std.specs.List.{flat_map}
 use Rattle.covline.specs.Lawful.{IsLawful}
 use Rattle.covline.specs.Lines.{lines_of}
@@ -14,11 +14,10 @@ use Rattle.covpieces.specs.Sections.{EndsSection, grouped_after}
 use Rattle.covpieces.specs.Pieces.{IsCut, CarriedData, nothing_carried, front_lines, front_text, last_test, no_sections, with_first, lcov2_carried_after, ReadsInPieces}
 use Rattle.covpieces.specs.Whole.{IsWholeLcov2Outcome}
 use Rattle.covpieces.proofs.Parts.{test_at}
-use Rattle.covpieces.proofs.Faults.{GoAlike}
 use Rattle.covpieces.proofs.GoodTests.{IsGoodTest-none, good_after}
 use Rattle.covpieces.proofs.Lcov2Lines.{goes_on}
 use Rattle.covpieces.proofs.Lcov2Groups.{lines_group, front_groups}
-use Rattle.covpieces.proofs.Lcov2Fronts.{below, grouped_at, with_front, from_front, joined_reads, front_alike, fault_after, test_at_end, fault_longer}
+use Rattle.covpieces.proofs.Lcov2Fronts.{grouped_at, joined_reads, front_alike, fault_after, test_at_end, fault_longer}
 use Rattle.covpieces.proofs.InPieces.{behind_front, FormatLaw, IsWhole, whole, after_first}
 use Rattle.covpieces.proofs.TraceFormat.{IsCarried}
 
@@ -29,23 +28,7 @@ faults_of text fault (inr first) = inr first.1
 nothing_read : Reads [] no_sections
 nothing_read = record { parts = []; lawful = tt; spelled = refl; sects = refl; odd = refl }
 
-with_first_front : (lines : List (List ℕ)) (s : SubmissionData) → Reads lines s → Reads (front_lines nothing_carried ++ lines) s
-with_first_front lines s r =
-    with_front [] false lines s (record { parts = r.parts; lawful = r.lawful; above = []; same = refl; spelled = r.spelled; sects = r.sects; odd = r.odd })
-
 module _ (law : Lcov2LineLaw) where
-  without_front : (lines : List (List ℕ)) (s : SubmissionData) → Reads (front_lines nothing_carried ++ lines) s → Reads lines s
-  without_front lines s r =
-      let from = from_front law [] false lines s r in
-      record { parts = from.parts; lawful = from.lawful; spelled = below [] false lines s from [] refl; sects = from.sects; odd = from.odd }
-
-  starts : GoAlike Reads [] (front_lines nothing_carried)
-  starts = record {
-    whole = (no_sections, with_first_front [] no_sections nothing_read);
-    to_first = λ rest text. (text.0, without_front rest text.0 text.1);
-    to_front = λ rest text. (text.0, with_first_front rest text.0 text.1);
-  }
-
   last_line : (c : CarriedData) (piece : List ℕ) (ends : EndsSection piece) → behind_front c piece ≡ (front_lines c ++ ends.above) ++ ends.last ∷ []
   last_line c piece ends = ap (λ (x : List (List ℕ)). front_lines c ++ x) ends.lines ∙ sym (append_assoc (front_lines c) ends.above (ends.last ∷ []))
 
@@ -68,9 +51,6 @@ module _ (law : Lcov2LineLaw) where
     good = λ c is. is;
     carries = λ c piece s is texts. good_after c.test s.sects is texts;
     counts = λ c piece sects. refl;
-    starts = starts;
-    without_front = without_front;
-    with_front = with_first_front;
     alike = λ c piece s is ends r.
         front_alike law (behind_front c piece) (last_test c.test s.sects) (grouped_after c.is_grouped (lines_of piece)) s r (test_is c piece s ends r) (grouped_is c piece s r);
     joins = λ c piece s is ends r rest t.

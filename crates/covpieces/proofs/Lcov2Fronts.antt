@@ -20,7 +20,7 @@ use Rattle.covlcov2.specs.Reads.{said, above_after, StandFor, Reads}
 use Rattle.covlcov2.specs.Outcome.{IsLawfulText, MayGoOn, IsFirstFaulty, IsFirstFault}
 use Rattle.covlcov2.proofs.Holds.{goes_says, says_split}
 use Rattle.covlcov2.proofs.Records.{same_some}
-use Rattle.covpieces.specs.Pieces.{group_line, last_test, joined, renumbered}
+use Rattle.covpieces.specs.Pieces.{group_line, with_name, last_test, joined, renumbered}
 use Rattle.covpieces.proofs.Parts.{test_at, sects-append, last_of, last_of-append, test_of_last, whole_parts, later_parts}
 use Rattle.covpieces.proofs.Faults.{FirstFaulty, GoAlike, goes_on_first, faulty_after, faulty_longer}
 use Rattle.covpieces.proofs.Lcov2Lines.{goes_on, stand_then, halves, last_is_end, is_grouped, stands_below}
@@ -56,25 +56,46 @@ zero_numeral = record { some = lit< tt; each = All-from_recursion IsDigit (codes
 spells_group : Lcov2Spells group_line (Leader 0 0)
 spells_group = record { form = (codes "0", codes "0", [], refl, zero_numeral, zero_numeral, tt); small = (omega arith, omega arith) }
 
+-- the line that begins to group functions, if they are grouped
+abbrev group_lines : Bool → List (List ℕ)
+group_lines grouped = if grouped then group_line ∷ [] else []
+
 -- the front of a piece
 abbrev front_of : List ℕ → Bool → List (List ℕ)
-front_of name grouped = test_line name ∷ (if grouped then group_line ∷ [] else [])
+front_of name grouped = with_name name (group_lines grouped)
 
-front_stands : (name : List ℕ) (grouped : Bool) (lines : List (List ℕ)) (records : List LineData) → ((above : List Lcov2Data) → is_grouped above ≡ grouped → StandFor lines above records)
-    → StandFor (front_of name grouped ++ lines) [] (Test name ∷ records)
-front_stands name false lines records h =
-    (Plain (Test name), Test name ∷ [], records, spells_test name, refl, refl, h (Plain (Test name) ∷ []) refl)
-front_stands name true lines records h =
-    (Plain (Test name), Test name ∷ [], records, spells_test name, refl, refl, (Leader 0 0, [], records, spells_group, refl, refl, h (Leader 0 0 ∷ Plain (Test name) ∷ []) refl))
+group_stands : (grouped : Bool) (lines : List (List ℕ)) (above : List Lcov2Data) (records : List LineData) → is_grouped above ≡ false
+    → ((below : List Lcov2Data) → is_grouped below ≡ grouped → StandFor lines below records) → StandFor (group_lines grouped ++ lines) above records
+group_stands false lines above records none h = h above none
+group_stands true lines above records none h = (Leader 0 0, [], records, spells_group, refl, refl, h (Leader 0 0 ∷ above) refl)
 
+-- no line stands for the empty name
 pub with_front : (name : List ℕ) (grouped : Bool) (lines : List (List ℕ)) (s : SubmissionData) → ReadsFrom name grouped lines s → Reads (front_of name grouped ++ lines) s
-with_front name grouped lines s from = record {
-  parts = Outside (Test name) ∷ from.parts;
-  lawful = (tt, from.lawful);
-  spelled = front_stands name grouped lines (flat_map records_of from.parts) (below name grouped lines s from);
+with_front [] grouped lines s from = record {
+  parts = from.parts;
+  lawful = from.lawful;
+  spelled = group_stands grouped lines [] (flat_map records_of from.parts) refl (below [] grouped lines s from);
   sects = from.sects;
-  odd = omega (arith, from.odd, sum_by-cons odd_in (Outside (Test name)) from.parts);
+  odd = from.odd;
 }
+with_front (b ∷ bs) grouped lines s from =
+    let says = Test (b ∷ bs) in
+    let records = flat_map records_of from.parts in
+    record {
+      parts = Outside says ∷ from.parts;
+      lawful = (tt, from.lawful);
+      spelled = (
+        Plain says,
+        says ∷ [],
+        records,
+        spells_test (b ∷ bs),
+        refl,
+        refl,
+        group_stands grouped lines (Plain says ∷ []) records refl (below (b ∷ bs) grouped lines s from),
+      );
+      sects = from.sects;
+      odd = omega (arith, from.odd, sum_by-cons odd_in (Outside says) from.parts);
+    }
 
 -- what a line makes of the records of a text, if it says this
 record Said (lines : List (List ℕ)) (above : List Lcov2Data) (says : Lcov2Data) (now records : List LineData) : Type 0 where
@@ -93,50 +114,44 @@ said_first law line lines above says now records spells e h =
       others = subst (λ (x : Lcov2Data). StandFor lines (above_after above x) h.2) one h.6;
     }
 
--- the records of the lines behind a front
-record Behind (name : List ℕ) (grouped : Bool) (lines : List (List ℕ)) (records : List LineData) : Type 0 where
-  pub later : List LineData
-  pub both : records ≡ Test name ∷ later
+-- the records of the lines behind the one that begins to group functions
+record Behind (grouped : Bool) (lines : List (List ℕ)) (records : List LineData) : Type 0 where
   pub above : List Lcov2Data
   pub same : is_grouped above ≡ grouped
-  pub others : StandFor lines above later
+  pub stands : StandFor lines above records
 
-behind_front : Lcov2LineLaw → (name : List ℕ) (grouped : Bool) (lines : List (List ℕ)) (records : List LineData) → StandFor (front_of name grouped ++ lines) [] records → Behind name grouped lines records
-behind_front law name false lines records h =
-    let first = said_first law (test_line name) lines [] (Plain (Test name)) (Test name ∷ []) records (spells_test name) refl h in
-    record { later = first.later; both = first.both; above = Plain (Test name) ∷ []; same = refl; others = first.others }
-behind_front law name true lines records h =
-    let first = said_first law (test_line name) (group_line ∷ lines) [] (Plain (Test name)) (Test name ∷ []) records (spells_test name) refl h in
-    let second = said_first law group_line lines (Plain (Test name) ∷ []) (Leader 0 0) [] first.later spells_group refl first.others in
-    record {
-      later = second.later;
-      both = first.both ∙ ap (λ (r : List LineData). Test name ∷ r) second.both;
-      above = Leader 0 0 ∷ Plain (Test name) ∷ [];
-      same = refl;
-      others = second.others;
-    }
+behind_group : Lcov2LineLaw → (grouped : Bool) (lines : List (List ℕ)) (above : List Lcov2Data) (records : List LineData) → is_grouped above ≡ false
+    → StandFor (group_lines grouped ++ lines) above records → Behind grouped lines records
+behind_group law false lines above records none h = record { above = above; same = none; stands = h }
+behind_group law true lines above records none h =
+    let first = said_first law group_line lines above (Leader 0 0) [] records spells_group refl h in
+    record { above = Leader 0 0 ∷ above; same = refl; stands = subst (λ (r : List LineData). StandFor lines (Leader 0 0 ∷ above) r) (sym first.both) first.others }
 
-parts_behind : (name : List ℕ) (grouped : Bool) (lines : List (List ℕ)) (s : SubmissionData) (parts : List Part) → AllByRecursion IsLawfulPart parts
-    → Behind name grouped lines (flat_map records_of parts) → s.sects ≡ sects_from [] parts → s.odd ≡ sum_by odd_in parts → ReadsFrom name grouped lines s
-parts_behind name grouped lines s [] lawful b sects odd = absurd (let e = b.both in cc)
-parts_behind name grouped lines s (Section path inside ∷ parts) lawful b sects odd = absurd (let e = b.both in cc)
-parts_behind name grouped lines s (Outside says ∷ parts) lawful b sects odd =
-    let e = b.both in
+parts_behind : (name : List ℕ) (grouped : Bool) (lines : List (List ℕ)) (s : SubmissionData) (parts : List Part) (later : List LineData) → AllByRecursion IsLawfulPart parts
+    → flat_map records_of parts ≡ Test name ∷ later → Behind grouped lines later → s.sects ≡ sects_from [] parts → s.odd ≡ sum_by odd_in parts → ReadsFrom name grouped lines s
+parts_behind name grouped lines s [] later lawful e b sects odd = absurd cc
+parts_behind name grouped lines s (Section path inside ∷ parts) later lawful e b sects odd = absurd cc
+parts_behind name grouped lines s (Outside says ∷ parts) later lawful e b sects odd =
     let first : says ≡ Test name = cc in
-    let rest : flat_map records_of parts ≡ b.later = cc in
+    let rest : flat_map records_of parts ≡ later = cc in
     record {
       parts = parts;
       lawful = lawful.1;
       above = b.above;
       same = b.same;
-      spelled = subst (λ (r : List LineData). StandFor lines b.above r) (sym rest) b.others;
+      spelled = subst (λ (r : List LineData). StandFor lines b.above r) (sym rest) b.stands;
       sects = sects ∙ ap (λ (x : LineData). sects_from (reads.test_after [] x) parts) first;
       odd = omega (arith, odd, sum_by-cons odd_in (Outside says) parts);
     }
 
 pub from_front : Lcov2LineLaw → (name : List ℕ) (grouped : Bool) (lines : List (List ℕ)) (s : SubmissionData) → Reads (front_of name grouped ++ lines) s → ReadsFrom name grouped lines s
-from_front law name grouped lines s all =
-    parts_behind name grouped lines s all.parts all.lawful (behind_front law name grouped lines (flat_map records_of all.parts) all.spelled) all.sects all.odd
+from_front law [] grouped lines s all =
+    let b = behind_group law grouped lines [] (flat_map records_of all.parts) refl all.spelled in
+    record { parts = all.parts; lawful = all.lawful; above = b.above; same = b.same; spelled = b.stands; sects = all.sects; odd = all.odd }
+from_front law (b ∷ bs) grouped lines s all =
+    let name = b ∷ bs in
+    let first = said_first law (test_line name) (group_lines grouped ++ lines) [] (Plain (Test name)) (Test name ∷ []) (flat_map records_of all.parts) (spells_test name) refl all.spelled in
+    parts_behind name grouped lines s all.parts first.later all.lawful first.both (behind_group law grouped lines (Plain (Test name) ∷ []) first.later refl first.others) all.sects all.odd
 
 -- ---- lines after others
 

@@ -67,8 +67,10 @@ lines_group (line ∷ lines) above last records g =
 behind : (test : List ℕ) (grouped : Bool) (before : ℕ) (lines : List (List ℕ))
     → let c : CarriedData = record { test = test; is_grouped = grouped; lines = before } in
     grouped_after false (front_lines c ++ lines) ≡ grouped_after grouped lines
-behind test false before lines = refl
-behind test true before lines = refl
+behind [] false before lines = refl
+behind [] true before lines = refl
+behind (b ∷ bs) false before lines = refl
+behind (b ∷ bs) true before lines = refl
 
 -- the lines of a front say whether functions are grouped before the piece
 pub front_groups : (c : CarriedData) (lines : List (List ℕ)) → grouped_after false (front_lines c ++ lines) ≡ grouped_after c.is_grouped lines

@@ -12,9 +12,8 @@ use Rattle.covpieces.specs.Sections.{EndsSection}
 use Rattle.covpieces.specs.Pieces.{IsCut, CarriedData, nothing_carried, front_lines, front_text, last_test, no_sections, with_first, carried_after, ReadsInPieces}
 use Rattle.covpieces.specs.Whole.{IsWholeOutcome}
 use Rattle.covpieces.proofs.Parts.{test_at}
-use Rattle.covpieces.proofs.Faults.{GoAlike}
 use Rattle.covpieces.proofs.GoodTests.{IsGoodTest-none, good_after}
-use Rattle.covpieces.proofs.TraceFronts.{with_test, from_test, joined_reads, test_alike, fault_after, test_at_end, fault_longer}
+use Rattle.covpieces.proofs.TraceFronts.{joined_reads, test_alike, fault_after, test_at_end, fault_longer}
 use Rattle.covpieces.proofs.InPieces.{behind_front, FormatLaw, IsWhole, whole, after_first}
 
 -- what may go over to a piece
@@ -28,22 +27,7 @@ faults_of text fault (inr first) = inr first.1
 nothing_read : Reads [] no_sections
 nothing_read = record { parts = []; lawful = tt; spelled = tt; sects = refl; odd = refl }
 
-with_front : (lines : List (List ℕ)) (s : SubmissionData) → Reads lines s → Reads (front_lines nothing_carried ++ lines) s
-with_front lines s r = with_test [] lines s (record { parts = r.parts; lawful = r.lawful; spelled = r.spelled; sects = r.sects; odd = r.odd })
-
 module _ (law : LineLaw) where
-  without_front : (lines : List (List ℕ)) (s : SubmissionData) → Reads (front_lines nothing_carried ++ lines) s → Reads lines s
-  without_front lines s r =
-      let from = from_test law [] lines s r in
-      record { parts = from.parts; lawful = from.lawful; spelled = from.spelled; sects = from.sects; odd = from.odd }
-
-  starts : GoAlike Reads [] (front_lines nothing_carried)
-  starts = record {
-    whole = (no_sections, with_front [] no_sections nothing_read);
-    to_first = λ rest text. (text.0, without_front rest text.0 text.1);
-    to_front = λ rest text. (text.0, with_front rest text.0 text.1);
-  }
-
   last_line : (c : CarriedData) (piece : List ℕ) (ends : EndsSection piece) → behind_front c piece ≡ (front_lines c ++ ends.above) ++ ends.last ∷ []
   last_line c piece ends = ap (λ (x : List (List ℕ)). front_lines c ++ x) ends.lines ∙ sym (append_assoc (front_lines c) ends.above (ends.last ∷ []))
 
@@ -60,9 +44,6 @@ module _ (law : LineLaw) where
     good = λ c is. is;
     carries = λ c piece s is texts. good_after c.test s.sects is texts;
     counts = λ c piece sects. refl;
-    starts = starts;
-    without_front = without_front;
-    with_front = with_front;
     alike = λ c piece s is ends r. test_alike law (behind_front c piece) (last_test c.test s.sects) s r (test_is c piece s ends r);
     joins = λ c piece s is ends r rest t later. joined_reads law (behind_front c piece) rest (last_test c.test s.sects) s t r (test_is c piece s ends r) later;
     moves = fault_after;

@@ -2,6 +2,7 @@
 use Rattle.std.proofs.Common.{◌≡◌, ℕ, ◌+◌, ◌-◌, List, [], ◌∷◌, ◌++◌, length, refl, sym, ap, subst, ◌∙◌, arith}
 use Rattle.std.specs.Prelude.{codes}
 use Rattle.std.specs.List.{flat_map, sum_by, AllByRecursion}
+use Rattle.std.proofs.lemmas.List.{append-nil}
 use Rattle.std.proofs.lemmas.List.Concat.{flat_map-append}
 use Rattle.std.proofs.lemmas.List.Sums.{sum_by-cons, sum_by-append}
 use Rattle.covline.specs.Row.{SectData, SubmissionData}
@@ -14,7 +15,7 @@ use Rattle.covread.specs.Outcome.{IsLawfulText, MayGoOn, IsFirstFaulty, IsFirstF
 use Rattle.covread.proofs.AllOf.{all_append}
 use Rattle.covread.proofs.TraceGrammar.{LineLaw}
 use Rattle.covread.proofs.TraceStands.{AllSpell-append, AllSpell-split, AllSpell-one}
-use Rattle.covpieces.specs.Pieces.{last_test, joined, renumbered}
+use Rattle.covpieces.specs.Pieces.{with_name, last_test, joined, no_sections, renumbered}
 use Rattle.covpieces.proofs.Parts.{test_at, sects-append, last_of, last_of-append, test_of_last, whole_parts, later_parts}
 use Rattle.covpieces.proofs.Faults.{FirstFaulty, GoAlike, goes_on_first, faulty_after, faulty_longer}
 
@@ -37,14 +38,19 @@ path_isnt_test path name e = cc
 
 -- ---- the line of the test's name
 
-pub with_test : (name : List ℕ) (lines : List (List ℕ)) (s : SubmissionData) → ReadsFrom name lines s → Reads (test_line name ∷ lines) s
-with_test name lines s from = record {
+with_line : (name : List ℕ) (lines : List (List ℕ)) (s : SubmissionData) → ReadsFrom name lines s → Reads (test_line name ∷ lines) s
+with_line name lines s from = record {
   parts = Outside (Test name) ∷ from.parts;
   lawful = (tt, from.lawful);
   spelled = (spells_test name, from.spelled);
   sects = from.sects;
   odd = omega (arith, from.odd, sum_by-cons odd_in (Outside (Test name)) from.parts);
 }
+
+-- no line stands for the empty name
+pub with_test : (name : List ℕ) (lines : List (List ℕ)) (s : SubmissionData) → ReadsFrom name lines s → Reads (with_name name [] ++ lines) s
+with_test [] lines s from = record { parts = from.parts; lawful = from.lawful; spelled = from.spelled; sects = from.sects; odd = from.odd }
+with_test (b ∷ bs) lines s from = with_line (b ∷ bs) lines s from
 
 parts_with_test : LineLaw → (name : List ℕ) (lines : List (List ℕ)) (s : SubmissionData) (parts : List Part) → AllByRecursion IsLawfulPart parts
     → AllSpell (test_line name ∷ lines) (flat_map records_of parts) → s.sects ≡ sects_from [] parts → s.odd ≡ sum_by odd_in parts → ReadsFrom name lines s
@@ -61,8 +67,9 @@ parts_with_test law name lines s (Outside says ∷ parts) lawful spelled sects o
       odd = omega (arith, odd, sum_by-cons odd_in (Outside says) parts);
     }
 
-pub from_test : LineLaw → (name : List ℕ) (lines : List (List ℕ)) (s : SubmissionData) → Reads (test_line name ∷ lines) s → ReadsFrom name lines s
-from_test law name lines s all = parts_with_test law name lines s all.parts all.lawful all.spelled all.sects all.odd
+pub from_test : LineLaw → (name : List ℕ) (lines : List (List ℕ)) (s : SubmissionData) → Reads (with_name name [] ++ lines) s → ReadsFrom name lines s
+from_test law [] lines s all = record { parts = all.parts; lawful = all.lawful; spelled = all.spelled; sects = all.sects; odd = all.odd }
+from_test law (b ∷ bs) lines s all = parts_with_test law (b ∷ bs) lines s all.parts all.lawful all.spelled all.sects all.odd
 
 -- ---- lines after others
 
@@ -97,18 +104,20 @@ rest_reads law first lines s all r whole =
     )
 
 module _ (law : LineLaw) where
-  pub joined_reads : (first lines : List (List ℕ)) (name : List ℕ) (s t : SubmissionData) (r : Reads first s) → test_at [] r.parts ≡ name → Reads (test_line name ∷ lines) t → Reads (first ++ lines) (joined s t)
+  pub joined_reads : (first lines : List (List ℕ)) (name : List ℕ) (s t : SubmissionData) (r : Reads first s) → test_at [] r.parts ≡ name → Reads (with_name name [] ++ lines) t → Reads (first ++ lines) (joined s t)
   joined_reads first lines name s t r same all =
-      append_reads first lines s t r (from_test law (test_at [] r.parts) lines t (subst (λ (x : List ℕ). Reads (test_line x ∷ lines) t) (sym same) all))
+      append_reads first lines s t r (from_test law (test_at [] r.parts) lines t (subst (λ (x : List ℕ). Reads (with_name x [] ++ lines) t) (sym same) all))
 
   -- a text goes on after lines that were read as it goes on after the line of the current test
-  pub test_alike : (first : List (List ℕ)) (name : List ℕ) (s : SubmissionData) (r : Reads first s) → test_at [] r.parts ≡ name → GoAlike Reads first (test_line name ∷ [])
+  pub test_alike : (first : List (List ℕ)) (name : List ℕ) (s : SubmissionData) (r : Reads first s) → test_at [] r.parts ≡ name → GoAlike Reads first (with_name name [])
   test_alike first name s r same = record {
-    whole = (_, with_test name [] (record { sects = []; odd = 0 }) (record { parts = []; lawful = tt; spelled = tt; sects = refl; odd = refl }));
+    whole =
+        let none = with_test name [] no_sections (record { parts = []; lawful = tt; spelled = tt; sects = refl; odd = refl }) in
+        (no_sections, subst (λ (x : List (List ℕ)). Reads x no_sections) (append-nil (with_name name [])) none);
     to_first = λ rest text. (joined s text.0, joined_reads first rest name s text.0 r same text.1);
     to_front = λ rest text.
         let from = rest_reads law first rest s text.0 r text.1 in
-        (from.0, subst (λ (x : List ℕ). Reads (test_line x ∷ rest) from.0) same (with_test (test_at [] r.parts) rest from.0 from.1));
+        (from.0, subst (λ (x : List ℕ). Reads (with_name x [] ++ rest) from.0) same (with_test (test_at [] r.parts) rest from.0 from.1));
   }
 
 -- ---- faults

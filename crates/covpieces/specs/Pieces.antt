@@ -33,13 +33,23 @@ nothing_carried = record { test = []; is_grouped = false; lines = 0 }
 abbrev pub group_line : List ℕ
 group_line = codes "FNL:0,0"
 
+-- these lines behind the line of the test's name. An empty name has no line, as the name is empty at the beginning of a text
+abbrev pub with_name : List ℕ → List (List ℕ) → List (List ℕ)
+with_name [] lines = lines
+with_name (b ∷ bs) lines = (codes "TN:" ++ (b ∷ bs)) ∷ lines
+
 -- the lines that are put before a piece
 abbrev pub front_lines : CarriedData → List (List ℕ)
-front_lines c = (codes "TN:" ++ c.test) ∷ (if c.is_grouped then group_line ∷ [] else [])
+front_lines c = with_name c.test (if c.is_grouped then group_line ∷ [] else [])
+
+-- this text behind the line of the test's name, likewise
+abbrev pub name_text : List ℕ → List ℕ → List ℕ
+name_text [] text = text
+name_text (b ∷ bs) text = (codes "TN:" ++ (b ∷ bs)) ++ line_feed ∷ text
 
 -- the text that is put before a piece: these lines, each with a line feed
 abbrev pub front_text : CarriedData → List ℕ
-front_text c = (codes "TN:" ++ c.test) ++ line_feed ∷ (if c.is_grouped then group_line ++ line_feed ∷ [] else [])
+front_text c = name_text c.test (if c.is_grouped then group_line ++ line_feed ∷ [] else [])
 
 -- the fault with other line numbers
 abbrev pub renumbered : (ℕ → ℕ) → ReadFault → ReadFault

@@ -47,14 +47,17 @@ impl<A: Allocator> Carried<A> {
     }
 
     /// The front of the next piece: the lines that are put before its bytes. Behind them it is read as it is behind the pieces before
-    /// it.
+    /// it. An empty name needs no line.
     pub fn front(&self, alloc: A) -> Result<Bytes<A>, Memory>
         ensures { IfOk result (λ text. text ≡ front_text self.now) }
     {
         let mut text = Bytes::new(alloc);
-        text.append(b"TN:")?;
-        text.append(self.test.get())?;
-        text.append(b"\n")?;
+        let name = self.test.get();
+        if !name.is_empty() {
+            text.append(b"TN:")?;
+            text.append(name)?;
+            text.append(b"\n")?;
+        }
         if self.is_grouped {
             text.append(b"FNL:0,0\n")?;
         }
@@ -112,7 +115,9 @@ impl<A: Allocator> Carried<A> {
     fn front_lines(&self) -> u64
         ensures { result ≡ length (front_lines self.now) }
     {
-        if self.is_grouped { 2 } else { 1 }
+        let names = if self.test.get().is_empty() { 0 } else { 1 };
+        let groups = if self.is_grouped { 1 } else { 0 };
+        names + groups
     }
 
     /// Goes on to the next piece of a tracefile of version 1. This piece, without its front, ends with a section, and behind its

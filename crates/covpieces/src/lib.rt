@@ -1,8 +1,9 @@
 //! Tracefiles that are longer than a text can be (64 MiB), read in pieces.
 //!
 //! A piece is some whole sections: it ends with a line that begins with `end_of_record`, or it is the end of the file. Each piece is
-//! read by itself, behind a front of one or two lines: the line of the current test's name, and in LCOV 2 an `FNL:` line if the last
-//! one is still valid. What the pieces say together is what the whole file says, and faults get their line's number in the file.
+//! read by itself, behind a front of up to two lines: the line of the current test's name unless it is empty, and in LCOV 2 an `FNL:`
+//! line if the last one is still valid. What the pieces say together is what the whole file says, and faults get their line's number
+//! in the file.
 //!
 //! An example: the submission of a piece, or its fault in the whole file. After it, `carried.pass(..)` goes on to the next piece.
 //!

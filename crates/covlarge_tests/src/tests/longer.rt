@@ -105,17 +105,20 @@ fn a_section_that_is_too_long(rt: HostRuntime) -> Result<(), Fail> {
     Ok(())
 }
 
-/// Just as many bytes as a text may have, with the front `TN:t`, and one more: 5 + 15 + 67,108,829 + 15.
+/// Just as many bytes as a text may have, and one more: 15 + 67,108,834 + 15, or five less with the front `TN:t`.
 #[test]
 fn the_longest_section(rt: HostRuntime) -> Result<(), Fail> {
-    for (length, wanted) in [
-        (67_108_829, "t 1 0 0\nt 1 1 0\n- 0 0 0\nend\n"),
-        (67_108_830, "t 1 0 0\nrefused TooLong\n"),
-    ] {
+    let examples: [(&[u8], usize, &str); 4] = [
+        (b"TN:t\n", 67_108_829, "t 1 0 0\nt 1 1 0\n- 0 0 0\nend\n"),
+        (b"TN:t\n", 67_108_830, "t 1 0 0\nrefused TooLong\n"),
+        (b"", 67_108_834, " 1 0 0\n 1 1 0\n- 0 0 0\nend\n"),
+        (b"", 67_108_835, " 1 0 0\nrefused TooLong\n"),
+    ];
+    for (name, length, wanted) in examples {
         let mut line = doubled(rt.alloc(), b"#", 26)?;
         line.truncate(length);
-        let mut text =
-            Vec::from_slice(rt.alloc(), b"TN:t\nSF:/a.c\nend_of_record\nSF:/b.c\nDA:7,0\n")?;
+        let mut text = Vec::from_slice(rt.alloc(), name)?;
+        text.extend_from_slice(b"SF:/a.c\nend_of_record\nSF:/b.c\nDA:7,0\n")?;
         text.extend_from_slice(line.as_slice())?;
         text.extend_from_slice(b"\nend_of_record\nx\n")?;
         let told = read_pieces(rt.alloc(), LcovVersion::One, text.as_slice(), WELL)?;

@@ -127,18 +127,24 @@ fn check_front(
     Ok(())
 }
 
-/// The first piece has the front of the empty name.
+/// The first piece has no front: the name is empty.
 #[test]
 fn first_front(rt: HostRuntime) -> Result<(), Fail> {
     let front = Carried::new(rt.alloc()).front(rt.alloc())?;
-    assert!(rt; front.get() == b"TN:\n".as_slice(), "the first front");
+    assert!(rt; front.get() == b"".as_slice(), "the first front");
     Ok(())
 }
 
 /// The front of a second piece.
 #[test]
 fn fronts(rt: HostRuntime) -> Result<(), Fail> {
-    check_front(&rt, b"SF:x\nend_of_record\n", Version::One, b"TN:\n")?;
+    check_front(&rt, b"SF:x\nend_of_record\n", Version::One, b"")?;
+    check_front(
+        &rt,
+        b"TN:a\nSF:x\nend_of_record\nTN:\nSF:y\nend_of_record\n",
+        Version::One,
+        b"",
+    )?;
     check_front(
         &rt,
         b"TN:a\r\nSF:x\r\nend_of_record\r\n",
@@ -150,6 +156,12 @@ fn fronts(rt: HostRuntime) -> Result<(), Fail> {
         b"TN:a\nSF:x\nFNL:0,1\nend_of_record\n",
         Version::One,
         b"TN:a\n",
+    )?;
+    check_front(
+        &rt,
+        b"SF:x\nFNL:0,1\nend_of_record\n",
+        Version::Two,
+        b"FNL:0,0\n",
     )?;
     check_front(
         &rt,
@@ -215,6 +227,20 @@ end_of_record
 > SF:y
 > end_of_record
 = the empty name
+TN:a
+SF:x
+end_of_record
+TN:
+SF:y
+end_of_record
+--
+SF:z
+DA:1,1
+end_of_record
+> SF:z
+> DA:1,1
+> end_of_record
+= the empty name after another one's section
 TN:a b,c
 SF:x
 end_of_record
@@ -245,6 +271,15 @@ end_of_record
 --
 DA:1,1
 ! Outside at 4
+TN:a
+SF:x
+end_of_record
+TN:
+SF:y
+end_of_record
+--
+DA:1,1
+! Outside at 7
 TN:a
 SF:x
 end_of_record
@@ -351,6 +386,14 @@ end_of_record
 FNF:1
 LF:1
 ! Outside at 5
+TN:a
+SF:x
+FNL:0,1
+end_of_record
+--
+FNF:1
+LF:1
+! Outside at 6
 SF:x
 end_of_record
 --
