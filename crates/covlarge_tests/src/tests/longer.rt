@@ -59,7 +59,10 @@ fn pieces_that_are_left(rt: HostRuntime) -> Result<(), Fail> {
 fn faults(rt: HostRuntime) -> Result<(), Fail> {
     let examples: [(&[u8], &str); 4] = [
         (b"DA:1,1\n", "t 7 7 0\nt 7 7 0\nrefused Outside at 56\n"),
-        (b"\nSF:/b.c\nDA:1\n", "t 7 7 0\nt 7 7 0\nrefused BadLine at 58\n"),
+        (
+            b"\nSF:/b.c\nDA:1\n",
+            "t 7 7 0\nt 7 7 0\nrefused BadLine at 58\n",
+        ),
         (b"SF:/b.c\nTN:", "t 7 7 0\nt 7 7 0\nrefused Inside at 57\n"),
         (b"SF:/b.c", "t 7 7 0\nt 7 7 0\nrefused OpenEnd\n"),
     ];
@@ -114,8 +117,10 @@ fn the_longest_section(rt: HostRuntime) -> Result<(), Fail> {
     ] {
         let mut line = doubled(rt.alloc(), b"#", 26)?;
         line.truncate(length);
-        let mut text =
-            Vec::from_slice(rt.alloc(), b"TN:t\nSF:/a.c\nend_of_record\nSF:/b.c\nDA:7,0\n")?;
+        let mut text = Vec::from_slice(
+            rt.alloc(),
+            b"TN:t\nSF:/a.c\nend_of_record\nSF:/b.c\nDA:7,0\n",
+        )?;
         text.extend_from_slice(line.as_slice())?;
         text.extend_from_slice(b"\nend_of_record\nx\n")?;
         let told = read_pieces(rt.alloc(), LcovVersion::One, text.as_slice(), WELL)?;
