@@ -44,7 +44,7 @@ fn pieces_that_are_left(rt: HostRuntime) -> Result<(), Fail> {
         failed: 0,
     };
     let large = LargeTracefile::summed(rt.alloc(), LcovVersion::One, source);
-    assert!(rt; large.most_pieces() == 1_048_576, "before the first piece");
+    assert!(rt; large.most_pieces() == 1_048_575, "before the first piece");
     match large.next_piece(rt.alloc()) {
         Ok(NextPiece::More(_, rest)) => {
             assert!(rt; rest.most_pieces() == 1_048_575, "after it");

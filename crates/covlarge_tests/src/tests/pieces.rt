@@ -22,7 +22,7 @@ fn one_piece(rt: HostRuntime) -> Result<(), Fail> {
         failed: 0,
     };
     let large = LargeTracefile::new(rt.alloc(), LcovVersion::One, source);
-    assert!(rt; large.most_pieces() == 1_048_576, "the most pieces");
+    assert!(rt; large.most_pieces() == 1_048_575, "the most pieces");
     let whole = read_trace(rt.alloc(), TWO)?;
     match large.next_piece(rt.alloc()) {
         Ok(NextPiece::Last(piece, None)) => {
