@@ -11,22 +11,22 @@ use Rattle.covread.specs.Outcome.{max_bytes}
 use Rattle.covread.specs.declared.fault.ReadFault.{ReadFault}
 use Rattle.covread.specs.declared.fault.ReadFault.TheVariants.{TooLong}
 
--- the most pieces that a tracefile may have
+-- the most pieces that a tracefile may have. So the entries of one tracefile and of a last operation have room in a history
 abbrev pub max_pieces : ℕ
-max_pieces = 1048576
+max_pieces = 1048575
 
 -- the fault with its line's number as it is told
 abbrev pub told_fault : ReadFault → ReadFault
 told_fault fault = renumbered told_number fault
 
--- the rest of a tracefile begins with a section that is too long: with the front of its piece, it has more bytes than a text may
--- have, up to its end, or up to the end of the rest if it has no end
+-- the rest of a tracefile begins too long: behind the front of its piece, it has more bytes than a text may have, up to the next line
+-- that ends a section, or up to its end if no such line follows
 pub record BeginsTooLong (front rest : List ℕ) : Type 0 where
   pub all : max_bytes < length (front ++ rest)
   pub section : (n : ℕ) → n ≤ length rest → EndsSection (take n rest) → max_bytes < length (front ++ take n rest)
 
 -- why reading stops before the rest of the text, after some pieces: for the first fault of the whole text; or since the rest begins
--- with a section that is too long; or since no more pieces are read
+-- too long; or since no more pieces are read
 abbrev pub IsStop : LcovVersion → (text : List ℕ) → CarriedData → (rest : List ℕ) → (pieces : ℕ) → ReadFault → Type 0
 IsStop version text carried rest pieces fault =
     ((first : ReadFault) × IsWholeOf version text (Err first) × (fault ≡ told_fault first))

@@ -24,7 +24,7 @@ use std::marker::Model;
 
 /// The most pieces that a tracefile may have. Two pieces after each other have together at least 4 MiB, unless a test's name is nearly
 /// as long as a text may be. So a tracefile of less than 2 TiB has fewer.
-pub const MAX_PIECES: u64 = 1_048_576;
+pub const MAX_PIECES: u64 = 1_048_575;
 
 /// A tracefile that is read piece by piece, from a source of its bytes. Contracts see its version, what goes over to the next piece,
 /// what the pieces so far hold, how many pieces may be left, and the bytes to come.

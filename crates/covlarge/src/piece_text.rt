@@ -25,7 +25,7 @@ pub(crate) enum Found {
     Last,
     /// Whole sections, with this number of bytes.
     Sections(usize),
-    /// The beginning of a section that is too long.
+    /// Bytes that are too long up to the end of a section.
     TooLong,
 }
 
@@ -59,7 +59,7 @@ impl PieceText {
         Ok(PieceText { text, front })
     }
 
-    /// Reads on until whole sections are found, or the end of the tracefile, or a section that is too long.
+    /// Reads on until whole sections are found, or the end of the tracefile, or bytes that are too long without the end of a section.
     pub(crate) fn read_on<S: Source>(
         self,
         source: &mut S,
@@ -104,7 +104,7 @@ impl PieceText {
 }
 
 /// Reads on until whole sections are found within `most` bytes, or the end of the source, or more than `most` bytes. They are looked
-/// for each time that the text is twice as long, and first when it has `least` bytes. `most` and `least` are parameters so that no
+/// for in `least` bytes, then in twice as many, and so on. `most` and `least` are parameters so that no
 /// proof has to count up to them.
 fn read_on<S: Source>(
     text: Bytes,

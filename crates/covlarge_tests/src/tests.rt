@@ -1,5 +1,7 @@
 //! What is wanted was worked out by hand from geninfo(1), section FILES, never taken from an output.
 
+ghost use Rattle.std.specs.Prelude.{None};
+
 use covcheck::summary_line;
 use covcommand::LcovVersion;
 use covlarge::{Held, LargeTracefile, NextPiece, PieceFault, check_large};
@@ -89,16 +91,18 @@ fn push_piece(alloc: Global, told: &mut String, piece: &Submission) -> Result<()
         Some(first) => String::from_utf8_lossy(alloc, first.test.get())?,
         None => String::from_str(alloc, "-")?,
     };
-    let words = format!(in alloc; "{test} {} {} {}\n", sects.len(), items_in(sects), piece.odd())?;
+    let words = format!(in alloc;
+        "{test} {} {} {}\n",
+        sects.len(),
+        items_in(sects),
+        piece.odd()
+    )?;
     told.push_str(words.as_str())?;
     Ok(())
 }
 
 /// A line for each piece of the tracefile, and one for its end: what the whole holds, `end` if that isn't told, or the fault.
-fn pieces_of<S: Source + Drop>(
-    alloc: Global,
-    large: LargeTracefile<S>,
-) -> Result<String, Fail> {
+fn pieces_of<S: Source + Drop>(alloc: Global, large: LargeTracefile<S>) -> Result<String, Fail> {
     let mut told = String::new(alloc);
     let mut left = large;
     loop {
@@ -127,12 +131,7 @@ fn pieces_of<S: Source + Drop>(
 }
 
 /// The pieces of a tracefile whose source gives its bytes in this way.
-fn read_pieces(
-    alloc: Global,
-    version: LcovVersion,
-    text: &[u8],
-    way: Way,
-) -> Result<String, Fail> {
+fn read_pieces(alloc: Global, version: LcovVersion, text: &[u8], way: Way) -> Result<String, Fail> {
     let source = Given {
         bytes: text,
         most: way.most,
@@ -144,12 +143,7 @@ fn read_pieces(
 }
 
 /// The same, and what the whole holds.
-fn read_summed(
-    alloc: Global,
-    version: LcovVersion,
-    text: &[u8],
-    way: Way,
-) -> Result<String, Fail> {
+fn read_summed(alloc: Global, version: LcovVersion, text: &[u8], way: Way) -> Result<String, Fail> {
     let source = Given {
         bytes: text,
         most: way.most,
@@ -161,12 +155,7 @@ fn read_summed(
 }
 
 /// What a check of the whole tracefile says.
-fn check_whole(
-    alloc: Global,
-    version: LcovVersion,
-    text: &[u8],
-    way: Way,
-) -> Result<String, Fail> {
+fn check_whole(alloc: Global, version: LcovVersion, text: &[u8], way: Way) -> Result<String, Fail> {
     let source = Given {
         bytes: text,
         most: way.most,

@@ -196,7 +196,7 @@ unless_any report (b ∷ bs) ending = report (b ∷ bs)
 
 -- how a call ends after collecting its files. If an input was refused because memory ran out, only that is reported. Otherwise texts
 -- with a fault and clashes are reported before texts that aren't clean, and these before patterns that match no file. A text that isn't
--- clean is in no entry, so nothing in it clashes
+-- clean is in no entry, so nothing in it clashes. Only of a tracefile that is read in pieces all pieces but the last are in entries
 abbrev pub of_collected : List (List ℕ) → Strictness → QuestionData → List EntryData → List (RefusedInput TextFault) → EndingData
 of_collected files strictness asks entries refused =
     if ran_out refused then Stopped faults.Memory

@@ -36,7 +36,7 @@ impl<'a, F: Folder> LateInput<Global> for FileInput<'a, F> {
 
     type Fault = TextFault;
 
-    /// Reads the file, or its next piece, and then parses the text. Frees the text.
+    /// Reads the file, or its next piece, and then parses the text. Frees what was parsed.
     fn read_part(self, alloc: Global) -> Result<Part<Self>, LateFault<TextFault>> {
         match self.format {
             FileFormat::LargeTracefile(version) => self.read_piece(alloc, *version),

@@ -41,7 +41,11 @@ fn check(
     wanted: (&[u8], u64),
 ) -> Result<(), Fail> {
     let (all, reads) = read(rt.alloc(), text, bytes, 100, most)??;
-    assert!(rt; all.get() == wanted.0 && reads == wanted.1, "{:?} by {reads} reads", all.get());
+    assert!(rt;
+        all.get() == wanted.0 && reads == wanted.1,
+        "{:?} by {reads} reads",
+        all.get()
+    );
     Ok(())
 }
 

