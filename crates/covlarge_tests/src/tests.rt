@@ -105,7 +105,7 @@ fn push_piece(alloc: Global, told: &mut String, piece: &Submission) -> Result<()
 fn pieces_of<S: Source + Drop>(alloc: Global, large: LargeTracefile<S>) -> Result<String, Fail> {
     let mut told = String::new(alloc);
     let mut left = large;
-    loop {
+    for _ in 0..u64::MAX {
         match left.next_piece(alloc) {
             Ok(NextPiece::More(piece, rest)) => {
                 push_piece(alloc, &mut told, piece.get())?;
@@ -128,6 +128,7 @@ fn pieces_of<S: Source + Drop>(alloc: Global, large: LargeTracefile<S>) -> Resul
             }
         }
     }
+    Ok(told)
 }
 
 /// The pieces of a tracefile whose source gives its bytes in this way.
