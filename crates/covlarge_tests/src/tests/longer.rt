@@ -47,7 +47,7 @@ fn pieces_that_are_left(rt: HostRuntime) -> Result<(), Fail> {
     assert!(rt; large.most_pieces() == 1_048_575, "before the first piece");
     match large.next_piece(rt.alloc()) {
         Ok(NextPiece::More(_, rest)) => {
-            assert!(rt; rest.most_pieces() == 1_048_575, "after it");
+            assert!(rt; rest.most_pieces() == 1_048_574, "after it");
         }
         _ => panic!(rt; "there is one piece"),
     }
