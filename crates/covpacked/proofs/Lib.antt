@@ -1,0 +1,7 @@
+mod Packing
+mod Layouts
+mod Packeds
+mod Closes
+mod Starts
+mod Removes
+mod Copied

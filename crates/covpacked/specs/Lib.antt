@@ -1,0 +1,6 @@
+pub mod ItemRefs
+pub mod Words
+pub mod Layout
+pub mod PackedView
+pub mod OpenItems
+pub mod PackedSects

@@ -1,0 +1,22 @@
+//! What one text says, packed: eight bytes for a line, sixteen for a branch, and more where a number is large.
+//!
+//! [`PackedSects`] takes items one after another, and closes sections. [`PackedSubmission`] is what a text says, as `covline`'s
+//! `Submission`, in three lists of numbers and bytes, whatever the number of its sections. Its items are read by index or by an
+//! iterator, as [`ItemRef`]s, whose names and checksums are borrowed. Contracts see the same sections and items as of a
+//! `Submission`.
+#![tactic(auto)]
+
+mod convert;
+mod item_ref;
+mod packed_items;
+mod packed_sects;
+mod packed_submission;
+mod parts;
+mod sect_iter;
+
+pub use convert::{pack, unpack};
+pub use item_ref::ItemRef;
+pub use packed_items::PackedItems;
+pub use packed_sects::PackedSects;
+pub use packed_submission::PackedSubmission;
+pub use sect_iter::{PackedSect, PackedSectsIter};

@@ -1,0 +1,377 @@
+//! Sections, packed, with the items of an open one.
+
+ghost use Rattle.std.specs.Prelude.{◌≡◌, ◌↔◌, ◌∷◌, false, IfOk, IfSome, IsTrue, MatchOption};
+ghost use Rattle.std.specs.List.{AllByRecursion};
+ghost use Rattle.covpacked.specs.Layout.{BeginWith};
+ghost use Rattle.covpacked.specs.OpenItems.{left, starts_with};
+ghost use Rattle.covpacked.specs.PackedView.{HasTexts, IsTextAt};
+ghost use Rattle.covpacked.specs.Words.{text_at};
+
+use crate::item_ref::ItemRef;
+use crate::packed_items::{PackedItems, text_at};
+use crate::parts::{Kind, Parts, append, set_line};
+use crate::sect_iter::PackedSectsIter;
+use covline::{BranchPoint, Memory};
+use std::alloc::{Allocator, Global};
+use std::marker::Model;
+
+/// Where a text lies in the list of texts.
+#[derive(Clone, Copy, Drop)]
+pub(crate) struct TextPlace {
+    /// The index of its first byte.
+    pub begin: u64,
+    /// How many bytes it has.
+    pub bytes: u64,
+}
+
+/// A section that is closed.
+#[derive(Clone, Copy, Drop)]
+pub(crate) struct ClosedSect {
+    /// Where the test's name lies.
+    pub test: TextPlace,
+    /// Where the source file's path lies.
+    pub file: TextPlace,
+    /// How many items the section has. They follow those of the section before it.
+    pub items: usize,
+}
+
+/// What a text says so far, packed: its closed sections, and the items of the open one. Contracts see these.
+#[derive(Drop)]
+pub struct PackedSects<A: Allocator = Global> {
+    words: Vec<u64, A>,
+    numbers: Vec<u64, A>,
+    texts: Vec<u8, A>,
+    sects: Vec<ClosedSect, A>,
+    closed: usize,
+}
+
+impl<A: Allocator> Model for PackedSects<A> {
+    ghost use Rattle.covpacked.specs.PackedView.{ArePacked, PackedData, packed_data};
+
+    ghost Value = { PackedData };
+
+    ghost view = { λ p. packed_data p.numbers.items p.texts.items p.words.items p.sects.items p.closed };
+
+    ghost invariant = { λ p. ArePacked p.numbers.items p.texts.items p.words.items p.sects.items p.closed };
+}
+
+impl<A: Allocator + Copy> PackedSects<A> {
+    ghost use Rattle.std.specs.Prelude.{◌≡◌, []};
+
+    /// No sections, and no items of an open one. Takes no memory.
+    pub fn new(alloc: A) -> PackedSects<A>
+        ensures sects { result.sects ≡ [] }
+        ensures items { result.items ≡ [] }
+    {
+        PackedSects {
+            words: Vec::new(alloc),
+            numbers: Vec::new(alloc),
+            texts: Vec::new(alloc),
+            sects: Vec::new(alloc),
+            closed: 0,
+        }
+    }
+}
+
+impl<A: Allocator> PackedSects<A> {
+    ghost use Rattle.std.specs.Prelude.{◌≡◌, ◌<◌, ◌++◌, List, [], ◌∷◌, OnErr, OnOk, length, option_map};
+    ghost use Rattle.covline.specs.Row.{LineItem, FuncItem, BranchItem, items_in};
+    ghost use Rattle.covpacked.specs.ItemRefs.{item_ref_data};
+    ghost use Rattle.covpacked.specs.OpenItems.{start_set};
+    ghost use Rattle.covpacked.specs.Words.{HasItsText, HasNoText, item_of_parts, item_with_text};
+
+    /// Appends the count of a line to the open section. On `Memory` all stays as it was.
+    #[inline(always)]
+    pub fn push_line(
+        &mut self,
+        line: u64,
+        count: u128,
+        checksum: Option<&[u8]>,
+    ) -> Result<(), Memory>
+        ensures sects { self.new.sects ≡ self.old.sects }
+        ensures ok { OnOk result (self.new.items ≡ self.old.items ++ LineItem line count (option_map (λ c. c.now) checksum.entry) ∷ []) }
+        ensures err { OnErr result (self.new.items ≡ self.old.items) }
+    {
+        match checksum {
+            Some(text) => self.push_with_text(Kind::Checked, line, count, text),
+            None => self.push_plain(Parts {
+                kind: Kind::Line,
+                line,
+                count,
+                first: 0,
+                second: 0,
+            }),
+        }
+    }
+
+    /// Appends the count of a function to the open section. On `Memory` all stays as it was.
+    pub fn push_function(&mut self, name: &[u8], line: u64, count: u128) -> Result<(), Memory>
+        ensures sects { self.new.sects ≡ self.old.sects }
+        ensures ok { OnOk result (self.new.items ≡ self.old.items ++ FuncItem name.now line count ∷ []) }
+        ensures err { OnErr result (self.new.items ≡ self.old.items) }
+    {
+        self.push_with_text(Kind::Function, line, count, name)
+    }
+
+    /// Appends how often a branch was taken to the open section. On `Memory` all stays as it was.
+    #[inline(always)]
+    pub fn push_branch(&mut self, point: BranchPoint, taken: Option<u128>) -> Result<(), Memory>
+        ensures sects { self.new.sects ≡ self.old.sects }
+        ensures ok { OnOk result (self.new.items ≡ self.old.items ++ BranchItem point.line point.block point.branch taken ∷ []) }
+        ensures err { OnErr result (self.new.items ≡ self.old.items) }
+    {
+        let BranchPoint {
+            line,
+            block,
+            branch,
+        } = point;
+        match taken {
+            Some(count) => self.push_plain(Parts {
+                kind: Kind::Taken,
+                line,
+                count,
+                first: block,
+                second: branch,
+            }),
+            None => self.push_plain(Parts {
+                kind: Kind::Untaken,
+                line,
+                count: 0,
+                first: block,
+                second: branch,
+            }),
+        }
+    }
+
+    /// Appends an item to the open section. On `Memory` all stays as it was.
+    pub fn push_item(&mut self, item: ItemRef<'_>) -> Result<(), Memory>
+        ensures sects { self.new.sects ≡ self.old.sects }
+        ensures ok { OnOk result (self.new.items ≡ self.old.items ++ item_ref_data item.entry ∷ []) }
+        ensures err { OnErr result (self.new.items ≡ self.old.items) }
+    {
+        match item {
+            ItemRef::Line {
+                line,
+                count,
+                checksum,
+            } => self.push_line(line, count, checksum),
+            ItemRef::Func { name, line, count } => self.push_function(name, line, count),
+            ItemRef::Branch {
+                line,
+                block,
+                branch,
+                taken,
+            } => self.push_branch(
+                BranchPoint {
+                    line,
+                    block,
+                    branch,
+                },
+                taken,
+            ),
+        }
+    }
+
+    /// Appends an item that has no text.
+    #[inline(always)]
+    fn push_plain(&mut self, parts: Parts) -> Result<(), Memory>
+        requires { HasNoText parts.kind }
+        ensures sects { self.new.sects ≡ self.old.sects }
+        ensures ok { OnOk result (self.new.items ≡ self.old.items ++ item_of_parts [] parts ∷ []) }
+        ensures err { OnErr result (self.new.items ≡ self.old.items) }
+    {
+        append(&mut self.words, &mut self.numbers, parts)
+    }
+
+    /// Appends an item with its text.
+    fn push_with_text(
+        &mut self,
+        kind: Kind,
+        line: u64,
+        count: u128,
+        text: &[u8],
+    ) -> Result<(), Memory>
+        requires { HasItsText kind }
+        ensures sects { self.new.sects ≡ self.old.sects }
+        ensures ok { OnOk result (self.new.items ≡ self.old.items ++ item_with_text kind line count text.now ∷ []) }
+        ensures err { OnErr result (self.new.items ≡ self.old.items) }
+    {
+        let begin = self.texts.len() as u64;
+        self.texts.extend_from_slice(text)?;
+        append(
+            &mut self.words,
+            &mut self.numbers,
+            Parts {
+                kind,
+                line,
+                count,
+                first: begin,
+                second: text.len() as u64,
+            },
+        )
+    }
+
+    /// The items of the open section, in order.
+    pub fn items(&self) -> PackedItems<'_>
+        ensures { result ≡ self.now.items }
+    {
+        let (_, words) = self.words.as_slice().split_at(self.closed);
+        PackedItems::of(words, self.numbers.as_slice(), self.texts.as_slice())
+    }
+
+    /// Replaces the start line of the function's item at this place in the open section. An item of another kind stays as it is.
+    pub fn set_start(&mut self, at: usize, line: u64)
+        requires { at < length self.old.items }
+        ensures sects { self.new.sects ≡ self.old.sects }
+        ensures items { self.new.items ≡ start_set at line self.old.items }
+    {
+        let word = self.words[self.closed + at];
+        set_line(&mut self.numbers, word, line);
+    }
+
+    /// Closes the open section: it is the section of this test and source file. On `Memory` all stays as it was.
+    pub fn close(&mut self, test: &[u8], file: &[u8]) -> Result<(), Memory>
+        ensures sects { OnOk result (self.new.sects ≡ self.old.sects ++ record { test = test.now; file = file.now; items = self.old.items } ∷ []) }
+        ensures items { OnOk result (self.new.items ≡ []) }
+        ensures same_sects { OnErr result (self.new.sects ≡ self.old.sects) }
+        ensures same_items { OnErr result (self.new.items ≡ self.old.items) }
+    {
+        let NamePlaces { test, file } = place_names(&self.sects, &mut self.texts, test, file)?;
+        let items = self.words.len() - self.closed;
+        self.sects.push(ClosedSect { test, file, items })?;
+        self.closed = self.words.len();
+        Ok(())
+    }
+
+    /// How many items the closed sections have.
+    pub(crate) fn closed_len(&self) -> usize
+        ensures { result ≡ items_in self.now.sects }
+    {
+        self.closed
+    }
+
+    /// The closed sections, in order.
+    pub fn sects(&self) -> PackedSectsIter<'_>
+        ensures { result ≡ self.now.sects }
+    {
+        PackedSectsIter::of(
+            self.words.as_slice(),
+            self.numbers.as_slice(),
+            self.texts.as_slice(),
+            self.sects.as_slice(),
+        )
+    }
+}
+
+impl<A: Allocator + Copy> PackedSects<A> {
+    ghost use Rattle.std.specs.Prelude.{OnOk};
+    ghost use Rattle.covpacked.specs.OpenItems.{left};
+
+    /// Removes the open section's items at these places. The places ascend. On `Memory` the open section may have lost its items.
+    pub fn remove(&mut self, alloc: A, places: &[usize]) -> Result<(), Memory>
+        ensures sects { self.new.sects ≡ self.old.sects }
+        ensures ok { OnOk result (self.new.items ≡ left 0 places.now self.old.items) }
+    {
+        let (_, open) = self.words.as_slice().split_at(self.closed);
+        let kept = words_left(alloc, open, places)?;
+        self.words.truncate(self.closed);
+        self.words.extend_from_slice(kept.as_slice())?;
+        Ok(())
+    }
+}
+
+/// The words, but for those at these places. The places ascend.
+fn words_left<A: Allocator>(
+    alloc: A,
+    words: &[u64],
+    places: &[usize],
+) -> Result<Vec<u64, A>, Memory>
+    ensures { IfOk result (λ kept. kept.items ≡ left 0 places.now words.now) }
+{
+    let mut kept = Vec::new(alloc);
+    let mut places = places;
+    for (at, word) in words.iter().enumerate() {
+        match skip_place(places, at) {
+            Some(rest) => places = rest,
+            None => kept.push(*word)?,
+        }
+    }
+    Ok(kept)
+}
+
+/// The places after this one, if it is the first of them.
+fn skip_place(places: &[usize], at: usize) -> Option<&[usize]>
+    ensures { MatchOption result (starts_with at places.entry.now ≡ false) (λ rest. places.entry.now ≡ at ∷ rest.now) }
+{
+    match places {
+        [first, rest @ ..] if *first == at => Some(rest),
+        _ => None,
+    }
+}
+
+/// Where the names of a section lie.
+#[derive(Clone, Copy, Drop)]
+struct NamePlaces {
+    /// Where the test's name lies.
+    test: TextPlace,
+    /// Where the source file's path lies.
+    file: TextPlace,
+}
+
+/// Appends the names of a section to the texts, and returns where they lie. The name of the last section's test isn't appended
+/// again, so the sections of one test have its name once.
+fn place_names<A: Allocator>(
+    sects: &Vec<ClosedSect, A>,
+    texts: &mut Vec<u8, A>,
+    test: &[u8],
+    file: &[u8],
+) -> Result<NamePlaces, Memory>
+    requires { AllByRecursion (HasTexts texts.old.items) sects.now.items }
+    ensures test { IfOk result (λ names. IsTextAt texts.new.items test.now names.test) }
+    ensures file { IfOk result (λ names. IsTextAt texts.new.items file.now names.file) }
+    ensures grows { BeginWith texts.new.items texts.old.items }
+{
+    let test = match last_test(sects, texts, test) {
+        Some(place) => place,
+        None => append_text(texts, test)?,
+    };
+    let file = append_text(texts, file)?;
+    Ok(NamePlaces { test, file })
+}
+
+/// Where the name of the last section's test lies, if it is this one. So the sections of one test have its name once.
+fn last_test<A: Allocator>(
+    sects: &Vec<ClosedSect, A>,
+    texts: &Vec<u8, A>,
+    test: &[u8],
+) -> Option<TextPlace>
+    requires { AllByRecursion (HasTexts texts.now.items) sects.now.items }
+    ensures { IfSome result (λ place. IsTextAt texts.now.items test.now place) }
+{
+    let place = sects.last()?.test;
+    let is_same = is_text_at(texts.as_slice(), place, test);
+    if is_same {
+        return Some(place);
+    }
+    None
+}
+
+/// Whether this text lies at the place.
+fn is_text_at(texts: &[u8], place: TextPlace, text: &[u8]) -> bool
+    ensures { IsTrue result ↔ (text_at texts.now place.begin place.bytes ≡ text.now) }
+{
+    text_at(texts, place.begin, place.bytes) == text
+}
+
+/// Appends a text to the texts, and returns where it lies. On `Memory` the texts stay as they were.
+fn append_text<A: Allocator>(texts: &mut Vec<u8, A>, text: &[u8]) -> Result<TextPlace, Memory>
+    ensures ok { IfOk result (λ place. IsTextAt texts.new.items text.now place) }
+    ensures grows { BeginWith texts.new.items texts.old.items }
+{
+    let begin = texts.len() as u64;
+    texts.extend_from_slice(text)?;
+    Ok(TextPlace {
+        begin,
+        bytes: text.len() as u64,
+    })
+}

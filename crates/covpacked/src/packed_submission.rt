@@ -1,0 +1,65 @@
+//! What one text says, packed.
+
+use crate::packed_sects::PackedSects;
+use crate::sect_iter::PackedSectsIter;
+use std::alloc::{Allocator, Global};
+use std::marker::Model;
+
+/// What one text says, packed: its sections and its number of odd lines, as of `covline`'s `Submission`. The sections have at most
+/// 67,108,864 items in all, and their texts are lawful. Contracts see the sections and the number.
+#[derive(Drop)]
+pub struct PackedSubmission<A: Allocator = Global> {
+    sects: PackedSects<A>,
+    odd: u64,
+}
+
+impl<A: Allocator> Model for PackedSubmission<A> {
+    ghost use Rattle.std.specs.Prelude.{◌≡◌, []};
+    ghost use Rattle.covline.specs.Row.{SubmissionData};
+    ghost use Rattle.covline.specs.Lawful.{IsLawful};
+
+    ghost Value = { SubmissionData };
+
+    ghost view = { λ a. record { sects = a.sects.sects; odd = a.odd } };
+
+    ghost invariant = { λ a. IsLawful (record { sects = a.sects.sects; odd = a.odd }) × (a.sects.items ≡ []) };
+}
+
+impl<A: Allocator> PackedSubmission<A> {
+    ghost use Rattle.std.specs.Prelude.{◌≡◌, []};
+    ghost use Rattle.covline.specs.Row.{items_in};
+    ghost use Rattle.covline.specs.Lawful.{IsLawful};
+
+    /// The submission of sections that are known to be lawful, none of which is open, with the number of odd lines of their text.
+    pub fn of_lawful(sects: PackedSects<A>, odd: u64) -> PackedSubmission<A>
+        requires lawful { IsLawful (record { sects = sects.sects; odd = odd }) }
+        requires closed { sects.items ≡ [] }
+        ensures { result ≡ record { sects = sects.sects; odd = odd } }
+    {
+        PackedSubmission { sects, odd }
+    }
+
+    /// The sections, in the order of the text.
+    pub fn sects(&self) -> PackedSectsIter<'_>
+        ensures sects { result ≡ self.now.sects }
+        ensures lawful { IsLawful self.now }
+    {
+        self.sects.sects()
+    }
+
+    /// How many items the sections have: at most 67,108,864.
+    pub fn items(&self) -> u64
+        ensures count { result ≡ items_in self.now.sects }
+        ensures lawful { IsLawful self.now }
+    {
+        self.sects.closed_len() as u64
+    }
+
+    /// The number of odd lines in the text. A line is odd if it counts a function that has no start line, or if it states a
+    /// total that isn't the section's own.
+    pub fn odd(&self) -> u64
+        ensures { result ≡ self.now.odd }
+    {
+        self.odd
+    }
+}

@@ -1,0 +1,27 @@
+//! Packed items, sections and submissions. What is wanted was written out by hand, never taken from an output.
+
+use std::process::Abort;
+use std::test::*;
+
+mod closes;
+mod edges;
+mod heap;
+mod mixed;
+mod packs;
+mod points;
+mod reads;
+mod refused;
+mod removes;
+mod room;
+mod same;
+mod sections;
+mod starts;
+mod wrappers;
+
+/// The value that a call with ample memory returned. Panics if the call was refused.
+fn made<T, E: Drop>(rt: &impl Abort, given: Result<T, E>) -> T {
+    match given {
+        Ok(value) => value,
+        Err(_refused) => panic!(rt; "refused with ample memory"),
+    }
+}

@@ -1,0 +1,125 @@
+//! Submissions are packed and unpacked.
+
+use super::made;
+use super::mixed::item;
+use super::sections::{ALL_SECTS, Section, check_sections, nth_section};
+use super::wrappers::{bytes, packed, unpacked};
+use covline::{Bytes, Item, Items, Sect, Sects, Submission};
+use covpacked::{ItemRef, PackedSubmission};
+use std::alloc::Allocator;
+use std::process::Abort;
+use std::test::*;
+
+/// The checksum, if there is one.
+fn checksum_of<A: Allocator>(
+    rt: &impl Abort,
+    alloc: A,
+    checksum: Option<&[u8]>,
+) -> Option<Bytes<A>> {
+    match checksum {
+        Some(text) => Some(made(rt, bytes(alloc, text))),
+        None => None,
+    }
+}
+
+/// The item with this number.
+fn item_of<A: Allocator>(rt: &impl Abort, alloc: A, number: usize) -> Item<A> {
+    match item(number) {
+        ItemRef::Line {
+            line,
+            count,
+            checksum,
+        } => Item::Line {
+            line,
+            count,
+            checksum: checksum_of(rt, alloc, checksum),
+        },
+        ItemRef::Func { name, line, count } => Item::Func {
+            name: made(rt, bytes(alloc, name)),
+            line,
+            count,
+        },
+        ItemRef::Branch {
+            line,
+            block,
+            branch,
+            taken,
+        } => Item::Branch {
+            line,
+            block,
+            branch,
+            taken,
+        },
+    }
+}
+
+/// The items with these numbers.
+fn items_of<A: Allocator + Copy>(rt: &impl Abort, alloc: A, numbers: &[usize]) -> Items<A> {
+    let mut items = Items::new(alloc);
+    for number in numbers {
+        made(rt, items.push(item_of(rt, alloc, *number)));
+    }
+    items
+}
+
+/// The section with this number.
+fn sect_of<A: Allocator + Copy>(rt: &impl Abort, alloc: A, number: usize) -> Sect<A> {
+    let Section {
+        test,
+        file,
+        numbers,
+    } = nth_section(number);
+    Sect {
+        test: made(rt, bytes(alloc, test)),
+        file: made(rt, bytes(alloc, file)),
+        items: items_of(rt, alloc, numbers),
+    }
+}
+
+/// The submission of the first `count` sections, with this number of odd lines.
+pub(super) fn submission_of<A: Allocator + Copy>(
+    rt: &impl Abort,
+    alloc: A,
+    count: usize,
+    odd: u64,
+) -> Submission<A> {
+    let mut sects = Sects::new(alloc);
+    for number in 0..count {
+        made(rt, sects.push(sect_of(rt, alloc, number)));
+    }
+    made(rt, Submission::of(sects, odd))
+}
+
+/// Checks that the first `count` sections are packed, with so many items and odd lines.
+pub(super) fn check_packed<A: Allocator>(
+    rt: &impl Abort,
+    packed: &PackedSubmission<A>,
+    count: usize,
+    items: u64,
+    odd: u64,
+) {
+    check_sections(rt, packed.sects(), count);
+    assert_eq!(rt; packed.items(), items);
+    assert_eq!(rt; packed.odd(), odd);
+}
+
+/// Packs the first `count` sections, unpacks them and packs them again. They have so many items.
+fn check(rt: &(impl Abort + AllocGlobal), count: usize, items: u64, odd: u64) {
+    let given = submission_of(rt, rt.alloc(), count, odd);
+    let first = made(rt, packed(rt.alloc(), &given));
+    check_packed(rt, &first, count, items, odd);
+    let own = made(rt, unpacked(rt.alloc(), &first));
+    assert!(rt; own.is_same(&given), "{count} sections");
+    let second = made(rt, packed(rt.alloc(), &own));
+    check_packed(rt, &second, count, items, odd);
+}
+
+#[test]
+fn there_and_back(rt: HostRuntime) {
+    check(&rt, 0, 0, 0);
+    check(&rt, 0, 0, 3);
+    check(&rt, 1, 2, 0);
+    check(&rt, 2, 2, 1);
+    check(&rt, 3, 5, 0);
+    check(&rt, ALL_SECTS, 9, 18_446_744_073_709_551_615);
+}

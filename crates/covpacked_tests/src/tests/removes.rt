@@ -1,0 +1,87 @@
+//! Items of the open section are removed.
+
+use super::made;
+use super::mixed::{check_numbers, push_numbers};
+use super::sections::check_sect;
+use super::wrappers::{close, remove};
+use covpacked::PackedSects;
+use std::process::Abort;
+use std::test::*;
+
+/// Pushes the first six items, removes those at these places, and then pushes item 8. Checks the numbers of the items that are left.
+fn check(rt: &(impl Abort + AllocGlobal), places: &[usize], left: &[usize], then: &[usize]) {
+    let mut sects = PackedSects::new(rt.alloc());
+    push_numbers(rt, &mut sects, &[0, 1, 2, 3, 4, 5]);
+    made(rt, remove(rt.alloc(), &mut sects, places));
+    check_numbers(rt, sects.items(), left);
+    push_numbers(rt, &mut sects, &[8]);
+    check_numbers(rt, sects.items(), then);
+}
+
+#[test]
+fn none(rt: HostRuntime) {
+    check(&rt, &[], &[0, 1, 2, 3, 4, 5], &[0, 1, 2, 3, 4, 5, 8]);
+}
+
+#[test]
+fn one(rt: HostRuntime) {
+    check(&rt, &[0], &[1, 2, 3, 4, 5], &[1, 2, 3, 4, 5, 8]);
+    check(&rt, &[3], &[0, 1, 2, 4, 5], &[0, 1, 2, 4, 5, 8]);
+    check(&rt, &[5], &[0, 1, 2, 3, 4], &[0, 1, 2, 3, 4, 8]);
+}
+
+#[test]
+fn several(rt: HostRuntime) {
+    check(&rt, &[0, 5], &[1, 2, 3, 4], &[1, 2, 3, 4, 8]);
+    check(&rt, &[1, 2, 4], &[0, 3, 5], &[0, 3, 5, 8]);
+    check(&rt, &[0, 1, 2, 3, 4, 5], &[], &[8]);
+}
+
+/// There is no item at a place past the end.
+#[test]
+fn past_the_end(rt: HostRuntime) {
+    check(&rt, &[6], &[0, 1, 2, 3, 4, 5], &[0, 1, 2, 3, 4, 5, 8]);
+    check(
+        &rt,
+        &[4, 7, 18_446_744_073_709_551_615],
+        &[0, 1, 2, 3, 5],
+        &[0, 1, 2, 3, 5, 8],
+    );
+}
+
+/// An open section without items stays so.
+#[test]
+fn from_no_items(rt: HostRuntime) {
+    let mut sects = PackedSects::new(rt.alloc());
+    made(&rt, remove(rt.alloc(), &mut sects, &[0, 1]));
+    check_numbers(&rt, sects.items(), &[]);
+}
+
+/// Twice, and then once more from what was pushed since.
+#[test]
+fn several_times(rt: HostRuntime) {
+    let mut sects = PackedSects::new(rt.alloc());
+    push_numbers(&rt, &mut sects, &[2, 3, 4, 5, 6, 7]);
+    made(&rt, remove(rt.alloc(), &mut sects, &[0, 3]));
+    made(&rt, remove(rt.alloc(), &mut sects, &[1]));
+    check_numbers(&rt, sects.items(), &[3, 6, 7]);
+    push_numbers(&rt, &mut sects, &[9, 1]);
+    made(&rt, remove(rt.alloc(), &mut sects, &[2, 3]));
+    check_numbers(&rt, sects.items(), &[3, 6, 1]);
+}
+
+/// Places are counted in the open section, and the closed ones stay as they are.
+#[test]
+fn behind_a_closed_section(rt: HostRuntime) {
+    let mut sects = PackedSects::new(rt.alloc());
+    push_numbers(&rt, &mut sects, &[3, 2]);
+    made(&rt, close(&mut sects, b"t", b"a.c"));
+    push_numbers(&rt, &mut sects, &[4, 8, 6]);
+    made(&rt, remove(rt.alloc(), &mut sects, &[0, 1]));
+    check_numbers(&rt, sects.items(), &[6]);
+    made(&rt, close(&mut sects, b"t", b"b.c"));
+    let mut closed = sects.sects();
+    check_sect(&rt, closed.next(), b"t", b"a.c", &[3, 2]);
+    check_sect(&rt, closed.next(), b"t", b"b.c", &[6]);
+    assert!(rt; closed.next().is_none());
+}
