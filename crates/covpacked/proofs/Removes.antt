@@ -1,7 +1,7 @@
 -- Items of the open section are removed.
-use Rattle.std.proofs.Common.{◌≡◌, ℕ, zero, suc, ◌+◌, ◌≤◌, ◌==◌, Bool, true, false, if◌then◌else◌, List, [], ◌∷◌, ◌++◌, length, map, take, drop, refl, sym, ap, ◌∙◌, subst, arith, append-nil, append_assoc, get_or, ◌<◌, rules}
+use Rattle.std.proofs.Common.{◌≡◌, ℕ, zero, suc, ◌+◌, ◌≤◌, ◌==◌, Bool, true, false, if◌then◌else◌, List, [], ◌∷◌, ◌++◌, length, map, take, drop, refl, sym, ap, ◌∙◌, subst, arith, append-nil, append_assoc, get_or, set, ◌<◌, rules}
 use Rattle.std.specs.List.{AllByRecursion}
-use Rattle.std.proofs.lemmas.List.{drop_all, drop_at, drop_more, length-append, length-map, length-take-le, map-append, take-append-drop, drop-map}
+use Rattle.std.proofs.lemmas.List.{drop_all, drop_at, drop_more, drop-set-lt, take_more_set, length-append, length-map, length-take-le, map-append, take-append-drop, drop-map}
 use Rattle.covline.specs.Row.{ItemData}
 use Rattle.covpacked.specs.declared.packed_sects.ClosedSect.{ClosedSect}
 use Rattle.covpacked.specs.Layout.{HasText, LieBetween, begin_of, place_of, room_of}
@@ -29,10 +29,10 @@ left_other : {X : Type 0} (at : ℕ) (places : List ℕ) (x : X) (xs : List X) �
 left_other {X} at [] x xs e = ap (λ (ys : List X). x ∷ ys) (sym (left_all (at + 1) xs))
 left_other at (place ∷ places) x xs e = ap (λ (b : Bool). if b then left (at + 1) places xs else x ∷ left (at + 1) (place ∷ places) xs) e
 
--- of these words, those in front of an index have been gone through
-module _ (words all old : List ℕ) (at : ℕ) (places : List ℕ) (so_far : all ≡ old ++ left at places (drop at words)) where
-  pub left_end : length words ≤ at → old ≡ all
-  left_end le = sym (so_far ∙ ap (λ (ws : List ℕ). old ++ left at places ws) (drop_all at words le) ∙ append-nil old)
+-- of these words, those in front of the index `at` have been gone through, of which `n` may be removed
+module _ (words all old : List ℕ) (n at : ℕ) (places : List ℕ) (so_far : all ≡ old ++ left n places (drop at words)) where
+  pub left_end : length words ≤ at → all ≡ old
+  left_end le = so_far ∙ ap (λ (ws : List ℕ). old ++ left n places ws) (drop_all at words le) ∙ append-nil old
 
   module _ (within : at < length words) where
     abbrev word : ℕ
@@ -41,18 +41,40 @@ module _ (words all old : List ℕ) (at : ℕ) (places : List ℕ) (so_far : all
     abbrev behind : List ℕ
     behind = drop (at + 1) words
 
-    here : all ≡ old ++ left at places (word ∷ behind)
-    here = so_far ∙ ap (λ (ws : List ℕ). old ++ left at places ws) (drop_more words at 0 within)
+    here : all ≡ old ++ left n places (word ∷ behind)
+    here = so_far ∙ ap (λ (ws : List ℕ). old ++ left n places ws) (drop_more words at 0 within)
 
-    pub left_skips : (others : List ℕ) → places ≡ at ∷ others → all ≡ old ++ left (at + 1) others behind
-    left_skips others e = here ∙ ap (λ (ws : List ℕ). old ++ ws) (left_first at places others word behind e)
+    pub left_gone : (others : List ℕ) → places ≡ n ∷ others → all ≡ old ++ left (n + 1) others behind
+    left_gone others e = here ∙ ap (λ (ws : List ℕ). old ++ ws) (left_first n places others word behind e)
 
-    pub left_keeps : (new : List ℕ) → starts_with at places ≡ false → new ≡ old ++ word ∷ [] → all ≡ new ++ left (at + 1) places behind
-    left_keeps new e n =
+    left_stays : starts_with n places ≡ false → all ≡ (old ++ word ∷ []) ++ left (n + 1) places behind
+    left_stays other =
         here
-        ∙ ap (λ (ws : List ℕ). old ++ ws) (left_other at places word behind e)
-        ∙ sym (append_assoc old (word ∷ []) (left (at + 1) places behind))
-        ∙ ap (λ (ws : List ℕ). ws ++ left (at + 1) places behind) (sym n)
+        ∙ ap (λ (ws : List ℕ). old ++ ws) (left_other n places word behind other)
+        ∙ sym (append_assoc old (word ∷ []) (left (n + 1) places behind))
+
+-- of the words from `from` on, `n` have been gone through, and those that are left are in front
+module _ (words all : List ℕ) (kept from n : ℕ) (places : List ℕ) (so_far : all ≡ take kept words ++ left n places (drop (from + n) words)) (within : from + n < length words) (new : List ℕ) where
+  next_at : from + n + 1 ≡ from + (n + 1)
+  next_at = omega arith
+
+  -- the next one is removed
+  pub left_skips : (others : List ℕ) → places ≡ n ∷ others → new ≡ words → all ≡ take kept new ++ left (n + 1) others (drop (from + (n + 1)) new)
+  left_skips others e same =
+      left_gone words all (take kept words) n (from + n) places so_far within others e
+      ∙ ap (λ (at : ℕ). take kept words ++ left (n + 1) others (drop at words)) next_at
+      ∙ ap (λ (ws : List ℕ). take kept ws ++ left (n + 1) others (drop (from + (n + 1)) ws)) (sym same)
+
+  -- the next one stays, and is moved to the front
+  pub left_moves : kept ≤ from + n → starts_with n places ≡ false → new ≡ set words kept (get_or words (from + n) 0)
+      → all ≡ take (kept + 1) new ++ left (n + 1) places (drop (from + (n + 1)) new)
+  left_moves few other is =
+      let word = get_or words (from + n) 0 in
+      left_stays words all (take kept words) n (from + n) places so_far within other
+      ∙ ap (λ (ws : List ℕ). ws ++ left (n + 1) places (drop (from + n + 1) words)) (sym (take_more_set words kept word (omega (arith, few, within))))
+      ∙ ap (λ (ws : List ℕ). take (kept + 1) (set words kept word) ++ left (n + 1) places ws) (sym (drop-set-lt (from + n + 1) words kept word (omega (arith, few))))
+      ∙ ap (λ (at : ℕ). take (kept + 1) (set words kept word) ++ left (n + 1) places (drop at (set words kept word))) next_at
+      ∙ ap (λ (ws : List ℕ). take (kept + 1) ws ++ left (n + 1) places (drop (from + (n + 1)) ws)) (sym is)
 
 map-left_at : {X Y : Type 0} (f : X → Y) (b : Bool) (some others : List X) (x : X) (some-after others-after : List Y) → map f some ≡ some-after → map f others ≡ others-after → map f (if b then some else x ∷ others) ≡ (if b then some-after else f x ∷ others-after)
 map-left_at f true some others x some-after others-after e o = e

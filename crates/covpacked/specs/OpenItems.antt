@@ -2,7 +2,7 @@
 use Rattle.std.specs.Prelude.{ℕ, zero, suc, ◌+◌, ◌==◌, Bool, false, if◌then◌else◌, List, [], ◌∷◌}
 use Rattle.covline.specs.Row.{ItemData, with_start}
 
--- the items after the one at this place got this start line
+-- these items, of which the one at this place got this start line
 abbrev pub start_set : ℕ → ℕ → List ItemData → List ItemData
 start_set at line [] = []
 start_set zero line (item ∷ items) = with_start line item ∷ items

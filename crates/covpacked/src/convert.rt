@@ -1,6 +1,6 @@
 //! Packs submissions, and unpacks them.
 
-ghost use Rattle.std.specs.Prelude.{◌≡◌, ◌++◌, [], ◌∷◌, IfOk, OnOk, map, option_map};
+ghost use Rattle.std.specs.Prelude.{◌≡◌, ◌≢◌, ◌++◌, [], ◌∷◌, IfOk, OnErr, OnOk, map, option_map};
 ghost use Rattle.covline.specs.Row.{item_data};
 ghost use Rattle.covline.specs.SectView.{sect_data};
 ghost use Rattle.covpacked.specs.ItemRefs.{item_ref_data};
@@ -94,12 +94,13 @@ fn borrowed<A: Allocator>(item: &Item<A>) -> ItemRef<'_>
     }
 }
 
-/// The same submission, unpacked.
+/// The same submission, unpacked. Takes no memory if there is no section.
 pub fn unpack<A: Allocator + Copy>(
     alloc: A,
     packed: &PackedSubmission<A>,
 ) -> Result<Submission<A>, Memory>
-    ensures { IfOk result (λ submission. submission ≡ packed.now) }
+    ensures ok { IfOk result (λ submission. submission ≡ packed.now) }
+    ensures err { OnErr result (packed.now.sects ≢ []) }
 {
     let mut sects = Sects::new(alloc);
     for sect in packed.sects() {

@@ -1,9 +1,9 @@
 //! What one text says, packed: eight bytes for a line, sixteen for a branch, and more where a number is large.
 //!
 //! [`PackedSects`] takes items one after another, and closes sections. [`PackedSubmission`] is what a text says, as `covline`'s
-//! `Submission`, in three lists of numbers and bytes, whatever the number of its sections. Its items are read by index or by an
-//! iterator, as [`ItemRef`]s, whose names and checksums are borrowed. Contracts see the same sections and items as of a
-//! `Submission`.
+//! `Submission`, in four lists, whatever the number of its sections: words, further numbers, bytes of texts, and a place for each
+//! section. Its items are read by index or by an iterator, as [`ItemRef`]s, whose names and checksums are borrowed. Contracts see
+//! the same sections and items as of a `Submission`.
 #![tactic(auto)]
 
 mod convert;

@@ -1,6 +1,6 @@
 //! Sections, packed, with the items of an open one.
 
-ghost use Rattle.std.specs.Prelude.{◌≡◌, ◌↔◌, ◌∷◌, false, IfOk, IfSome, IsTrue, MatchOption};
+ghost use Rattle.std.specs.Prelude.{◌≡◌, ◌↔◌, ◌∷◌, ◌≤◌, ◌++◌, false, drop, length, take, IfOk, IfSome, IsTrue, MatchOption};
 ghost use Rattle.std.specs.List.{AllByRecursion};
 ghost use Rattle.covpacked.specs.Layout.{BeginWith};
 ghost use Rattle.covpacked.specs.OpenItems.{left, starts_with};
@@ -77,7 +77,7 @@ impl<A: Allocator> PackedSects<A> {
     ghost use Rattle.std.specs.Prelude.{◌≡◌, ◌<◌, ◌++◌, List, [], ◌∷◌, OnErr, OnOk, length, option_map};
     ghost use Rattle.covline.specs.Row.{LineItem, FuncItem, BranchItem, items_in};
     ghost use Rattle.covpacked.specs.ItemRefs.{item_ref_data};
-    ghost use Rattle.covpacked.specs.OpenItems.{start_set};
+    ghost use Rattle.covpacked.specs.OpenItems.{left, start_set};
     ghost use Rattle.covpacked.specs.Words.{HasItsText, HasNoText, item_of_parts, item_with_text};
 
     /// Appends the count of a line to the open section. On `Memory` all stays as it was.
@@ -219,6 +219,13 @@ impl<A: Allocator> PackedSects<A> {
         PackedItems::of(words, self.numbers.as_slice(), self.texts.as_slice())
     }
 
+    /// How many items the open section has.
+    pub fn open_len(&self) -> usize
+        ensures { result ≡ length self.now.items }
+    {
+        self.words.len() - self.closed
+    }
+
     /// Replaces the start line of the function's item at this place in the open section. An item of another kind stays as it is.
     pub fn set_start(&mut self, at: usize, line: u64)
         requires { at < length self.old.items }
@@ -227,6 +234,22 @@ impl<A: Allocator> PackedSects<A> {
     {
         let word = self.words[self.closed + at];
         set_line(&mut self.numbers, word, line);
+    }
+
+    /// Removes the open section's items at these places, which have to ascend. Takes no memory.
+    pub fn remove(&mut self, places: &[usize])
+        ensures sects { self.new.sects ≡ self.old.sects }
+        ensures items { self.new.items ≡ left 0 places.now self.old.items }
+    {
+        remove_words(&mut self.words, self.closed, places);
+    }
+
+    /// Removes all items of the open section. Takes no memory.
+    pub fn forget(&mut self)
+        ensures sects { self.new.sects ≡ self.old.sects }
+        ensures items { self.new.items ≡ [] }
+    {
+        self.words.truncate(self.closed);
     }
 
     /// Closes the open section: it is the section of this test and source file. On `Memory` all stays as it was.
@@ -263,40 +286,23 @@ impl<A: Allocator> PackedSects<A> {
     }
 }
 
-impl<A: Allocator + Copy> PackedSects<A> {
-    ghost use Rattle.std.specs.Prelude.{OnOk};
-    ghost use Rattle.covpacked.specs.OpenItems.{left};
-
-    /// Removes the open section's items at these places. The places ascend. On `Memory` the open section may have lost its items.
-    pub fn remove(&mut self, alloc: A, places: &[usize]) -> Result<(), Memory>
-        ensures sects { self.new.sects ≡ self.old.sects }
-        ensures ok { OnOk result (self.new.items ≡ left 0 places.now self.old.items) }
-    {
-        let (_, open) = self.words.as_slice().split_at(self.closed);
-        let kept = words_left(alloc, open, places)?;
-        self.words.truncate(self.closed);
-        self.words.extend_from_slice(kept.as_slice())?;
-        Ok(())
-    }
-}
-
-/// The words, but for those at these places. The places ascend.
-fn words_left<A: Allocator>(
-    alloc: A,
-    words: &[u64],
-    places: &[usize],
-) -> Result<Vec<u64, A>, Memory>
-    ensures { IfOk result (λ kept. kept.items ≡ left 0 places.now words.now) }
+/// Removes the words at these places, counted from the index `from` on. The places ascend.
+fn remove_words<A: Allocator>(words: &mut Vec<u64, A>, from: usize, places: &[usize])
+    requires { from ≤ length words.old.items }
+    ensures { words.new.items ≡ take from words.old.items ++ left 0 places.now (drop from words.old.items) }
 {
-    let mut kept = Vec::new(alloc);
     let mut places = places;
-    for (at, word) in words.iter().enumerate() {
-        match skip_place(places, at) {
+    let mut kept = from;
+    for place in 0..words.len() - from {
+        match skip_place(places, place) {
             Some(rest) => places = rest,
-            None => kept.push(*word)?,
+            None => {
+                words[kept] = words[from + place];
+                kept += 1;
+            }
         }
     }
-    Ok(kept)
+    words.truncate(kept);
 }
 
 /// The places after this one, if it is the first of them.

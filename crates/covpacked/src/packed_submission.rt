@@ -14,7 +14,6 @@ pub struct PackedSubmission<A: Allocator = Global> {
 }
 
 impl<A: Allocator> Model for PackedSubmission<A> {
-    ghost use Rattle.std.specs.Prelude.{◌≡◌, []};
     ghost use Rattle.covline.specs.Row.{SubmissionData};
     ghost use Rattle.covline.specs.Lawful.{IsLawful};
 
@@ -22,18 +21,18 @@ impl<A: Allocator> Model for PackedSubmission<A> {
 
     ghost view = { λ a. record { sects = a.sects.sects; odd = a.odd } };
 
-    ghost invariant = { λ a. IsLawful (record { sects = a.sects.sects; odd = a.odd }) × (a.sects.items ≡ []) };
+    ghost invariant = { λ a. IsLawful (record { sects = a.sects.sects; odd = a.odd }) };
 }
 
 impl<A: Allocator> PackedSubmission<A> {
-    ghost use Rattle.std.specs.Prelude.{◌≡◌, []};
+    ghost use Rattle.std.specs.Prelude.{◌≡◌};
     ghost use Rattle.covline.specs.Row.{items_in};
     ghost use Rattle.covline.specs.Lawful.{IsLawful};
 
-    /// The submission of sections that are known to be lawful, none of which is open, with the number of odd lines of their text.
+    /// The submission of closed sections that are known to be lawful, with the number of odd lines of their text. Items of an open
+    /// section don't count.
     pub fn of_lawful(sects: PackedSects<A>, odd: u64) -> PackedSubmission<A>
         requires lawful { IsLawful (record { sects = sects.sects; odd = odd }) }
-        requires closed { sects.items ≡ [] }
         ensures { result ≡ record { sects = sects.sects; odd = odd } }
     {
         PackedSubmission { sects, odd }

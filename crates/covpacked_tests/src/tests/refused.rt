@@ -1,13 +1,12 @@
 //! Calls in heaps that have no room, and then more and more room, until none is refused. After a refusal all is as it was, and the
 //! same call succeeds with ample room.
 
-use super::heap::{check_rising, narrow, widen};
+use super::heap::{check_rising, narrow, new_heap, widen};
 use super::made;
-use super::mixed::{ALL, check_numbers, check_range, item, push_numbers};
+use super::mixed::{ALL, check_numbers, check_range, item};
 use super::packs::{check_packed, submission_of};
-use super::same::check_item;
 use super::sections::{ALL_SECTS, Section, check_sections, nth_section, push_sections};
-use super::wrappers::{close, packed, push, remove, unpacked};
+use super::wrappers::{close, packed, push, unpacked};
 use bumpalo::Bump;
 use covpacked::PackedSects;
 use std::process::Abort;
@@ -70,28 +69,6 @@ fn closes(rt: &impl Abort, heap: &Bump, room: usize) -> bool {
     is_refused
 }
 
-/// Removes two items behind two closed sections. After a refusal the closed sections are as they were. What the open one has then is
-/// left open, but items can be pushed.
-fn removes(rt: &impl Abort, heap: &Bump, room: usize) -> bool {
-    let mut sects = PackedSects::new(heap);
-    push_sections(rt, &mut sects, 2);
-    push_numbers(rt, &mut sects, &[4, 8, 6, 1, 7]);
-    narrow(rt, heap, room);
-    let is_refused = remove(heap, &mut sects, &[1, 3]).is_err();
-    check_sections(rt, sects.sects(), 2);
-    widen(heap);
-    if is_refused {
-        made(rt, remove(heap, &mut sects, &[]));
-        push_numbers(rt, &mut sects, &[9]);
-        let last = sects.items().len().wrapping_sub(1);
-        check_item(rt, 9, sects.items().get(last), item(9));
-    } else {
-        check_numbers(rt, sects.items(), &[4, 6, 7]);
-    }
-    check_sections(rt, sects.sects(), 2);
-    is_refused
-}
-
 /// Packs the submission of all sections.
 fn packs(rt: &impl Abort, heap: &Bump, room: usize) -> bool {
     let given = submission_of(rt, heap, ALL_SECTS, 1);
@@ -126,11 +103,21 @@ fn unpacks(rt: &impl Abort, heap: &Bump, room: usize) -> bool {
 fn items_and_sections(rt: HostRuntime) {
     check_rising(&rt, |heap, room| pushes(&rt, heap, room));
     check_rising(&rt, |heap, room| closes(&rt, heap, room));
-    check_rising(&rt, |heap, room| removes(&rt, heap, room));
 }
 
 #[test]
 fn submissions(rt: HostRuntime) {
     check_rising(&rt, |heap, room| packs(&rt, heap, room));
     check_rising(&rt, |heap, room| unpacks(&rt, heap, room));
+}
+
+/// A submission without sections takes no memory.
+#[test]
+fn nothing_is_unpacked(rt: HostRuntime) {
+    let heap = new_heap(&rt);
+    let given = submission_of(&rt, &heap, 0, 3);
+    let all = made(&rt, packed(&heap, &given));
+    narrow(&rt, &heap, 0);
+    let own = made(&rt, unpacked(&heap, &all));
+    assert!(rt; own.is_same(&given));
 }

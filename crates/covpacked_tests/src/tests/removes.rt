@@ -1,9 +1,9 @@
-//! Items of the open section are removed.
+//! Items of the open section are removed, and counted.
 
 use super::made;
 use super::mixed::{check_numbers, push_numbers};
 use super::sections::check_sect;
-use super::wrappers::{close, remove};
+use super::wrappers::close;
 use covpacked::PackedSects;
 use std::process::Abort;
 use std::test::*;
@@ -12,7 +12,7 @@ use std::test::*;
 fn check(rt: &(impl Abort + AllocGlobal), places: &[usize], left: &[usize], then: &[usize]) {
     let mut sects = PackedSects::new(rt.alloc());
     push_numbers(rt, &mut sects, &[0, 1, 2, 3, 4, 5]);
-    made(rt, remove(rt.alloc(), &mut sects, places));
+    sects.remove(places);
     check_numbers(rt, sects.items(), left);
     push_numbers(rt, &mut sects, &[8]);
     check_numbers(rt, sects.items(), then);
@@ -49,11 +49,30 @@ fn past_the_end(rt: HostRuntime) {
     );
 }
 
+/// All items of the open section are removed, and then one is pushed.
+#[test]
+fn all_at_once(rt: HostRuntime) {
+    let mut sects = PackedSects::new(rt.alloc());
+    push_numbers(&rt, &mut sects, &[5, 1]);
+    made(&rt, close(&mut sects, b"t", b"a.c"));
+    assert_eq!(rt; sects.open_len(), 0);
+    push_numbers(&rt, &mut sects, &[0, 1, 2]);
+    assert_eq!(rt; sects.open_len(), 3);
+    sects.forget();
+    assert_eq!(rt; sects.open_len(), 0);
+    check_numbers(&rt, sects.items(), &[]);
+    push_numbers(&rt, &mut sects, &[8]);
+    check_numbers(&rt, sects.items(), &[8]);
+    let mut closed = sects.sects();
+    check_sect(&rt, closed.next(), b"t", b"a.c", &[5, 1]);
+    assert!(rt; closed.next().is_none());
+}
+
 /// An open section without items stays so.
 #[test]
 fn from_no_items(rt: HostRuntime) {
     let mut sects = PackedSects::new(rt.alloc());
-    made(&rt, remove(rt.alloc(), &mut sects, &[0, 1]));
+    sects.remove(&[0, 1]);
     check_numbers(&rt, sects.items(), &[]);
 }
 
@@ -62,11 +81,11 @@ fn from_no_items(rt: HostRuntime) {
 fn several_times(rt: HostRuntime) {
     let mut sects = PackedSects::new(rt.alloc());
     push_numbers(&rt, &mut sects, &[2, 3, 4, 5, 6, 7]);
-    made(&rt, remove(rt.alloc(), &mut sects, &[0, 3]));
-    made(&rt, remove(rt.alloc(), &mut sects, &[1]));
+    sects.remove(&[0, 3]);
+    sects.remove(&[1]);
     check_numbers(&rt, sects.items(), &[3, 6, 7]);
     push_numbers(&rt, &mut sects, &[9, 1]);
-    made(&rt, remove(rt.alloc(), &mut sects, &[2, 3]));
+    sects.remove(&[2, 3]);
     check_numbers(&rt, sects.items(), &[3, 6, 1]);
 }
 
@@ -77,7 +96,7 @@ fn behind_a_closed_section(rt: HostRuntime) {
     push_numbers(&rt, &mut sects, &[3, 2]);
     made(&rt, close(&mut sects, b"t", b"a.c"));
     push_numbers(&rt, &mut sects, &[4, 8, 6]);
-    made(&rt, remove(rt.alloc(), &mut sects, &[0, 1]));
+    sects.remove(&[0, 1]);
     check_numbers(&rt, sects.items(), &[6]);
     made(&rt, close(&mut sects, b"t", b"b.c"));
     let mut closed = sects.sects();

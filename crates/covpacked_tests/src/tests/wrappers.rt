@@ -52,14 +52,6 @@ pub(super) fn set_start<A: Allocator>(sects: &mut PackedSects<A>, at: usize, lin
     }
 }
 
-pub(super) fn remove<A: Allocator + Copy>(
-    alloc: A,
-    sects: &mut PackedSects<A>,
-    places: &[usize],
-) -> Result<(), Memory> {
-    sects.remove(alloc, places)
-}
-
 pub(super) fn close<A: Allocator>(
     sects: &mut PackedSects<A>,
     test: &[u8],

@@ -12,8 +12,8 @@ loop-sect-preserved g c = record {
   items = c.in_ok-pack_sect.ensures.items;
 }
 
-pub of_lawful-requires-clause-lawful : goal.of_lawful-requires-clause-lawful
-of_lawful-requires-clause-lawful g c =
+pub of_lawful-requires : goal.of_lawful-requires
+of_lawful-requires g c =
     let all : c.loop-sect.sects.sects ≡ c.args.submission.now.sects =
     c.loop-sect.invariant.sects ∙ ap (map (sect_data {A = g.row.A.Denot})) (take_all c.loop-sect.sect-index c.sects-sect-items.result.now c.loop-sect-test.false) ∙ c.sects-sect-items.ensures.sects in
-    subst IsLawful (λ i. record { sects = sym all i; odd = sym c.odd.ensures i }) c.sects-sect-items.ensures.lawful
+    record { lawful = subst IsLawful (λ i. record { sects = sym all i; odd = sym c.odd.ensures i }) c.sects-sect-items.ensures.lawful }
