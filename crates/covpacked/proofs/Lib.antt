@@ -1,3 +1,4 @@
+pub mod Lasts
 mod Packing
 mod Layouts
 mod Packeds

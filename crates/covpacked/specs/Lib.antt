@@ -4,3 +4,4 @@ pub mod Layout
 pub mod PackedView
 pub mod OpenItems
 pub mod PackedSects
+pub mod ReadTexts

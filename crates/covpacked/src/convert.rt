@@ -53,7 +53,7 @@ fn pack_items<A: Allocator + Copy>(
 }
 
 /// The item, borrowed.
-fn borrowed<A: Allocator>(item: &Item<A>) -> ItemRef<'_>
+pub(crate) fn borrowed<A: Allocator>(item: &Item<A>) -> ItemRef<'_>
     ensures { item_ref_data result ≡ item_data item.now }
 {
     match item {

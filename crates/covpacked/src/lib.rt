@@ -12,6 +12,8 @@ mod packed_items;
 mod packed_sects;
 mod packed_submission;
 mod parts;
+mod read_text;
+mod same;
 mod sect_iter;
 
 pub use convert::{pack, unpack};
@@ -19,4 +21,5 @@ pub use item_ref::ItemRef;
 pub use packed_items::PackedItems;
 pub use packed_sects::PackedSects;
 pub use packed_submission::PackedSubmission;
+pub use read_text::ReadText;
 pub use sect_iter::{PackedSect, PackedSectsIter};

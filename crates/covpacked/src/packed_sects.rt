@@ -74,8 +74,9 @@ impl<A: Allocator + Copy> PackedSects<A> {
 }
 
 impl<A: Allocator> PackedSects<A> {
-    ghost use Rattle.std.specs.Prelude.{◌≡◌, ◌<◌, ◌++◌, List, [], ◌∷◌, OnErr, OnOk, length, option_map};
+    ghost use Rattle.std.specs.Prelude.{◌≡◌, ◌<◌, ◌++◌, List, [], ◌∷◌, MatchOption, OnErr, OnOk, length, option_map};
     ghost use Rattle.covline.specs.Row.{LineItem, FuncItem, BranchItem, items_in};
+    ghost use Rattle.covpacked.specs.ReadTexts.{IsLastTest};
     ghost use Rattle.covpacked.specs.ItemRefs.{item_ref_data};
     ghost use Rattle.covpacked.specs.OpenItems.{left, start_set};
     ghost use Rattle.covpacked.specs.Words.{HasItsText, HasNoText, item_of_parts, item_with_text};
@@ -271,6 +272,21 @@ impl<A: Allocator> PackedSects<A> {
         ensures { result ≡ items_in self.now.sects }
     {
         self.closed
+    }
+
+    /// How many sections are closed.
+    pub fn closed_sects(&self) -> usize
+        ensures { result ≡ length self.now.sects }
+    {
+        self.sects.len()
+    }
+
+    /// The name of the last closed section's test, or `None` if no section is closed.
+    pub fn last_test(&self) -> Option<&[u8]>
+        ensures { MatchOption result (self.now.sects ≡ []) (λ test. IsLastTest self.now.sects test.now) }
+    {
+        let TextPlace { begin, bytes } = self.sects.last()?.test;
+        Some(text_at(self.texts.as_slice(), begin, bytes))
     }
 
     /// The closed sections, in order.

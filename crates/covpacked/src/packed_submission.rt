@@ -1,7 +1,9 @@
 //! What one text says, packed.
 
 use crate::packed_sects::PackedSects;
+use crate::same::{same_sects, same_sects_as};
 use crate::sect_iter::PackedSectsIter;
+use covline::Submission;
 use std::alloc::{Allocator, Global};
 use std::marker::Model;
 
@@ -25,8 +27,9 @@ impl<A: Allocator> Model for PackedSubmission<A> {
 }
 
 impl<A: Allocator> PackedSubmission<A> {
-    ghost use Rattle.std.specs.Prelude.{◌≡◌};
+    ghost use Rattle.std.specs.Prelude.{◌≡◌, ◌↔◌, [], IsTrue, MatchOption, length};
     ghost use Rattle.covline.specs.Row.{items_in};
+    ghost use Rattle.covpacked.specs.ReadTexts.{IsLastTest};
     ghost use Rattle.covline.specs.Lawful.{IsLawful};
 
     /// The submission of closed sections that are known to be lawful, with the number of odd lines of their text. Items of an open
@@ -38,12 +41,40 @@ impl<A: Allocator> PackedSubmission<A> {
         PackedSubmission { sects, odd }
     }
 
+    /// Whether the submissions are equal. Takes no memory.
+    pub fn is_same(&self, other: &PackedSubmission<A>) -> bool
+        ensures { IsTrue result ↔ (self.now ≡ other.now) }
+    {
+        self.odd == other.odd && same_sects(self.sects(), other.sects())
+    }
+
+    /// Whether this is the same submission as one that isn't packed. Takes no memory.
+    pub fn is_same_as(&self, other: &Submission<A>) -> bool
+        ensures { IsTrue result ↔ (self.now ≡ other.now) }
+    {
+        self.odd == other.odd() && same_sects_as(self.sects(), other.sects())
+    }
+
     /// The sections, in the order of the text.
     pub fn sects(&self) -> PackedSectsIter<'_>
         ensures sects { result ≡ self.now.sects }
         ensures lawful { IsLawful self.now }
     {
         self.sects.sects()
+    }
+
+    /// How many sections there are.
+    pub fn sections(&self) -> u64
+        ensures { result ≡ length self.now.sects }
+    {
+        self.sects.closed_sects() as u64
+    }
+
+    /// The name of the last section's test, or `None` if there is no section.
+    pub fn last_test(&self) -> Option<&[u8]>
+        ensures { MatchOption result (self.now.sects ≡ []) (λ test. IsLastTest self.now.sects test.now) }
+    {
+        self.sects.last_test()
     }
 
     /// How many items the sections have: at most 67,108,864.

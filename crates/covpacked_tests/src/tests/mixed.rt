@@ -27,7 +27,8 @@ pub(super) fn item(number: usize) -> ItemRef<'static> {
     }
 }
 
-fn line_of(line: u64, count: u128, checksum: Option<&'static [u8]>) -> ItemRef<'static> {
+/// The item of a line.
+pub(super) fn line_of(line: u64, count: u128, checksum: Option<&'static [u8]>) -> ItemRef<'static> {
     ItemRef::Line {
         line,
         count,
@@ -35,11 +36,18 @@ fn line_of(line: u64, count: u128, checksum: Option<&'static [u8]>) -> ItemRef<'
     }
 }
 
-fn function_of(name: &'static [u8], line: u64, count: u128) -> ItemRef<'static> {
+/// The item of a function.
+pub(super) fn function_of(name: &'static [u8], line: u64, count: u128) -> ItemRef<'static> {
     ItemRef::Func { name, line, count }
 }
 
-fn branch_of(line: u64, block: u64, branch: u64, taken: Option<u128>) -> ItemRef<'static> {
+/// The item of a branch.
+pub(super) fn branch_of(
+    line: u64,
+    block: u64,
+    branch: u64,
+    taken: Option<u128>,
+) -> ItemRef<'static> {
     ItemRef::Branch {
         line,
         block,

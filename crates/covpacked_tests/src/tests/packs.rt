@@ -22,9 +22,9 @@ fn checksum_of<A: Allocator>(
     }
 }
 
-/// The item with this number.
-fn item_of<A: Allocator>(rt: &impl Abort, alloc: A, number: usize) -> Item<A> {
-    match item(number) {
+/// The item, in memory of its own.
+pub(super) fn owned<A: Allocator>(rt: &impl Abort, alloc: A, item: ItemRef<'_>) -> Item<A> {
+    match item {
         ItemRef::Line {
             line,
             count,
@@ -57,7 +57,7 @@ fn item_of<A: Allocator>(rt: &impl Abort, alloc: A, number: usize) -> Item<A> {
 fn items_of<A: Allocator + Copy>(rt: &impl Abort, alloc: A, numbers: &[usize]) -> Items<A> {
     let mut items = Items::new(alloc);
     for number in numbers {
-        made(rt, items.push(item_of(rt, alloc, *number)));
+        made(rt, items.push(owned(rt, alloc, item(*number))));
     }
     items
 }

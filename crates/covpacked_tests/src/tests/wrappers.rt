@@ -77,3 +77,17 @@ pub(super) fn unpacked<A: Allocator + Copy>(
 ) -> Result<Submission<A>, Memory> {
     covpacked::unpack(alloc, packed)
 }
+
+pub(super) fn is_same<A: Allocator>(
+    packed: &PackedSubmission<A>,
+    other: &PackedSubmission<A>,
+) -> bool {
+    packed.is_same(other)
+}
+
+pub(super) fn is_same_as<A: Allocator>(
+    packed: &PackedSubmission<A>,
+    other: &Submission<A>,
+) -> bool {
+    packed.is_same_as(other)
+}

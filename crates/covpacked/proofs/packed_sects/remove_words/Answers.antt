@@ -1,6 +1,5 @@
-use Rattle.std.proofs.Common.{◌≡◌, ℕ, ◌+◌, ◌++◌, ◌<◌, ◌∙◌, ap, arith, drop, length, refl, set, take}
+use Rattle.std.proofs.Common.{◌≡◌, ◌+◌, ◌<◌, ◌∙◌, ap, arith, length, refl, set}
 use Rattle.std.proofs.lemmas.List.{get_or_default, length-set}
-use Rattle.covpacked.specs.OpenItems.{left}
 use Rattle.covpacked.proofs.Removes.{left_moves, left_skips}
 use Rattle.covpacked.proofs.packed_sects.remove_words.Goals as goal
 use Rattle.covpacked.proofs.packed_sects.remove_words.Goals.{in-Some, in-None}

@@ -1,0 +1,74 @@
+//! What a text was read as, packed or not.
+
+use crate::packed_submission::PackedSubmission;
+use covline::Submission;
+use std::alloc::Allocator;
+
+/// What a text was read as: a submission, packed or not. Contracts see the submission.
+pub trait ReadText {
+    ghost use Rattle.std.specs.Prelude.{◌≡◌, [], MatchOption, length};
+    ghost use Rattle.covline.specs.Row.{SubmissionData, items_in};
+    ghost use Rattle.covpacked.specs.ReadTexts.{IsLastTest};
+
+    // The submission.
+    ghost says: { Self → SubmissionData };
+
+    /// How many sections it has.
+    fn count_sections(&self) -> u64
+        ensures { result ≡ length (says self.now).sects };
+
+    /// How many items its sections have.
+    fn count_items(&self) -> u64
+        ensures { result ≡ items_in (says self.now).sects };
+
+    /// How many lines of the text are odd.
+    fn count_odd(&self) -> u64
+        ensures { result ≡ (says self.now).odd };
+
+    /// The name of the last section's test, or `None` if there is no section.
+    fn last_test(&self) -> Option<&[u8]>
+        ensures { MatchOption result ((says self.now).sects ≡ []) (λ test. IsLastTest (says self.now).sects test.now) };
+}
+
+impl<A: Allocator> ReadText for Submission<A> {
+    ghost says = { λ submission. submission };
+
+    fn count_sections(&self) -> u64 {
+        self.sects().len() as u64
+    }
+
+    fn count_items(&self) -> u64 {
+        self.items()
+    }
+
+    fn count_odd(&self) -> u64 {
+        self.odd()
+    }
+
+    fn last_test(&self) -> Option<&[u8]> {
+        match self.sects().last() {
+            Some(sect) => Some(sect.test.get()),
+            None => None,
+        }
+    }
+}
+
+impl<A: Allocator> ReadText for PackedSubmission<A> {
+    ghost says = { λ submission. submission };
+
+    fn count_sections(&self) -> u64 {
+        self.sections()
+    }
+
+    fn count_items(&self) -> u64 {
+        self.items()
+    }
+
+    fn count_odd(&self) -> u64 {
+        self.odd()
+    }
+
+    fn last_test(&self) -> Option<&[u8]> {
+        self.last_test()
+    }
+}
