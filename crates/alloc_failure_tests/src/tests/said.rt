@@ -76,7 +76,7 @@ fn put_answer<A: Allocator>(text: &mut Vec<u8>, answer: &Answer<A>) -> Result<()
 /// The word of an operation.
 fn word_of<A: Allocator>(op: &Op<A>) -> &'static [u8] {
     match op {
-        Op::Submit(_) => b"submit",
+        Op::Submit(_) | Op::SubmitPacked(_) => b"submit",
         Op::DropTest(_) => b"drop",
         Op::Rename { .. } => b"rename",
         Op::Report => b"report",

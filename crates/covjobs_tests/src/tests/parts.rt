@@ -5,7 +5,7 @@ use super::into_book::{TOO_LARGE, check_report, is_accepted, is_clash};
 use super::turns::SMALL;
 use covbook::SubRef;
 use covjobs::{
-    CollectFault, CollectedBook, IntoBookFault, LateFault, LateInput, NoGate, Part,
+    CollectFault, CollectedBook, Given, IntoBookFault, LateFault, LateInput, NoGate, Part,
     collect_into_book,
 };
 use covread::ReadFault;
@@ -39,9 +39,9 @@ impl<'a> LateInput<Global> for Pieces<'a> {
         match read_piece(alloc, first) {
             Err(fault) => Err(fault),
             Ok(submission) => if rest.is_empty() {
-                Ok(Part::Last(submission))
+                Ok(Part::Last(Given::plain(submission)))
             } else {
-                Ok(Part::More(submission, Pieces { texts: rest }))
+                Ok(Part::More(Given::plain(submission), Pieces { texts: rest }))
             },
         }
     }
