@@ -6,7 +6,6 @@ use Rattle.std.specs.contracts.alloc.Global as Heap
 use Rattle.std.specs.contracts.impls.GlobalAllocator.TheImpl.{ghosts}
 use Rattle.covstore.proofs.Crossing.{store_send}
 use Rattle.covbook.specs.contracts.book.Book as Book
-use Rattle.covbook.specs.declared.keep.Keep as Keep
 use Rattle.covbook.proofs.history.History.TheSendSync as history
 
 pub book_send : (K : RattleType) (k : _) → IsSend K → IsSend (Book.the_row Heap.the_row K ghosts k)

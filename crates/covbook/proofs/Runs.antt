@@ -103,16 +103,16 @@ noted_book store accepted room entries book new e b lawful view has next still i
 
 -- ---- a submission
 
--- the table after a submission that doesn't clash
-pub table_with : (store : StoreData) (table : Table) (own given : SubmissionData) → StandsFor store table → ((t : Table) → StandsFor store t → clash_at t given ≡ None) → given ≡ own → table_after table (SubmitOp own) ≡ table ++ rows_of given ∷ []
-table_with store table own given stands agrees is =
-    ap (λ (x : SubmissionData). table_after table (SubmitOp x)) (sym is) ∙ ap (table_after_submit table given) (agrees table stands)
+-- the table after an operation that submits what doesn't clash
+pub table_with : (store : StoreData) (table : Table) (op : OpData) (given : SubmissionData) → StandsFor store table → ((t : Table) → StandsFor store t → clash_at t given ≡ None) → SubmitOp given ≡ op → table_after table op ≡ table ++ rows_of given ∷ []
+table_with store table op given stands agrees is =
+    ap (table_after table) (sym is) ∙ ap (table_after_submit table given) (agrees table stands)
 
--- the answer to a submission that doesn't clash
-pub answer_with : (store : StoreData) (table : Table) (own given : SubmissionData) → StandsFor store table → ((t : Table) → StandsFor store t → clash_at t given ≡ None) → given ≡ own
-    → AcceptedAnswer (length table + 1) (items_in given.sects) given.odd ≡ answer_of table (SubmitOp own)
-answer_with store table own given stands agrees is =
-    ap (answer_to_submit table given) (sym (agrees table stands)) ∙ ap (λ (x : SubmissionData). answer_of table (SubmitOp x)) is
+-- the answer to it
+pub answer_with : (store : StoreData) (table : Table) (op : OpData) (given : SubmissionData) → StandsFor store table → ((t : Table) → StandsFor store t → clash_at t given ≡ None) → SubmitOp given ≡ op
+    → AcceptedAnswer (length table + 1) (items_in given.sects) given.odd ≡ answer_of table op
+answer_with store table op given stands agrees is =
+    ap (answer_to_submit table given) (sym (agrees table stands)) ∙ ap (answer_of table) is
 
 -- a book is still one if its store changes, but not the content of the store
 pub kept_book : (store kept : StoreData) (accepted : ℕ) (entries : List EntryData) → IsBook store accepted entries → SameContent store kept → IsBook kept accepted entries

@@ -2,11 +2,10 @@
 -- news. Suppose that a history has as many entries as all jobs together have successful calls, that the history of each job's
 -- latest news is a beginning of this history, and that the readings in the jobs' logs are of this history. Then this history is
 -- gathered from these logs.
-use Rattle.std.specs.Prelude.{◌≡◌, ℕ, ◌+◌, List, [], ◌∷◌, ◌++◌, length, map}
-use Rattle.std.specs.List.{AllByRecursion, sum_by, range_with_len}
+use Rattle.std.specs.Prelude.{◌≡◌, ℕ, List, [], ◌∷◌, ◌++◌, length, map}
+use Rattle.std.specs.List.{AllByRecursion, sum_by}
 use Rattle.covbook.specs.Op.{EntryData, ReceiptData}
-use Rattle.covbook.specs.Step.{receipt_of}
-use Rattle.covbook.specs.Gather.{LogData, IsLogOf, AreReadingsOf, jobs_of}
+use Rattle.covbook.specs.Gather.{LogData, IsLogOf}
 pub use mathlib.Core.List.{IsPrefix}
 
 -- a job's log is of the history of the job's latest news, and has a receipt for each of the job's calls. This history has

@@ -7,6 +7,7 @@ use Rattle.covbook.specs.Op.{OpData, SubmitOp, DropTestOp, RenameOp, ReportOp, E
 
 abbrev pub op_data : {A : Type 0} → Op A → OpData
 op_data (ops.Submit submission) = SubmitOp submission
+op_data (ops.SubmitPacked submission) = SubmitOp submission
 op_data (ops.DropTest test) = DropTestOp test
 op_data (ops.Rename old new) = RenameOp old new
 op_data ops.Report = ReportOp

@@ -5,7 +5,8 @@ use crate::history::History;
 use crate::keep::Keep;
 use crate::op::{Answer, Op};
 use crate::ready::{Change, Ready};
-use crate::shared::{SubRef, TextRef};
+use crate::shared::TextRef;
+use crate::submitted::Submitted;
 use covline::{Bytes, Memory};
 use covreport::{Choice, Printing, summary_text, trace_text};
 use covstore::laws::renaming_keeps_totals;
@@ -223,6 +224,7 @@ impl<A: Allocator + Copy, K: Keep<Of = Entry<A>>> Book<A, K> {
         self.make_room()?;
         match op {
             Op::Submit(submission) => self.submission_ready(alloc, job, submission),
+            Op::SubmitPacked(submission) => self.submission_ready(alloc, job, submission),
             Op::DropTest(test) => self.drop_ready(alloc, job, test),
             Op::Rename { old, new } => self.rename_ready(alloc, job, old, new),
             Op::Report | Op::Extract(_) | Op::Remove(_) | Op::Summary => {
@@ -242,22 +244,21 @@ impl<A: Allocator + Copy, K: Keep<Of = Entry<A>>> Book<A, K> {
     }
 
     /// Makes a submission ready: it is planned, unless it clashes.
-    fn submission_ready(
+    fn submission_ready<S: Submitted<A>>(
         &mut self,
         alloc: A,
         job: u32,
-        submission: &SubRef<A>,
+        submission: &S,
     ) -> Result<Ready<A>, Memory>
         requires { HasRoom self.old }
         ensures same { SameBook self.old self.new }
-        ensures ready { IfOk result (λ r. IsReadyFor self.new job (SubmitOp submission.now) r) }
+        ensures ready { IfOk result (λ r. IsReadyFor self.new job (SubmitOp (S.says submission.now)) r) }
     {
-        let op = Op::Submit(submission.copy()?);
-        let given = submission.get();
-        let items = given.items();
-        match self.store.prepare(alloc, given) {
+        let op = submission.to_op()?;
+        let items = submission.count_items();
+        match submission.prepare_in(alloc, &mut self.store) {
             Ok(plan) => {
-                let answer = self.accepted_answer(items, given.odd());
+                let answer = self.accepted_answer(items, submission.count_odd());
                 let after = plan.after();
                 let entry = Entry {
                     job,
@@ -459,7 +460,9 @@ impl<A: Allocator + Copy, K: Keep<Of = Entry<A>>> Book<A, K> {
         ensures { IfOk result (λ t. TextAnswer t ≡ answer_of (table_of (ops_in self.now.entries)) (op_data op.now)) }
     {
         match op {
-            Op::Submit(_) | Op::DropTest(_) | Op::Rename { .. } => unreachable!(),
+            Op::Submit(_) | Op::SubmitPacked(_) | Op::DropTest(_) | Op::Rename { .. } => {
+                unreachable!()
+            }
             Op::Report => trace_text(alloc, &self.store, &Choice::All),
             Op::Extract(patterns) => {
                 trace_text(alloc, &self.store, &Choice::Extract(patterns.copy(alloc)?))
@@ -478,7 +481,9 @@ impl<A: Allocator + Copy, K: Keep<Of = Entry<A>>> Book<A, K> {
         ensures { IfOk result (λ p. TextAnswer p ≡ answer_of (table_of (ops_in self.now.entries)) (op_data op.now)) }
     {
         match op {
-            Op::Submit(_) | Op::DropTest(_) | Op::Rename { .. } => unreachable!(),
+            Op::Submit(_) | Op::SubmitPacked(_) | Op::DropTest(_) | Op::Rename { .. } => {
+                unreachable!()
+            }
             Op::Report => Printing::of_store(alloc, &self.store, Choice::All),
             Op::Extract(patterns) => {
                 Printing::of_store(alloc, &self.store, Choice::Extract(patterns.copy(alloc)?))

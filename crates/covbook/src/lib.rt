@@ -41,6 +41,7 @@ mod places;
 mod reading;
 mod ready;
 mod shared;
+mod submitted;
 
 pub use book::{Book, BookFault};
 pub use entry::{Entries, Entry, MAX_ENTRIES, Receipt, Receipts};
@@ -51,4 +52,4 @@ pub use log::{JobLog, Logs};
 pub use op::{Answer, Op};
 pub use reading::{Reading, Readings};
 pub use ready::Ready;
-pub use shared::{SubRef, TextRef};
+pub use shared::{PackedRef, SubRef, TextRef};

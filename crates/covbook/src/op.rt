@@ -1,6 +1,6 @@
 //! What a book is asked, and what it answers.
 
-use crate::shared::{SubRef, TextRef};
+use crate::shared::{PackedRef, SubRef, TextRef};
 use covline::{Bytes, Memory};
 use covreport::Patterns;
 use std::alloc::{Allocator, Global};
@@ -10,6 +10,8 @@ use std::alloc::{Allocator, Global};
 pub enum Op<A: Allocator = Global> {
     /// Add the counts of a submission.
     Submit(SubRef<A>),
+    /// Add the counts of a packed submission. This is equal to adding the same submission that isn't packed.
+    SubmitPacked(PackedRef<A>),
     /// Remove the counts of a test, in all files.
     DropTest(Bytes<A>),
     /// Give the counts of a test another name, in all files. If there are counts of a test with this name already, the counts of
@@ -36,6 +38,7 @@ impl<A: Allocator + Copy> Op<A> {
     {
         match self {
             Op::Submit(submission) => Ok(Op::Submit(submission.copy()?)),
+            Op::SubmitPacked(submission) => Ok(Op::SubmitPacked(submission.copy()?)),
             Op::DropTest(test) => Ok(Op::DropTest(test.copy(alloc)?)),
             Op::Rename { old, new } => Ok(Op::Rename {
                 old: old.copy(alloc)?,
@@ -60,6 +63,7 @@ impl<A: Allocator> Op<A> {
     {
         match self {
             Op::Submit(submission) => other.is_submit(submission),
+            Op::SubmitPacked(submission) => other.is_packed_submit(submission),
             Op::DropTest(test) => other.is_drop_test(test),
             Op::Rename { old, new } => other.is_rename(old, new),
             Op::Report => matches!(other, Op::Report),
@@ -75,6 +79,18 @@ impl<A: Allocator> Op<A> {
     {
         match self {
             Op::Submit(own) => submission.is_same(own),
+            Op::SubmitPacked(own) => own.is_same_as(submission),
+            _ => false,
+        }
+    }
+
+    /// Whether this adds an equal submission to a packed one.
+    fn is_packed_submit(&self, submission: &PackedRef<A>) -> bool
+        ensures { IsTrue result ↔ (SubmitOp submission.now ≡ op_data self.now) }
+    {
+        match self {
+            Op::Submit(own) => submission.is_same_as(own),
+            Op::SubmitPacked(own) => submission.is_same(own),
             _ => false,
         }
     }

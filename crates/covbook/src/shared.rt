@@ -1,6 +1,7 @@
 //! Submissions and texts that several owners share. Contracts see what is shared.
 
 use covline::{Bytes, Memory, Submission};
+use covpacked::PackedSubmission;
 use std::alloc::{Allocator, Global};
 use std::marker::Model;
 use std::sync::Arc;
@@ -91,6 +92,63 @@ impl<A: Allocator> SubRef<A> {
         ensures { IfOk result (λ s. s ≡ self.now) }
     {
         Ok(SubRef {
+            shared: self.shared.copy()?,
+        })
+    }
+}
+
+/// A packed submission that operations, entries and receipts share.
+#[derive(Drop)]
+pub struct PackedRef<A: Allocator = Global> {
+    shared: SharedValue<PackedSubmission<A>, A>,
+}
+
+impl<A: Allocator> Model for PackedRef<A> {
+    ghost use Rattle.covline.specs.Row.{SubmissionData};
+
+    ghost Value = { SubmissionData };
+
+    ghost view = { λ a. a.shared };
+}
+
+impl<A: Allocator> PackedRef<A> {
+    ghost use Rattle.std.specs.Prelude.{◌≡◌, ◌↔◌, IfOk, IsTrue};
+
+    /// The submission, to be shared. On `Memory` it is dropped.
+    pub fn of(alloc: A, submission: PackedSubmission<A>) -> Result<PackedRef<A>, Memory>
+        ensures { IfOk result (λ s. s ≡ submission) }
+    {
+        Ok(PackedRef {
+            shared: SharedValue::of(alloc, submission)?,
+        })
+    }
+
+    /// The submission that is shared.
+    pub fn get(&self) -> &PackedSubmission<A>
+        ensures { result.now ≡ self.now }
+    {
+        self.shared.get()
+    }
+
+    /// Whether the submissions are equal, shared or not. Takes no memory.
+    pub fn is_same(&self, other: &PackedRef<A>) -> bool
+        ensures { IsTrue result ↔ (self.now ≡ other.now) }
+    {
+        self.get().is_same(other.get())
+    }
+
+    /// Whether this is the same submission as one that isn't packed. Takes no memory.
+    pub fn is_same_as(&self, other: &SubRef<A>) -> bool
+        ensures { IsTrue result ↔ (self.now ≡ other.now) }
+    {
+        self.get().is_same_as(other.get())
+    }
+
+    /// One more owner of the same submission.
+    pub fn copy(&self) -> Result<PackedRef<A>, Memory>
+        ensures { IfOk result (λ s. s ≡ self.now) }
+    {
+        Ok(PackedRef {
             shared: self.shared.copy()?,
         })
     }

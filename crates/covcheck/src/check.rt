@@ -13,9 +13,9 @@ ghost use Rattle.covcheck.specs.Skipped.{IsSkippedGcov, IsSkippedIn, IsSkippedLc
 use crate::format::Format;
 use crate::skipped_lines::skipped_lines_in;
 use crate::text_summary::TextSummary;
-use covlcov2::read_lcov2;
-use covline::Submission;
-use covread::{ReadFault, read_gcov, read_trace};
+use covlcov2::read_lcov2_packed;
+use covpacked::ReadText;
+use covread::{ReadFault, read_gcov_packed, read_trace_packed};
 use std::alloc::Allocator;
 
 /// Reads a tracefile (geninfo(1) of LCOV 1.x, section FILES). Returns what it holds, or the fault that `read_trace`
@@ -29,7 +29,7 @@ pub fn check_trace<'a, A: Allocator + Copy>(
     // The result fits what the text is read as, or it is `Memory`.
     ensures only { (outcome : Result SubmissionData Fault) → IsOutcome text.now outcome → (result ≡ Err NoMemory) ⊎ Tells IsSkippedRecord text.now outcome result }
 {
-    let submission = read_trace(alloc, text)?;
+    let submission = read_trace_packed(alloc, text)?;
     Ok(summary_of(&submission, text, Format::Trace))
 }
 
@@ -44,7 +44,7 @@ pub fn check_lcov2<'a, A: Allocator + Copy>(
     // The result fits what the text is read as, or it is `Memory`.
     ensures only { (outcome : Result SubmissionData Fault) → lcov2.IsOutcome text.now outcome → (result ≡ Err NoMemory) ⊎ Tells IsSkippedLcov2 text.now outcome result }
 {
-    let submission = read_lcov2(alloc, text)?;
+    let submission = read_lcov2_packed(alloc, text)?;
     Ok(summary_of(&submission, text, Format::Lcov2))
 }
 
@@ -60,24 +60,24 @@ pub fn check_gcov<'a, A: Allocator + Copy>(
     // The result fits what the text is read as, or it is `Memory`.
     ensures only { (outcome : Result SubmissionData Fault) → gcov.IsOutcome [] text.now outcome → (result ≡ Err NoMemory) ⊎ Tells IsSkippedGcov text.now outcome result }
 {
-    let submission = read_gcov(alloc, b"", text)?;
+    let submission = read_gcov_packed(alloc, b"", text)?;
     Ok(summary_of(&submission, text, Format::Gcov))
 }
 
 /// The summary of a text that was read as this submission. Whether the text is read as this submission isn't checked. Takes no
 /// memory.
-pub fn summary_of<'a, A: Allocator>(
-    submission: &Submission<A>,
+pub fn summary_of<'a, S: ReadText>(
+    submission: &S,
     text: &'a [u8],
     format: Format,
 ) -> TextSummary<'a>
-    ensures { Holds (IsSkippedIn format) text.now submission.now result }
+    ensures { Holds (IsSkippedIn format) text.now (S.says submission.now) result }
 {
     let skipped = skipped_lines_in(text, format);
     TextSummary {
-        sections: submission.sects().len() as u64,
-        items: submission.items(),
-        odd: submission.odd(),
+        sections: submission.count_sections(),
+        items: submission.count_items(),
+        odd: submission.count_odd(),
         skipped: skipped.count,
         first: skipped.first,
     }

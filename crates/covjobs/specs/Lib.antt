@@ -1,3 +1,4 @@
+pub mod GivenView
 pub use Rattle.covlock.specs.Start
 pub use Rattle.covlock.specs.Seat
 pub use Rattle.covlock.specs.Handed

@@ -1,9 +1,10 @@
 //! Texts that are to be collected.
 
-use covbook::SubRef;
-use covlcov2::read_lcov2;
+use covbook::{PackedRef, SubRef};
+use covlcov2::{read_lcov2, read_lcov2_packed};
 use covline::{Bytes, Submission};
-use covread::{ReadFault, read_gcov, read_trace};
+use covpacked::PackedSubmission;
+use covread::{ReadFault, read_gcov, read_gcov_packed, read_trace, read_trace_packed};
 use std::alloc::{Allocator, Global};
 
 /// A text that is to be collected.
@@ -30,6 +31,14 @@ impl<A: Allocator + Copy> Input<A> {
         Ok(SubRef::of(alloc, self.submission(alloc)?)?)
     }
 
+    /// The same, packed.
+    #[tactic(auto, using(crate::proofs::Outcomes::late_outcome))]
+    pub fn read_packed(&self, alloc: A) -> Result<PackedRef<A>, ReadFault>
+        ensures { IsOutcomeOf (input_data self.now) result }
+    {
+        Ok(PackedRef::of(alloc, self.packed_submission(alloc)?)?)
+    }
+
     /// The submission that the text is read as.
     #[tactic(auto, using(crate::proofs::Outcomes::trace_outcome, crate::proofs::Outcomes::lcov2_outcome, crate::proofs::Outcomes::gcov_outcome))]
     fn submission(&self, alloc: A) -> Result<Submission<A>, ReadFault>
@@ -39,6 +48,18 @@ impl<A: Allocator + Copy> Input<A> {
             Input::Trace(text) => read_trace(alloc, text.get()),
             Input::Lcov2(text) => read_lcov2(alloc, text.get()),
             Input::Gcov { test, text } => read_gcov(alloc, test.get(), text.get()),
+        }
+    }
+
+    /// The same, packed.
+    #[tactic(auto, using(crate::proofs::Outcomes::trace_outcome, crate::proofs::Outcomes::lcov2_outcome, crate::proofs::Outcomes::gcov_outcome))]
+    fn packed_submission(&self, alloc: A) -> Result<PackedSubmission<A>, ReadFault>
+        ensures { IsOutcomeOf (input_data self.now) result }
+    {
+        match self {
+            Input::Trace(text) => read_trace_packed(alloc, text.get()),
+            Input::Lcov2(text) => read_lcov2_packed(alloc, text.get()),
+            Input::Gcov { test, text } => read_gcov_packed(alloc, test.get(), text.get()),
         }
     }
 }

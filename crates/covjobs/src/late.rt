@@ -1,5 +1,6 @@
 //! Inputs that are read when their turn comes.
 
+use crate::given::Given;
 use crate::input::Input;
 use crate::late_fault::LateFault;
 use crate::part::Part;
@@ -51,7 +52,7 @@ impl<A: Allocator + Copy> LateInput<A> for Input<A> {
 
     fn read_part(self, alloc: A) -> Result<Part<Self, A>, LateFault> {
         match self.read(alloc) {
-            Ok(submission) => Ok(Part::Last(submission)),
+            Ok(submission) => Ok(Part::Last(Given::plain(submission))),
             Err(fault) => Err(LateFault::Refused(fault)),
         }
     }
@@ -76,7 +77,7 @@ impl<'a, A: Allocator + Copy> LateInput<A> for &'a Input<A> {
 
     fn read_part(self, alloc: A) -> Result<Part<Self, A>, LateFault> {
         match Input::read(self, alloc) {
-            Ok(submission) => Ok(Part::Last(submission)),
+            Ok(submission) => Ok(Part::Last(Given::plain(submission))),
             Err(fault) => Err(LateFault::Refused(fault)),
         }
     }

@@ -41,6 +41,7 @@ mod collect_fault;
 mod collected;
 mod done;
 mod gate;
+mod given;
 mod input;
 mod into_book;
 mod late;
@@ -64,6 +65,7 @@ pub use covlock::{
     Shared, Start, open_book, open_book_keeping,
 };
 pub use gate::{Gate, NoGate};
+pub use given::Given;
 pub use input::Input;
 pub use into_book::{CollectedBook, collect_into_book};
 pub use late::LateInput;

@@ -1,6 +1,7 @@
 //! One job's worker.
 
 use crate::gate::Gate;
+use crate::given::Given;
 use crate::late::LateInput;
 use crate::late_fault::LateFault;
 use crate::part::Part;
@@ -8,7 +9,7 @@ use crate::readers::Readers;
 use crate::refused::{Refused, RefusedInput};
 use crate::shares::Placed;
 use crate::stop::{Refusal, Stop};
-use covbook::{BookFault, Entry, JobLog, Keep, Op, Readings, Receipt, Receipts, SubRef};
+use covbook::{BookFault, Entry, JobLog, Keep, Op, Readings, Receipt, Receipts};
 use covline::Memory;
 use covlock::{Done, Live, Name, News, Seat, Shared};
 use covread::ReadFault;
@@ -143,7 +144,7 @@ impl<L: Name, A: Allocator + Copy, P: Keep<Of = Receipt<A>>, F: Drop> Worker<L, 
         book: &Shared<L, A, K>,
         gate: &G,
         index: usize,
-        part: Result<SubRef<A>, F>,
+        part: Result<Given<A>, F>,
     ) -> Result<(), BookFault>
         ensures job { self.new.seat.job ≡ self.old.seat.job }
         ensures submits { IfOk result (λ _. ops_in self.new.receipts ≡ ops_in self.old.receipts ++ map SubmitOp (submitted (whole part))) }
@@ -176,7 +177,7 @@ impl<L: Name, A: Allocator + Copy, P: Keep<Of = Receipt<A>>, F: Drop> Worker<L, 
         alloc: A,
         book: &Shared<L, A, K>,
         gate: &G,
-        submission: SubRef<A>,
+        submission: Given<A>,
     ) -> Result<(), BookFault>
         ensures job { self.new.seat.job ≡ self.old.seat.job }
         ensures asked { IfOk result (λ _. ops_in self.new.receipts ≡ ops_in self.old.receipts ++ SubmitOp submission ∷ []) }
@@ -186,7 +187,7 @@ impl<L: Name, A: Allocator + Copy, P: Keep<Of = Receipt<A>>, F: Drop> Worker<L, 
     {
         let (job, call) = (self.seat.job(), self.seat.calls());
         gate.before(rt, job, call);
-        let kept = self.ask(rt, alloc, book, &Op::Submit(submission));
+        let kept = self.ask(rt, alloc, book, &submission.into_op());
         gate.after(rt, job, call);
         self.read(&kept?)?;
         Ok(())
@@ -365,7 +366,7 @@ fn next_part<A: Allocator, T: LateInput<A>>(
     index: usize,
     input: T,
     first: Option<BookFault>,
-) -> Result<(Result<SubRef<A>, T::Fault>, Option<T>), Stop>
+) -> Result<(Result<Given<A>, T::Fault>, Option<T>), Stop>
     ensures part { IfOk result (λ r. IsPartOf T.may_give input r.0 r.1) }
     ensures fails { IfOk result (λ r. IfSome r.1 (λ rest. T.may_fail rest → T.may_fail input)) }
     ensures fewer { IfOk result (λ r. IfSome r.1 (λ rest. T.most rest < T.most input)) }

@@ -7,7 +7,8 @@ ghost use Rattle.covlarge.specs.Version.{IsSkippedOf};
 
 use covcheck::{Format, SkippedLine, TextSummary, summary_of};
 use covcommand::LcovVersion;
-use covline::{Bytes, Memory, Submission};
+use covline::{Bytes, Memory};
+use covpacked::PackedSubmission;
 use std::alloc::Global;
 use std::marker::Model;
 
@@ -60,7 +61,7 @@ impl Held {
         version: LcovVersion,
         lines: u64,
         piece: &[u8],
-        submission: &Submission,
+        submission: &PackedSubmission,
     ) -> Result<(), Memory>
         ensures added { OnOk result (HoldsOn (IsSkippedOf version) lines self.old piece.now submission.now self.new) }
         ensures kept { OnErr result (self.new ≡ self.old) }

@@ -13,7 +13,7 @@ use crate::fault::PieceFault;
 use crate::held::Held;
 use crate::piece_text::{Found, PieceText};
 use crate::so_far::SoFar;
-use covbook::SubRef;
+use covbook::PackedRef;
 use covcommand::LcovVersion;
 use covline::{Bytes, Memory};
 use covpieces::{Carried, pieces_are_read_one_by_one};
@@ -57,9 +57,9 @@ impl<S: Source> Model for LargeTracefile<S> {
 #[derive(Drop)]
 pub enum NextPiece<S: Source> {
     /// The last piece, and what the whole tracefile holds, if that was asked for.
-    Last(SubRef, Option<Held>),
+    Last(PackedRef, Option<Held>),
     /// A piece, and the rest of the tracefile.
-    More(SubRef, LargeTracefile<S>),
+    More(PackedRef, LargeTracefile<S>),
 }
 
 impl<S: Source + Drop> LargeTracefile<S> {

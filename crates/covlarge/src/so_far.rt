@@ -10,12 +10,13 @@ ghost use Rattle.covread.specs.Outcome.{max_bytes};
 use crate::fault::PieceFault;
 use crate::held::Held;
 use crate::piece_text::PieceText;
-use covbook::SubRef;
+use covbook::PackedRef;
 use covcommand::LcovVersion;
-use covlcov2::read_lcov2;
-use covline::{Memory, Submission};
+use covlcov2::read_lcov2_packed;
+use covline::Memory;
+use covpacked::PackedSubmission;
 use covpieces::Carried;
-use covread::{ReadFault, read_trace};
+use covread::{ReadFault, read_trace_packed};
 use std::alloc::Global;
 
 /// What is kept of the pieces so far: the tracefile's version, what goes over to the next piece, and what they hold, if that is
@@ -33,7 +34,7 @@ impl SoFar {
         self,
         alloc: Global,
         text: &PieceText,
-    ) -> Result<(SubRef, Option<Held>), PieceFault>
+    ) -> Result<(PackedRef, Option<Held>), PieceFault>
         requires { length text.now.front + length text.now.bytes ≤ max_bytes }
         ensures { IsLastPiece self.version self.carried self.held text.now.front text.now.bytes result }
     {
@@ -51,7 +52,7 @@ impl SoFar {
             text.bytes(),
             &submission,
         )?;
-        Ok((SubRef::of(alloc, submission)?, held))
+        Ok((PackedRef::of(alloc, submission)?, held))
     }
 
     /// Reads a piece, which is the first `len` bytes of the text behind its front, and goes on to the next one.
@@ -60,7 +61,7 @@ impl SoFar {
         alloc: Global,
         text: &PieceText,
         len: usize,
-    ) -> Result<SubRef, PieceFault>
+    ) -> Result<PackedRef, PieceFault>
         requires within { len ≤ length text.now.bytes }
         requires few { length text.now.front + len ≤ max_bytes }
         requires ends { EndsSection (take len text.now.bytes) }
@@ -80,7 +81,7 @@ impl SoFar {
             &submission,
         )?;
         pass(&mut self.carried, alloc, self.version, piece, &submission)?;
-        Ok(SubRef::of(alloc, submission)?)
+        Ok(PackedRef::of(alloc, submission)?)
     }
 }
 
@@ -90,7 +91,7 @@ fn read_piece(
     version: LcovVersion,
     carried: &Carried,
     text: &[u8],
-) -> Result<Submission, PieceFault>
+) -> Result<PackedSubmission, PieceFault>
     requires { length text.now ≤ max_bytes }
     ensures { IsReadAs version carried.now text.now result }
 {
@@ -101,12 +102,16 @@ fn read_piece(
 }
 
 /// What the text is read as.
-fn read_text(alloc: Global, version: LcovVersion, text: &[u8]) -> Result<Submission, ReadFault>
+fn read_text(
+    alloc: Global,
+    version: LcovVersion,
+    text: &[u8],
+) -> Result<PackedSubmission, ReadFault>
     ensures { AnswersOf version text.now result }
 {
     match version {
-        LcovVersion::One => read_trace(alloc, text),
-        LcovVersion::Two => read_lcov2(alloc, text),
+        LcovVersion::One => read_trace_packed(alloc, text),
+        LcovVersion::Two => read_lcov2_packed(alloc, text),
     }
 }
 
@@ -127,7 +132,7 @@ fn hold(
     version: LcovVersion,
     lines: u64,
     piece: &[u8],
-    submission: &Submission,
+    submission: &PackedSubmission,
 ) -> Result<(), Memory>
     ensures { OnOk result (HoldsOnIfTold (IsSkippedOf version) lines held.old piece.now submission.now held.new) }
 {
@@ -144,7 +149,7 @@ fn pass(
     alloc: Global,
     version: LcovVersion,
     piece: &[u8],
-    submission: &Submission,
+    submission: &PackedSubmission,
 ) -> Result<(), Memory>
     requires ends { EndsSection piece.now }
     requires few { carried.old.lines + length piece.now < 2 ^ 64 }

@@ -5,7 +5,7 @@ ghost use Rattle.std.specs.Prelude.{None};
 use covcheck::summary_line;
 use covcommand::LcovVersion;
 use covlarge::{Held, LargeTracefile, NextPiece, PieceFault, check_large};
-use covline::{Sect, Submission};
+use covpacked::PackedSubmission;
 use covsession::{Failed, Source};
 use std::alloc::Global;
 use std::process::Abort;
@@ -75,26 +75,16 @@ fn held_words(alloc: Global, held: &Held) -> Result<String, Fail> {
     Ok(String::from_utf8_lossy(alloc, line.as_slice())?)
 }
 
-/// How many items the sections have.
-fn items_in(sects: &[Sect]) -> u64 {
-    let mut items: u64 = 0;
-    for sect in sects {
-        items = items.saturating_add(sect.items.len() as u64);
-    }
-    items
-}
-
 /// Appends what a piece holds: the test of its first section, or `-` if it has none, and how many sections, items and odd lines.
-fn push_piece(alloc: Global, told: &mut String, piece: &Submission) -> Result<(), Fail> {
-    let sects = piece.sects();
-    let test: String = match sects.first() {
-        Some(first) => String::from_utf8_lossy(alloc, first.test.get())?,
+fn push_piece(alloc: Global, told: &mut String, piece: &PackedSubmission) -> Result<(), Fail> {
+    let test: String = match piece.sects().next() {
+        Some(first) => String::from_utf8_lossy(alloc, first.test)?,
         None => String::from_str(alloc, "-")?,
     };
     let words = format!(in alloc;
         "{test} {} {} {}\n",
-        sects.len(),
-        items_in(sects),
+        piece.sections(),
+        piece.items(),
         piece.odd()
     )?;
     told.push_str(words.as_str())?;

@@ -1,3 +1,4 @@
+pub mod Unpacked
 pub mod EdgeParts
 pub mod LineReading
 pub mod Records

@@ -174,7 +174,7 @@ total_skipped r above inside kind value is grouped functions =
 
 -- ---- a path
 
-pub path_taken : {A : Type 0} (new : Lcov2Reader A) (held : HeldData) (above : List Lcov2Data) (inside : List LineData) (path : List ℕ) → step held (Path path) ≡ Ok (held_data new.plain inside) → IsOpen new.plain.section inside
+pub path_taken : {A : Type 0} (new : Lcov2Reader A) (held : HeldData) (above : List Lcov2Data) (inside : List LineData) (path : List ℕ) → step held (Path path) ≡ Ok (held_data new.plain inside) → IsOpen new.plain inside
     → AreIndexes new.indexes [] → new.is_grouped ≡ false → Lcov2Steps {A = A} {T = Unit {0}} (Ok tt) above held new (Plain (Path path))
 path_taken new held above inside path stepped is_open are grouped = (
   Path path ∷ [],
@@ -243,7 +243,7 @@ edge_excluded {A} old new above inside line block given taken is same grouped ar
   refl,
   ap (λ (x : Reader A). held_data x inside) same,
   record {
-    is_open = subst (λ (x : Reader A). IsOpen x.section inside) (sym same) is.is_open;
+    is_open = subst (λ (x : Reader A). IsOpen x inside) (sym same) is.is_open;
     grouped = grouped ∙ is.grouped;
     indexes = any_indexes new.plain.section new.indexes (Edge true line block given taken ∷ above) are;
   },

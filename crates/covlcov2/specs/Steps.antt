@@ -41,7 +41,7 @@ AreOpenIndexes (Some s) indexes above = AreIndexes indexes above
 
 -- the reader has these records in its open section, and these lines are above the next line
 pub record IsHeld {A : Type 0} (r : Lcov2Reader A) (above : List Lcov2Data) (inside : List LineData) : Type 0 where
-  pub is_open : IsOpen r.plain.section inside
+  pub is_open : IsOpen r.plain inside
   pub grouped : r.is_grouped ≡ list_any is_leader above
   pub indexes : AreOpenIndexes r.plain.section r.indexes above
 
@@ -75,7 +75,7 @@ counts_functions LineHit = false
 
 -- what the reader of version 1 makes of one record, or why it doesn't take it
 abbrev pub Given : {A T : Type 0} → Result T TakeFault → HeldData → Reader A → LineData → Type 0
-Given (Ok done) before after says = (inside : List LineData) × (step before says ≡ Ok (held_data after inside)) × IsOpen after.section inside
+Given (Ok done) before after says = (inside : List LineData) × (step before says ≡ Ok (held_data after inside)) × IsOpen after inside
 Given (Err why.Outside) before after says = (before.section ≡ None) × version1_outcome.NeedsSection says
 Given (Err why.Inside) before after says = IsWithin before.section × version1_outcome.NeedsOutside says
 Given (Err why.Misplaced) before after says = ⊥

@@ -28,5 +28,5 @@ pub use laws::{
     what_is_read_as_lcov2_is_lawful,
 };
 pub use line::Lcov2Line;
-pub use read::read_lcov2;
+pub use read::{read_lcov2, read_lcov2_packed};
 pub use read_line::read_lcov2_line;

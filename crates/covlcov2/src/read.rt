@@ -21,12 +21,31 @@ use covline::{
     BranchPoint, Submission, each_line_has_one_meaning, first_line, lines_are_the_text,
     try_branch_line, try_line_count,
 };
+use covpacked::{PackedSubmission, unpack};
 use covread::{MAX_BYTES, ReadFault, take_branch, take_line_count};
 use std::alloc::Allocator;
 
 /// Reads a tracefile of LCOV 2 (geninfo(1) of LCOV 2.x, TRACEFILE FORMAT). Returns the submission that its lines make, or the
 /// text's first fault. An `FNA:` line is `Misplaced` if it isn't in a section, or has no `FNL:` line of its index above it there.
+/// [`read_lcov2_packed`] does the same, and takes less memory and time.
 pub fn read_lcov2<A: Allocator + Copy>(alloc: A, text: &[u8]) -> Result<Submission<A>, ReadFault>
+    // The answer is what the text is read as, or memory ran out.
+    ensures answers { Answers text.now result }
+    // No other answer is possible, unless memory ran out.
+    ensures only { (outcome : Result SubmissionData Fault) → IsOutcome text.now outcome → IsOrMemory result outcome }
+    // Nothing is kept before the first path, so memory can run out only at this path or after it.
+    ensures memory { GrowsLate text.now result }
+{
+    let packed = read_lcov2_packed(alloc, text)?;
+    Ok(unpack(alloc, &packed)?)
+}
+
+/// Reads a tracefile of LCOV 2 (geninfo(1) of LCOV 2.x, TRACEFILE FORMAT). Returns the submission that its lines make, packed, or
+/// the text's first fault, as [`read_lcov2`].
+pub fn read_lcov2_packed<A: Allocator + Copy>(
+    alloc: A,
+    text: &[u8],
+) -> Result<PackedSubmission<A>, ReadFault>
     // The answer is what the text is read as, or memory ran out.
     ensures answers { Answers text.now result }
     // No other answer is possible, unless memory ran out.
@@ -80,7 +99,7 @@ fn take_first<'a, A: Allocator + Copy>(
         × ((above : List Lcov2Data) (inside : List LineData) → IsHeld reader.old above inside → TakesLcov2Line result above (held_data reader.old.plain inside) reader.new line at) }
 {
     if let Some(first) = try_line_count(text) {
-        take_count(reader, alloc, at, first.line, first.count, first.checksum)?;
+        take_count(reader, at, first.line, first.count, first.checksum)?;
         return Ok(first.rest);
     }
     if let Some(first) = try_branch_line(text) {
@@ -100,7 +119,6 @@ fn take_first<'a, A: Allocator + Copy>(
 #[inline]
 fn take_count<A: Allocator + Copy>(
     reader: &mut Lcov2Reader<'_, A>,
-    alloc: A,
     at: u64,
     line: u64,
     count: u64,
@@ -109,7 +127,7 @@ fn take_count<A: Allocator + Copy>(
     requires { (above : List Lcov2Data) × (inside : List LineData) × HasLineRoom reader.old above inside }
     ensures { (text : List ℕ) → Spells text (Line line count (option_map (λ c. c.now) checksum.entry)) → (above : List Lcov2Data) (inside : List LineData) → IsHeld reader.old above inside → TakesLcov2Line result above (held_data reader.old.plain inside) reader.new text at }
 {
-    take_line_count(&mut reader.plain, alloc, at, line, count, checksum)
+    take_line_count(&mut reader.plain, at, line, count, checksum)
 }
 
 /// Takes how often a branch was taken. The branch isn't excluded, and its line has a number, not an expression. `at` is the

@@ -215,7 +215,7 @@ fn give<'a, A: Allocator + Copy>(
     says: TraceLine<'a>,
 ) -> Result<(), TakeFault>
     requires { (inside : List LineData) × HasRoom reader.old inside }
-    ensures { (inside : List LineData) → IsOpen reader.old.section inside → Given result (held_data reader.old inside) reader.new (line_data says.entry) }
+    ensures { (inside : List LineData) → IsOpen reader.old inside → Given result (held_data reader.old inside) reader.new (line_data says.entry) }
 {
     match reader.take(alloc, says) {
         Ok(()) => Ok(()),

@@ -1,7 +1,7 @@
 //! What is wanted was worked out by hand from geninfo(1) of LCOV 2.3.1, section TRACEFILE FORMAT, never taken from an output. It is
 //! written as a tracefile of version 1.
 
-use covlcov2::read_lcov2;
+use covlcov2::{read_lcov2, read_lcov2_packed};
 use covline::Submission;
 use covread::{ReadFault, read_trace};
 use std::alloc::Global;
@@ -22,11 +22,12 @@ fn read_plain(alloc: Global, text: &[u8]) -> Result<Submission, ReadFault> {
     read_trace(alloc, text)
 }
 
-/// Whether the text of LCOV 2 is read as the other text is in version 1.
+/// Whether the text of LCOV 2 is read as the other text is in version 1, packed and not.
 fn reads_as(alloc: Global, text: &[u8], wanted: &[u8]) -> Result<bool, ReadFault> {
     let given = read(alloc, text)?;
     let wanted = read_plain(alloc, wanted)?;
-    Ok(given.is_same(&wanted))
+    let packed = read_lcov2_packed(alloc, text)?;
+    Ok(given.is_same(&wanted) && packed.is_same_as(&wanted))
 }
 
 /// The words of the text's fault, or `none`.

@@ -1,7 +1,8 @@
 //! What goes over from a piece of a tracefile into the next one.
 
 use crate::cut::{count_lines, grouped_after};
-use covline::{Bytes, Memory, Submission};
+use covline::{Bytes, Memory};
+use covpacked::ReadText;
 use covread::ReadFault;
 use std::alloc::{Allocator, Global};
 use std::marker::Model;
@@ -122,10 +123,15 @@ impl<A: Allocator> Carried<A> {
 
     /// Goes on to the next piece of a tracefile of version 1. This piece, without its front, ends with a section, and behind its
     /// front it was read as this submission.
-    pub fn pass(&mut self, alloc: A, piece: &[u8], submission: &Submission<A>) -> Result<(), Memory>
+    pub fn pass<S: ReadText>(
+        &mut self,
+        alloc: A,
+        piece: &[u8],
+        submission: &S,
+    ) -> Result<(), Memory>
         requires ends { EndsSection piece.now }
         requires few { self.old.lines + length piece.now < 2 ^ 64 }
-        ensures ok { OnOk result (self.new ≡ carried_after self.old piece.now submission.now.sects) }
+        ensures ok { OnOk result (self.new ≡ carried_after self.old piece.now (S.says submission.now).sects) }
         ensures err { OnErr result (self.new ≡ self.old) }
     {
         let lines = self.lines + count_lines(piece);
@@ -136,15 +142,15 @@ impl<A: Allocator> Carried<A> {
     }
 
     /// Goes on to the next piece of a tracefile of LCOV 2, as `pass` does.
-    pub fn pass_lcov2(
+    pub fn pass_lcov2<S: ReadText>(
         &mut self,
         alloc: A,
         piece: &[u8],
-        submission: &Submission<A>,
+        submission: &S,
     ) -> Result<(), Memory>
         requires ends { EndsSection piece.now }
         requires few { self.old.lines + length piece.now < 2 ^ 64 }
-        ensures ok { OnOk result (self.new ≡ lcov2_carried_after self.old piece.now submission.now.sects) }
+        ensures ok { OnOk result (self.new ≡ lcov2_carried_after self.old piece.now (S.says submission.now).sects) }
         ensures err { OnErr result (self.new ≡ self.old) }
     {
         let lines = self.lines + count_lines(piece);
@@ -156,12 +162,12 @@ impl<A: Allocator> Carried<A> {
     }
 
     /// Takes over the test of the last section, if there is one.
-    fn take_test(&mut self, alloc: A, submission: &Submission<A>) -> Result<(), Memory>
-        ensures ok { OnOk result (self.new ≡ record { test = last_test self.old.test submission.now.sects; is_grouped = self.old.is_grouped; lines = self.old.lines }) }
+    fn take_test<S: ReadText>(&mut self, alloc: A, submission: &S) -> Result<(), Memory>
+        ensures ok { OnOk result (self.new ≡ record { test = last_test self.old.test (S.says submission.now).sects; is_grouped = self.old.is_grouped; lines = self.old.lines }) }
         ensures err { OnErr result (self.new ≡ self.old) }
     {
-        if let Some(last) = submission.sects().last() {
-            self.test = last.test.copy(alloc)?;
+        if let Some(test) = submission.last_test() {
+            self.test = Bytes::of(alloc, test)?;
         }
         Ok(())
     }

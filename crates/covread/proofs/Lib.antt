@@ -1,3 +1,5 @@
+pub mod Unpacked
+pub mod OnOk
 pub mod AllOf
 pub mod TraceGrammar
 pub mod TraceStands

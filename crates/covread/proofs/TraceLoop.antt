@@ -4,7 +4,7 @@ use Rattle.std.specs.Prelude.{option_map, is_some}
 use Rattle.std.proofs.lemmas.Bool.{eqb-true}
 use Rattle.std.proofs.lemmas.List.{append-nil, length-append}
 use Rattle.covline.specs.Lines.{lines_of}
-use Rattle.covline.specs.Row.{SectData}
+use Rattle.covline.specs.Row.{ItemData, SectData}
 use Rattle.covline.specs.Lawful.{IsLawful}
 use Rattle.covline.specs.Spells.{LineData, Path, Spells}
 use Rattle.covread.specs.declared.fault.ReadFault.{ReadFault}
@@ -13,7 +13,7 @@ use Rattle.covread.specs.declared.trace.reader.OpenSection.{OpenSection}
 use Rattle.covread.specs.declared.trace.reader.Reader.{Reader}
 use Rattle.covread.specs.Reads.{Part}
 use Rattle.covread.specs.Outcome.{max_bytes, IsFirstFault, Answers, HasBegun, GrowsLate}
-use Rattle.covread.specs.TraceSteps.{SectionData, HeldData, submission_held, IsLawfulAt, empty, kept_in, section_data, IsOpen, step, StopsAt, TakesLine, GrowsAt, ends, ends_at, EndsLawfully}
+use Rattle.covread.specs.TraceSteps.{SectionData, HeldData, submission_held, IsLawfulAt, empty, kept_in, section_data, IsOpenAt, step, StopsAt, TakesLine, GrowsAt, ends, ends_at, EndsLawfully}
 use Rattle.covread.proofs.TraceGrammar.{TextLaw, Place, Between, Within}
 use Rattle.covread.proofs.TraceStands.{Stands, stands_path, stands_goes_on, path_line, stands_reads, stop_by_fault, stop_open}
 use Rattle.covread.proofs.TraceRun.{Holds, held_of, section_of, holds_at_first, holds_more, holds_outside, holds_inside}
@@ -146,9 +146,9 @@ ends_without text test sects odd None inside h = h
 ends_without text test sects odd (Some s) inside h = h
 
 -- there are as many records so far as are kept
-pub open_length : {A : Type 0} (section : Option (OpenSection A)) (inside : List LineData) → IsOpen section inside → length inside ≡ length (kept_in (option_map (section_data inside) section))
-open_length None inside h = ap length h
-open_length (Some s) inside h = refl
+pub open_length : {A : Type 0} (section : Option (OpenSection A)) (items : List ItemData) (inside : List LineData) → IsOpenAt section items inside → length inside ≡ length (kept_in (option_map (section_data inside) section))
+open_length None items inside h = ap length h
+open_length (Some s) items inside h = refl
 
 -- if no section is open, what is held makes a lawful submission
 pub closed_lawful : {X : Type 0} (view : X → SectionData) (section : Option X) (held : HeldData) → is_some section ≡ false → IsLawfulAt (option_map view section) held → IsLawful (submission_held held)

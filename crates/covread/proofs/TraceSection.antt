@@ -15,13 +15,14 @@ use Rattle.covline.specs.Points.{func_points, func_point, is_hit, line_point}
 use Rattle.covline.specs.Row.{ItemData, LineItem, FuncItem, BranchItem, with_start}
 use Rattle.covline.specs.Spells.{LineData, FuncStart, FuncCount, Branch, Line}
 use Rattle.covread.specs.declared.trace.points.Hit.{Hit}
+use Rattle.covpacked.specs.OpenItems.{left, start_set}
 use Rattle.covread.specs.Reads.{distinct, start_in, counted, items_said, items_of}
 use Rattle.covread.specs.declared.trace.functions.Found.{Found}
 use Rattle.covread.specs.declared.trace.section.PendingCount.{PendingCount}
 use Rattle.covread.specs.TraceFunctions.{named, found_by}
 use Rattle.covread.specs.TracePoints.{Counts, branch_key, hits_said, hits_of_item}
 use Rattle.covread.specs.TraceSection.{item_said, stored, Mark, mark, marks_from}
-use Rattle.covread.specs.TraceSettle.{is_unstarted, names_in, alone, unstarted_in, start_set, start_put, filled, HavePlaces, IsSettled, left, starts_with}
+use Rattle.covread.specs.TraceSettle.{is_unstarted, names_in, alone, unstarted_in, start_put, filled, HavePlaces, IsSettled}
 use Rattle.covread.specs.declared.trace.tally.SectionPoints.{SectionPoints}
 use Rattle.covread.specs.declared.trace.tally.StatedTotal.{StatedTotal}
 use Rattle.covread.specs.TraceTally.{is_total, branch_cmp, stated_record, HasTotals, AreFew}
@@ -71,6 +72,12 @@ items_same inside r items none e = e ∙ sym (stored_push inside r ∙ ap (λ (x
 pub hits_same : {P : Type 0} (points : ItemData → List P) (inside : List LineData) (r : LineData) → hits_said points (item_said r) ≡ [] → hits_said points (stored inside) ≡ hits_said points (stored (inside ++ r ∷ []))
 hits_same points inside r none =
     sym (ap (hits_said points) (stored_push inside r) ∙ flat_map-append (hits_of_item points) (stored inside) (item_said r) ∙ ap (λ xs. hits_said points (stored inside) ++ xs) none ∙ append-nil (hits_said points (stored inside)))
+
+-- there is one point more after a record that counts one
+pub hits_more : {P : Type 0} (points : ItemData → List P) (inside : List LineData) (r : LineData) (hit : Hit P) → hits_said points (item_said r) ≡ hit ∷ []
+    → hits_said points (stored inside) ++ hit ∷ [] ≡ hits_said points (stored (inside ++ r ∷ []))
+hits_more points inside r hit one =
+    sym (ap (hits_said points) (stored_push inside r) ∙ flat_map-append (hits_of_item points) (stored inside) (item_said r) ∙ ap (λ xs. hits_said points (stored inside) ++ xs) one)
 
 -- at most one item is stored for a record
 pub few_stored : (inside : List LineData) → length (stored inside) ≤ length inside
@@ -380,21 +387,6 @@ settled_none starts ms m n places new before after e pushed h = record {
     nothing true = append-nil (names_in starts ms)
     nothing false = append-nil (names_in starts ms)
 
-cut_at : (xs : List ItemData) (at : ℕ) → at < length xs → (before : List ItemData) × (item : ItemData) × (after : List ItemData) × (xs ≡ before ++ item ∷ after) × (at ≡ length before)
-cut_at [] at low = absurd (omega (arith, low))
-cut_at (x ∷ xs) zero low = ([], x, xs, refl, refl)
-cut_at (x ∷ xs) (suc at) low =
-    let k = cut_at xs at (omega (arith, low)) in
-    let here : suc at ≡ length (x ∷ k.0) = omega (arith, k.4) in
-    (x ∷ k.0, k.1, k.2, ap (λ (ys : List ItemData). x ∷ ys) k.3, here)
-
--- if lists of items differ only in that the item at this place got this start line, the new list is that of `start_set`
-pub set_is : (old new : List ItemData) (at line : ℕ) → at < length old → ((before after : List ItemData) (item : ItemData) → old ≡ before ++ item ∷ after → at ≡ length before → new ≡ before ++ with_start line item ∷ after)
-    → new ≡ start_set at line old
-set_is old new at line low h =
-    let k = cut_at old at low in
-    h k.0 k.2 k.1 k.3 k.4 ∙ sym (ap (start_set at line) k.3 ∙ ap (λ (n : ℕ). start_set n line (k.0 ++ k.1 ∷ k.2)) k.4 ∙ set_there k.0 line k.1 k.2)
-
 pub length_set : (at line : ℕ) (xs : List ItemData) → length (start_set at line xs) ≡ length xs
 length_set at line [] = refl
 length_set zero line (x ∷ xs) = refl
@@ -420,22 +412,6 @@ settled_odd inside marks n places before after e h = odd_counts inside places (h
 pub settled_hit : (inside : List LineData) (marks : List Mark) (n : ℕ) (places : List ℕ) (before after : List ItemData) → marks ≡ marks_from 0 inside
     → IsSettled (λ name. start_in name inside) marks n places before after → n ≡ distinct bytes_eq (func_points (filter is_hit (items_of inside)))
 settled_hit inside marks n places before after e h = hit_names inside n (h.hit ∙ ap (λ (ms : List Mark). distinct bytes_eq (names_in (starts_of inside) ms)) e)
-
--- ---- the items that are left
-
-pub left_first : {X : Type 0} (at : ℕ) (places rest : List ℕ) (x : X) (xs : List X) → places ≡ at ∷ rest → left at places (x ∷ xs) ≡ left (at + 1) rest xs
-left_first {X} at places rest x xs e = ap (λ (ps : List ℕ). left at ps (x ∷ xs)) e ∙ goes at rest x xs
-
-pub left_other : {X : Type 0} (at : ℕ) (places : List ℕ) (x : X) (xs : List X) → starts_with at places ≡ false → left at places (x ∷ xs) ≡ x ∷ left (at + 1) places xs
-left_other {X} at [] x xs e = ap (λ (ys : List X). x ∷ ys) (sym (left_nil (at + 1) xs))
-left_other at (p ∷ ps) x xs e = ap (λ (b : Bool). cond b (left (at + 1) ps xs) (x ∷ left (at + 1) (p ∷ ps) xs)) e
-
-pub left_none : {X : Type 0} (at : ℕ) (places : List ℕ) (xs : List X) → xs ≡ [] → left at places xs ≡ []
-left_none at places xs e = ap (left at places) e
-
-pub empty_stays : (items : List ItemData) (places : List ℕ) (b : Bool) → b ≡ true → b ≡ (length places == 0) → left 0 places items ≡ items
-empty_stays items [] b e f = left_nil 0 items
-empty_stays items (p ∷ ps) b e f = absurd (let k : length (p ∷ ps) ≡ 0 = grind (arith, nat_tests, e, f) in omega (arith, k))
 
 -- at the section's end, the builder has the section's points and the totals that it states
 pub has_totals : (inside : List LineData) (stated : List StatedTotal) (has : SectionPoints) (all : List ItemData) → map stated_record stated ≡ filter is_total inside

@@ -28,11 +28,11 @@ pub record HeldData : Type 0 where
 abbrev pub func_data : Function → List ℕ × ℕ
 func_data f = (f.name.now, f.count)
 
-abbrev pub section_data : {A : Type 0} → OpenSection A → SectionData
-section_data s = record { file = s.file; items = s.items; anchor = s.anchor }
+abbrev pub section_data : List ItemData → OpenSection → SectionData
+section_data items s = record { file = s.file.now; items = items; anchor = s.anchor }
 
 abbrev pub held_data : {A : Type 0} → Reader A → HeldData
-held_data r = record { waiting = map func_data r.waiting.items; section = option_map section_data r.section; sects = r.sects }
+held_data r = record { waiting = map func_data r.waiting.items; section = option_map (section_data r.sects.items) r.section; sects = r.sects.sects }
 
 -- before the first line
 abbrev pub empty : HeldData

@@ -50,9 +50,9 @@ marks_from at [] = []
 marks_from at (FuncCount count name ∷ rest) = record { at = at; name = name; is_hit = nat_lt 0 count } ∷ marks_from (at + 1) rest
 marks_from at (says ∷ rest) = marks_from (at + length (item_said says)) rest
 
--- the builder holds what these records give
-pub record IsBuiltOf {A : Type 0} (g : SectionBuilder A) (inside : List LineData) : Type 0 where
-  pub items : g.items ≡ stored inside
+-- the builder, and these items of the open section, hold what these records give
+pub record IsBuiltOf {A : Type 0} (g : SectionBuilder A) (items : List ItemData) (inside : List LineData) : Type 0 where
+  pub items_are : items ≡ stored inside
   pub functions : AreFunctions g.functions (λ name. start_in name inside) []
   pub waiting : map mark g.waiting.items ≡ marks_from 0 inside
   pub lines : Counts nat_cmp g.lines (hits_said line_point (stored inside))

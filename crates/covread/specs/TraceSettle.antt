@@ -1,9 +1,10 @@
 -- What becomes of the counts of functions when a section ends.
-use Rattle.std.specs.Prelude.{◌≡◌, ℕ, zero, suc, ◌+◌, ◌<◌, ◌==◌, Bool, false, is_none, List, [], ◌∷◌, Option, None, Some, if◌then◌else◌}
+use Rattle.std.specs.Prelude.{◌≡◌, ℕ, ◌<◌, Bool, false, is_none, List, [], ◌∷◌, Option, None, Some}
 use Rattle.std.specs.List.{flat_map, AllByRecursion}
 use Rattle.std.specs.Str.{bytes_eq}
-use Rattle.covline.specs.Row.{ItemData, with_start}
+use Rattle.covline.specs.Row.{ItemData}
 use Rattle.covline.specs.Spells.{LineData, FuncCount}
+use Rattle.covpacked.specs.OpenItems.{start_set}
 use Rattle.covread.specs.Reads.{distinct, start_in}
 use Rattle.covread.specs.TraceFunctions.{named}
 use Rattle.covread.specs.TraceSection.{Mark}
@@ -25,12 +26,6 @@ alone at (Some line) = []
 abbrev pub unstarted_in : (List ℕ → Option ℕ) → List Mark → List ℕ
 unstarted_in starts marks = flat_map (λ m. alone m.at (starts m.name)) marks
 
--- the items after the one at this place got this start line
-abbrev pub start_set : ℕ → ℕ → List ItemData → List ItemData
-start_set at line [] = []
-start_set zero line (item ∷ items) = with_start line item ∷ items
-start_set (suc at) line (item ∷ items) = item ∷ start_set at line items
-
 abbrev pub start_put : ℕ → Option ℕ → List ItemData → List ItemData
 start_put at None items = items
 start_put at (Some line) items = start_set at line items
@@ -49,14 +44,3 @@ pub record IsSettled (starts : List ℕ → Option ℕ) (marks : List Mark) (n :
   pub hit : n ≡ distinct bytes_eq (names_in starts marks)
   pub unstarted : places ≡ unstarted_in starts marks
   pub items : after ≡ filled starts marks before
-
--- this is the first of the places
-abbrev pub starts_with : ℕ → List ℕ → Bool
-starts_with at [] = false
-starts_with at (place ∷ places) = place == at
-
--- the elements, but for those at these places. The places ascend, and `at` is the place of the first element
-abbrev pub left : {X : Type 0} → ℕ → List ℕ → List X → List X
-left at places [] = []
-left at [] (x ∷ xs) = x ∷ xs
-left at (place ∷ places) (x ∷ xs) = if place == at then left (at + 1) places xs else x ∷ left (at + 1) (place ∷ places) xs

@@ -1,7 +1,7 @@
 -- What the reader of a tracefile holds between two lines, and what a line makes of it: for the contracts of its private
 -- steps. Reads and Outcome say what a text is read as.
 use Rattle.std.specs.Prelude.{◌≡◌, ℕ, ◌+◌, ◌<◌, ◌^◌, List, [], ◌∷◌, ◌++◌, length, Option, Some, None, Result, Ok, Err, count_by, option_map}
-use Rattle.covline.specs.Row.{SectData, SubmissionData}
+use Rattle.covline.specs.Row.{ItemData, SectData, SubmissionData}
 use Rattle.covline.specs.Spells.{LineData, Test, Path, End, Skip, Spells, HasFault}
 use Rattle.covline.specs.Lawful.{IsLawful}
 use Rattle.covread.specs.declared.trace.reader.OpenSection.{OpenSection}
@@ -27,20 +27,23 @@ pub record HeldData : Type 0 where
 
 -- a reader's open section as plain data: its path, and the records that it has so far, which are given
 abbrev pub section_data : {A : Type 0} → List LineData → OpenSection A → SectionData
-section_data inside s = record { file = s.file; lines = inside }
+section_data inside s = record { file = s.file.now; lines = inside }
 
 -- what a reader holds, as plain data, if its open section has these records so far
 abbrev pub held_data : {A : Type 0} → Reader A → List LineData → HeldData
-held_data r inside = record { test = r.test.now; section = option_map (section_data inside) r.section; sects = r.sects; odd = r.odd }
+held_data r inside = record { test = r.test.now; section = option_map (section_data inside) r.section; sects = r.sects.sects; odd = r.odd }
 
--- the open section has these records so far; if no section is open, there are none
-abbrev pub IsOpen : {A : Type 0} → Option (OpenSection A) → List LineData → Type 0
-IsOpen None inside = inside ≡ []
-IsOpen (Some s) inside = IsBuiltOf s.builder inside
+-- an open section, with these items, has these records so far; if no section is open, there are none
+abbrev pub IsOpenAt : {A : Type 0} → Option (OpenSection A) → List ItemData → List LineData → Type 0
+IsOpenAt None items inside = inside ≡ []
+IsOpenAt (Some s) items inside = IsBuiltOf s.builder items inside
+
+abbrev pub IsOpen : {A : Type 0} → Reader A → List LineData → Type 0
+IsOpen r inside = IsOpenAt r.section r.sects.items inside
 
 -- the reader has room for one more line
 pub record HasRoom {A : Type 0} (r : Reader A) (inside : List LineData) : Type 0 where
-  pub is_open : IsOpen r.section inside
+  pub is_open : IsOpen r inside
   pub few : r.odd + length inside + 1 < 2 ^ 64
 
 -- before the first line
@@ -90,7 +93,7 @@ GrowsAt (Some s) says = Unit {0}
 
 -- a step of the code makes what the step on plain data makes, unless memory ran out
 abbrev pub Steps : {A T : Type 0} → Result T PlacementFault → HeldData → Reader A → LineData → Type 0
-Steps (Ok done) before after says = (inside : List LineData) × (step before says ≡ Ok (held_data after inside)) × IsOpen after.section inside
+Steps (Ok done) before after says = (inside : List LineData) × (step before says ≡ Ok (held_data after inside)) × IsOpen after inside
 Steps (Err placement.Outside) before after says = step before says ≡ Err placement.Outside
 Steps (Err placement.Inside) before after says = step before says ≡ Err placement.Inside
 Steps (Err placement.Memory) before after says = GrowsAt before.section says
@@ -116,7 +119,7 @@ fault_at placement.Memory at = faults.Memory
 
 -- what a reader makes of a line, or why it doesn't take it
 abbrev pub TakesLine : {A T : Type 0} → Result T ReadFault → HeldData → Reader A → List ℕ → ℕ → Type 0
-TakesLine (Ok done) before after line at = (says : LineData) × Spells line says × (inside : List LineData) × (step before says ≡ Ok (held_data after inside)) × IsOpen after.section inside
+TakesLine (Ok done) before after line at = (says : LineData) × Spells line says × (inside : List LineData) × (step before says ≡ Ok (held_data after inside)) × IsOpen after inside
 TakesLine (Err fault) before after line at = StopsAt fault before line at
 
 -- the submission of what is held after the last line

@@ -25,9 +25,12 @@ mod trace;
 mod wide;
 
 pub use fault::{MAX_BYTES, ReadFault};
-pub use gcov::{an_early_fault_is_told, each_gcov_text_has_one_outcome, fits_no_shape, read_gcov};
+pub use gcov::{
+    an_early_fault_is_told, each_gcov_text_has_one_outcome, fits_no_shape, read_gcov,
+    read_gcov_packed,
+};
 pub use lawful::what_is_read_is_lawful;
 pub use trace::{
     OpenSection, PlacementFault, Reader, each_text_has_one_outcome, fault_at, laws, read_trace,
-    take_branch, take_line_count,
+    read_trace_packed, take_branch, take_line_count,
 };

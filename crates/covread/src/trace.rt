@@ -12,5 +12,5 @@ mod tally;
 
 pub use laws::each_text_has_one_outcome;
 pub use placement_fault::PlacementFault;
-pub use read::{fault_at, read_trace, take_branch, take_line_count};
+pub use read::{fault_at, read_trace, read_trace_packed, take_branch, take_line_count};
 pub use reader::{OpenSection, Reader};

@@ -14,7 +14,7 @@ use Rattle.covcommand.specs.declared.asked.Strictness.{Strictness}
 use Rattle.covcommand.specs.declared.asked.TextFormat.{TextFormat}
 use Rattle.covcommand.specs.declared.asked.TextFormat.TheVariants.{Tracefile, Gcov}
 use Rattle.covrun.specs.declared.work.CheckedFormat.{CheckedFormat}
-use Rattle.covrun.specs.declared.work.CheckedFormat.TheVariants.{Text, LargeTracefile}
+use Rattle.covrun.specs.declared.work.CheckedFormat.TheVariants.{Text}
 use Rattle.covline.specs.Row.{SubmissionData}
 use Rattle.covlist.specs.Shown.{shown_name}
 use Rattle.covlcov2.specs.Outcome as lcov2

@@ -1,10 +1,9 @@
 -- How a call that collects files ends, from the results of its steps.
-use Rattle.std.proofs.Common.{◌≡◌, ◌⊎◌, inl, inr, ℕ, ◌-◌, Bool, true, false, if◌then◌else◌, List, [], ◌∷◌, ◌++◌, length, map, slice_get, Option, Some, None, Result, Ok, Err, IfOk, flat_map, refl, sym, subst, ap, ◌∙◌, append-nil, length-append, arith}
-use Rattle.std.proofs.lemmas.List.{flat_map_more, length-map, map-append}
+use Rattle.std.proofs.Common.{◌≡◌, ◌⊎◌, inl, inr, ℕ, ◌-◌, Bool, true, false, if◌then◌else◌, List, [], ◌∷◌, ◌++◌, length, slice_get, Option, Some, None, Result, Ok, Err, IfOk, flat_map, refl, sym, subst, ap, ◌∙◌, append-nil, length-append, arith}
+use Rattle.std.proofs.lemmas.List.{flat_map_more, map-append}
 use Rattle.std.specs.Io.KnownBytes.{Appends}
 use Rattle.covsession.specs.Session.{said, clash_text}
 use Rattle.covsession.specs.declared.session.fault.SessionFault.TheVariants as faults
-use Rattle.covline.specs.Row.{SubmissionData}
 use Rattle.covbook.specs.Gather.{LogData}
 use Rattle.covbook.specs.Op.{OpData, SubmitOp, DropTestOp, RenameOp, ReportOp, ExtractOp, RemoveOp, SummaryOp, TextAnswer, EntryData}
 use Rattle.covstore.specs.Content.{SectionData, content_at}
@@ -41,7 +40,7 @@ use Rattle.covrun.specs.declared.ending.Failure.{Failure}
 use Rattle.covrun.specs.declared.ending.Failure.TheVariants as failures
 use Rattle.covrun.specs.Ending.{EndingData, Prints, FallsShort, Unreadable, Stopped, Refuses, IsUnclean, strict_lines, of_collect, of_collected, complaint, complaints, refusal_line, ran_out, shortfall_status, status_of, text_in, text_at, last_text, asked_shortfalls, asked_text, list_text, unless_any, with_shortfalls}
 use Rattle.covlimit.specs.Limits.{has_limit}
-use Rattle.covrun.specs.Work.{QuestionData, Answer, ChosenReport, ChosenSummary, LimitedTotals, ChosenList, last_of, choice_of, chosen_or_all, asked_of, limits_of, summary_asked, WorkData, TaskData, Serves, Collects, Checks, input_of, task_of}
+use Rattle.covrun.specs.Work.{QuestionData, Answer, ChosenReport, ChosenSummary, LimitedTotals, ChosenList, last_of, choice_of, chosen_or_all, asked_of, limits_of, summary_asked, WorkData, TaskData, Serves, Collects, Checks, task_of}
 use Rattle.covcommand.specs.declared.asked.TextSize.{TextSize}
 use Rattle.covrun.specs.declared.work.CheckedFormat.{CheckedFormat}
 use Rattle.covrun.proofs.Reading.{HaveTexts, collected_in, texts_held}

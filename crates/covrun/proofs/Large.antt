@@ -1,7 +1,6 @@
 -- Tracefiles of any length: what the file of an open source may give, and how one piece is taken after others.
 use Rattle.std.specs.Io.KnownBytes.{Keeps}
-use Rattle.std.proofs.Common.{◌≡◌, ◌⊎◌, inl, inr, ℕ, ◌<◌, Bool, true, false, List, [], ◌∷◌, ◌++◌, Option, Some, None, Result, Ok, Err, refl, sym, ap, ◌∙◌, subst, arith}
-use Rattle.covcheck.specs.SummaryLine.{summary_text}
+use Rattle.std.proofs.Common.{◌≡◌, inr, ℕ, ◌<◌, Bool, true, false, List, [], ◌∷◌, Option, Some, None, Result, Ok, Err, refl, sym, ap, ◌∙◌, subst, arith}
 use Rattle.covcheck.specs.declared.text_summary.TextSummary.{TextSummary}
 use Rattle.covcommand.specs.declared.asked.LcovVersion.{LcovVersion}
 use Rattle.covcommand.specs.declared.asked.Strictness.{Strictness}
@@ -23,8 +22,8 @@ use Rattle.covlarge.specs.declared.large_tracefile.NextPiece.TheVariants as part
 use Rattle.covline.specs.Row.{SubmissionData}
 use Rattle.covread.specs.declared.fault.ReadFault.{ReadFault}
 use Rattle.covrun.specs.Check.{IsAnswered}
-use Rattle.covrun.specs.Files.{EndsBy, IsOpenedFor, IsTakenFrom, IsToldFor, IsWholeFormat, MayFailAs, MayFailLarge, MayHaveOutcome, MayTake, MayTakeLarge, TakesLast, most_parts}
-use Rattle.covrun.specs.Folder.{FolderData, HasFailed, folder_data}
+use Rattle.covrun.specs.Files.{EndsBy, IsOpenedFor, IsTakenFrom, IsToldFor, IsWholeFormat, MayFailAs, MayHaveOutcome, MayTake, TakesLast, most_parts}
+use Rattle.covrun.specs.Folder.{FolderData, folder_data}
 use Rattle.covrun.specs.Large.{IsRefusedFor, IsTaken, IsTakenIf}
 use Rattle.covrun.specs.Strict.{is_clean}
 use Rattle.covrun.specs.declared.text_fault.TextFault.{TextFault}
@@ -118,21 +117,22 @@ taken_in_front Strict read (Err fault) submission outcome is = ap (λ (o : Outco
 module _ {File : Type 0} (left : File → Option (List ℕ)) (failed_reads : File → ℕ) (folder : FolderData) (name : List ℕ) (version : LcovVersion) (strictness : Strictness) (opened : Option (StateData File)) (large : StateData File)
     (is_opened : IsOpenedFor left failed_reads folder name version strictness opened large) (format : FileFormat) (large_format : format ≡ formats.LargeTracefile version) where
   -- a piece and the rest of the file
-  pub more_part : (submission : SubmissionData) (next : StateData File) (piece : NextPiece File) → piece ≡ parts.More submission next → IsNextPiece left failed_reads large (Ok piece)
+  pub more_part : (submission given : SubmissionData) (next : StateData File) (piece : NextPiece File) → piece ≡ parts.More submission next → given ≡ submission → IsNextPiece left failed_reads large (Ok piece)
       → (most_parts format (Some next) < most_parts format opened)
       × (MayFailAs folder left failed_reads name format (Some next) → MayFailAs folder left failed_reads name format opened)
-      × ((outcome : OutcomeData TextFault) → MayTake left (folder.holds name) format strictness (Some next) outcome → MayTake left (folder.holds name) format strictness opened (in_front submission outcome))
-  more_part submission next piece is may =
+      × ((outcome : OutcomeData TextFault) → MayTake left (folder.holds name) format strictness (Some next) outcome → MayTake left (folder.holds name) format strictness opened (in_front given outcome))
+  more_part submission given next piece is same may =
       let (less, fails, gives) = subst (λ (p : NextPiece File). IsNextPiece left failed_reads large (Ok p)) is may in
       subst (λ (t : FileFormat).
       (most_parts t (Some next) < most_parts t opened)
       × (MayFailAs folder left failed_reads name t (Some next) → MayFailAs folder left failed_reads name t opened)
-      × ((outcome : OutcomeData TextFault) → MayTake left (folder.holds name) t strictness (Some next) outcome → MayTake left (folder.holds name) t strictness opened (in_front submission outcome)))
+      × ((outcome : OutcomeData TextFault) → MayTake left (folder.holds name) t strictness (Some next) outcome → MayTake left (folder.holds name) t strictness opened (in_front given outcome)))
       (sym large_format) (
         subst (λ (n : ℕ). next.left < n) is_opened.most less,
         λ may_fail. is_opened.fails (fails may_fail),
         λ outcome (read, end, rest, taken).
-            is_opened.gives (in_front submission outcome) (submission ∷ read, end, gives read end rest, taken_in_front strictness read end submission outcome taken),
+            subst (λ (s : SubmissionData). MayTake left (folder.holds name) (formats.LargeTracefile version) strictness opened (in_front s outcome)) (sym same)
+            (is_opened.gives (in_front submission outcome) (submission ∷ read, end, gives read end rest, taken_in_front strictness read end submission outcome taken)),
       )
 
   -- the last piece

@@ -1,5 +1,5 @@
 -- The files' texts: which texts the inputs have, and what they are taken as.
-use Rattle.std.proofs.Common.{◌≡◌, ◌⊎◌, ℕ, zero, suc, ◌+◌, ◌*◌, ◌<◌, ◌≤◌, List, [], ◌∷◌, ◌++◌, length, take, map, Option, Some, None, Result, slice_get, refl, sym, ap, ◌∙◌, subst, arith}
+use Rattle.std.proofs.Common.{◌≡◌, ℕ, zero, suc, ◌+◌, ◌*◌, ◌≤◌, List, [], ◌∷◌, ◌++◌, length, take, map, Option, Some, None, slice_get, refl, sym, ap, ◌∙◌, subst, arith}
 use Rattle.std.proofs.Math.Nat.{add_comm, mul-one, suc-mul, zero-mul}
 use Rattle.std.proofs.lemmas.List.{length-map, length-take}
 use Rattle.std.proofs.lemmas.List.Sums.{sum_by-cons}
@@ -15,7 +15,7 @@ use Rattle.covjobs.specs.Late.{IsFirstUnread, IsIntoBookFault, MayCome}
 use Rattle.covjobs.specs.declared.book_fault.IntoBookFault.{IntoBookFault}
 use Rattle.covjobs.specs.declared.book_fault.IntoBookFault.TheVariants as into_book
 use Rattle.covjobs.specs.declared.collect_fault.CollectFault.{CollectFault}
-use Rattle.covlarge.specs.Large.{IsAll, max_pieces}
+use Rattle.covlarge.specs.Large.{IsAll}
 use Rattle.covlarge.specs.StateData.{StateData}
 use Rattle.covrun.proofs.Lenient.{are_collected}
 use Rattle.covrun.specs.Call.{AreCollectedIn, AreTextsIn, IsUnreadable, most_submissions}

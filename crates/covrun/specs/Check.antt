@@ -1,7 +1,7 @@
 -- What a check of files reports: a line for each file that can be read, complaints, and an exit status.
 use Rattle.std.specs.Io.KnownBytes.{Appends}
 use Rattle.std.specs.List.{AllByRecursion, flat_map, list_any, zip}
-use Rattle.std.specs.Prelude.{◌≡◌, ◌⊎◌, ◌<◌, ◌≤◌, ℕ, suc, List, [], ◌∷◌, ◌++◌, length, Option, Some, None, Bool, true, false, if◌then◌else◌, nat_lt, Result, Ok, Err, codes}
+use Rattle.std.specs.Prelude.{◌≡◌, ◌⊎◌, ◌<◌, ◌≤◌, ℕ, suc, List, [], ◌∷◌, ◌++◌, length, Option, Some, Bool, true, false, if◌then◌else◌, nat_lt, Result, Ok, Err, codes}
 use Rattle.covcheck.specs.TextSummary.{Tells}
 use Rattle.covcheck.specs.Skipped.{IsSkippedGcov, IsSkippedLcov2, IsSkippedRecord}
 use Rattle.covcheck.specs.SummaryLine.{summary_text}
@@ -12,7 +12,7 @@ use Rattle.covcommand.specs.declared.asked.Strictness.TheVariants.{Lenient, Stri
 use Rattle.covcommand.specs.declared.asked.TextFormat.{TextFormat}
 use Rattle.covcommand.specs.declared.asked.TextFormat.TheVariants.{Tracefile, Gcov}
 use Rattle.covlarge.specs.Large.{IsAll, IsReadAs}
-use Rattle.covlarge.specs.Summary.{SummaryData, summary_data}
+use Rattle.covlarge.specs.Summary.{summary_data}
 use Rattle.covrun.specs.declared.work.CheckedFormat.{CheckedFormat}
 use Rattle.covrun.specs.declared.work.CheckedFormat.TheVariants.{Text, LargeTracefile}
 use Rattle.covcommand.specs.declared.asked.LcovVersion.{LcovVersion}

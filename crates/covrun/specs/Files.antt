@@ -1,5 +1,5 @@
 -- Private steps: how a file is read.
-use Rattle.std.specs.Prelude.{◌≡◌, ◌⊎◌, ◌<◌, ◌≤◌, ℕ, suc, false, List, [], ◌∷◌, ◌++◌, length, Option, Some, None, Result, Ok, Err}
+use Rattle.std.specs.Prelude.{◌≡◌, ◌≤◌, ℕ, suc, false, List, [], ◌∷◌, length, Option, Some, None, Result, Ok, Err}
 use Rattle.covcheck.specs.SummaryLine.{summary_text}
 use Rattle.covcheck.specs.declared.text_summary.TextSummary.{TextSummary}
 use Rattle.covjobs.specs.Collect.{IsReadWhole, OutcomeData}

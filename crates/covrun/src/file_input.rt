@@ -6,9 +6,9 @@ use crate::large_input::{open_large, take_last};
 use crate::strict::read_strictly;
 use crate::text_fault::TextFault;
 use crate::work::FileFormat;
-use covbook::SubRef;
+use covbook::PackedRef;
 use covcommand::{LcovVersion, Strictness};
-use covjobs::{Input, LateFault, LateInput, Part};
+use covjobs::{Given, Input, LateFault, LateInput, Part};
 use covlarge::{LargeTracefile, MAX_PIECES, NextPiece, PieceFault};
 use covline::{Bytes, Memory};
 use std::alloc::Global;
@@ -70,11 +70,11 @@ impl<'a, F: Folder> FileInput<'a, F> {
             (λ late. MayFailAs (folder_data (F.holds late.folder.now) (F.may_refuse late.folder.now) (F.may_open late.folder.now) F.File.left F.File.failed_reads) F.File.left F.File.failed_reads late.name.now late.format.now late.opened)
             (λ late. most_parts late.format.now late.opened) self.entry result }
     {
-        Ok(Part::Last(self.read_whole(alloc)?))
+        Ok(Part::Last(Given::packed(self.read_whole(alloc)?)))
     }
 
     /// Reads the file as a whole, and parses its text.
-    fn read_whole(&self, alloc: Global) -> Result<SubRef, LateFault<TextFault>>
+    fn read_whole(&self, alloc: Global) -> Result<PackedRef, LateFault<TextFault>>
         ensures { IsLateOutcome (MayHaveOutcome (F.holds self.now.folder.now self.now.name.now) self.now.format.now self.now.strictness)
             ((folder_data (F.holds self.now.folder.now) (F.may_refuse self.now.folder.now) (F.may_open self.now.folder.now) F.File.left F.File.failed_reads).MayFail self.now.name.now) result }
     {
@@ -107,7 +107,7 @@ impl<'a, F: Folder> FileInput<'a, F> {
         let large = open_large(folder, alloc, name, version, strictness, opened)?;
         match large.next_piece(alloc) {
             Ok(NextPiece::More(submission, rest)) => Ok(Part::More(
-                submission,
+                Given::packed(submission),
                 FileInput {
                     folder,
                     name,
@@ -116,9 +116,9 @@ impl<'a, F: Folder> FileInput<'a, F> {
                     opened: Some(rest),
                 },
             )),
-            Ok(NextPiece::Last(submission, held)) => Ok(Part::Last(take_last(
+            Ok(NextPiece::Last(submission, held)) => Ok(Part::Last(Given::packed(take_last(
                 alloc, strictness, submission, held,
-            )?)),
+            )?))),
             Err(PieceFault::Refused(fault)) => Err(LateFault::Refused(TextFault::Faulty(fault))),
             Err(PieceFault::Unreadable) => Err(LateFault::Unreadable),
             Err(PieceFault::Memory) => Err(LateFault::Memory),
@@ -140,7 +140,7 @@ fn read_text(
     format: &FileFormat,
     strictness: Strictness,
     text: Bytes,
-) -> Result<SubRef, LateFault<TextFault>>
+) -> Result<PackedRef, LateFault<TextFault>>
     ensures { IsLateOutcome (IsOutcomeFor strictness (input_of format.now text)) ⊥ result }
 {
     let Ok(input) = input_for(alloc, format, text) else {
@@ -153,10 +153,10 @@ fn read_text(
 }
 
 /// Reads an input for a call that isn't strict.
-fn read_leniently(alloc: Global, input: &Input) -> Result<SubRef, LateFault<TextFault>>
+fn read_leniently(alloc: Global, input: &Input) -> Result<PackedRef, LateFault<TextFault>>
     ensures { IsLateOutcome (IsLenientOutcome (input_data input.now)) ⊥ result }
 {
-    match input.read(alloc) {
+    match input.read_packed(alloc) {
         Ok(submission) => Ok(submission),
         Err(fault) => Err(LateFault::Refused(TextFault::Faulty(fault))),
     }

@@ -13,7 +13,7 @@ ghost use Rattle.covrun.specs.Folder.{folder_data};
 use crate::folder::Folder;
 use crate::strict::refuse_unless_clean;
 use crate::text_fault::TextFault;
-use covbook::SubRef;
+use covbook::PackedRef;
 use covcommand::{LcovVersion, Strictness};
 use covjobs::LateFault;
 use covlarge::{Held, LargeTracefile};
@@ -81,9 +81,9 @@ fn begin_large<S: Source + Drop>(
 pub(crate) fn take_last(
     alloc: Global,
     strictness: Strictness,
-    submission: SubRef,
+    submission: PackedRef,
     held: Option<Held>,
-) -> Result<SubRef, LateFault<TextFault>>
+) -> Result<PackedRef, LateFault<TextFault>>
     ensures { TakesLast strictness held submission result }
 {
     match (strictness, held) {

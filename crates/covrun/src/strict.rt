@@ -11,20 +11,21 @@ ghost use Rattle.covrun.specs.Files.{IsUncleanFault};
 ghost use Rattle.covrun.specs.Strict.{HoldsIn, IsStrictOutcome, is_clean as is_clean_summary, is_matched, patterns_of_choice, patterns_of_op, unmatched_line};
 
 use crate::text_fault::TextFault;
-use covbook::{Op, SubRef};
+use covbook::{Op, PackedRef};
 use covcheck::{Format, TextSummary, summary_line, summary_of};
 use covjobs::{Input, LateFault};
-use covline::{Bytes, Memory, Submission};
+use covline::{Bytes, Memory};
 use covlist::put_shown_name;
+use covpacked::PackedSubmission;
 use covreport::{Choice, Patterns, matches};
 use covstore::Store;
 use std::alloc::Global;
 
 /// Reads an input for a strict call. A text that isn't clean is refused, with the line that says what it holds.
-pub(crate) fn read_strictly(alloc: Global, input: &Input) -> Result<SubRef, LateFault<TextFault>>
+pub(crate) fn read_strictly(alloc: Global, input: &Input) -> Result<PackedRef, LateFault<TextFault>>
     ensures { IsLateOutcome (IsStrictOutcome (input_data input.now)) ⊥ result }
 {
-    let submission = match input.read(alloc) {
+    let submission = match input.read_packed(alloc) {
         Ok(submission) => submission,
         Err(fault) => return Err(LateFault::Refused(TextFault::Faulty(fault))),
     };
@@ -51,7 +52,7 @@ pub(crate) fn refuse_unless_clean(
 }
 
 /// What the input's text holds, which was read as this submission.
-fn summary_of_input<'a>(input: &'a Input, submission: &Submission) -> TextSummary<'a>
+fn summary_of_input<'a>(input: &'a Input, submission: &PackedSubmission) -> TextSummary<'a>
     ensures { HoldsIn (input_data input.now) submission.now result }
 {
     match input {

@@ -1,5 +1,5 @@
 -- Items that are staged by their spots, in any order. The result is the same as in the order of the section.
-use Rattle.std.proofs.Common.{◌≡◌, ℕ, ◌+◌, ◌<◌, ◌≤◌, ◌^◌, Option, Some, None, List, [], ◌∷◌, ◌++◌, get_or, length, map, take, sym, ap, ◌∙◌, subst, inl, inr, refl}
+use Rattle.std.proofs.Common.{◌≡◌, ℕ, ◌+◌, ◌<◌, ◌≤◌, ◌^◌, Option, Some, None, List, [], ◌∷◌, ◌++◌, get_or, length, map, take, sym, ap, ◌∙◌, subst, inl, inr, refl, arith}
 use Rattle.std.specs.List.{sum_by}
 use Rattle.std.specs.Option.{option_to_list}
 use Rattle.std.specs.Prelude.{◌⊎◌, slice_get}
@@ -100,22 +100,19 @@ module _ {D : Type 0} (items : List D) (spots : List Spot) (are : AreSpotsOf ite
       ∙ sym (length-flat_map (at_spot items) are.others) ∙ ap length are.all
 
 -- if the spots pick the items before the next one, the spots and the next item's spot pick one item more
-pub spot_more : {D : Type 0} (items : List D) (spots : List Spot) (spot : Spot) (item : D) → spot.index < length items → item ≡ get_or items spot.index item → at_spots items spots ≡ take spot.index items
+pub spot_got : {D : Type 0} (items : List D) (spots : List Spot) (spot : Spot) (item : D) → spot.index < length items → slice_get items spot.index ≡ Some item → at_spots items spots ≡ take spot.index items
     → at_spots items (spots ++ spot ∷ []) ≡ take (spot.index + 1) items
 unfolding at_spot
-spot_more {D} items spots spot item within is so_far =
-    let here : slice_get items spot.index ≡ Some item = slice_get-get_or items spot.index item within ∙ ap (λ (x : D). Some x) (sym is) in
+spot_got {D} items spots spot item within here so_far =
+    let is : item ≡ get_or items spot.index item = sym (get_or_from_slice_get items spot.index item item here) in
     flat_map-append (at_spot items) spots (spot ∷ []) ∙ ap (λ (xs : List D). at_spots items spots ++ xs) (append-nil (at_spot items spot))
     ∙ ap (λ (o : Option D). at_spots items spots ++ option_to_list o) here ∙ ap (λ (xs : List D). xs ++ item ∷ []) so_far
     ∙ ap (λ (x : D). take spot.index items ++ x ∷ []) is ∙ sym (take_more items spot.index item within)
 
--- ---- what `get` gives
-
-pub item_got : {X : Type 0} (xs : List X) (i : ℕ) (item : Bor X) → IsItemAt xs i (Some item) → slice_get xs i ≡ Some item.now
-item_got {X} xs i item h = slice_get-get_or xs i item.now h.3.0 ∙ ap (λ (x : X). Some x) (sym h.1)
-
-pub none_got : {X : Type 0} (xs : List X) (i : ℕ) → IsItemAt xs i None → slice_get xs i ≡ None
-none_got xs i h = slice_get_past xs i h.3
+-- there is an element at each index below the length
+pub got_within : {D : Type 0} (items : List D) (i : ℕ) → i < length items → slice_get items i ≡ None → ⊥
+got_within [] i within none = absurd (omega (arith, within))
+got_within (x ∷ xs) i within none = absurd (let e = sym (slice_get-get_or (x ∷ xs) i x within) ∙ none in cc)
 
 -- ---- the item at a spot
 
@@ -128,28 +125,24 @@ module _ {D : Type 0} (items : List D) (spots : List Spot) (k : ℕ) (spot : Spo
       ∙ ap (λ (xs : List D). at_spots items (take k spots) ++ xs) (append-nil (at_spot items (get_or spots k spot)))
       ∙ ap (λ (o : Option D). at_spots items (take k spots) ++ option_to_list o) found
 
+module _ (items : List ItemData) (spots : List Spot) (k : ℕ) (spot : Spot) (within : k < length spots) where
   -- if there is an item at the next spot, the runs with this item are those of one spot more
-  pub run_at_spot : (f : D → ItemData) (item : D) → slice_get items (get_or spots k spot).index ≡ Some item → (runs more : Each RunOf) → runs ≡ runs_of (map f (at_spots items (take k spots)))
-      → more ≡ runs_with (f item) runs → more ≡ runs_of (map f (at_spots items (take (k + 1) spots)))
-  run_at_spot f item found runs more so_far with_it =
+  pub run_at_spot : (item : ItemData) → slice_get items (get_or spots k spot).index ≡ Some item → (runs more : Each RunOf) → runs ≡ runs_of (at_spots items (take k spots))
+      → more ≡ runs_with item runs → more ≡ runs_of (at_spots items (take (k + 1) spots))
+  run_at_spot item found runs more so_far with_it =
       let before = at_spots items (take k spots) in
-      with_it ∙ ap (runs_with (f item)) so_far ∙ sym (runs_more (map f before) (f item))
-      ∙ ap runs_of (sym (ap (map f) (at_taken (Some item) found) ∙ map-append f before (item ∷ [])))
+      with_it ∙ ap (runs_with item) so_far ∙ sym (runs_more before item) ∙ ap runs_of (sym (at_taken items spots k spot within (Some item) found))
 
-  pub none_at_spot : (f : D → ItemData) → slice_get items (get_or spots k spot).index ≡ None → (runs : Each RunOf) → runs ≡ runs_of (map f (at_spots items (take k spots)))
-      → runs ≡ runs_of (map f (at_spots items (take (k + 1) spots)))
-  none_at_spot f found runs so_far =
-      so_far ∙ ap (λ (some : List D). runs_of (map f some)) (sym (at_taken None found ∙ append-nil (at_spots items (take k spots))))
+  pub none_at_spot : slice_get items (get_or spots k spot).index ≡ None → (runs : Each RunOf) → runs ≡ runs_of (at_spots items (take k spots))
+      → runs ≡ runs_of (at_spots items (take (k + 1) spots))
+  none_at_spot found runs so_far =
+      so_far ∙ ap runs_of (sym (at_taken items spots k spot within None found ∙ append-nil (at_spots items (take k spots))))
 
 -- ---- the items at spots
 
--- the items at these spots, where `f` gives the item of each element
-abbrev pub said_at : {D : Type 0} → (D → ItemData) → List D → List Spot → List ItemData
-said_at f items spots = map f (at_spots items spots)
-
-pub said_joined : {D : Type 0} (f : D → ItemData) (items : List D) (xs ys : List Spot) → said_at f items (xs ++ ys) ≡ said_at f items xs ++ said_at f items ys
+pub spots_joined : {D : Type 0} (items : List D) (xs ys : List Spot) → at_spots items (xs ++ ys) ≡ at_spots items xs ++ at_spots items ys
 unfolding at_spot
-said_joined f items xs ys = ap (map f) (flat_map-append (at_spot items) xs ys) ∙ map-append f (at_spots items xs) (at_spots items ys)
+spots_joined items xs ys = flat_map-append (at_spot items) xs ys
 
 got_there : {D : Type 0} (items : List D) (i : ℕ) (item : D) (here : Option D) → slice_get items i ≡ here → In item (option_to_list here) → In item items
 got_there items i item None found there = absurd there
@@ -158,17 +151,17 @@ got_there {D} items i item (Some got) found (inl same) =
     subst (λ (d : D). In d items) same (In-from items got (i, slice_get_within items i got found, get_or_from_slice_get items i got got found))
 
 -- if none of the items has a checksum, no item at a spot has one
-pub spots_plain : {D : Type 0} (f : D → ItemData) (items : List D) (spots : List Spot) → All (λ (item : D). HasNoChecksum (f item)) items → (item : ItemData) → In item (said_at f items spots) → HasNoChecksum item
+pub spots_plain : (items : List ItemData) (spots : List Spot) → All HasNoChecksum items → (item : ItemData) → In item (at_spots items spots) → HasNoChecksum item
 unfolding at_spot
-spots_plain f items spots plain =
-    all_plain f items (at_spots items spots)
+spots_plain items spots plain =
+    all_plain items (at_spots items spots)
     (λ item i. let from = In-unflat (at_spot items) spots item i in got_there items from.0.index item (slice_get items from.0.index) refl from.2) plain
 
-module _ {D : Type 0} (f : D → ItemData) (items : List D) (spots : List Spot) (are : AreSpotsOf items spots) where
-  pub spots_have_room : (test : TestData) (index : FileIndexData) → HasRoomFor (map f items) test index → HasRoomFor (said_at f items spots) test index
+module _ (items : List ItemData) (spots : List Spot) (are : AreSpotsOf items spots) where
+  pub spots_have_room : (test : TestData) (index : FileIndexData) → HasRoomFor items test index → HasRoomFor (at_spots items spots) test index
   spots_have_room test index room =
-      room_alike (map f items) (said_at f items spots) test index (length-map (at_spots items spots) f ∙ as_many items spots are ∙ sym (length-map items f)) room
+      room_alike items (at_spots items spots) test index (as_many items spots are) room
 
-  pub spots_add : (test after : TestData) (index more : FileIndexData) → Adds (said_at f items spots) test index after more → Adds (map f items) test index after more
+  pub spots_add : (test after : TestData) (index more : FileIndexData) → Adds (at_spots items spots) test index after more → Adds items test index after more
   spots_add test after index more adds =
-      adds_alike (said_at f items spots) (map f items) test after index more (alike_mapped f (at_spots items spots) items (spots_alike items spots are)) adds
+      adds_alike (at_spots items spots) items test after index more (spots_alike items spots are) adds

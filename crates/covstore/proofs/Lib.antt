@@ -1,3 +1,5 @@
+pub mod Nothing
+pub mod Parted
 pub mod Members
 pub mod Ascend
 pub mod Orders

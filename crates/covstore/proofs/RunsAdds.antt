@@ -51,11 +51,9 @@ module _ (items : List ItemData) (runs : Each RunOf) (are : runs ≡ runs_of ite
       items_add items test after index more all (plain_keep items plain test after index more all counts held) (λ item i. plain_text item more (plain item i)) (texts_kept index more held)
 
 -- if none of the items has a checksum, none of the others, which are among them, has one
-pub all_plain : {D : Type 0} (f : D → ItemData) (items others : List D) → ((item : D) → In item others → In item items) → All (λ (item : D). HasNoChecksum (f item)) items
-    → (item : ItemData) → In item (map f others) → HasNoChecksum item
-all_plain {D} f items others there plain item i =
-    let from = In-unmap f others item i in
-    subst HasNoChecksum from.2 (All-contains (λ (one : D). HasNoChecksum (f one)) items from.0 plain (Contains-from items from.0 (there from.0 from.1)))
+pub all_plain : (items others : List ItemData) → ((item : ItemData) → In item others → In item items) → All HasNoChecksum items
+    → (item : ItemData) → In item others → HasNoChecksum item
+all_plain items others there plain item i = All-contains HasNoChecksum items item plain (Contains-from items item (there item i))
 
 -- ---- some items at a time
 

@@ -11,7 +11,8 @@ use crate::stage::fault::StageFault;
 use crate::stage::section::stage_items;
 use crate::test::Test;
 use crate::totals::Totals;
-use covline::{Bytes, Item, Memory};
+use covline::{Bytes, Memory};
+use covpacked::PackedItems;
 use std::alloc::Allocator;
 use std::collections::BTreeMap;
 use std::marker::Model;
@@ -60,7 +61,6 @@ impl<A: Allocator + Copy> File<A> {
     ghost use Rattle.std.specs.Option.{is_some};
     ghost use Rattle.std.specs.Ordering.{nat_cmp};
     ghost use Rattle.std.specs.Str.{bytes_eq};
-    ghost use Rattle.covline.specs.Row.{item_data};
     ghost use Rattle.covstore.specs.FileDrops.{IsWithoutTest};
     ghost use Rattle.covstore.specs.FileSection.{AddsItems, ClashesIn, HasRoomIn, KeepsIn};
     ghost use Rattle.covstore.specs.FileIndexView.{index_committed, index_staged};
@@ -86,11 +86,11 @@ impl<A: Allocator + Copy> File<A> {
     }
 
     /// Stages the items of a test, and ends at the first item that clashes. Adds the test if the file doesn't have it.
-    fn add(&mut self, alloc: A, test: &[u8], items: &[Item<A>]) -> Result<(), StageFault<A>>
-        requires { HasRoomIn (map item_data items.now) (file_staged self.old) }
+    fn add(&mut self, alloc: A, test: &[u8], items: &PackedItems<'_>) -> Result<(), StageFault<A>>
+        requires { HasRoomIn items.now (file_staged self.old) }
         ensures committed { KeepsIn (file_committed self.old) (file_committed self.new) }
-        ensures ok { OnOk result (AddsItems (map item_data items.now) test.now (file_staged self.old) (file_staged self.new)) }
-        ensures clash { IfErr result (ClashesIn (map item_data items.now) test.now (file_staged self.old)) }
+        ensures ok { OnOk result (AddsItems items.now test.now (file_staged self.old) (file_staged self.new)) }
+        ensures clash { IfErr result (ClashesIn items.now test.now (file_staged self.old)) }
         ensures settled { (tests : List (List ℕ)) → list_any (λ name. bytes_eq name test.now) tests ≡ true → IsSettledBut tests self.old → IsSettledBut tests self.new }
     {
         self.open(alloc, test)?;
@@ -98,12 +98,17 @@ impl<A: Allocator + Copy> File<A> {
     }
 
     /// Stages the items of a test that the file has, and ends at the first item that clashes.
-    fn stage_in(&mut self, alloc: A, test: &[u8], items: &[Item<A>]) -> Result<(), StageFault<A>>
-        requires room { HasRoomIn (map item_data items.now) (file_staged self.old) }
+    fn stage_in(
+        &mut self,
+        alloc: A,
+        test: &[u8],
+        items: &PackedItems<'_>,
+    ) -> Result<(), StageFault<A>>
+        requires room { HasRoomIn items.now (file_staged self.old) }
         requires there { is_some (value_of (slice_cmp nat_cmp) test.now (file_staged self.old).tests) ≡ true }
         ensures committed { KeepsIn (file_committed self.old) (file_committed self.new) }
-        ensures ok { OnOk result (AddsItems (map item_data items.now) test.now (file_staged self.old) (file_staged self.new)) }
-        ensures clash { IfErr result (ClashesIn (map item_data items.now) test.now (file_staged self.old)) }
+        ensures ok { OnOk result (AddsItems items.now test.now (file_staged self.old) (file_staged self.new)) }
+        ensures clash { IfErr result (ClashesIn items.now test.now (file_staged self.old)) }
         ensures settled { (tests : List (List ℕ)) → list_any (λ name. bytes_eq name test.now) tests ≡ true → IsSettledBut tests self.old → IsSettledBut tests self.new }
     {
         // Proof only: the contract of `len` says that a map has fewer than 2^63 entries.
@@ -120,13 +125,13 @@ impl<A: Allocator + Copy> File<A> {
         alloc: A,
         file: &[u8],
         test: &[u8],
-        items: &[Item<A>],
+        items: &PackedItems<'_>,
     ) -> Result<(Totals, Totals), Refuse<A>>
-        requires { HasRoomIn (map item_data items.now) (file_staged self.old) }
+        requires { HasRoomIn items.now (file_staged self.old) }
         ensures committed { KeepsIn (file_committed self.old) (file_committed self.new) }
-        ensures ok { OnOk result (AddsItems (map item_data items.now) test.now (file_staged self.old) (file_staged self.new)) }
+        ensures ok { OnOk result (AddsItems items.now test.now (file_staged self.old) (file_staged self.new)) }
         ensures totals { IfOk result (λ t. (t.0 ≡ file_totals (file_staged self.old)) × (t.1 ≡ file_totals (file_staged self.new))) }
-        ensures clash { IfErr result (λ e. RefusedIn (map item_data items.now) file.now test.now (file_staged self.old) (refuse_data e)) }
+        ensures clash { IfErr result (λ e. RefusedIn items.now file.now test.now (file_staged self.old) (refuse_data e)) }
         ensures settled { (tests : List (List ℕ)) → list_any (λ name. bytes_eq name test.now) tests ≡ true → IsSettledBut tests self.old → IsSettledBut tests self.new }
     {
         let before = self.totals();

@@ -1,9 +1,9 @@
 //! Stages that a test holds the checksums of a section's items. This is done before the items' sums are staged.
 
-ghost use Rattle.std.specs.Prelude.{◌≡◌, List, ◌++◌, ◌∷◌, map, IfErr, IfSome, IsTrue, OnOk, ℕ};
+ghost use Rattle.std.specs.Prelude.{◌≡◌, List, ◌++◌, ◌∷◌, IfErr, IfSome, IsTrue, OnOk, ℕ};
 ghost use Rattle.std.specs.List.Sorted.{IsStrictlySortedBy};
 ghost use Rattle.std.specs.Ordering.{nat_cmp};
-ghost use Rattle.covline.specs.Row.{item_data};
+ghost use Rattle.covpacked.specs.ItemRefs.{item_ref_data};
 ghost use Rattle.covstore.specs.Follows.{Follows, StillFollows};
 ghost use Rattle.covstore.specs.FileIndexView.{KeepsCommitted, index_staged};
 ghost use Rattle.covstore.specs.Items.{HasRoom, IsClashOf};
@@ -15,16 +15,16 @@ use crate::index::FileIndex;
 use crate::stage::fault::StageFault;
 use crate::sums::LineSum;
 use crate::test::Test;
-use covline::Item;
+use covpacked::{ItemRef, PackedItems};
 use std::alloc::Allocator;
 
 /// Whether the lines of the items with a checksum strictly ascend, and none of them is the greatest `u64`.
-pub(crate) fn checked_lines_ascend<A: Allocator>(items: &[Item<A>]) -> bool
-    ensures { IsTrue result → IsStrictlySortedBy nat_cmp (checked_lines (map item_data items.now)) }
+pub(crate) fn checked_lines_ascend(items: &PackedItems<'_>) -> bool
+    ensures { IsTrue result → IsStrictlySortedBy nat_cmp (checked_lines items.now) }
 {
     let mut least = 0;
-    for item in items {
-        let Some(next) = least_after(item, least) else {
+    for item in items.copy() {
+        let Some(next) = least_after(&item, least) else {
             return false;
         };
         least = next;
@@ -34,16 +34,18 @@ pub(crate) fn checked_lines_ascend<A: Allocator>(items: &[Item<A>]) -> bool
 
 /// The least line that the next item with a checksum may have. `None` if this item has a checksum, and its line is below
 /// `least` or is the greatest `u64`.
-fn least_after<A: Allocator>(item: &Item<A>, least: u64) -> Option<u64>
-    ensures { IfSome result (λ next. (lines : List ℕ) → AscendFrom next lines → AscendFrom least (checked_line (item_data item.now) ++ lines)) }
+fn least_after(item: &ItemRef<'_>, least: u64) -> Option<u64>
+    ensures { IfSome result (λ next. (lines : List ℕ) → AscendFrom next lines → AscendFrom least (checked_line (item_ref_data item.now) ++ lines)) }
 {
     match item {
-        Item::Line {
+        ItemRef::Line {
             line,
             checksum: Some(_),
             ..
         } => line_after(*line, least),
-        Item::Line { checksum: None, .. } | Item::Func { .. } | Item::Branch { .. } => Some(least),
+        ItemRef::Line { checksum: None, .. } | ItemRef::Func { .. } | ItemRef::Branch { .. } => {
+            Some(least)
+        }
     }
 }
 
@@ -64,19 +66,19 @@ pub(crate) fn hold_checksums<A: Allocator + Copy>(
     test: &mut Test<A>,
     index: &mut FileIndex<A>,
     alloc: A,
-    items: &[Item<A>],
+    items: &PackedItems<'_>,
 ) -> Result<(), StageFault<A>>
     requires follows { Follows test.old index.old }
     requires room { HasRoom (test_staged test.old) (index_staged index.old) }
-    requires ascend { IsStrictlySortedBy nat_cmp (checked_lines (map item_data items.now)) }
+    requires ascend { IsStrictlySortedBy nat_cmp (checked_lines items.now) }
     ensures test { test.new ≡ test.old }
     ensures index_committed { KeepsCommitted index.old index.new }
     ensures follows { StillFollows index.old test.new index.new }
-    ensures ok { OnOk result (HoldsTexts (map item_data items.now) (test_staged test.old) (index_staged index.old) (index_staged index.new)) }
-    ensures clash { IfErr result (Clashes (map item_data items.now) (test_staged test.old) (index_staged index.old)) }
+    ensures ok { OnOk result (HoldsTexts items.now (test_staged test.old) (index_staged index.old) (index_staged index.new)) }
+    ensures clash { IfErr result (Clashes items.now (test_staged test.old) (index_staged index.old)) }
 {
-    for item in items {
-        hold_checksum(test, index, alloc, item)?;
+    for item in items.copy() {
+        hold_checksum(test, index, alloc, &item)?;
     }
     Ok(())
 }
@@ -86,17 +88,17 @@ fn hold_checksum<A: Allocator + Copy>(
     test: &mut Test<A>,
     index: &mut FileIndex<A>,
     alloc: A,
-    item: &Item<A>,
+    item: &ItemRef<'_>,
 ) -> Result<(), StageFault<A>>
     requires follows { Follows test.old index.old }
-    requires room { HasRoomToHold (item_data item.now) (test_staged test.old) (index_staged index.old) }
+    requires room { HasRoomToHold (item_ref_data item.now) (test_staged test.old) (index_staged index.old) }
     ensures test { test.new ≡ test.old }
     ensures index_committed { KeepsCommitted index.old index.new }
     ensures follows { StillFollows index.old test.new index.new }
-    ensures ok { OnOk result (HoldsText (item_data item.now) (test_staged test.old) (index_staged index.old) (index_staged index.new)) }
-    ensures clash { IfErr result (IsClashOf (item_data item.now) (index_staged index.old)) }
+    ensures ok { OnOk result (HoldsText (item_ref_data item.now) (test_staged test.old) (index_staged index.old) (index_staged index.new)) }
+    ensures clash { IfErr result (IsClashOf (item_ref_data item.now) (index_staged index.old)) }
 {
-    if let Item::Line {
+    if let ItemRef::Line {
         line,
         checksum: Some(text),
         ..
@@ -104,7 +106,7 @@ fn hold_checksum<A: Allocator + Copy>(
     {
         let before = test.lines.lookup_staged(*line);
         let is_held = LineSum::is_checked(&before);
-        index.checksums.hold(alloc, *line, text.get(), is_held)?;
+        index.checksums.hold(alloc, *line, text, is_held)?;
     }
     Ok(())
 }

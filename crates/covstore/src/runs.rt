@@ -1,9 +1,9 @@
 //! Splits the items of a section by kind into runs, and stages the runs. A run of lines or of branches is staged at once. The
 //! items of a run of functions are staged one by one.
 
-ghost use Rattle.std.specs.Prelude.{◌≡◌, [], map, IfOk, OnOk};
+ghost use Rattle.std.specs.Prelude.{◌≡◌, [], IfOk, OnOk};
 ghost use Rattle.std.specs.List.{All};
-ghost use Rattle.covline.specs.Row.{item_data};
+ghost use Rattle.covpacked.specs.ItemRefs.{item_ref_data};
 ghost use Rattle.covstore.specs.Order.{HasNoChecksum};
 ghost use Rattle.covstore.specs.Runs.{HasRoomForRuns, KeepsCountsOfKinds, KeepsHeld, runs_of, runs_with, with_runs};
 ghost use Rattle.covstore.specs.RunsView.{runs_seen};
@@ -16,7 +16,8 @@ use crate::index::FileIndex;
 use crate::stage::point_run::{stage_one_by_one, stage_whole_run};
 use crate::sums::{BranchAddend, FunctionAddend, LineAddend};
 use crate::test::Test;
-use covline::{BranchPoint, Item};
+use covline::BranchPoint;
+use covpacked::{ItemRef, PackedItems};
 use std::alloc::{AllocError, Allocator};
 
 /// The largest number of items that are staged at once. The runs of these items are kept in memory, and should fit in the
@@ -44,40 +45,37 @@ impl<'a, A: Allocator + Copy> Runs<'a, A> {
     }
 
     /// Appends an item to the run of its kind.
-    pub(crate) fn take(&mut self, item: &'a Item<A>) -> Result<(), AllocError>
-        ensures { OnOk result (runs_seen self.new ≡ runs_with (item_data item.now) (runs_seen self.old)) }
+    #[inline(always)]
+    pub(crate) fn take(&mut self, item: ItemRef<'a>) -> Result<(), AllocError>
+        ensures { OnOk result (runs_seen self.new ≡ runs_with (item_ref_data item.entry) (runs_seen self.old)) }
     {
         match item {
-            Item::Line {
+            ItemRef::Line {
                 line,
                 count,
                 checksum,
             } => {
                 let addend = LineAddend {
-                    count: *count,
+                    count,
                     has_checksum: checksum.is_some(),
                 };
-                self.lines.push((*line, addend))?;
+                self.lines.push((line, addend))?;
             }
-            Item::Func { name, line, count } => {
-                let addend = FunctionAddend {
-                    line: *line,
-                    count: *count,
-                };
-                self.functions.push((name.get(), addend))?;
+            ItemRef::Func { name, line, count } => {
+                self.functions.push((name, FunctionAddend { line, count }))?;
             }
-            Item::Branch {
+            ItemRef::Branch {
                 line,
                 block,
                 branch,
                 taken,
             } => {
                 let point = BranchPoint {
-                    line: *line,
-                    block: *block,
-                    branch: *branch,
+                    line,
+                    block,
+                    branch,
                 };
-                self.branches.push((point, BranchAddend { times: *taken }))?;
+                self.branches.push((point, BranchAddend { times: taken }))?;
             }
         }
         Ok(())
@@ -87,12 +85,12 @@ impl<'a, A: Allocator + Copy> Runs<'a, A> {
 /// The runs that these items are split into.
 pub(crate) fn runs_in<'a, A: Allocator + Copy>(
     alloc: A,
-    items: &'a [Item<A>],
+    items: &PackedItems<'a>,
 ) -> Result<Runs<'a, A>, AllocError>
-    ensures { IfOk result (λ runs. runs_seen runs ≡ runs_of (map item_data items.now)) }
+    ensures { IfOk result (λ runs. runs_seen runs ≡ runs_of items.now) }
 {
     let mut runs = Runs::with_room(alloc, items.len())?;
-    for item in items {
+    for item in items.copy() {
         runs.take(item)?;
     }
     Ok(runs)
@@ -137,19 +135,22 @@ pub(crate) fn stage_as_they_are<A: Allocator + Copy>(
     test: &mut Test<A>,
     index: &mut FileIndex<A>,
     alloc: A,
-    items: &[Item<A>],
+    items: &PackedItems<'_>,
 ) -> Result<(), AllocError>
     requires follows { Follows test.old index.old }
-    requires room { HasRoomFor (map item_data items.now) (test_staged test.old) (index_staged index.old) }
-    requires plain { All (λ item. HasNoChecksum (item_data item)) items.now }
+    requires room { HasRoomFor items.now (test_staged test.old) (index_staged index.old) }
+    requires plain { All HasNoChecksum items.now }
     ensures test_committed { test_committed test.new ≡ test_committed test.old }
     ensures index_committed { KeepsCommitted index.old index.new }
     ensures follows { StillFollows index.old test.new index.new }
-    ensures ok { OnOk result (Adds (map item_data items.now) (test_staged test.old) (index_staged index.old) (test_staged test.new) (index_staged index.new)) }
+    ensures ok { OnOk result (Adds items.now (test_staged test.old) (index_staged index.old) (test_staged test.new) (index_staged index.new)) }
 {
-    for some in items.chunks(MAX_STAGED_AT_ONCE) {
-        let runs = runs_in(alloc, some)?;
+    let mut rest = items.copy();
+    while !rest.is_empty() {
+        let (some, others) = rest.split_at(rest.len().min(MAX_STAGED_AT_ONCE));
+        let runs = runs_in(alloc, &some)?;
         stage_runs(test, index, alloc, &runs)?;
+        rest = others;
     }
     Ok(())
 }

@@ -5,7 +5,6 @@ ghost use Rattle.std.specs.BTreeMap.{is_at};
 ghost use Rattle.std.specs.Cmp.Lexicographic.{slice_cmp};
 ghost use Rattle.std.specs.Map.{lookup};
 ghost use Rattle.std.specs.Ordering.{nat_cmp};
-ghost use Rattle.covline.specs.Row.{item_data};
 ghost use Rattle.covstore.specs.RefuseView.{refuse_data};
 ghost use Rattle.covstore.specs.State.{totals_in};
 ghost use Rattle.covstore.specs.Store.{AddsTo, ClashesAmong, KeepsState};
@@ -23,7 +22,8 @@ use crate::plan::Plan;
 use crate::refuse::Refuse;
 use crate::renaming::Renaming;
 use crate::totals::Totals;
-use covline::{Item, Memory, Sect, Submission};
+use covline::{Memory, Submission};
+use covpacked::{PackedItems, PackedSect, PackedSects, PackedSectsIter, PackedSubmission, pack};
 use std::alloc::{Allocator, Global};
 use std::collections::BTreeMap;
 use std::marker::Model;
@@ -94,13 +94,13 @@ fn stage_in_files<A: Allocator + Copy>(
     alloc: A,
     file: &Path<A>,
     test: &[u8],
-    items: &[Item<A>],
+    items: &PackedItems<'_>,
 ) -> Result<(Totals, Totals), Refuse<A>>
-    requires { HasRoomAmong (rows_of_items file.now.items test.now (map item_data items.now)) (files_staged (λ name. name.items) files.old.entries) }
+    requires { HasRoomAmong (rows_of_items file.now.items test.now items.now) (files_staged (λ name. name.items) files.old.entries) }
     ensures committed { KeepsState (files_committed (λ name. name.items) files.old.entries) (files_committed (λ name. name.items) files.new.entries) }
-    ensures ok { OnOk result (AddsTo (rows_of_items file.now.items test.now (map item_data items.now)) (files_staged (λ name. name.items) files.old.entries) (files_staged (λ name. name.items) files.new.entries)) }
+    ensures ok { OnOk result (AddsTo (rows_of_items file.now.items test.now items.now) (files_staged (λ name. name.items) files.old.entries) (files_staged (λ name. name.items) files.new.entries)) }
     ensures totals { IfOk result (λ t. IsExchange t.0 t.1 (totals_in (files_staged (λ name. name.items) files.old.entries)) (totals_in (files_staged (λ name. name.items) files.new.entries))) }
-    ensures clash { IfErr result (λ e. ClashesAmong (rows_of_items file.now.items test.now (map item_data items.now)) (files_staged (λ name. name.items) files.old.entries) (refuse_data e)) }
+    ensures clash { IfErr result (λ e. ClashesAmong (rows_of_items file.now.items test.now items.now) (files_staged (λ name. name.items) files.old.entries) (refuse_data e)) }
     ensures settled { (touched : List (List ℕ × List ℕ)) → AreSettledBut (λ name. name.items) touched files.old.entries → AreSettledBut (λ name. name.items) (touched ++ (file.now.items, test.now) ∷ []) files.new.entries }
 {
     let name = file.as_slice();
@@ -117,14 +117,14 @@ fn stage_in_new_file<A: Allocator + Copy>(
     alloc: A,
     file: &[u8],
     test: &[u8],
-    items: &[Item<A>],
+    items: &PackedItems<'_>,
 ) -> Result<(Totals, Totals), Refuse<A>>
-    requires room { HasRoomAmong (rows_of_items file.now test.now (map item_data items.now)) (files_staged (λ name. name.items) files.old.entries) }
+    requires room { HasRoomAmong (rows_of_items file.now test.now items.now) (files_staged (λ name. name.items) files.old.entries) }
     requires new { lookup (is_at (λ other. slice_cmp nat_cmp file.now other.items)) files.old.entries ≡ None }
     ensures committed { KeepsState (files_committed (λ name. name.items) files.old.entries) (files_committed (λ name. name.items) files.new.entries) }
-    ensures ok { OnOk result (AddsTo (rows_of_items file.now test.now (map item_data items.now)) (files_staged (λ name. name.items) files.old.entries) (files_staged (λ name. name.items) files.new.entries)) }
+    ensures ok { OnOk result (AddsTo (rows_of_items file.now test.now items.now) (files_staged (λ name. name.items) files.old.entries) (files_staged (λ name. name.items) files.new.entries)) }
     ensures totals { IfOk result (λ t. IsExchange t.0 t.1 (totals_in (files_staged (λ name. name.items) files.old.entries)) (totals_in (files_staged (λ name. name.items) files.new.entries))) }
-    ensures clash { IfErr result (λ e. ClashesAmong (rows_of_items file.now test.now (map item_data items.now)) (files_staged (λ name. name.items) files.old.entries) (refuse_data e)) }
+    ensures clash { IfErr result (λ e. ClashesAmong (rows_of_items file.now test.now items.now) (files_staged (λ name. name.items) files.old.entries) (refuse_data e)) }
     ensures settled { (touched : List (List ℕ × List ℕ)) → AreSettledBut (λ name. name.items) touched files.old.entries → AreSettledBut (λ name. name.items) (touched ++ (file.now, test.now) ∷ []) files.new.entries }
 {
     let mut made = Boxed::new(alloc, File::new(alloc))?;
@@ -162,8 +162,8 @@ impl<A: Allocator + Copy> Store<A> {
     ghost use Rattle.std.specs.Prelude.{◌≡◌, ◌≢◌, ◌<◌, ℕ, List, ◌++◌, [], ◌∷◌, map, IfOk, IfErr, None, OnOk, OnErr};
     ghost use Rattle.std.specs.Str.{bytes_eq};
     ghost use Rattle.std.specs.List.{flat_map, list_any};
-    ghost use Rattle.covline.specs.Row.{SubmissionData, item_data, rows_of, rows_of_sect};
-    ghost use Rattle.covline.specs.SectView.{sect_data};
+    ghost use Rattle.covline.specs.Row.{SubmissionData, rows_of, rows_of_sect};
+    ghost use Rattle.covpacked.specs.PackedSects.{packed_sect_data};
     ghost use Rattle.covstore.specs.Content.{content_at};
     ghost use Rattle.covstore.specs.Files.{files_with_totals};
     ghost use Rattle.covstore.specs.Store.{AddsRows, ClashesWith, HasRoomForRows, IsPlanOf, SameContent, SameCommitted, StandsFor, IsRefusedAt, max_members};
@@ -201,6 +201,33 @@ impl<A: Allocator + Copy> Store<A> {
     /// suffices, so a submission that clashes may be refused with `Memory` too. A submission without a row is never refused,
     /// since it allocates nothing.
     pub fn prepare(&mut self, alloc: A, submission: &Submission<A>) -> Result<Plan, Refuse<A>>
+        requires { self.old.members < max_members }
+        ensures content { SameContent self.old self.new }
+        ensures planned { IfOk result (λ plan. IsPlanOf self.new submission.now plan) }
+        ensures after { IfOk result (λ plan. (table : Table) → StandsFor self.old table → plan.after ≡ totals_of (content_at (table ++ rows_of submission.now ∷ []))) }
+        ensures agrees { IfOk result (λ _. (table : Table) → StandsFor self.old table → clash_at table submission.now ≡ None) }
+        ensures refused { IfErr result (λ e. (table : Table) → StandsFor self.old table → IsRefusedAt table submission.now (refuse_data e)) }
+        ensures some { OnErr result (rows_of submission.now ≢ []) }
+    {
+        if submission.items() == 0 {
+            // Nothing is packed, so that no memory is taken.
+            let nothing = PackedSubmission::of_lawful(PackedSects::new(alloc), 0);
+            return self.prepare_packed(alloc, &nothing);
+        }
+        let packed = pack(alloc, submission)?;
+        self.prepare_packed(alloc, &packed)
+    }
+
+    /// Prepares to add a packed submission, as [`prepare`](Store::prepare).
+    ///
+    /// # Errors
+    ///
+    /// As [`prepare`](Store::prepare).
+    pub fn prepare_packed(
+        &mut self,
+        alloc: A,
+        submission: &PackedSubmission<A>,
+    ) -> Result<Plan, Refuse<A>>
         requires { self.old.members < max_members }
         ensures content { SameContent self.old self.new }
         ensures planned { IfOk result (λ plan. IsPlanOf self.new submission.now plan) }
@@ -317,32 +344,31 @@ impl<A: Allocator + Copy> Store<A> {
     }
 
     /// Stages the sections, in order, up to the first that is refused.
-    fn add_all(&mut self, alloc: A, sects: &[Sect<A>]) -> Result<(), Refuse<A>>
-        requires { HasRoomForRows (flat_map rows_of_sect (map sect_data sects.now)) self.old }
+    fn add_all(&mut self, alloc: A, sects: PackedSectsIter<'_>) -> Result<(), Refuse<A>>
+        requires { HasRoomForRows (flat_map rows_of_sect sects) self.old }
         ensures committed { SameCommitted self.old self.new }
-        ensures ok { OnOk result (AddsRows (flat_map rows_of_sect (map sect_data sects.now)) self.old self.new) }
-        ensures clash { IfErr result (λ e. ClashesWith (flat_map rows_of_sect (map sect_data sects.now)) self.old (refuse_data e)) }
-        ensures some { OnErr result (flat_map rows_of_sect (map sect_data sects.now) ≢ []) }
+        ensures ok { OnOk result (AddsRows (flat_map rows_of_sect sects.entry) self.old self.new) }
+        ensures clash { IfErr result (λ e. ClashesWith (flat_map rows_of_sect sects.entry) self.old (refuse_data e)) }
+        ensures some { OnErr result (flat_map rows_of_sect sects.entry ≢ []) }
     {
         for sect in sects {
-            self.add_section(alloc, sect)?;
+            self.add_section(alloc, &sect)?;
         }
         Ok(())
     }
 
     /// Stages the items of a section. A section without items takes no memory.
-    fn add_section(&mut self, alloc: A, sect: &Sect<A>) -> Result<(), Refuse<A>>
-        requires { HasRoomForRows (rows_of_sect (sect_data sect.now)) self.old }
+    fn add_section(&mut self, alloc: A, sect: &PackedSect<'_>) -> Result<(), Refuse<A>>
+        requires { HasRoomForRows (rows_of_sect (packed_sect_data sect.now)) self.old }
         ensures committed { SameCommitted self.old self.new }
-        ensures ok { OnOk result (AddsRows (rows_of_sect (sect_data sect.now)) self.old self.new) }
-        ensures clash { IfErr result (λ e. ClashesWith (rows_of_sect (sect_data sect.now)) self.old (refuse_data e)) }
-        ensures some { OnErr result (rows_of_sect (sect_data sect.now) ≢ []) }
+        ensures ok { OnOk result (AddsRows (rows_of_sect (packed_sect_data sect.now)) self.old self.new) }
+        ensures clash { IfErr result (λ e. ClashesWith (rows_of_sect (packed_sect_data sect.now)) self.old (refuse_data e)) }
+        ensures some { OnErr result (rows_of_sect (packed_sect_data sect.now) ≢ []) }
     {
-        let items = sect.items.get();
-        if items.is_empty() {
+        if sect.items.is_empty() {
             return Ok(());
         }
-        self.stage_items(alloc, sect.file.get(), sect.test.get(), items)
+        self.stage_items(alloc, sect.file, sect.test, &sect.items)
     }
 
     /// Stages the items of a test of a file, and lists the test as one in which something is staged.
@@ -351,12 +377,12 @@ impl<A: Allocator + Copy> Store<A> {
         alloc: A,
         file: &[u8],
         test: &[u8],
-        items: &[Item<A>],
+        items: &PackedItems<'_>,
     ) -> Result<(), Refuse<A>>
-        requires { HasRoomForRows (rows_of_items file.now test.now (map item_data items.now)) self.old }
+        requires { HasRoomForRows (rows_of_items file.now test.now items.now) self.old }
         ensures committed { SameCommitted self.old self.new }
-        ensures ok { OnOk result (AddsRows (rows_of_items file.now test.now (map item_data items.now)) self.old self.new) }
-        ensures clash { IfErr result (λ e. ClashesWith (rows_of_items file.now test.now (map item_data items.now)) self.old (refuse_data e)) }
+        ensures ok { OnOk result (AddsRows (rows_of_items file.now test.now items.now) self.old self.new) }
+        ensures clash { IfErr result (λ e. ClashesWith (rows_of_items file.now test.now items.now) self.old (refuse_data e)) }
     {
         Touched::push(&mut self.touched, alloc, file, test)?;
         let path = Touched::last_file(self.touched.as_slice());

@@ -87,6 +87,7 @@ fn operations(rt: HostRuntime) {
         |heap, room| copies_op(&rt, heap, room, b"remove *.c|*.h"),
     );
     check_none(&rt, |heap, room| copies_op(&rt, heap, room, b"submit"));
+    check_none(&rt, |heap, room| copies_op(&rt, heap, room, b"packed"));
     check_none(&rt, |heap, room| copies_op(&rt, heap, room, b"report"));
     check_none(&rt, |heap, room| copies_op(&rt, heap, room, b"summary"));
 }

@@ -1,12 +1,16 @@
 //! Texts that are read. All that was read is printed, and this is checked.
 
 use super::heap::{check_rising_by, narrow, widen};
-use super::stores::stored;
+use super::stores::{stored, stored_packed};
 use super::texts::{ANNOTATED, CHECKED, LCOV2, SMALL, TRACED};
-use super::wrappers::{printed, read, read_annotated, read_of_lcov2};
+use super::wrappers::{
+    printed, read, read_annotated, read_annotated_packed, read_of_lcov2, read_of_lcov2_packed,
+    read_packed,
+};
 use super::{check_bytes, made};
 use bumpalo::Bump;
 use covline::Submission;
+use covpacked::PackedSubmission;
 use covread::ReadFault;
 use covreport::Choice;
 use std::process::Abort;
@@ -22,6 +26,20 @@ fn check_read<'h>(
 ) {
     assert_eq!(rt; (given.items(), given.odd()), (items, 0));
     let store = stored(rt, heap, given);
+    let report = made(rt, printed(heap, &store, &Choice::All));
+    check_bytes(rt, report.get(), wanted);
+}
+
+/// The same of a packed submission.
+fn check_packed<'h>(
+    rt: &impl Abort,
+    heap: &'h Bump,
+    given: &PackedSubmission<&'h Bump>,
+    items: u64,
+    wanted: &[u8],
+) {
+    assert_eq!(rt; (given.items(), given.odd()), (items, 0));
+    let store = stored_packed(rt, heap, given);
     let report = made(rt, printed(heap, &store, &Choice::All));
     check_bytes(rt, report.get(), wanted);
 }
@@ -50,6 +68,33 @@ fn tracefiles(rt: HostRuntime) {
         1,
         16,
         |heap, room| reads_trace(&rt, heap, room, CHECKED),
+    );
+}
+
+/// Reads a tracefile of two items into a packed submission.
+fn packs_trace(rt: &impl Abort, heap: &Bump, room: usize, text: &[u8]) -> bool {
+    narrow(rt, heap, room);
+    let first = read_packed(heap, text);
+    widen(heap);
+    let (given, is_refused) = match first {
+        Ok(given) => (given, false),
+        Err(fault) => {
+            assert_eq!(rt; fault, ReadFault::Memory);
+            (made(rt, read_packed(heap, text)), true)
+        }
+    };
+    check_packed(rt, heap, &given, 2, text);
+    is_refused
+}
+
+#[test]
+fn packed_tracefiles(rt: HostRuntime) {
+    check_rising_by(&rt, 1, 16, |heap, room| packs_trace(&rt, heap, room, SMALL));
+    check_rising_by(
+        &rt,
+        1,
+        16,
+        |heap, room| packs_trace(&rt, heap, room, CHECKED),
     );
 }
 
@@ -92,6 +137,37 @@ fn reads_other(rt: &impl Abort, heap: &Bump, room: usize, other: Other) -> bool 
     };
     check_read(rt, heap, &given, items_of(other), TRACED);
     is_refused
+}
+
+/// What the text is read as, packed.
+fn read_other_packed(heap: &Bump, other: Other) -> Result<PackedSubmission<&Bump>, ReadFault> {
+    match other {
+        Other::Annotated => read_annotated_packed(heap, b"t", ANNOTATED),
+        Other::Lcov2 => read_of_lcov2_packed(heap, LCOV2),
+    }
+}
+
+/// Reads the text into a packed submission.
+fn packs_other(rt: &impl Abort, heap: &Bump, room: usize, other: Other) -> bool {
+    narrow(rt, heap, room);
+    let first = read_other_packed(heap, other);
+    widen(heap);
+    let (given, is_refused) = match first {
+        Ok(given) => (given, false),
+        Err(fault) => {
+            assert_eq!(rt; fault, ReadFault::Memory);
+            (made(rt, read_other_packed(heap, other)), true)
+        }
+    };
+    check_packed(rt, heap, &given, items_of(other), TRACED);
+    is_refused
+}
+
+#[test]
+fn packed_texts_of_other_formats(rt: HostRuntime) {
+    for other in [Other::Annotated, Other::Lcov2] {
+        check_rising_by(&rt, 1, 16, |heap, room| packs_other(&rt, heap, room, other));
+    }
 }
 
 #[test]

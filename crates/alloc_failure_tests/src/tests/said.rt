@@ -76,7 +76,7 @@ fn put_answer<A: Allocator>(text: &mut Vec<u8>, answer: &Answer<A>) -> Result<()
 /// The word of an operation.
 fn word_of<A: Allocator>(op: &Op<A>) -> &'static [u8] {
     match op {
-        Op::Submit(_) => b"submit",
+        Op::Submit(_) | Op::SubmitPacked(_) => b"submit",
         Op::DropTest(_) => b"drop",
         Op::Rename { .. } => b"rename",
         Op::Report => b"report",
@@ -154,6 +154,8 @@ pub(super) const BEGUN: &[u8] = b"submit accepted 1 2 0 | 2 1";
 pub(super) const STEPS: &[u8] = b"\
 submit>submit accepted 2 2 0 | 2 1
 clash>submit clash /a.c 1 abc abd | 2 1
+packed>submit accepted 2 2 0 | 2 1
+packed-clash>submit clash /a.c 1 abc abd | 2 1
 drop t>drop dropped 1 | 0 0
 drop x>drop no such test | 2 1
 rename t v>rename renamed 1 | 2 1

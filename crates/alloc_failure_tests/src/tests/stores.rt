@@ -9,6 +9,7 @@ use super::wrappers::{printed, read};
 use super::{check_bytes, made};
 use bumpalo::Bump;
 use covline::{Memory, Submission};
+use covpacked::PackedSubmission;
 use covreport::Choice;
 use covstore::{Refuse, Store, Totals};
 use std::alloc::Allocator;
@@ -43,6 +44,20 @@ pub(super) fn stored<A: Allocator + Copy>(
 ) -> Store<A> {
     let mut store = Store::new(alloc);
     match store.prepare(alloc, given) {
+        Ok(plan) => store.commit(plan),
+        Err(_refused) => panic!(rt; "refused with ample memory"),
+    }
+    store
+}
+
+/// A store that holds the packed submission alone.
+pub(super) fn stored_packed<A: Allocator + Copy>(
+    rt: &impl Abort,
+    alloc: A,
+    given: &PackedSubmission<A>,
+) -> Store<A> {
+    let mut store = Store::new(alloc);
+    match store.prepare_packed(alloc, given) {
         Ok(plan) => store.commit(plan),
         Err(_refused) => panic!(rt; "refused with ample memory"),
     }

@@ -2,7 +2,7 @@
 
 use super::heap::{check_rising, narrow, widen};
 use super::texts::SMALL;
-use super::wrappers::{bytes, read, shared, shared_text};
+use super::wrappers::{bytes, read, read_packed, shared, shared_packed, shared_text};
 use super::{check_bytes, made};
 use bumpalo::Bump;
 use std::process::Abort;
@@ -51,9 +51,25 @@ fn submission_shared(rt: &impl Abort, heap: &Bump, room: usize) -> bool {
     is_refused
 }
 
+/// Makes a packed submission a shared one. A refusal drops the submission, so another one is used for the second try.
+fn packed_shared(rt: &impl Abort, heap: &Bump, room: usize) -> bool {
+    let given = made(rt, read_packed(heap, SMALL));
+    let again = made(rt, read_packed(heap, SMALL));
+    narrow(rt, heap, room);
+    let first = shared_packed(heap, given);
+    widen(heap);
+    let (given, is_refused) = match first {
+        Ok(given) => (given, false),
+        Err(_refused) => (made(rt, shared_packed(heap, again)), true),
+    };
+    assert_eq!(rt; (given.get().items(), given.get().odd()), (2, 0));
+    is_refused
+}
+
 #[test]
 fn texts_and_what_is_shared(rt: HostRuntime) {
     check_rising(&rt, |heap, room| text_of(&rt, heap, room));
     check_rising(&rt, |heap, room| text_shared(&rt, heap, room));
     check_rising(&rt, |heap, room| submission_shared(&rt, heap, room));
+    check_rising(&rt, |heap, room| packed_shared(&rt, heap, room));
 }

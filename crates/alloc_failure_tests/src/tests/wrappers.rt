@@ -3,10 +3,11 @@
 
 use super::made;
 use super::texts::{CHECKED, CLASHING, SMALL};
-use covbook::{Answer, Book, BookFault, Op, Receipt, SubRef, TextRef};
-use covlcov2::read_lcov2;
+use covbook::{Answer, Book, BookFault, Op, PackedRef, Receipt, SubRef, TextRef};
+use covlcov2::{read_lcov2, read_lcov2_packed};
 use covline::{Bytes, Memory, Submission, TraceLine};
-use covread::{ReadFault, read_gcov, read_trace};
+use covpacked::PackedSubmission;
+use covread::{ReadFault, read_gcov, read_gcov_packed, read_trace, read_trace_packed};
 use covreport::{Choice, PatternFault, Patterns, trace_text};
 use covstore::Store;
 use std::alloc::Allocator;
@@ -39,6 +40,28 @@ pub(super) fn read_of_lcov2<A: Allocator + Copy>(
     read_lcov2(alloc, text)
 }
 
+pub(super) fn read_packed<A: Allocator + Copy>(
+    alloc: A,
+    text: &[u8],
+) -> Result<PackedSubmission<A>, ReadFault> {
+    read_trace_packed(alloc, text)
+}
+
+pub(super) fn read_annotated_packed<A: Allocator + Copy>(
+    alloc: A,
+    test: &[u8],
+    text: &[u8],
+) -> Result<PackedSubmission<A>, ReadFault> {
+    read_gcov_packed(alloc, test, text)
+}
+
+pub(super) fn read_of_lcov2_packed<A: Allocator + Copy>(
+    alloc: A,
+    text: &[u8],
+) -> Result<PackedSubmission<A>, ReadFault> {
+    read_lcov2_packed(alloc, text)
+}
+
 pub(super) fn add<A: Allocator + Copy>(
     alloc: A,
     patterns: &mut Patterns<A>,
@@ -61,6 +84,14 @@ pub(super) fn shared<A: Allocator + Copy>(
     given: Submission<A>,
 ) -> Result<SubRef<A>, Memory> {
     SubRef::of(alloc, given)
+}
+
+/// The packed submission as a shared one.
+pub(super) fn shared_packed<A: Allocator>(
+    alloc: A,
+    given: PackedSubmission<A>,
+) -> Result<PackedRef<A>, Memory> {
+    PackedRef::of(alloc, given)
 }
 
 /// The text as a shared one.
@@ -118,8 +149,15 @@ fn submit<A: Allocator + Copy>(rt: &impl Abort, alloc: A, text: &[u8]) -> Op<A> 
     Op::Submit(made(rt, shared(alloc, given)))
 }
 
+/// The operation that submits the text packed.
+fn submit_packed<A: Allocator + Copy>(rt: &impl Abort, alloc: A, text: &[u8]) -> Op<A> {
+    let given = made(rt, read_packed(alloc, text));
+    Op::SubmitPacked(made(rt, shared_packed(alloc, given)))
+}
+
 /// The operation that these words ask for: its name, and then the tests' names or the patterns that it takes, with a space
-/// before each. `begin` submits `CHECKED`, and `clash` submits `CLASHING`. An unknown name is a summary.
+/// before each. `begin` submits `CHECKED`, `clash` submits `CLASHING`, and `packed` and `packed-clash` submit `SMALL` and
+/// `CLASHING` packed. An unknown name is a summary.
 pub(super) fn op_of<A: Allocator + Copy>(rt: &impl Abort, alloc: A, words: &[u8]) -> Op<A> {
     let mut words = words.split(|byte| *byte == b' ');
     let Some(name) = words.next() else {
@@ -131,6 +169,8 @@ pub(super) fn op_of<A: Allocator + Copy>(rt: &impl Abort, alloc: A, words: &[u8]
         b"submit" => submit(rt, alloc, SMALL),
         b"begin" => submit(rt, alloc, CHECKED),
         b"clash" => submit(rt, alloc, CLASHING),
+        b"packed" => submit_packed(rt, alloc, SMALL),
+        b"packed-clash" => submit_packed(rt, alloc, CLASHING),
         b"drop" => Op::DropTest(made(rt, bytes(alloc, first))),
         b"rename" => Op::Rename {
             old: made(rt, bytes(alloc, first)),

@@ -468,6 +468,11 @@ submit DA:1,2,k&submit DA:1,2,l
 submit FN:3,f;FNDA:2,f&submit FN:3,g;FNDA:2,g
 submit BRDA:1,0,0,4&submit BRDA:1,0,0,-
 submit DA:1,2;DA:2,2&submit DA:1,2;DA:3,2
+packed DA:1,2&packed DA:1,3
+packed DA:1,2&submit DA:1,3
+submit DA:1,2&packed DA:1,3
+packed DA:1,2&drop t
+drop t&packed DA:1,2
 drop t&drop u
 rename t u&rename u u
 rename t u&rename t v
@@ -478,6 +483,22 @@ remove /a|/b&remove /a|/c";
         let (one, other) = pair_of(&rt, line);
         assert!(rt; are_same_ops(&rt, one, one)?);
         assert!(rt; !are_same_ops(&rt, one, other)?);
+    }
+    Ok(())
+}
+
+/// An operation that submits a packed submission is the same as one that submits it as it is, whichever is asked.
+#[test]
+fn a_submission_packed_or_not(rt: HostRuntime) -> Result<(), Fail> {
+    let examples = b"submit DA:1,2;DA:2,0&packed DA:1,2;DA:2,0
+submit DA:1,2,k&packed DA:1,2,k
+submit FN:3,f;FNDA:2,f&packed FN:3,f;FNDA:2,f
+submit BRDA:1,0,0,4&packed BRDA:1,0,0,4
+submit BRDA:1,0,0,-&packed BRDA:1,0,0,-";
+    for line in examples.split(|byte| *byte == b'\n') {
+        let (one, other) = pair_of(&rt, line);
+        assert!(rt; are_same_ops(&rt, one, other)?);
+        assert!(rt; are_same_ops(&rt, other, one)?);
     }
     Ok(())
 }

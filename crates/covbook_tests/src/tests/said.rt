@@ -32,6 +32,12 @@ fn put_word(text: &mut Vec<u8>, word: &[u8]) -> Result<(), AllocError> {
 fn put_op(alloc: Global, text: &mut Vec<u8>, op: &Op) -> Result<(), AllocError> {
     match op {
         Op::Submit(submission) => put_counted(alloc, text, b"submit ", submission.get().items()),
+        Op::SubmitPacked(submission) => put_counted(
+            alloc,
+            text,
+            b"submit ",
+            submission.get().items(),
+        ),
         Op::DropTest(test) => put_dropped(text, test),
         Op::Rename { old, new } => put_renamed(text, old, new),
         Op::Report => put_word(text, b"report"),

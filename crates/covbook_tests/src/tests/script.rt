@@ -2,7 +2,9 @@
 
 use super::push_line;
 use super::said::{put_answer, put_number, words_of};
-use super::wrappers::{bytes_of, copied_answer, copied_op, entries, list_of, submit, take, totals};
+use super::wrappers::{
+    bytes_of, copied_answer, copied_op, entries, list_of, submit, submit_packed, take, totals,
+};
 use covbook::{Answer, Book, Entry, Op, Receipt};
 use covstore::Totals;
 use std::alloc::Global;
@@ -10,10 +12,12 @@ use std::process::Abort;
 use std::test::*;
 
 /// The operation that these words ask for. A submission is written as the lines of a section of `/a.c`, with semicolons between
-/// them.
+/// them. It is packed after the word `packed`.
 pub(super) fn op_of(rt: &(impl Abort + AllocGlobal), words: &[u8]) -> Result<Op, Fail> {
     if let Some(lines) = words.strip_prefix(b"submit ") {
-        submit_lines(rt.alloc(), lines)
+        Ok(submit(rt.alloc(), &section_of(rt.alloc(), lines)?)?)
+    } else if let Some(lines) = words.strip_prefix(b"packed ") {
+        Ok(submit_packed(rt.alloc(), &section_of(rt.alloc(), lines)?)?)
     } else if let Some(test) = words.strip_prefix(b"drop ") {
         Ok(Op::DropTest(bytes_of(rt.alloc(), test)?))
     } else if let Some(names) = words.strip_prefix(b"rename ") {
@@ -47,12 +51,6 @@ fn plain_op(rt: &impl Abort, name: &[u8]) -> Op {
         assert!(rt; name.strip_prefix(b"summary").is_some());
         Op::Summary
     }
-}
-
-/// The operation that submits a section of `/a.c` with these lines.
-fn submit_lines(alloc: Global, lines: &[u8]) -> Result<Op, Fail> {
-    let text = section_of(alloc, lines)?;
-    submit(alloc, &text)
 }
 
 /// A section of `/a.c` with these lines, which have semicolons between them.

@@ -35,6 +35,22 @@ fn halves_of_a_step(rt: HostRuntime) -> Result<(), Fail> {
     check_run(&rt, &mut book, b"0 report", report)
 }
 
+/// Packed submissions add up with others. One that clashes adds nothing.
+#[test]
+fn packed_submissions(rt: HostRuntime) -> Result<(), Fail> {
+    let mut book = Book::new(rt.alloc());
+    let first = b"0 submit 2 > accepted 1 2 0 ; 2 1 \n";
+    check_run(&rt, &mut book, b"0 packed DA:1,2,k;DA:2,0", first)?;
+    let second = b"1 submit 1 > accepted 2 1 0 ; 2 2 \n";
+    check_run(&rt, &mut book, b"8 submit DA:2,3", second)?;
+    let clash = b"2 submit 1 > clash /a.c 1 k l ; 2 2 \n";
+    check_run(&rt, &mut book, b"8 packed DA:1,5,l", clash)?;
+    let third = b"3 submit 1 > accepted 3 1 0 ; 2 2 \n";
+    check_run(&rt, &mut book, b"8 packed DA:1,1", third)?;
+    let report = b"4 report > TN:t\nSF:/a.c\nDA:1,3,k\nDA:2,3\nLF:2\nLH:2\nend_of_record\n; 2 2 \n";
+    check_run(&rt, &mut book, b"0 report", report)
+}
+
 /// The entry of a step that is made ready is the asking job's, with the totals after it.
 #[test]
 fn the_entry_of_a_step(rt: HostRuntime) -> Result<(), Fail> {

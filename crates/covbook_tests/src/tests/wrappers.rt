@@ -1,9 +1,11 @@
 //! Calls of the crates below, in functions without contracts. A test looks only at values, and its proof is quicker without
 //! contracts.
 
-use covbook::{Answer, Book, BookFault, Entry, GatherFault, JobLog, Op, Receipt, SubRef};
+use covbook::{
+    Answer, Book, BookFault, Entry, GatherFault, JobLog, Op, PackedRef, Receipt, SubRef,
+};
 use covline::{Bytes, Memory};
-use covread::read_trace;
+use covread::{read_trace, read_trace_packed};
 use covreport::{PatternFault, Patterns};
 use covstore::Totals;
 use std::alloc::Global;
@@ -101,6 +103,12 @@ pub(super) fn list_of(alloc: Global, patterns: &[u8]) -> Result<Patterns, Patter
 pub(super) fn submit(alloc: Global, text: &[u8]) -> Result<Op, Fail> {
     let shared = SubRef::of(alloc, read_trace(alloc, text)?)?;
     Ok(Op::Submit(shared.copy()?))
+}
+
+/// The operation that submits the text packed.
+pub(super) fn submit_packed(alloc: Global, text: &[u8]) -> Result<Op, Fail> {
+    let shared = PackedRef::of(alloc, read_trace_packed(alloc, text)?)?;
+    Ok(Op::SubmitPacked(shared.copy()?))
 }
 
 /// The totals that the text's submission would have after it. Its step is made ready and dropped.

@@ -149,6 +149,39 @@ fn a_tracefile_of_lcov2(rt: HostRuntime) -> Result<(), Fail> {
     one_of_lcov2(&rt)
 }
 
+/// Whether the input is read packed as this tracefile is read as it is.
+fn packs_as(alloc: Global, input: &Input, wanted: &[u8]) -> Result<bool, Fail> {
+    let packed = input.read_packed(alloc)?;
+    let wanted = trace(alloc, wanted)?.read(alloc)?;
+    Ok(packed.is_same_as(&wanted))
+}
+
+/// Each kind of input is read packed.
+#[test]
+fn packed_inputs(rt: HostRuntime) -> Result<(), Fail> {
+    let alloc = rt.alloc();
+    let one = trace(alloc, b"SF:/a.c\nDA:1,2\nend_of_record\n")?;
+    let wanted = b"TN:\nSF:/a.c\nDA:1,2\nend_of_record\n";
+    assert!(rt; packs_as(alloc, &one, wanted)?);
+    let text = b"TN:t\nSF:/a.c\nBRDA:1,e0,a,3\nDA:1,2\nend_of_record\n";
+    let two = Input::Lcov2(Bytes::of(alloc, text)?);
+    let wanted = b"TN:t\nSF:/a.c\nBRDA:1,0,0,3\nDA:1,2\nend_of_record\n";
+    assert!(rt; packs_as(alloc, &two, wanted)?);
+    let text = b"        -:    0:Source:tmp.c\n        3:    3:  if (x)\n";
+    let annotated = Input::Gcov {
+        test: Bytes::of(alloc, b"t")?,
+        text: Bytes::of(alloc, text)?,
+    };
+    assert!(rt;
+        packs_as(
+            alloc,
+            &annotated,
+            b"TN:t\nSF:tmp.c\nDA:3,3\nend_of_record\n"
+        )?
+    );
+    Ok(())
+}
+
 /// What `jobs` jobs collect of inputs that they may use up, with the report as the last operation.
 fn answered_by_owned<R: Threads + Wait + Sync + AllocGlobal>(
     rt: &R,

@@ -5,7 +5,7 @@ use super::collecting::{ADDED_UP, OTHERS, is_outside, trace};
 use super::turns::SMALL;
 use covbook::{Answer, Answered, Op};
 use covjobs::{
-    CollectFault, CollectedBook, Input, IntoBookFault, LateFault, LateInput, NoGate, Part,
+    CollectFault, CollectedBook, Given, Input, IntoBookFault, LateFault, LateInput, NoGate, Part,
     collect_into_book,
 };
 use covline::Memory;
@@ -36,7 +36,7 @@ impl LateInput<Global> for Late {
     fn read_part(self, alloc: Global) -> Result<Part<Self>, LateFault> {
         match self {
             Late::Readable(input) => match input.read(alloc) {
-                Ok(submission) => Ok(Part::Last(submission)),
+                Ok(submission) => Ok(Part::Last(Given::plain(submission))),
                 Err(fault) => Err(LateFault::Refused(fault)),
             },
             Late::Unreadable => Err(LateFault::Unreadable),

@@ -3,9 +3,9 @@
 use super::collecting::{ADDED_UP, OTHERS, is_outside, trace};
 use super::into_book::{TOO_LARGE, check_report, is_accepted, is_clash};
 use super::turns::SMALL;
-use covbook::SubRef;
+use covbook::PackedRef;
 use covjobs::{
-    CollectFault, CollectedBook, IntoBookFault, LateFault, LateInput, NoGate, Part,
+    CollectFault, CollectedBook, Given, IntoBookFault, LateFault, LateInput, NoGate, Part,
     collect_into_book,
 };
 use covread::ReadFault;
@@ -39,9 +39,9 @@ impl<'a> LateInput<Global> for Pieces<'a> {
         match read_piece(alloc, first) {
             Err(fault) => Err(fault),
             Ok(submission) => if rest.is_empty() {
-                Ok(Part::Last(submission))
+                Ok(Part::Last(Given::packed(submission)))
             } else {
-                Ok(Part::More(submission, Pieces { texts: rest }))
+                Ok(Part::More(Given::packed(submission), Pieces { texts: rest }))
             },
         }
     }
@@ -51,8 +51,8 @@ impl<'a> LateInput<Global> for Pieces<'a> {
     }
 }
 
-/// Reads one part. An empty text stands for one that can't be read, and `TOO_LARGE` for one for which there is no memory.
-fn read_piece(alloc: Global, text: &[u8]) -> Result<SubRef, LateFault> {
+/// Reads one part, packed. An empty text stands for one that can't be read, and `TOO_LARGE` for one for which there is no memory.
+fn read_piece(alloc: Global, text: &[u8]) -> Result<PackedRef, LateFault> {
     if text.is_empty() {
         return Err(LateFault::Unreadable);
     }
@@ -62,7 +62,7 @@ fn read_piece(alloc: Global, text: &[u8]) -> Result<SubRef, LateFault> {
     let Ok(input) = trace(alloc, text) else {
         return Err(LateFault::Memory);
     };
-    match input.read(alloc) {
+    match input.read_packed(alloc) {
         Ok(submission) => Ok(submission),
         Err(fault) => Err(LateFault::Refused(fault)),
     }

@@ -20,7 +20,7 @@ fn put_accepted(text: &mut Vec<u8>, number: u64, items: u64, odd: u64) -> Result
 /// Appends the word of an operation.
 fn put_op(text: &mut Vec<u8>, op: &Op) -> Result<(), AllocError> {
     let word: &[u8] = match op {
-        Op::Submit(_) => b"submit: ",
+        Op::Submit(_) | Op::SubmitPacked(_) => b"submit: ",
         Op::DropTest(_) => b"drop: ",
         Op::Rename { .. } => b"rename: ",
         Op::Report => b"report: ",

@@ -13,15 +13,34 @@ use crate::fault::{MAX_BYTES, ReadFault};
 use crate::gcov::line::{OwnFault, read_line};
 use crate::gcov::reader::Reader;
 use covline::{LineFault, Submission, good_test, lines};
+use covpacked::{PackedSubmission, unpack};
 use std::alloc::Allocator;
 
 /// Reads gcov's annotated source (gcov(1)) as counts of this test. Returns the submission that its lines make, or the
-/// text's first fault.
+/// text's first fault. [`read_gcov_packed`] does the same, and takes less memory and time.
 pub fn read_gcov<A: Allocator + Copy>(
     alloc: A,
     test: &[u8],
     text: &[u8],
 ) -> Result<Submission<A>, ReadFault>
+    // The answer is what the text is read as, or memory ran out.
+    ensures answers { Answers test.now text.now result }
+    // No other answer is possible, unless memory ran out.
+    ensures only { (outcome : Result SubmissionData Fault) → IsOutcome test.now text.now outcome → IsOrMemory result outcome }
+    // Nothing is kept before the first path or function, so memory can run out only at this line or after it.
+    ensures memory { GrowsLate text.now result }
+{
+    let packed = read_gcov_packed(alloc, test, text)?;
+    Ok(unpack(alloc, &packed)?)
+}
+
+/// Reads gcov's annotated source (gcov(1)) as counts of this test. Returns the submission that its lines make, packed, or the
+/// text's first fault.
+pub fn read_gcov_packed<A: Allocator + Copy>(
+    alloc: A,
+    test: &[u8],
+    text: &[u8],
+) -> Result<PackedSubmission<A>, ReadFault>
     // The answer is what the text is read as, or memory ran out.
     ensures answers { Answers test.now text.now result }
     // No other answer is possible, unless memory ran out.
@@ -35,7 +54,7 @@ pub fn read_gcov<A: Allocator + Copy>(
     if !good_test(test) {
         return Err(ReadFault::BadTest);
     }
-    read_lines(alloc, test, text)?.finish(alloc)
+    read_lines(alloc, test, text)?.finish()
 }
 
 /// Takes all lines of the text.
@@ -51,7 +70,7 @@ fn read_lines<'a, A: Allocator + Copy>(
     let mut at: u64 = 0;
     for line in lines(text) {
         at += 1;
-        take_line(&mut reader, alloc, at, line)?;
+        take_line(&mut reader, at, line)?;
     }
     Ok(reader)
 }
@@ -59,7 +78,6 @@ fn read_lines<'a, A: Allocator + Copy>(
 /// Takes the line with this number.
 fn take_line<'a, A: Allocator + Copy>(
     reader: &mut Reader<'a, A>,
-    alloc: A,
     at: u64,
     line: &'a [u8],
 ) -> Result<(), ReadFault>
@@ -67,7 +85,7 @@ fn take_line<'a, A: Allocator + Copy>(
     ensures test { reader.new.test.now ≡ reader.old.test.now }
 {
     match read_line(line) {
-        Ok(says) => reader.take(alloc, at, says),
+        Ok(says) => reader.take(at, says),
         Err(OwnFault::Instances) => Err(ReadFault::Instances { at }),
         Err(OwnFault::Percent) => Err(ReadFault::Percent { at }),
         Err(OwnFault::BadMark) => Err(ReadFault::BadMark { at }),

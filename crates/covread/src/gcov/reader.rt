@@ -1,7 +1,6 @@
 //! What the reader of gcov's text holds between two lines.
 
 ghost use Rattle.std.specs.Prelude.{true, is_some, ◌≡◌, [], ◌++◌, map, MatchResult, OnOk, OnErr};
-ghost use Rattle.covline.specs.Row.{SectData};
 ghost use Rattle.covline.specs.Lawful.{IsLawful};
 ghost use Rattle.covread.specs.declared.fault.ReadFault.TheVariants.{Memory as NoMemory};
 ghost use Rattle.covread.specs.GcovView.{line_data};
@@ -11,7 +10,8 @@ ghost use Rattle.covread.specs.GcovSteps.{func_data, held_data, section_data, em
 use crate::fault::ReadFault;
 use crate::gcov::line::GcovLine;
 use crate::wide::wide;
-use covline::{Bytes, Item, Items, Sect, Sects, Submission};
+use covline::BranchPoint;
+use covpacked::{PackedSects, PackedSubmission};
 use std::alloc::Allocator;
 
 /// A function whose source line hasn't come yet.
@@ -34,11 +34,9 @@ pub struct BranchAnchor {
 
 /// The section of the last path.
 #[derive(Drop)]
-pub struct OpenSection<A: Allocator> {
+pub struct OpenSection<'a> {
     /// Its path.
-    pub file: Bytes<A>,
-    /// Its items so far.
-    pub items: Items<A>,
+    pub file: &'a [u8],
     /// Its last source line with that line's last block, if it has a source line.
     pub anchor: Option<BranchAnchor>,
 }
@@ -51,9 +49,9 @@ pub struct Reader<'a, A: Allocator> {
     /// The functions that wait for the next source line.
     pub waiting: Vec<Function<'a>, A>,
     /// The open section, if there is one.
-    pub section: Option<OpenSection<A>>,
-    /// The sections that ended.
-    pub sects: Sects<A>,
+    pub section: Option<OpenSection<'a>>,
+    /// The sections that ended, and the items of the open one.
+    pub sects: PackedSects<A>,
 }
 
 impl<'a, A: Allocator + Copy> Reader<'a, A> {
@@ -66,18 +64,18 @@ impl<'a, A: Allocator + Copy> Reader<'a, A> {
             test,
             waiting: Vec::new(alloc),
             section: None,
-            sects: Sects::new(alloc),
+            sects: PackedSects::new(alloc),
         }
     }
 
     /// Takes what the line with this number says.
-    pub fn take(&mut self, alloc: A, at: u64, line: GcovLine<'a>) -> Result<(), ReadFault>
+    pub fn take(&mut self, at: u64, line: GcovLine<'a>) -> Result<(), ReadFault>
         ensures steps { StepsTo result (held_data self.new) (grows (held_data self.old) (line_data line.entry)) (step self.old.test.now at (held_data self.old) (line_data line.entry)) }
         ensures test { self.new.test.now ≡ self.old.test.now }
     {
         match line {
-            GcovLine::Path(path) => self.begin(alloc, at, path),
-            GcovLine::Source { line, count } => self.source(alloc, at, line, count),
+            GcovLine::Path(path) => self.begin(at, path),
+            GcovLine::Source { line, count } => self.source(at, line, count),
             GcovLine::Function { name, count } => self.wait(Function {
                 name,
                 count: u128::from(count),
@@ -92,7 +90,7 @@ impl<'a, A: Allocator + Copy> Reader<'a, A> {
     }
 
     /// Begins a source file. Functions that still wait for their line are lost, which is a fault.
-    fn begin(&mut self, alloc: A, at: u64, path: &[u8]) -> Result<(), ReadFault>
+    fn begin(&mut self, at: u64, path: &'a [u8]) -> Result<(), ReadFault>
         ensures steps { StepsTo result (held_data self.new) true (step_path self.old.test.now at (held_data self.old) path.now) }
         ensures test { self.new.test.now ≡ self.old.test.now }
     {
@@ -102,43 +100,36 @@ impl<'a, A: Allocator + Copy> Reader<'a, A> {
         if !self.waiting.is_empty() {
             return Err(ReadFault::LostFunction);
         }
-        self.close(alloc)?;
+        self.close()?;
+        self.sects.forget();
         self.section = Some(OpenSection {
-            file: Bytes::of(alloc, path)?,
-            items: Items::new(alloc),
+            file: path,
             anchor: None,
         });
         Ok(())
     }
 
     /// Ends the open section, if there is one.
-    fn close(&mut self, alloc: A) -> Result<(), ReadFault>
-        ensures ok { OnOk result (held_data self.new ≡ record { waiting = map func_data self.old.waiting.items; section = None; sects = self.old.sects ++ closed self.old.test.now (held_data self.old).section }) }
+    fn close(&mut self) -> Result<(), ReadFault>
+        ensures ok { OnOk result (held_data self.new ≡ record { waiting = map func_data self.old.waiting.items; section = None; sects = self.old.sects.sects ++ closed self.old.test.now (held_data self.old).section }) }
         ensures err { OnErr result (result ≡ Err NoMemory) }
         ensures late { OnErr result (is_some (held_data self.old).section ≡ true) }
         ensures test { self.new.test.now ≡ self.old.test.now }
     {
         if let Some(section) = self.section.take() {
-            let OpenSection {
-                file,
-                mut items,
-                ..
-            } = section;
-            items.shrink();
-            let test = Bytes::of(alloc, self.test)?;
-            self.sects.push(Sect { test, file, items })?;
+            self.sects.close(self.test, section.file)?;
         }
         Ok(())
     }
 
     /// Takes a source line: the functions that wait begin at it.
-    fn source(&mut self, alloc: A, at: u64, line: u64, count: Option<u64>) -> Result<(), ReadFault>
+    fn source(&mut self, at: u64, line: u64, count: Option<u64>) -> Result<(), ReadFault>
         ensures steps { StepsTo result (held_data self.new) (is_some (held_data self.old).section) (step_source at (held_data self.old).section (held_data self.old) line count) }
         ensures test { self.new.test.now ≡ self.old.test.now }
     {
         if let Some(section) = &mut self.section {
-            push_functions(alloc, &mut section.items, &self.waiting, line)?;
-            push_line(&mut section.items, line, count)?;
+            push_functions(&mut self.sects, &self.waiting, line)?;
+            push_line(&mut self.sects, line, count)?;
             section.anchor = Some(BranchAnchor { line, block: 0 });
             self.waiting.clear();
             return Ok(());
@@ -160,14 +151,14 @@ impl<'a, A: Allocator + Copy> Reader<'a, A> {
         ensures steps { StepsTo result (held_data self.new) (is_some (held_data self.old).section) (step_branch at (held_data self.old).section (held_data self.old) branch taken) }
         ensures test { self.new.test.now ≡ self.old.test.now }
     {
-        if let Some(section) = &mut self.section {
+        if let Some(section) = &self.section {
             if let Some(BranchAnchor { line, block }) = section.anchor {
-                section.items.push(Item::Branch {
+                let point = BranchPoint {
                     line,
                     block,
                     branch,
-                    taken: wide(taken),
-                })?;
+                };
+                self.sects.push_branch(point, wide(taken))?;
                 return Ok(());
             }
         }
@@ -188,55 +179,47 @@ impl<'a, A: Allocator + Copy> Reader<'a, A> {
     }
 
     /// Returns the submission, after the last line, or the fault that functions still wait for a source line.
-    pub fn finish(mut self, alloc: A) -> Result<Submission<A>, ReadFault>
+    pub fn finish(mut self) -> Result<PackedSubmission<A>, ReadFault>
         requires { IsLawful (submission_held self.test.now (held_data self)) }
         ensures { EndsTo result (is_some (held_data self.entry).section) (ends self.entry.test.now (held_data self.entry)) }
     {
         if !self.waiting.is_empty() {
             return Err(ReadFault::LostFunction); // No source line comes any more.
         }
-        self.close(alloc)?;
-        let Reader { mut sects, .. } = self;
-        sects.shrink();
-        Ok(Submission::of_lawful(sects, 0))
+        self.close()?;
+        let Reader { sects, .. } = self;
+        Ok(PackedSubmission::of_lawful(sects, 0))
     }
 }
 
-/// Appends the functions that begin at this line.
-fn push_functions<A: Allocator + Copy>(
-    alloc: A,
-    items: &mut Items<A>,
+/// Appends the functions that begin at this line to the open section.
+fn push_functions<A: Allocator>(
+    sects: &mut PackedSects<A>,
     functions: &[Function<'_>],
     line: u64,
 ) -> Result<(), ReadFault>
-    ensures ok { OnOk result (items.new ≡ items.old ++ map (func_item line) (map func_data functions.now)) }
+    ensures sects { sects.new.sects ≡ sects.old.sects }
+    ensures ok { OnOk result (sects.new.items ≡ sects.old.items ++ map (func_item line) (map func_data functions.now)) }
     ensures err { OnErr result (result ≡ Err NoMemory) }
 {
     for function in functions {
-        items.push(Item::Func {
-            name: Bytes::of(alloc, function.name)?,
-            line,
-            count: function.count,
-        })?;
+        sects.push_function(function.name, line, function.count)?;
     }
     Ok(())
 }
 
-/// Appends the count of a line, if it has code.
+/// Appends the count of a line to the open section, if the line has code.
 fn push_line<A: Allocator>(
-    items: &mut Items<A>,
+    sects: &mut PackedSects<A>,
     line: u64,
     count: Option<u64>,
 ) -> Result<(), ReadFault>
-    ensures ok { OnOk result (items.new ≡ items.old ++ line_item line count) }
+    ensures sects { sects.new.sects ≡ sects.old.sects }
+    ensures ok { OnOk result (sects.new.items ≡ sects.old.items ++ line_item line count) }
     ensures err { OnErr result (result ≡ Err NoMemory) }
 {
     if let Some(count) = count {
-        items.push(Item::Line {
-            line,
-            count: u128::from(count),
-            checksum: None,
-        })?;
+        sects.push_line(line, u128::from(count), None)?;
     }
     Ok(())
 }

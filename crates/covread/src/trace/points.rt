@@ -1,12 +1,14 @@
 //! How many different lines and branches the items of a section count.
 
-ghost use Rattle.std.specs.Prelude.{◌≡◌, ◌<◌, ◌^◌, ◌++◌, List, [], ◌∷◌, true, Some, IfOk, option_map, MatchOption, map, length};
-ghost use Rattle.covline.specs.Row.{ItemData, item_data};
+ghost use Rattle.std.specs.Prelude.{◌≡◌, ◌<◌, ◌^◌, ◌++◌, List, [], ◌∷◌, true, Some, IfOk, option_map, MatchOption, length};
+ghost use Rattle.covline.specs.Row.{ItemData};
 ghost use Rattle.covline.specs.Points.{line_point};
+ghost use Rattle.covpacked.specs.ItemRefs.{item_ref_data};
 ghost use Rattle.covread.specs.declared.trace.points.Hit.{Hit as HitOf};
 ghost use Rattle.covread.specs.TracePoints.{AreTotals, Counts, IsAscent, IsTally, branch_key, goes_on, hits_said};
 
-use covline::{BranchPoint, Item, Memory, Tally};
+use covline::{BranchPoint, Memory, Tally};
+use covpacked::{ItemRef, PackedItems};
 use std::alloc::Allocator;
 
 /// What identifies a line, or a branch, within its section.
@@ -14,14 +16,14 @@ pub trait Point: Ord + Copy + Drop {
     ghost points: { ItemData → List Self };
 
     /// The point that the item counts; `None` for an item of another kind.
-    fn of<A: Allocator>(item: &Item<A>) -> Option<Self>
-        ensures { MatchOption result (points (item_data item.now) ≡ []) (λ p. points (item_data item.now) ≡ p ∷ []) };
+    fn of(item: &ItemRef<'_>) -> Option<Self>
+        ensures { MatchOption result (points (item_ref_data item.now) ≡ []) (λ p. points (item_ref_data item.now) ≡ p ∷ []) };
 }
 
 impl Point for u64 {
     ghost points = { line_point };
 
-    fn of<A: Allocator>(item: &Item<A>) -> Option<u64> {
+    fn of(item: &ItemRef<'_>) -> Option<u64> {
         item.line_point()
     }
 }
@@ -29,7 +31,7 @@ impl Point for u64 {
 impl Point for BranchPoint {
     ghost points = { branch_key };
 
-    fn of<A: Allocator>(item: &Item<A>) -> Option<BranchPoint> {
+    fn of(item: &ItemRef<'_>) -> Option<BranchPoint> {
         item.branch_point()
     }
 }
@@ -114,18 +116,14 @@ impl<P: Point> Ascent<P> {
 }
 
 impl<P: Point> Points<P> {
-    /// Takes the next item. If it counts a point of this kind, the point is added.
-    pub fn take<A: Allocator>(&mut self, item: &Item<A>)
+    /// Takes the next point.
+    pub fn take(&mut self, next: Hit<P>)
         requires { (seen : List (HitOf P)) × Counts P.cmp self.old seen × length seen < 2 ^ 64 }
-        ensures { (items : List ItemData) → Counts P.cmp self.old (hits_said P.points items) → Counts P.cmp self.new (hits_said P.points (items ++ item_data item.now ∷ [])) }
+        ensures { (seen : List (HitOf P)) → Counts P.cmp self.old seen → Counts P.cmp self.new (seen ++ next ∷ []) }
     {
-        let Some(point) = P::of(item) else {
-            return;
-        };
         if let Points::Ascending(ascent) = self {
-            if ascent.goes_on_to(point) {
-                let is_hit = item.is_hit();
-                ascent.add(Hit { point, is_hit });
+            if ascent.goes_on_to(next.point) {
+                ascent.add(next);
                 return;
             }
         }
@@ -138,11 +136,11 @@ impl<P: Point> Points<P> {
 pub fn totals_of<P: Point, A: Allocator + Copy>(
     alloc: A,
     points: Points<P>,
-    items: &[Item<A>],
+    items: &PackedItems<'_>,
 ) -> Result<Tally, Memory>
-    requires counts { Counts P.cmp points (hits_said P.points (map item_data items.now)) }
-    requires fits { length (hits_said P.points (map item_data items.now)) < 2 ^ 64 }
-    ensures { IfOk result (λ own. AreTotals P.cmp P.points own (map item_data items.now)) }
+    requires counts { Counts P.cmp points (hits_said P.points items.now) }
+    requires fits { length (hits_said P.points items.now) < 2 ^ 64 }
+    ensures { IfOk result (λ own. AreTotals P.cmp P.points own items.now) }
 {
     match points {
         Points::Ascending(ascent) => Ok(ascent.tally()),
@@ -153,13 +151,13 @@ pub fn totals_of<P: Point, A: Allocator + Copy>(
 /// The points that the items count: one for each item of this kind, in the order of the items.
 fn hits_of<P: Point, A: Allocator + Copy>(
     alloc: A,
-    items: &[Item<A>],
+    items: &PackedItems<'_>,
 ) -> Result<Vec<Hit<P>, A>, Memory>
-    ensures { IfOk result (λ hits. hits.items ≡ hits_said P.points (map item_data items.now)) }
+    ensures { IfOk result (λ hits. hits.items ≡ hits_said P.points items.now) }
 {
     let mut hits = Vec::new(alloc);
-    for item in items {
-        match P::of(item) {
+    for item in items.copy() {
+        match P::of(&item) {
             Some(point) => hits.push(Hit {
                 point,
                 is_hit: item.is_hit(),

@@ -15,11 +15,28 @@ use covline::{
     BranchPoint, Submission, each_line_has_one_meaning, first_line, lines_are_the_text, read_line,
     try_branch_line, try_line_count,
 };
+use covpacked::{PackedSubmission, unpack};
 use std::alloc::Allocator;
 
-/// Reads a tracefile (geninfo(1), section FILES). Returns the submission that its lines make, or the text's first
-/// fault.
+/// Reads a tracefile (geninfo(1), section FILES). Returns the submission that its lines make, or the text's first fault.
+/// [`read_trace_packed`] does the same, and takes less memory and time.
 pub fn read_trace<A: Allocator + Copy>(alloc: A, text: &[u8]) -> Result<Submission<A>, ReadFault>
+    // The answer is what the text is read as, or memory ran out.
+    ensures answers { Answers text.now result }
+    // No other answer is possible, unless memory ran out.
+    ensures only { (outcome : Result SubmissionData Fault) → IsOutcome text.now outcome → IsOrMemory result outcome }
+    // Nothing is kept before the first path, so memory can run out only at this path or after it.
+    ensures memory { GrowsLate text.now result }
+{
+    let packed = read_trace_packed(alloc, text)?;
+    Ok(unpack(alloc, &packed)?)
+}
+
+/// Reads a tracefile (geninfo(1), section FILES). Returns the submission that its lines make, packed, or the text's first fault.
+pub fn read_trace_packed<A: Allocator + Copy>(
+    alloc: A,
+    text: &[u8],
+) -> Result<PackedSubmission<A>, ReadFault>
     // The answer is what the text is read as, or memory ran out.
     ensures answers { Answers text.now result }
     // No other answer is possible, unless memory ran out.
@@ -65,10 +82,10 @@ fn take_first<'a, A: Allocator + Copy>(
     requires some { 0 < length text.now }
     requires room { (inside : List LineData) × HasRoom reader.old inside }
     ensures { (line left : List ℕ) × (lines_of text.now ≡ line ∷ lines_of left) × IfOk result (λ rest. rest.now ≡ left)
-        × ((inside : List LineData) → IsOpen reader.old.section inside → TakesLine result (held_data reader.old inside) reader.new line at) }
+        × ((inside : List LineData) → IsOpen reader.old inside → TakesLine result (held_data reader.old inside) reader.new line at) }
 {
     if let Some(first) = try_line_count(text) {
-        take_line_count(reader, alloc, at, first.line, first.count, first.checksum)?;
+        take_line_count(reader, at, first.line, first.count, first.checksum)?;
         return Ok(first.rest);
     }
     if let Some(first) = try_branch_line(text) {
@@ -84,16 +101,15 @@ fn take_first<'a, A: Allocator + Copy>(
 #[inline(always)]
 pub fn take_line_count<A: Allocator + Copy>(
     reader: &mut Reader<'_, A>,
-    alloc: A,
     at: u64,
     line: u64,
     count: u64,
     checksum: Option<&[u8]>,
 ) -> Result<(), ReadFault>
     requires { (inside : List LineData) × HasRoom reader.old inside }
-    ensures { (text : List ℕ) → Spells text (Line line count (option_map (λ c. c.now) checksum.entry)) → (inside : List LineData) → IsOpen reader.old.section inside → TakesLine result (held_data reader.old inside) reader.new text at }
+    ensures { (text : List ℕ) → Spells text (Line line count (option_map (λ c. c.now) checksum.entry)) → (inside : List LineData) → IsOpen reader.old inside → TakesLine result (held_data reader.old inside) reader.new text at }
 {
-    match reader.keep_count(alloc, line, count, checksum) {
+    match reader.keep_count(line, count, checksum) {
         Ok(()) => Ok(()),
         Err(why) => Err(fault_at(why, at)),
     }
@@ -108,7 +124,7 @@ pub fn take_branch<A: Allocator + Copy>(
     taken: Option<u64>,
 ) -> Result<(), ReadFault>
     requires { (inside : List LineData) × HasRoom reader.old inside }
-    ensures { (text : List ℕ) → Spells text (Branch point.line point.block point.branch taken) → (inside : List LineData) → IsOpen reader.old.section inside → TakesLine result (held_data reader.old inside) reader.new text at }
+    ensures { (text : List ℕ) → Spells text (Branch point.line point.block point.branch taken) → (inside : List LineData) → IsOpen reader.old inside → TakesLine result (held_data reader.old inside) reader.new text at }
 {
     match reader.keep_branch(point, taken) {
         Ok(()) => Ok(()),
@@ -124,7 +140,7 @@ fn take_line<'a, A: Allocator + Copy>(
     line: &'a [u8],
 ) -> Result<(), ReadFault>
     requires { (inside : List LineData) × HasRoom reader.old inside }
-    ensures { (inside : List LineData) → IsOpen reader.old.section inside → TakesLine result (held_data reader.old inside) reader.new line.now at }
+    ensures { (inside : List LineData) → IsOpen reader.old inside → TakesLine result (held_data reader.old inside) reader.new line.now at }
 {
     let says = match read_line(line) {
         Ok(says) => says,

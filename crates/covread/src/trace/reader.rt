@@ -8,16 +8,17 @@ ghost use Rattle.covread.specs.TraceSteps.{held_data, empty, IsOpen, HasRoom, St
 use crate::fault::ReadFault;
 use crate::trace::placement_fault::PlacementFault;
 use crate::trace::section::SectionBuilder;
-use crate::trace::settle::{ClosedSection, settle};
+use crate::trace::settle::settle;
 use crate::wide::wide;
-use covline::{BranchPoint, Bytes, Sect, Sects, Submission, TraceLine};
+use covline::{BranchPoint, TraceLine};
+use covpacked::{PackedSects, PackedSubmission};
 use std::alloc::Allocator;
 
 /// A section whose end hasn't come yet.
 #[derive(Drop)]
 pub struct OpenSection<'a, A: Allocator> {
     /// Its path.
-    pub file: Bytes<A>,
+    pub file: &'a [u8],
     /// What its lines gave so far.
     pub builder: SectionBuilder<'a, A>,
 }
@@ -29,8 +30,8 @@ pub struct Reader<'a, A: Allocator> {
     pub test: &'a [u8],
     /// The open section, if there is one.
     pub section: Option<OpenSection<'a, A>>,
-    /// The sections that ended.
-    pub sects: Sects<A>,
+    /// The sections that ended, and the items of the open one.
+    pub sects: PackedSects<A>,
     /// The number of odd lines in these.
     pub odd: u64,
 }
@@ -39,12 +40,12 @@ impl<'a, A: Allocator + Copy> Reader<'a, A> {
     /// The reader before the first line, with an empty test name.
     pub fn new(alloc: A) -> Reader<'a, A>
         ensures held { held_data result [] ≡ empty }
-        ensures closed { IsOpen result.section [] }
+        ensures closed { IsOpen result [] }
     {
         Reader {
             test: &[],
             section: None,
-            sects: Sects::new(alloc),
+            sects: PackedSects::new(alloc),
             odd: 0,
         }
     }
@@ -52,7 +53,7 @@ impl<'a, A: Allocator + Copy> Reader<'a, A> {
     /// Takes what one line says.
     pub fn take(&mut self, alloc: A, line: TraceLine<'a>) -> Result<(), PlacementFault>
         requires { (inside : List LineData) × HasRoom self.old inside }
-        ensures { (inside : List LineData) → IsOpen self.old.section inside → Steps result (held_data self.old inside) self.new (line_data line.entry) }
+        ensures { (inside : List LineData) → IsOpen self.old inside → Steps result (held_data self.old inside) self.new (line_data line.entry) }
     {
         match line {
             TraceLine::Test(name) => self.name_test(name),
@@ -61,7 +62,7 @@ impl<'a, A: Allocator + Copy> Reader<'a, A> {
             | TraceLine::FuncCount { .. }
             | TraceLine::Branch { .. }
             | TraceLine::Line { .. }
-            | TraceLine::Total { .. } => self.keep(alloc, line),
+            | TraceLine::Total { .. } => self.keep(line),
             TraceLine::End => self.end(alloc),
             TraceLine::Skip => Ok(()),
         }
@@ -69,7 +70,7 @@ impl<'a, A: Allocator + Copy> Reader<'a, A> {
 
     /// Takes the test name of the sections that follow.
     fn name_test(&mut self, name: &'a [u8]) -> Result<(), PlacementFault>
-        ensures { (inside : List LineData) → IsOpen self.old.section inside → Steps result (held_data self.old inside) self.new (Test name.now) }
+        ensures { (inside : List LineData) → IsOpen self.old inside → Steps result (held_data self.old inside) self.new (Test name.now) }
     {
         if self.section.is_some() {
             return Err(PlacementFault::Inside);
@@ -79,27 +80,28 @@ impl<'a, A: Allocator + Copy> Reader<'a, A> {
     }
 
     /// Begins a section.
-    fn begin(&mut self, alloc: A, path: &[u8]) -> Result<(), PlacementFault>
-        ensures { (inside : List LineData) → IsOpen self.old.section inside → Steps result (held_data self.old inside) self.new (Path path.now) }
+    fn begin(&mut self, alloc: A, path: &'a [u8]) -> Result<(), PlacementFault>
+        ensures { (inside : List LineData) → IsOpen self.old inside → Steps result (held_data self.old inside) self.new (Path path.now) }
     {
         if self.section.is_some() {
             return Err(PlacementFault::Inside);
         }
+        self.sects.forget();
         self.section = Some(OpenSection {
-            file: Bytes::of(alloc, path)?,
+            file: path,
             builder: SectionBuilder::new(alloc),
         });
         Ok(())
     }
 
     /// Takes a line of the open section.
-    fn keep(&mut self, alloc: A, line: TraceLine<'a>) -> Result<(), PlacementFault>
+    fn keep(&mut self, line: TraceLine<'a>) -> Result<(), PlacementFault>
         requires room { (inside : List LineData) × HasRoom self.old inside }
         requires kept { IsKept (line_data line) }
-        ensures { (inside : List LineData) → IsOpen self.old.section inside → Steps result (held_data self.old inside) self.new (line_data line.entry) }
+        ensures { (inside : List LineData) → IsOpen self.old inside → Steps result (held_data self.old inside) self.new (line_data line.entry) }
     {
         if let Some(section) = &mut self.section {
-            section.builder.take(alloc, line)?;
+            section.builder.take(&mut self.sects, line)?;
             return Ok(());
         }
         Err(PlacementFault::Outside)
@@ -109,18 +111,17 @@ impl<'a, A: Allocator + Copy> Reader<'a, A> {
     #[inline(always)]
     pub fn keep_count(
         &mut self,
-        alloc: A,
         line: u64,
         count: u64,
         checksum: Option<&[u8]>,
     ) -> Result<(), PlacementFault>
         requires { (inside : List LineData) × HasRoom self.old inside }
-        ensures { (inside : List LineData) → IsOpen self.old.section inside → Steps result (held_data self.old inside) self.new (Line line count (option_map (λ c. c.now) checksum.entry)) }
+        ensures { (inside : List LineData) → IsOpen self.old inside → Steps result (held_data self.old inside) self.new (Line line count (option_map (λ c. c.now) checksum.entry)) }
     {
         if let Some(section) = &mut self.section {
             section
                 .builder
-                .take_line(alloc, line, u128::from(count), checksum)?;
+                .take_line(&mut self.sects, line, u128::from(count), checksum)?;
             return Ok(());
         }
         Err(PlacementFault::Outside)
@@ -135,10 +136,12 @@ impl<'a, A: Allocator + Copy> Reader<'a, A> {
         taken: Option<u64>,
     ) -> Result<(), PlacementFault>
         requires { (inside : List LineData) × HasRoom self.old inside }
-        ensures { (inside : List LineData) → IsOpen self.old.section inside → Steps result (held_data self.old inside) self.new (Branch point.line point.block point.branch taken) }
+        ensures { (inside : List LineData) → IsOpen self.old inside → Steps result (held_data self.old inside) self.new (Branch point.line point.block point.branch taken) }
     {
         if let Some(section) = &mut self.section {
-            section.builder.take_branch(point, wide(taken))?;
+            section
+                .builder
+                .take_branch(&mut self.sects, point, wide(taken))?;
             return Ok(());
         }
         Err(PlacementFault::Outside)
@@ -147,35 +150,32 @@ impl<'a, A: Allocator + Copy> Reader<'a, A> {
     /// Ends the open section: it is settled, and kept with the test's name.
     fn end(&mut self, alloc: A) -> Result<(), PlacementFault>
         requires { (inside : List LineData) × HasRoom self.old inside }
-        ensures { (inside : List LineData) → IsOpen self.old.section inside → Steps result (held_data self.old inside) self.new End }
+        ensures { (inside : List LineData) → IsOpen self.old inside → Steps result (held_data self.old inside) self.new End }
     {
         let Some(section) = self.section.take() else {
             return Err(PlacementFault::Outside);
         };
         let OpenSection { file, builder } = section;
-        let ClosedSection { items, odd } = settle(alloc, builder)?;
+        let odd = settle(alloc, &mut self.sects, builder)?;
         self.odd += odd;
-        let test = Bytes::of(alloc, self.test)?;
-        self.sects.push(Sect { test, file, items })?;
+        self.sects.close(self.test, file)?;
         Ok(())
     }
 
-    /// Returns the submission, after the last line, or the fault that a section is still open. Room that the list of sections
-    /// doesn't use is freed.
-    pub fn finish(self) -> Result<Submission<A>, ReadFault>
+    /// Returns the submission, after the last line, or the fault that a section is still open.
+    pub fn finish(self) -> Result<PackedSubmission<A>, ReadFault>
         requires { EndsLawfully (held_data self []) }
         ensures { result ≡ ends (held_data self.entry []) }
     {
         let Reader {
             section,
-            mut sects,
+            sects,
             odd,
             ..
         } = self;
         if section.is_some() {
             return Err(ReadFault::OpenEnd);
         }
-        sects.shrink();
-        Ok(Submission::of_lawful(sects, odd))
+        Ok(PackedSubmission::of_lawful(sects, odd))
     }
 }

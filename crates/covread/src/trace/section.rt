@@ -1,13 +1,14 @@
 //! What the lines of an open section give, one after another.
 
-ghost use Rattle.std.specs.Prelude.{◌≡◌, ◌+◌, ◌<◌, ◌^◌, ◌++◌, ◌∷◌, [], List, IfOk, OnOk, length, option_map};
-ghost use Rattle.covline.specs.Row.{FuncItem, item_data};
-ghost use Rattle.covline.specs.Spells.{LineData};
+ghost use Rattle.std.specs.Prelude.{◌≡◌, ℕ};
+ghost use Rattle.covline.specs.Points.{is_hit};
+ghost use Rattle.covline.specs.Row.{BranchItem};
 
 use crate::trace::functions::{Functions, take_start};
-use crate::trace::points::{Ascent, Points};
+use crate::trace::points::{Ascent, Hit, Points};
 use crate::trace::tally::StatedTotal;
-use covline::{BranchPoint, Bytes, Item, Items, Memory, TraceLine};
+use covline::{BranchPoint, Memory, TraceLine};
+use covpacked::PackedSects;
 use std::alloc::Allocator;
 use std::collections::BTreeMap;
 
@@ -22,12 +23,10 @@ pub struct PendingCount<'a> {
     pub is_hit: bool,
 }
 
-/// What the lines of an open section gave so far. Counts of functions, and totals, depend on later lines, so they wait
-/// for the section's end.
+/// What the lines of an open section gave so far, beside its items, which packed sections hold. Those of functions' counts have the
+/// start line 0 there. Counts of functions, and totals, depend on later lines, so they wait for the section's end.
 #[derive(Drop)]
 pub struct SectionBuilder<'a, A: Allocator> {
-    /// The items, in the order of their lines. Those of functions' counts have the start line 0.
-    pub items: Items<A>,
     /// The functions with a start line.
     pub functions: Functions<'a, A>,
     /// The counts of functions.
@@ -41,18 +40,17 @@ pub struct SectionBuilder<'a, A: Allocator> {
 }
 
 impl<'a, A: Allocator + Copy> SectionBuilder<'a, A> {
-    ghost use Rattle.std.specs.Prelude.{◌≡◌, ◌+◌, ◌<◌, ◌^◌, ◌++◌, ◌∷◌, [], List, None, Some, OnOk, length, option_map};
-    ghost use Rattle.covline.specs.Row.{BranchItem, item_data};
+    ghost use Rattle.std.specs.Prelude.{◌≡◌, ◌+◌, ◌<◌, ◌^◌, ◌++◌, ◌∷◌, [], List, OnOk, length, option_map};
+    ghost use Rattle.covline.specs.Row.{ItemData};
     ghost use Rattle.covline.specs.Spells.{LineData, FuncStart, FuncCount, Branch, Line, line_data};
     ghost use Rattle.covread.specs.TraceSection.{IsBuiltOf, IsKept};
     ghost use Rattle.covread.specs.TraceTally.{stated_record};
 
     /// The builder before the section's first line.
     pub fn new(alloc: A) -> SectionBuilder<'a, A>
-        ensures { IsBuiltOf result [] }
+        ensures { IsBuiltOf result [] [] }
     {
         SectionBuilder {
-            items: Items::new(alloc),
             functions: BTreeMap::new(alloc),
             waiting: Vec::new(alloc),
             lines: Points::Ascending(Ascent::new()),
@@ -62,20 +60,22 @@ impl<'a, A: Allocator + Copy> SectionBuilder<'a, A> {
     }
 
     /// Takes what one line says. It has to be a record that an open section keeps.
-    pub fn take(&mut self, alloc: A, line: TraceLine<'a>) -> Result<(), Memory>
-        requires room { (inside : List LineData) × IsBuiltOf self.old inside × length inside + 1 < 2 ^ 64 }
+    pub fn take(&mut self, sects: &mut PackedSects<A>, line: TraceLine<'a>) -> Result<(), Memory>
+        requires room { (inside : List LineData) × IsBuiltOf self.old sects.old.items inside × length inside + 1 < 2 ^ 64 }
         requires kept { IsKept (line_data line) }
-        ensures { OnOk result ((inside : List LineData) → IsBuiltOf self.old inside → IsBuiltOf self.new (inside ++ line_data line.entry ∷ [])) }
+        ensures sects { sects.new.sects ≡ sects.old.sects }
+        ensures built { OnOk result ((inside : List LineData) → IsBuiltOf self.old sects.old.items inside → IsBuiltOf self.new sects.new.items (inside ++ line_data line.entry ∷ [])) }
     {
         match line {
-            TraceLine::FuncStart { line, name } => self.take_start(alloc, line, name),
-            TraceLine::FuncCount { count, name } => self.take_function_count(alloc, count, name),
+            TraceLine::FuncStart { line, name } => self.take_start(sects, line, name),
+            TraceLine::FuncCount { count, name } => self.take_function_count(sects, count, name),
             TraceLine::Branch {
                 line,
                 block,
                 branch,
                 taken,
             } => self.take_branch(
+                sects,
                 BranchPoint {
                     line,
                     block,
@@ -87,7 +87,7 @@ impl<'a, A: Allocator + Copy> SectionBuilder<'a, A> {
                 line,
                 count,
                 checksum,
-            } => self.take_line(alloc, line, count, checksum),
+            } => self.take_line(sects, line, count, checksum),
             TraceLine::Total { kind, value } => self.take_total(StatedTotal { kind, value }),
             TraceLine::Test(_) | TraceLine::Path(_) | TraceLine::End | TraceLine::Skip => {
                 unreachable!()
@@ -96,109 +96,95 @@ impl<'a, A: Allocator + Copy> SectionBuilder<'a, A> {
     }
 
     /// Takes a start line of a function.
-    fn take_start(&mut self, alloc: A, line: u64, name: &'a [u8]) -> Result<(), Memory>
-        ensures { OnOk result ((inside : List LineData) → IsBuiltOf self.old inside → IsBuiltOf self.new (inside ++ FuncStart line name.now ∷ [])) }
+    fn take_start(
+        &mut self,
+        sects: &mut PackedSects<A>,
+        line: u64,
+        name: &'a [u8],
+    ) -> Result<(), Memory>
+        ensures sects { sects.new.sects ≡ sects.old.sects }
+        ensures built { OnOk result ((inside : List LineData) → IsBuiltOf self.old sects.old.items inside → IsBuiltOf self.new sects.new.items (inside ++ FuncStart line name.now ∷ [])) }
     {
         take_start(&mut self.functions, name, line)?;
-        self.items.push(func_item(alloc, name, line, 0)?)?;
-        Ok(())
+        sects.push_function(name, line, 0)
     }
 
     /// Takes a count of a function.
-    fn take_function_count(&mut self, alloc: A, count: u128, name: &'a [u8]) -> Result<(), Memory>
-        ensures { OnOk result ((inside : List LineData) → IsBuiltOf self.old inside → IsBuiltOf self.new (inside ++ FuncCount count name.now ∷ [])) }
+    fn take_function_count(
+        &mut self,
+        sects: &mut PackedSects<A>,
+        count: u128,
+        name: &'a [u8],
+    ) -> Result<(), Memory>
+        ensures sects { sects.new.sects ≡ sects.old.sects }
+        ensures built { OnOk result ((inside : List LineData) → IsBuiltOf self.old sects.old.items inside → IsBuiltOf self.new sects.new.items (inside ++ FuncCount count name.now ∷ [])) }
     {
         self.waiting.push(PendingCount {
-            at: self.items.len(),
+            at: sects.open_len(),
             name,
             is_hit: count > 0,
         })?;
-        self.items.push(func_item(alloc, name, 0, count)?)?;
-        Ok(())
+        sects.push_function(name, 0, count)
     }
 
-    /// Takes how often a branch was taken. Only the list of items may allocate.
+    /// Takes how often a branch was taken. Only the packed sections may allocate.
     #[inline(always)]
-    pub fn take_branch(&mut self, branch: BranchPoint, taken: Option<u128>) -> Result<(), Memory>
-        requires { (inside : List LineData) × IsBuiltOf self.old inside × length inside + 1 < 2 ^ 64 }
-        ensures { OnOk result ((inside : List LineData) → IsBuiltOf self.old inside → IsBuiltOf self.new (inside ++ Branch branch.line branch.block branch.branch taken ∷ [])) }
+    pub fn take_branch(
+        &mut self,
+        sects: &mut PackedSects<A>,
+        branch: BranchPoint,
+        taken: Option<u128>,
+    ) -> Result<(), Memory>
+        requires { (inside : List LineData) × IsBuiltOf self.old sects.old.items inside × length inside + 1 < 2 ^ 64 }
+        ensures sects { sects.new.sects ≡ sects.old.sects }
+        ensures built { OnOk result ((inside : List LineData) → IsBuiltOf self.old sects.old.items inside → IsBuiltOf self.new sects.new.items (inside ++ Branch branch.line branch.block branch.branch taken ∷ [])) }
     {
-        let item = Item::Branch {
-            line: branch.line,
-            block: branch.block,
-            branch: branch.branch,
-            taken,
-        };
-        self.branches.take(&item);
-        self.items.push(item)?;
+        sects.push_branch(branch, taken)?;
+        self.branches.take(Hit {
+            point: branch,
+            is_hit: is_above(taken),
+        });
         Ok(())
     }
 
-    /// Takes the execution count of a line that has no checksum. Only the list of items may allocate.
-    #[inline(always)]
-    fn take_plain(&mut self, line: u64, count: u128) -> Result<(), Memory>
-        requires { (inside : List LineData) × IsBuiltOf self.old inside × length inside + 1 < 2 ^ 64 }
-        ensures { OnOk result ((inside : List LineData) → IsBuiltOf self.old inside → IsBuiltOf self.new (inside ++ Line line count None ∷ [])) }
-    {
-        let item = Item::Line {
-            line,
-            count,
-            checksum: None,
-        };
-        self.lines.take(&item);
-        self.items.push(item)?;
-        Ok(())
-    }
-
-    /// Takes the execution count of a line.
+    /// Takes the execution count of a line. Only the packed sections may allocate.
     #[inline(always)]
     pub fn take_line(
         &mut self,
-        alloc: A,
+        sects: &mut PackedSects<A>,
         line: u64,
         count: u128,
         checksum: Option<&[u8]>,
     ) -> Result<(), Memory>
-        requires { (inside : List LineData) × IsBuiltOf self.old inside × length inside + 1 < 2 ^ 64 }
-        ensures { OnOk result ((inside : List LineData) → IsBuiltOf self.old inside → IsBuiltOf self.new (inside ++ Line line count (option_map (λ c. c.now) checksum.entry) ∷ [])) }
+        requires { (inside : List LineData) × IsBuiltOf self.old sects.old.items inside × length inside + 1 < 2 ^ 64 }
+        ensures sects { sects.new.sects ≡ sects.old.sects }
+        ensures built { OnOk result ((inside : List LineData) → IsBuiltOf self.old sects.old.items inside → IsBuiltOf self.new sects.new.items (inside ++ Line line count (option_map (λ c. c.now) checksum.entry) ∷ [])) }
     {
-        match checksum {
-            Some(text) => self.take_checked(line, count, Bytes::of(alloc, text)?),
-            None => self.take_plain(line, count),
-        }
-    }
-
-    /// Takes the execution count of a line that has a checksum.
-    fn take_checked(&mut self, line: u64, count: u128, checksum: Bytes<A>) -> Result<(), Memory>
-        requires { (inside : List LineData) × IsBuiltOf self.old inside × length inside + 1 < 2 ^ 64 }
-        ensures { OnOk result ((inside : List LineData) → IsBuiltOf self.old inside → IsBuiltOf self.new (inside ++ Line line count (Some checksum) ∷ [])) }
-    {
-        let item = Item::Line {
-            line,
-            count,
-            checksum: Some(checksum),
-        };
-        self.lines.take(&item);
-        self.items.push(item)?;
+        sects.push_line(line, count, checksum)?;
+        let is_hit = count > 0;
+        self.lines.take(Hit {
+            point: line,
+            is_hit,
+        });
         Ok(())
     }
 
     /// Takes a total that a line states.
     fn take_total(&mut self, stated: StatedTotal) -> Result<(), Memory>
-        ensures { OnOk result ((inside : List LineData) → IsBuiltOf self.old inside → IsBuiltOf self.new (inside ++ stated_record stated ∷ [])) }
+        ensures { OnOk result ((items : List ItemData) (inside : List LineData) → IsBuiltOf self.old items inside → IsBuiltOf self.new items (inside ++ stated_record stated ∷ [])) }
     {
         self.totals.push(stated)?;
         Ok(())
     }
 }
 
-/// The item of a function, with its own copy of the name.
-fn func_item<A: Allocator>(alloc: A, name: &[u8], line: u64, count: u128) -> Result<Item<A>, Memory>
-    ensures { IfOk result (λ item. item_data item ≡ FuncItem name.now line count) }
+/// Whether a branch was taken.
+#[inline(always)]
+fn is_above(taken: Option<u128>) -> bool
+    ensures { (line block branch : ℕ) → result ≡ is_hit (BranchItem line block branch taken) }
 {
-    Ok(Item::Func {
-        name: Bytes::of(alloc, name)?,
-        line,
-        count,
-    })
+    match taken {
+        Some(count) => count > 0,
+        None => false,
+    }
 }

@@ -2,13 +2,13 @@
 
 ghost use Rattle.std.specs.Prelude.{◌≡◌, ◌<◌, ◌^◌, List, true, IfOk, count_by, length, map};
 ghost use Rattle.std.specs.List.{list_any};
-ghost use Rattle.covline.specs.Row.{item_data};
 ghost use Rattle.covline.specs.Spells.{LineData};
 ghost use Rattle.covread.specs.TracePoints.{AreTotals, Counts, hits_said};
 ghost use Rattle.covread.specs.TraceTally.{AreFew, HasTotals, differs, has, is_other, own_value, stated_record, states};
 
 use crate::trace::points::{Point, Points, totals_of};
-use covline::{BranchPoint, Item, Memory, Tally, TotalKind};
+use covline::{BranchPoint, Memory, Tally, TotalKind};
+use covpacked::PackedItems;
 use std::alloc::Allocator;
 
 /// A total that a line states.
@@ -57,11 +57,11 @@ pub fn odd_totals<A: Allocator + Copy>(
     alloc: A,
     totals: &[StatedTotal],
     has: SectionPoints,
-    items: &[Item<A>],
+    items: &PackedItems<'_>,
 ) -> Result<u64, Memory>
-    requires totals { (inside : List LineData) × HasTotals totals.now has (map item_data items.now) inside }
-    requires few { AreFew (map item_data items.now) }
-    ensures { IfOk result (λ odd. (inside : List LineData) → HasTotals totals.now has (map item_data items.now) inside → odd ≡ count_by (is_other inside) inside) }
+    requires totals { (inside : List LineData) × HasTotals totals.now has items.now inside }
+    requires few { AreFew items.now }
+    ensures { IfOk result (λ odd. (inside : List LineData) → HasTotals totals.now has items.now inside → odd ≡ count_by (is_other inside) inside) }
 {
     let own = OwnTotals {
         functions: has.functions,
@@ -77,11 +77,11 @@ fn stated_totals<P: Point, A: Allocator + Copy>(
     totals: &[StatedTotal],
     sort: PointKind,
     points: Points<P>,
-    items: &[Item<A>],
+    items: &PackedItems<'_>,
 ) -> Result<Tally, Memory>
-    requires counts { Counts P.cmp points (hits_said P.points (map item_data items.now)) }
-    requires fits { length (hits_said P.points (map item_data items.now)) < 2 ^ 64 }
-    ensures { IfOk result (λ own. list_any (states sort) (map stated_record totals.now) ≡ true → AreTotals P.cmp P.points own (map item_data items.now)) }
+    requires counts { Counts P.cmp points (hits_said P.points items.now) }
+    requires fits { length (hits_said P.points items.now) < 2 ^ 64 }
+    ensures { IfOk result (λ own. list_any (states sort) (map stated_record totals.now) ≡ true → AreTotals P.cmp P.points own items.now) }
 {
     if any_states(totals, sort) {
         totals_of::<P, A>(alloc, points, items)

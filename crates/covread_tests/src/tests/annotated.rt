@@ -1,6 +1,6 @@
 //! The reader of gcov's annotated source: what it returns, item by item, and what no session hands it.
 
-use super::wrappers::annotated;
+use super::wrappers::{annotated, annotated_packed, is_packed, read};
 use super::{check_bytes, push_line};
 use std::alloc::Global;
 use std::process::Abort;
@@ -19,6 +19,23 @@ fn counted(alloc: Global, test: &[u8], text: &[u8]) -> Result<String, Fail> {
         }
         Err(fault) => format!(in alloc; "{fault}")?,
     })
+}
+
+/// A packed submission says the same as a tracefile of the same items.
+#[test]
+fn packed(rt: HostRuntime) -> Result<(), Fail> {
+    let text = b"        -:    0:Source:tmp.c
+        3:    3:  if (x)
+        3:    3-block  2
+branch  0 taken 2 (fallthrough)
+branch  1 never executed
+    #####:    4:  f();
+";
+    let wanted = b"TN:t\nSF:tmp.c\nDA:3,3\nBRDA:3,2,0,2\nBRDA:3,2,1,-\nDA:4,0\nend_of_record\n";
+    let packed = annotated_packed(rt.alloc(), b"t", text)?;
+    assert!(rt; is_packed(&packed, &read(rt.alloc(), wanted)?));
+    assert!(rt; !is_packed(&packed, &annotated(rt.alloc(), b"u", text)?));
+    Ok(())
 }
 
 /// Checks how many sections and items a text gives, or its fault.

@@ -2,7 +2,7 @@
 
 use super::wrappers::{
     append, branch_first, bytes_of, copied_items, copied_sects, copied_submission, copy_of,
-    counted_first, cut_first, put_line, read, submission_of, text_of,
+    counted_first, cut_first, is_packed, put_line, read, read_packed, submission_of, text_of,
 };
 use super::{check_bytes, push_line};
 use covline::{
@@ -482,10 +482,11 @@ fn numbers_of_faults(rt: HostRuntime) {
     );
 }
 
-/// Checks that a text is read as these sections, with no odd line.
+/// Checks that a text is read as these sections, with no odd line, packed and not.
 fn check_read(rt: &(impl Abort + AllocGlobal), text: &[u8], wanted: &[u8]) -> Result<(), Fail> {
     let submission = read(rt.alloc(), text)?;
     assert_eq!(rt; submission.odd(), 0);
+    assert!(rt; is_packed(&read_packed(rt.alloc(), text)?, &submission));
     check_sects(rt, submission.sects(), wanted)
 }
 

@@ -5,7 +5,10 @@ use covcheck::{TextSummary, check_gcov, check_trace, summary_line};
 use covline::{
     BadSubmission, BranchPoint, Bytes, Item, Items, Memory, Sect, Sects, Submission, TraceLine,
 };
-use covread::{ReadFault, fits_no_shape, read_gcov, read_trace};
+use covpacked::PackedSubmission;
+use covread::{
+    ReadFault, fits_no_shape, read_gcov, read_gcov_packed, read_trace, read_trace_packed,
+};
 use std::alloc::Global;
 use std::test::*;
 
@@ -72,6 +75,23 @@ pub(super) fn read(alloc: Global, text: &[u8]) -> Result<Submission, ReadFault> 
 
 pub(super) fn annotated(alloc: Global, test: &[u8], text: &[u8]) -> Result<Submission, ReadFault> {
     read_gcov(alloc, test, text)
+}
+
+pub(super) fn read_packed(alloc: Global, text: &[u8]) -> Result<PackedSubmission, ReadFault> {
+    read_trace_packed(alloc, text)
+}
+
+pub(super) fn annotated_packed(
+    alloc: Global,
+    test: &[u8],
+    text: &[u8],
+) -> Result<PackedSubmission, ReadFault> {
+    read_gcov_packed(alloc, test, text)
+}
+
+/// Whether a packed submission is the same as one that isn't packed.
+pub(super) fn is_packed(packed: &PackedSubmission, given: &Submission) -> bool {
+    packed.is_same_as(given)
 }
 
 /// Appends the record of an item. A function has two: its start line and its count.

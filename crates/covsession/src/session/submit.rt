@@ -21,9 +21,9 @@ use crate::session::input::SessionInput;
 use crate::session::output::Output;
 use crate::session::text::{CollectedText, LineEnd, Text};
 use crate::stream::{Sink, Source};
-use covbook::{Op, SubRef};
-use covline::Submission;
-use covread::{MAX_BYTES, ReadFault, read_gcov, read_trace};
+use covbook::{Op, PackedRef};
+use covpacked::PackedSubmission;
+use covread::{MAX_BYTES, ReadFault, read_gcov_packed, read_trace_packed};
 use std::alloc::Allocator;
 
 /// The length of the longest text whose room is kept for the next text.
@@ -88,13 +88,13 @@ fn read_as<A: Allocator + Copy>(
     alloc: A,
     format: Format<'_>,
     text: &[u8],
-) -> Result<Submission<A>, ReadFault>
+) -> Result<PackedSubmission<A>, ReadFault>
     ensures answers { AnswersAs (format_of format.entry) text.now result }
     ensures only { (outcome : Result SubmissionData Fault) → IsReadAs (format_of format.entry) text.now outcome → IsOrMemory result outcome }
 {
     match format {
-        Format::Tracefile => read_trace(alloc, text),
-        Format::Annotated(test) => read_gcov(alloc, test, text),
+        Format::Tracefile => read_trace_packed(alloc, text),
+        Format::Annotated(test) => read_gcov_packed(alloc, test, text),
     }
 }
 
@@ -102,7 +102,7 @@ fn read_as<A: Allocator + Copy>(
 fn submit<O: Sink, A: Allocator + Copy>(
     alloc: A,
     book: &mut SessionBook<A>,
-    read: Result<Submission<A>, ReadFault>,
+    read: Result<PackedSubmission<A>, ReadFault>,
     output: &mut Output<'_, O, A>,
 ) -> Result<(), SessionFault>
     requires { output.old.failed_writes < 2 ^ 63 }
@@ -115,7 +115,7 @@ fn submit<O: Sink, A: Allocator + Copy>(
 {
     match read {
         Ok(submission) => {
-            let op = Op::Submit(SubRef::of(alloc, submission)?);
+            let op = Op::SubmitPacked(PackedRef::of(alloc, submission)?);
             step(alloc, book, &op, output)
         }
         Err(fault) => {

@@ -2,9 +2,9 @@
 //! their lines. In that order, points are found without a search, and a new point that comes after all other points moves none
 //! of them.
 
-ghost use Rattle.std.specs.Prelude.{◌≡◌, ◌↔◌, map, IfOk, IsTrue, OnOk};
+ghost use Rattle.std.specs.Prelude.{◌≡◌, ◌↔◌, IfOk, IsTrue, OnOk};
 ghost use Rattle.std.specs.List.{All};
-ghost use Rattle.covline.specs.Row.{item_data};
+ghost use Rattle.covpacked.specs.ItemRefs.{item_ref_data};
 ghost use Rattle.covstore.specs.Order.{AreSpotsOf, HasNoChecksum, at_spots};
 ghost use Rattle.covstore.specs.Section.{Adds, HasRoomFor};
 ghost use Rattle.covstore.specs.Follows.{Follows, StillFollows};
@@ -16,7 +16,7 @@ ghost use Rattle.covstore.specs.RunsView.{runs_seen};
 use crate::index::FileIndex;
 use crate::runs::{MAX_STAGED_AT_ONCE, Runs, stage_as_they_are, stage_runs};
 use crate::test::Test;
-use covline::Item;
+use covpacked::{ItemRef, PackedItems};
 use std::alloc::{AllocError, Allocator};
 
 /// A section with fewer items than this isn't sorted.
@@ -41,15 +41,15 @@ pub(crate) fn stage_without_checksums<A: Allocator + Copy>(
     test: &mut Test<A>,
     index: &mut FileIndex<A>,
     alloc: A,
-    items: &[Item<A>],
+    items: &PackedItems<'_>,
 ) -> Result<(), AllocError>
     requires follows { Follows test.old index.old }
-    requires room { HasRoomFor (map item_data items.now) (test_staged test.old) (index_staged index.old) }
-    requires plain { All (λ item. HasNoChecksum (item_data item)) items.now }
+    requires room { HasRoomFor items.now (test_staged test.old) (index_staged index.old) }
+    requires plain { All HasNoChecksum items.now }
     ensures test_committed { test_committed test.new ≡ test_committed test.old }
     ensures index_committed { KeepsCommitted index.old index.new }
     ensures follows { StillFollows index.old test.new index.new }
-    ensures ok { OnOk result (Adds (map item_data items.now) (test_staged test.old) (index_staged index.old) (test_staged test.new) (index_staged index.new)) }
+    ensures ok { OnOk result (Adds items.now (test_staged test.old) (index_staged index.old) (test_staged test.new) (index_staged index.new)) }
 {
     if items.len() >= MIN_SORTED && falls_often(items) {
         return stage_in_order(test, index, alloc, items);
@@ -59,13 +59,13 @@ pub(crate) fn stage_without_checksums<A: Allocator + Copy>(
 
 /// Whether the lines of the items often fall. This is so if more than one in `SAMPLES_PER_FALL` samples has a lower line than
 /// the sample before it.
-fn falls_often<A: Allocator>(items: &[Item<A>]) -> bool {
+fn falls_often(items: &PackedItems<'_>) -> bool {
     let most = items.len() / SAMPLE_STRIDE / SAMPLES_PER_FALL;
     let mut falls = 0;
     let mut last = 0;
-    for run in items.chunks(SAMPLE_STRIDE) {
-        if let Some(item) = run.first() {
-            let line = line_of(item);
+    for sample in 0..items.len() / SAMPLE_STRIDE + 1 {
+        if let Some(item) = items.get(sample * SAMPLE_STRIDE) {
+            let line = line_of(&item);
             if line < last && falls <= most {
                 falls += 1;
             }
@@ -76,29 +76,33 @@ fn falls_often<A: Allocator>(items: &[Item<A>]) -> bool {
 }
 
 /// Whether none of the items has a checksum.
-pub(crate) fn have_no_checksum<A: Allocator>(items: &[Item<A>]) -> bool
-    ensures { IsTrue result ↔ All (λ item. HasNoChecksum (item_data item)) items.now }
+pub(crate) fn have_no_checksum(items: &PackedItems<'_>) -> bool
+    ensures { IsTrue result ↔ All HasNoChecksum items.now }
 {
-    items.iter().all(|item| has_no_checksum(item))
+    items.copy().all(|item| has_no_checksum(&item))
 }
 
 /// Whether the item has no checksum.
-fn has_no_checksum<A: Allocator>(item: &Item<A>) -> bool
-    ensures { IsTrue result ↔ HasNoChecksum (item_data item.now) }
+fn has_no_checksum(item: &ItemRef<'_>) -> bool
+    ensures { IsTrue result ↔ HasNoChecksum (item_ref_data item.now) }
 {
     match item {
-        Item::Line {
+        ItemRef::Line {
             checksum: Some(_),
             ..
         } => false,
-        Item::Line { checksum: None, .. } | Item::Func { .. } | Item::Branch { .. } => true,
+        ItemRef::Line { checksum: None, .. } | ItemRef::Func { .. } | ItemRef::Branch { .. } => {
+            true
+        }
     }
 }
 
 /// The line that an item is of.
-fn line_of<A: Allocator>(item: &Item<A>) -> u64 {
+fn line_of(item: &ItemRef<'_>) -> u64 {
     match item {
-        Item::Line { line, .. } | Item::Func { line, .. } | Item::Branch { line, .. } => *line,
+        ItemRef::Line { line, .. } | ItemRef::Func { line, .. } | ItemRef::Branch { line, .. } => {
+            *line
+        }
     }
 }
 
@@ -107,15 +111,15 @@ fn stage_in_order<A: Allocator + Copy>(
     test: &mut Test<A>,
     index: &mut FileIndex<A>,
     alloc: A,
-    items: &[Item<A>],
+    items: &PackedItems<'_>,
 ) -> Result<(), AllocError>
     requires follows { Follows test.old index.old }
-    requires room { HasRoomFor (map item_data items.now) (test_staged test.old) (index_staged index.old) }
-    requires plain { All (λ item. HasNoChecksum (item_data item)) items.now }
+    requires room { HasRoomFor items.now (test_staged test.old) (index_staged index.old) }
+    requires plain { All HasNoChecksum items.now }
     ensures test_committed { test_committed test.new ≡ test_committed test.old }
     ensures index_committed { KeepsCommitted index.old index.new }
     ensures follows { StillFollows index.old test.new index.new }
-    ensures ok { OnOk result (Adds (map item_data items.now) (test_staged test.old) (index_staged index.old) (test_staged test.new) (index_staged index.new)) }
+    ensures ok { OnOk result (Adds items.now (test_staged test.old) (index_staged index.old) (test_staged test.new) (index_staged index.new)) }
 {
     let spots = sorted_spots(alloc, items)?;
     stage_at(test, index, alloc, items, &spots)?;
@@ -127,16 +131,16 @@ fn stage_at<A: Allocator + Copy>(
     test: &mut Test<A>,
     index: &mut FileIndex<A>,
     alloc: A,
-    items: &[Item<A>],
+    items: &PackedItems<'_>,
     spots: &[Spot],
 ) -> Result<(), AllocError>
     requires follows { Follows test.old index.old }
-    requires room { HasRoomFor (map item_data (at_spots items.now spots.now)) (test_staged test.old) (index_staged index.old) }
-    requires plain { All (λ item. HasNoChecksum (item_data item)) items.now }
+    requires room { HasRoomFor (at_spots items.now spots.now) (test_staged test.old) (index_staged index.old) }
+    requires plain { All HasNoChecksum items.now }
     ensures test_committed { test_committed test.new ≡ test_committed test.old }
     ensures index_committed { KeepsCommitted index.old index.new }
     ensures follows { StillFollows index.old test.new index.new }
-    ensures ok { OnOk result (Adds (map item_data (at_spots items.now spots.now)) (test_staged test.old) (index_staged index.old) (test_staged test.new) (index_staged index.new)) }
+    ensures ok { OnOk result (Adds (at_spots items.now spots.now) (test_staged test.old) (index_staged index.old) (test_staged test.new) (index_staged index.new)) }
 {
     for some in spots.chunks(MAX_STAGED_AT_ONCE) {
         let runs = runs_at(alloc, items, some)?;
@@ -148,10 +152,10 @@ fn stage_at<A: Allocator + Copy>(
 /// The runs of the items at these spots.
 fn runs_at<'a, A: Allocator + Copy>(
     alloc: A,
-    items: &'a [Item<A>],
+    items: &PackedItems<'a>,
     spots: &[Spot],
 ) -> Result<Runs<'a, A>, AllocError>
-    ensures { IfOk result (λ runs. runs_seen runs ≡ runs_of (map item_data (at_spots items.now spots.now))) }
+    ensures { IfOk result (λ runs. runs_seen runs ≡ runs_of (at_spots items.now spots.now)) }
 {
     let mut runs = Runs::with_room(alloc, spots.len())?;
     for spot in spots {
@@ -165,7 +169,7 @@ fn runs_at<'a, A: Allocator + Copy>(
 /// The spots of the items, in ascending order.
 fn sorted_spots<A: Allocator + Copy>(
     alloc: A,
-    items: &[Item<A>],
+    items: &PackedItems<'_>,
 ) -> Result<Vec<Spot, A>, AllocError>
     ensures { IfOk result (λ spots. AreSpotsOf items.now spots.items) }
 {
@@ -175,15 +179,20 @@ fn sorted_spots<A: Allocator + Copy>(
 }
 
 /// The spots of the items, in the section's order.
-fn spots_of<A: Allocator + Copy>(alloc: A, items: &[Item<A>]) -> Result<Vec<Spot, A>, AllocError>
+fn spots_of<A: Allocator + Copy>(
+    alloc: A,
+    items: &PackedItems<'_>,
+) -> Result<Vec<Spot, A>, AllocError>
     ensures { IfOk result (λ spots. at_spots items.now spots.items ≡ items.now) }
 {
     let mut spots = Vec::with_capacity(alloc, items.len())?;
     for index in 0..items.len() {
-        spots.push(Spot {
-            line: line_of(&items[index]),
-            index,
-        })?;
+        if let Some(item) = items.get(index) {
+            spots.push(Spot {
+                line: line_of(&item),
+                index,
+            })?;
+        }
     }
     Ok(spots)
 }

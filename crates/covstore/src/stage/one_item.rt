@@ -2,7 +2,8 @@
 
 ghost use Rattle.std.specs.Prelude.{◌≡◌, ◌+◌, ◌≤◌, None, length, option_map, IfErr, IfOk, IfSome, OnOk};
 ghost use Rattle.covmap.specs.Puts.{put, value_of};
-ghost use Rattle.covline.specs.Row.{LineItem, FuncItem, BranchItem, item_data};
+ghost use Rattle.covline.specs.Row.{LineItem, FuncItem, BranchItem};
+ghost use Rattle.covpacked.specs.ItemRefs.{item_ref_data};
 ghost use Rattle.covstore.specs.FileIndexView.{index_staged, index_committed};
 ghost use Rattle.covstore.specs.TestView.{test_staged, test_committed};
 ghost use Rattle.covstore.specs.Sums.{with_item};
@@ -18,8 +19,9 @@ use crate::stage::fault::StageFault;
 use crate::stage::sole::stage_sole_addend;
 use crate::sums::{BranchAddend, FunctionAddend, LineAddend, LineSum, PointAddend, PointSum};
 use crate::test::Test;
-use covline::{BranchPoint, Item};
+use covline::BranchPoint;
 use covmap::{Key, Query, StagedMap};
+use covpacked::ItemRef;
 use std::alloc::{AllocError, Allocator};
 
 /// Stages an item of any kind.
@@ -28,46 +30,40 @@ pub(crate) fn stage_item<A: Allocator + Copy>(
     test: &mut Test<A>,
     index: &mut FileIndex<A>,
     alloc: A,
-    item: &Item<A>,
+    item: ItemRef<'_>,
 ) -> Result<(), StageFault<A>>
     requires follows { Follows test.old index.old }
     requires room { HasRoom (test_staged test.old) (index_staged index.old) }
     ensures test_committed { test_committed test.new ≡ test_committed test.old }
     ensures index_committed { KeepsCommitted index.old index.new }
     ensures follows { StillFollows index.old test.new index.new }
-    ensures test { OnOk result (test_staged test.new ≡ with_item (item_data item.now) (test_staged test.old)) }
+    ensures test { OnOk result (test_staged test.new ≡ with_item (item_ref_data item.entry) (test_staged test.old)) }
     ensures counts { OnOk result (KeepsCounts (test_staged test.old) (test_staged test.new) (index_staged index.old) (index_staged index.new)) }
-    ensures text { OnOk result (IsTextOf (item_data item.now) (index_staged index.new)) }
+    ensures text { OnOk result (IsTextOf (item_ref_data item.entry) (index_staged index.new)) }
     ensures others { OnOk result (KeepsTextsOf (index_staged index.old) (index_staged index.new)) }
-    ensures clash { IfErr result (IsClashOf (item_data item.now) (index_staged index.old)) }
+    ensures clash { IfErr result (IsClashOf (item_ref_data item.entry) (index_staged index.old)) }
 {
     match item {
-        Item::Line {
+        ItemRef::Line {
             line,
             count,
             checksum,
-        } => {
-            let text = match checksum {
-                Some(text) => Some(text.get()),
-                None => None,
-            };
-            stage_line(test, index, alloc, *line, *count, text)
+        } => stage_line(test, index, alloc, line, count, checksum),
+        ItemRef::Func { name, line, count } => {
+            stage_function(test, index, alloc, name, line, count)
         }
-        Item::Func { name, line, count } => {
-            stage_function(test, index, alloc, name.get(), *line, *count)
-        }
-        Item::Branch {
+        ItemRef::Branch {
             line,
             block,
             branch,
             taken,
         } => {
             let point = BranchPoint {
-                line: *line,
-                block: *block,
-                branch: *branch,
+                line,
+                block,
+                branch,
             };
-            stage_branch(test, index, alloc, point, *taken)
+            stage_branch(test, index, alloc, point, taken)
         }
     }
 }

@@ -1,9 +1,8 @@
 //! Stages the items of a section, in their test and in the file's index.
 
-ghost use Rattle.std.specs.Prelude.{◌≡◌, map, IfErr, OnOk};
+ghost use Rattle.std.specs.Prelude.{◌≡◌, IfErr, OnOk};
 ghost use Rattle.std.specs.List.Sorted.{IsStrictlySortedBy};
 ghost use Rattle.std.specs.Ordering.{nat_cmp};
-ghost use Rattle.covline.specs.Row.{item_data};
 ghost use Rattle.covstore.specs.Section.{Adds, Clashes, HasRoomFor};
 ghost use Rattle.covstore.specs.Follows.{Follows, StillFollows};
 ghost use Rattle.covstore.specs.FileIndexView.{KeepsCommitted, index_staged};
@@ -17,7 +16,7 @@ use crate::stage::by_line::{have_no_checksum, stage_without_checksums};
 use crate::stage::fault::StageFault;
 use crate::stage::one_item::stage_item;
 use crate::test::Test;
-use covline::Item;
+use covpacked::PackedItems;
 use std::alloc::Allocator;
 
 /// Stages the items of a section, and stops at the first item that clashes. At most `MAX_STAGED_AT_ONCE` items are staged at a
@@ -27,22 +26,25 @@ pub(crate) fn stage_items<A: Allocator + Copy>(
     test: &mut Test<A>,
     index: &mut FileIndex<A>,
     alloc: A,
-    items: &[Item<A>],
+    items: &PackedItems<'_>,
 ) -> Result<(), StageFault<A>>
     requires follows { Follows test.old index.old }
-    requires room { HasRoomFor (map item_data items.now) (test_staged test.old) (index_staged index.old) }
+    requires room { HasRoomFor items.now (test_staged test.old) (index_staged index.old) }
     ensures test_committed { test_committed test.new ≡ test_committed test.old }
     ensures index_committed { KeepsCommitted index.old index.new }
     ensures follows { StillFollows index.old test.new index.new }
-    ensures ok { OnOk result (Adds (map item_data items.now) (test_staged test.old) (index_staged index.old) (test_staged test.new) (index_staged index.new)) }
-    ensures clash { IfErr result (Clashes (map item_data items.now) (test_staged test.old) (index_staged index.old)) }
+    ensures ok { OnOk result (Adds items.now (test_staged test.old) (index_staged index.old) (test_staged test.new) (index_staged index.new)) }
+    ensures clash { IfErr result (Clashes items.now (test_staged test.old) (index_staged index.old)) }
 {
     if have_no_checksum(items) {
         stage_without_checksums(test, index, alloc, items)?;
         return Ok(());
     }
-    for some in items.chunks(MAX_STAGED_AT_ONCE) {
-        stage_some(test, index, alloc, some)?;
+    let mut rest = items.copy();
+    while !rest.is_empty() {
+        let (some, others) = rest.split_at(rest.len().min(MAX_STAGED_AT_ONCE));
+        stage_some(test, index, alloc, &some)?;
+        rest = others;
     }
     Ok(())
 }
@@ -54,15 +56,15 @@ fn stage_some<A: Allocator + Copy>(
     test: &mut Test<A>,
     index: &mut FileIndex<A>,
     alloc: A,
-    items: &[Item<A>],
+    items: &PackedItems<'_>,
 ) -> Result<(), StageFault<A>>
     requires follows { Follows test.old index.old }
-    requires room { HasRoomFor (map item_data items.now) (test_staged test.old) (index_staged index.old) }
+    requires room { HasRoomFor items.now (test_staged test.old) (index_staged index.old) }
     ensures test_committed { test_committed test.new ≡ test_committed test.old }
     ensures index_committed { KeepsCommitted index.old index.new }
     ensures follows { StillFollows index.old test.new index.new }
-    ensures ok { OnOk result (Adds (map item_data items.now) (test_staged test.old) (index_staged index.old) (test_staged test.new) (index_staged index.new)) }
-    ensures clash { IfErr result (Clashes (map item_data items.now) (test_staged test.old) (index_staged index.old)) }
+    ensures ok { OnOk result (Adds items.now (test_staged test.old) (index_staged index.old) (test_staged test.new) (index_staged index.new)) }
+    ensures clash { IfErr result (Clashes items.now (test_staged test.old) (index_staged index.old)) }
 {
     if checked_lines_ascend(items) {
         return stage_at_once(test, index, alloc, items);
@@ -75,16 +77,16 @@ fn stage_at_once<A: Allocator + Copy>(
     test: &mut Test<A>,
     index: &mut FileIndex<A>,
     alloc: A,
-    items: &[Item<A>],
+    items: &PackedItems<'_>,
 ) -> Result<(), StageFault<A>>
     requires follows { Follows test.old index.old }
-    requires room { HasRoomFor (map item_data items.now) (test_staged test.old) (index_staged index.old) }
-    requires ascend { IsStrictlySortedBy nat_cmp (checked_lines (map item_data items.now)) }
+    requires room { HasRoomFor items.now (test_staged test.old) (index_staged index.old) }
+    requires ascend { IsStrictlySortedBy nat_cmp (checked_lines items.now) }
     ensures test_committed { test_committed test.new ≡ test_committed test.old }
     ensures index_committed { KeepsCommitted index.old index.new }
     ensures follows { StillFollows index.old test.new index.new }
-    ensures ok { OnOk result (Adds (map item_data items.now) (test_staged test.old) (index_staged index.old) (test_staged test.new) (index_staged index.new)) }
-    ensures clash { IfErr result (Clashes (map item_data items.now) (test_staged test.old) (index_staged index.old)) }
+    ensures ok { OnOk result (Adds items.now (test_staged test.old) (index_staged index.old) (test_staged test.new) (index_staged index.new)) }
+    ensures clash { IfErr result (Clashes items.now (test_staged test.old) (index_staged index.old)) }
 {
     hold_checksums(test, index, alloc, items)?;
     let runs = runs_in(alloc, items)?;
@@ -97,17 +99,17 @@ fn stage_each<A: Allocator + Copy>(
     test: &mut Test<A>,
     index: &mut FileIndex<A>,
     alloc: A,
-    items: &[Item<A>],
+    items: &PackedItems<'_>,
 ) -> Result<(), StageFault<A>>
     requires follows { Follows test.old index.old }
-    requires room { HasRoomFor (map item_data items.now) (test_staged test.old) (index_staged index.old) }
+    requires room { HasRoomFor items.now (test_staged test.old) (index_staged index.old) }
     ensures test_committed { test_committed test.new ≡ test_committed test.old }
     ensures index_committed { KeepsCommitted index.old index.new }
     ensures follows { StillFollows index.old test.new index.new }
-    ensures ok { OnOk result (Adds (map item_data items.now) (test_staged test.old) (index_staged index.old) (test_staged test.new) (index_staged index.new)) }
-    ensures clash { IfErr result (Clashes (map item_data items.now) (test_staged test.old) (index_staged index.old)) }
+    ensures ok { OnOk result (Adds items.now (test_staged test.old) (index_staged index.old) (test_staged test.new) (index_staged index.new)) }
+    ensures clash { IfErr result (Clashes items.now (test_staged test.old) (index_staged index.old)) }
 {
-    for item in items {
+    for item in items.copy() {
         stage_item(test, index, alloc, item)?;
     }
     Ok(())

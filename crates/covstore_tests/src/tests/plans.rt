@@ -1,9 +1,13 @@
 //! Plans that are dropped and made again, and a large section.
 
+ghost use Rattle.std.specs.Prelude.{◌<◌, IfOk};
+ghost use Rattle.covstore.specs.Store.{max_members};
+
 use super::check_bytes;
-use super::held::{NOTHING, held, store_of};
-use super::wrappers::read;
-use covstore::{Store, Totals};
+use super::held::{NOTHING, held};
+use super::wrappers::{read, read_packed};
+use covstore::{Refuse, Store, Totals};
+use std::process::Abort;
 use std::test::*;
 
 const SMALL: &[u8] = b"TN:t\nSF:/a.c\nDA:1,2\nDA:2,0\nend_of_record\n";
@@ -27,6 +31,68 @@ fn a_plan_that_is_made_again(rt: HostRuntime) -> Result<(), Fail> {
     check_bytes(&rt, text.get(), b"TN:t\nSF:/a.c\nDA:1,2\nDA:2,0\n");
     assert_eq!(rt; (store.totals().lf, store.totals().lh), (2, 1));
     assert!(rt; store.has_test(b"t"));
+    Ok(())
+}
+
+/// A store that holds the text alone, with the promise that it has room for another one.
+fn begun(rt: &(impl Abort + AllocGlobal), text: &[u8]) -> Result<Store, Fail>
+    ensures { IfOk result (λ store. store.members < max_members) }
+{
+    let given = read(rt.alloc(), text)?;
+    let mut store = Store::new(rt.alloc());
+    match store.prepare(rt.alloc(), &given) {
+        Ok(plan) => store.commit(plan),
+        Err(refuse) => panic!(rt; "refused {}", refuse.number()),
+    }
+    Ok(store)
+}
+
+/// A packed submission is prepared as any other. If its plan is dropped, nothing of it is seen.
+#[test]
+fn a_packed_submission(rt: HostRuntime) -> Result<(), Fail> {
+    let given = read_packed(rt.alloc(), SMALL)?;
+    let mut store = begun(&rt, b"TN:u\nSF:/a.c\nDA:2,5\nend_of_record\n")?;
+    match store.prepare_packed(rt.alloc(), &given) {
+        Ok(plan) => assert_eq!(rt; (plan.after().lf, plan.after().lh), (2, 2)),
+        Err(refuse) => panic!(rt; "refused {}", refuse.number()),
+    }
+    assert!(rt; !store.has_test(b"t"));
+    match store.prepare_packed(rt.alloc(), &given) {
+        Ok(plan) => store.commit(plan),
+        Err(refuse) => panic!(rt; "refused {}", refuse.number()),
+    }
+    let text = held(rt.alloc(), &store)?;
+    check_bytes(
+        &rt,
+        text.get(),
+        b"TN:t\nSF:/a.c\nDA:1,2\nDA:2,0\nTN:u\nSF:/a.c\nDA:2,5\n",
+    );
+    assert_eq!(rt; (store.totals().lf, store.totals().lh), (2, 2));
+    Ok(())
+}
+
+/// A packed submission that clashes is refused, with the line and both checksums.
+#[test]
+fn a_packed_clash(rt: HostRuntime) -> Result<(), Fail> {
+    let given = read_packed(rt.alloc(), b"TN:u\nSF:/a.c\nDA:7,1,new\nend_of_record\n")?;
+    let mut store = begun(&rt, b"TN:t\nSF:/a.c\nDA:7,1,old\nend_of_record\n")?;
+    match store.prepare_packed(rt.alloc(), &given) {
+        Err(
+            Refuse::Clash {
+                file,
+                line,
+                held,
+                given,
+            },
+        ) => {
+            check_bytes(&rt, file.get(), b"/a.c");
+            assert_eq!(rt; line, 7);
+            check_bytes(&rt, held.get(), b"old");
+            check_bytes(&rt, given.get(), b"new");
+        }
+        _ => panic!(rt; "no clash"),
+    }
+    assert!(rt; !store.has_test(b"u"));
     Ok(())
 }
 

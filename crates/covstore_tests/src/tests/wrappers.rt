@@ -2,7 +2,8 @@
 //! contracts.
 
 use covline::{Bytes, Memory, Submission, TraceLine};
-use covread::{ReadFault, read_trace};
+use covpacked::PackedSubmission;
+use covread::{ReadFault, read_trace, read_trace_packed};
 use covreport::{PatternFault, Patterns, matches};
 use std::alloc::Global;
 use std::test::*;
@@ -13,6 +14,10 @@ pub(super) fn put_line(record: &TraceLine<'_>, text: &mut Bytes) -> Result<(), M
 
 pub(super) fn read(alloc: Global, text: &[u8]) -> Result<Submission, ReadFault> {
     read_trace(alloc, text)
+}
+
+pub(super) fn read_packed(alloc: Global, text: &[u8]) -> Result<PackedSubmission, ReadFault> {
+    read_trace_packed(alloc, text)
 }
 
 pub(super) fn is_match(pattern: &[u8], path: &[u8]) -> bool {

@@ -59,7 +59,7 @@ take_first-requires-clause-room g c =
     let text = c.args.text.now in
     let rest = c.loop-rest.rest.now in
     let held = held_data c.loop-rest.reader.plain h.1 in
-    let len = open_length c.loop-rest.reader.plain.section h.1 h.2.is_open in (
+    let len = open_length c.loop-rest.reader.plain.section c.loop-rest.reader.plain.sects.items h.1 h.2.is_open in (
       h.0,
       h.1,
       record {
@@ -162,5 +162,5 @@ returns g c =
     let text = c.args.text.now in
     let rest = c.loop-rest.rest.now in
     let r = c.loop-rest.reader.plain in
-    ends_without text r.test.now r.sects r.odd r.section h.1
+    ends_without text r.test.now r.sects.sects r.odd r.section h.1
     (reading_end laws text c.requires rest h.0 (held_data r h.1) c.loop-rest.at h.3 (no_lines rest c.is_empty.result c.is_empty.ensures c.loop-rest-test.false))

@@ -1,4 +1,4 @@
-use Rattle.std.proofs.Common.{◌≡◌, ◌∙◌, inl, ap, subst}
+use Rattle.std.proofs.Common.{◌∙◌, inl, ap, subst}
 use Rattle.std.specs.Prelude.{IfOk}
 use Rattle.covread.specs.declared.fault.ReadFault.{ReadFault}
 use Rattle.covrun.specs.Checked.{IsReportOf}

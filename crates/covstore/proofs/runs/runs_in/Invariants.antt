@@ -1,8 +1,9 @@
-use Rattle.std.proofs.Common.{◌≡◌, map, take}
-use Rattle.covline.specs.Row.{item_data}
+use Rattle.std.proofs.Common.{◌≡◌, ◌++◌, List}
+use Rattle.covline.specs.Row.{ItemData}
 use Rattle.covstore.specs.Runs.{runs_of}
 use Rattle.covstore.specs.RunsView.{runs_seen}
 use Rattle.covstore.proofs.runs.runs_in.Given as goal
 
+-- the runs are those of the items in front of those that are left
 abbrev pub invariant-loop-item : goal.invariant-loop-item
-invariant-loop-item g l = runs_seen l.runs ≡ runs_of (map item_data (take l.item-index l.items))
+invariant-loop-item g l = (taken : List ItemData) × (runs_seen l.runs ≡ runs_of taken) × (taken ++ l.item-iterator ≡ l.items)

@@ -1,9 +1,10 @@
-use Rattle.std.proofs.Common.{map}
-use Rattle.std.specs.Slice.Iter.{chunks_rest}
-use Rattle.covline.specs.Row.{item_data}
+use Rattle.std.proofs.Common.{length}
 use Rattle.covstore.proofs.RunsAdds.{HasTakenTo}
 use Rattle.covstore.specs.Follows.{StillFollows}
 use Rattle.covstore.proofs.runs.stage_as_they_are.Given as goal
 
-abbrev pub invariant-loop-some : goal.invariant-loop-some
-invariant-loop-some g l = (HasTakenTo (map item_data) l.items (chunks_rest l.some-iterator) l.initial.test l.initial.index l.test l.index) × StillFollows l.initial.index l.test l.index
+abbrev pub invariant-loop-rest : goal.invariant-loop-rest
+invariant-loop-rest g l = (HasTakenTo (λ items. items) l.items l.rest l.initial.test l.initial.index l.test l.index) × StillFollows l.initial.index l.test l.index
+
+abbrev pub decreases-loop-rest : goal.decreases-loop-rest
+decreases-loop-rest g l = length l.rest

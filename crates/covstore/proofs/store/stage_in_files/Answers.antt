@@ -5,7 +5,6 @@ use Rattle.std.specs.Cmp.Lexicographic.{slice_cmp}
 use Rattle.std.specs.Map.{lookup}
 use Rattle.std.specs.Ordering.{nat_cmp}
 use Rattle.std.proofs.lemmas.Result.{IfErr-weaker, on_ok_weaker}
-use Rattle.covline.specs.Row.{item_data}
 use Rattle.covstore.specs.declared.file.File.{File}
 use Rattle.covstore.specs.FileView.{file_staged, file_committed}
 use Rattle.covstore.specs.RefuseView.{refuse_data}
@@ -24,7 +23,7 @@ use Rattle.covstore.proofs.store.stage_in_files.Goals as goal
 pub stage_section-requires : goal.stage_section-requires
 stage_section-requires g c =
     let found = sym c.in-Some.ensures.value ∙ ap Some (sym c.get_mut-in-Some.ensures.value) in
-    found_room c.args.file.now.items c.args.test.now (map item_data c.args.items.now) c.args.files.now.entries c.requires c.get_mut-in-Some.result.now found
+    found_room c.args.file.now.items c.args.test.now c.args.items.now c.args.files.now.entries c.requires c.get_mut-in-Some.result.now found
 
 pub returns-in-Some-clause-committed : goal.returns-in-Some-clause-committed
 returns-in-Some-clause-committed g c =
@@ -38,14 +37,14 @@ returns-in-Some-clause-ok g c =
     let found = sym c.in-Some.ensures.value ∙ ap Some (sym c.get_mut-in-Some.ensures.value) in
     let after = c.stage_section.new.self in
     on_ok_weaker c.stage_section.result
-    (found_adds c.args.file.now.items c.args.test.now (map item_data c.args.items.now) c.args.files.now.entries c.requires c.get_mut-in-Some.result.now found after (c.get_mut.follows.lender after).entries c.get_mut.ensures.ordered
+    (found_adds c.args.file.now.items c.args.test.now c.args.items.now c.args.files.now.entries c.requires c.get_mut-in-Some.result.now found after (c.get_mut.follows.lender after).entries c.get_mut.ensures.ordered
     (c.get_mut.follows.holds after).0)
     c.stage_section.ensures.ok
 
 pub returns-in-Some-clause-clash : goal.returns-in-Some-clause-clash
 returns-in-Some-clause-clash g c =
     let found = sym c.in-Some.ensures.value ∙ ap Some (sym c.get_mut-in-Some.ensures.value) in
-    let items = map item_data c.args.items.now in
+    let items = c.args.items.now in
     IfErr-weaker c.stage_section.result (λ e. RefusedIn items c.args.file.now.items c.args.test.now (file_staged c.get_mut-in-Some.result.now) (refuse_data e))
     (λ e. ClashesAmong (rows_of_items c.args.file.now.items c.args.test.now items) (files_staged file_name c.args.files.now.entries) (refuse_data e))
     (λ e. found_refused c.args.file.now.items c.args.test.now items c.args.files.now.entries c.requires c.get_mut-in-Some.result.now found (refuse_data e))
@@ -62,7 +61,7 @@ returns-in-Some-clause-totals g c =
     let found = sym c.in-Some.ensures.value ∙ ap Some (sym c.get_mut-in-Some.ensures.value) in
     let after = c.stage_section.new.self in
     totals_of_both c.stage_section.result _ _
-    (λ adds t is. found_totals c.args.file.now.items c.args.test.now (map item_data c.args.items.now) c.args.files.now.entries c.requires c.get_mut-in-Some.result.now found after (c.get_mut.follows.lender after).entries c.get_mut.ensures.ordered
+    (λ adds t is. found_totals c.args.file.now.items c.args.test.now c.args.items.now c.args.files.now.entries c.requires c.get_mut-in-Some.result.now found after (c.get_mut.follows.lender after).entries c.get_mut.ensures.ordered
     (c.get_mut.follows.holds after).0 adds t.0 t.1 is.0 is.1)
     c.stage_section.ensures.ok c.stage_section.ensures.totals
 
@@ -70,7 +69,7 @@ returns-in-Some-clause-totals g c =
 
 pub stage_in_new_file-requires-clause-room : goal.stage_in_new_file-requires-clause-room
 stage_in_new_file-requires-clause-room g c =
-    let items = map item_data c.args.items.now in
+    let items = c.args.items.now in
     subst (λ (m : BTreeMap (Vec ℕ g.row.A.Denot) (File g.row.A.Denot)). HasRoomAmong (rows_of_items c.as_slice-name.result.now c.args.test.now items) (files_staged file_name m.entries)) (sym c.get_mut.follows.holds-at-none)
     (subst (λ (file : List ℕ). HasRoomAmong (rows_of_items file c.args.test.now items) (files_staged file_name c.args.files.now.entries)) (sym c.as_slice-name.ensures.value) c.requires)
 
@@ -86,7 +85,7 @@ returns-clause-committed g c =
 
 pub returns-clause-ok : goal.returns-clause-ok
 returns-clause-ok g c =
-    let items = map item_data c.args.items.now in
+    let items = c.args.items.now in
     let later = files_staged file_name c.stage_in_new_file.new.files.entries in
     subst (λ (m : BTreeMap (Vec ℕ g.row.A.Denot) (File g.row.A.Denot)). OnOk c.stage_in_new_file.result (AddsTo (rows_of_items c.args.file.now.items c.args.test.now items) (files_staged file_name m.entries) later)) c.get_mut.follows.holds-at-none
     (subst (λ (file : List ℕ). OnOk c.stage_in_new_file.result (AddsTo (rows_of_items file c.args.test.now items) (files_staged file_name c.get_mut.follows.lender-at-none.entries) later)) c.as_slice-name.ensures.value
@@ -99,7 +98,7 @@ returns-clause-totals g c =
 
 pub returns-clause-clash : goal.returns-clause-clash
 returns-clause-clash g c =
-    let items = map item_data c.args.items.now in
+    let items = c.args.items.now in
     subst (λ (m : BTreeMap (Vec ℕ g.row.A.Denot) (File g.row.A.Denot)). IfErr c.stage_in_new_file.result (λ e. ClashesAmong (rows_of_items c.args.file.now.items c.args.test.now items) (files_staged file_name m.entries) (refuse_data e)))
     c.get_mut.follows.holds-at-none
     (subst (λ (file : List ℕ). IfErr c.stage_in_new_file.result (λ e. ClashesAmong (rows_of_items file c.args.test.now items) (files_staged file_name c.get_mut.follows.lender-at-none.entries) (refuse_data e))) c.as_slice-name.ensures.value

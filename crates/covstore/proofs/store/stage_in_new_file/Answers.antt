@@ -1,6 +1,5 @@
 use Rattle.std.proofs.Common.{◌≡◌, ℕ, List, [], ◌∷◌, ◌++◌, Vec, map, sym, ap, ◌∙◌, subst}
 use Rattle.std.proofs.lemmas.Result.{err_from_is_err_and}
-use Rattle.covline.specs.Row.{item_data}
 use Rattle.covstore.specs.declared.file.File.{File}
 use Rattle.covstore.specs.FileView.{file_staged, file_committed, no_file}
 use Rattle.covstore.specs.RefuseView.{refuse_data}
@@ -24,7 +23,7 @@ pub stage_section-requires : goal.stage_section-requires
 stage_section-requires g c =
     let made = c.get_mut.result.now in
     let empty : file_staged made ≡ no_file = ap file_staged (c.get_mut.ensures.value ∙ c.in_ok-made.ensures) ∙ c.new.ensures.staged in
-    new_room c.args.file.now c.args.test.now (map item_data c.args.items.now) c.args.files.now.entries c.requires.room c.requires.new made empty
+    new_room c.args.file.now c.args.test.now c.args.items.now c.args.files.now.entries c.requires.room c.requires.new made empty
 
 pub returns-in_err-totals-clause-committed : goal.returns-in_err-totals-clause-committed
 returns-in_err-totals-clause-committed g c = state_stays (files_committed file_name c.args.files.now.entries)
@@ -35,7 +34,7 @@ returns-in_err-totals-clause-clash g c =
     let empty : file_staged made ≡ no_file = ap file_staged (c.get_mut.ensures.value ∙ c.in_ok-made.ensures) ∙ c.new.ensures.staged in
     let p = err_from_is_err_and c.from_residual-in_err-totals.result c.from_residual-in_err-totals.ensures.1 in
     rw (p.1, p.2)
-    (new_refused c.args.file.now c.args.test.now (map item_data c.args.items.now) c.args.files.now.entries c.requires.room c.requires.new made empty (refuse_data c.in_err-totals.field-0.0) c.in_err-totals.ensures.clash)
+    (new_refused c.args.file.now c.args.test.now c.args.items.now c.args.files.now.entries c.requires.room c.requires.new made empty (refuse_data c.in_err-totals.field-0.0) c.in_err-totals.ensures.clash)
 
 pub returns-in_err-totals-clause-settled : goal.returns-in_err-totals-clause-settled
 returns-in_err-totals-clause-settled g c = λ touched settled. files_with_more touched c.args.file.now c.args.test.now c.args.files.now.entries settled
@@ -63,7 +62,7 @@ returns-clause-committed g c =
     let after = c.stage_section.new.self in
     let staged : file_staged made ≡ no_file = ap file_staged (c.get_mut.ensures.value ∙ c.in_ok-made.ensures) ∙ c.new.ensures.staged in
     let committed : file_committed made ≡ no_file = ap file_committed (c.get_mut.ensures.value ∙ c.in_ok-made.ensures) ∙ c.new.ensures.committed in
-    new_keeps c.args.file.now c.args.test.now (map item_data c.args.items.now) c.args.files.now.entries c.requires.room c.requires.new made staged
+    new_keeps c.args.file.now c.args.test.now c.args.items.now c.args.files.now.entries c.requires.room c.requires.new made staged
     c.in_ok-from_slice.field-0 c.in_ok-from_slice.ensures.items after c.insert.new.self.entries c.in_ok-insert.ensures.entries c.insert.ensures.was_ordered committed c.stage_section.ensures.committed
 
 pub returns-clause-ok : goal.returns-clause-ok
@@ -71,7 +70,7 @@ returns-clause-ok g c =
     let made = c.get_mut.result.now in
     let after = c.stage_section.new.self in
     let staged : file_staged made ≡ no_file = ap file_staged (c.get_mut.ensures.value ∙ c.in_ok-made.ensures) ∙ c.new.ensures.staged in
-    new_adds c.args.file.now c.args.test.now (map item_data c.args.items.now) c.args.files.now.entries c.requires.room c.requires.new made staged
+    new_adds c.args.file.now c.args.test.now c.args.items.now c.args.files.now.entries c.requires.room c.requires.new made staged
     c.in_ok-from_slice.field-0 c.in_ok-from_slice.ensures.items after c.insert.new.self.entries c.in_ok-insert.ensures.entries c.in_ok-totals.ensures.ok
 
 pub returns-clause-totals : goal.returns-clause-totals
@@ -79,7 +78,7 @@ returns-clause-totals g c =
     let made = c.get_mut.result.now in
     let after = c.stage_section.new.self in
     let staged : file_staged made ≡ no_file = ap file_staged (c.get_mut.ensures.value ∙ c.in_ok-made.ensures) ∙ c.new.ensures.staged in
-    new_totals c.args.file.now c.args.test.now (map item_data c.args.items.now) c.args.files.now.entries c.requires.room c.requires.new made staged
+    new_totals c.args.file.now c.args.test.now c.args.items.now c.args.files.now.entries c.requires.room c.requires.new made staged
     c.in_ok-from_slice.field-0 c.in_ok-from_slice.ensures.items after c.insert.new.self.entries c.in_ok-insert.ensures.entries c.in_ok-totals.ensures.ok
     c.in_ok-totals.totals.0 c.in_ok-totals.totals.1 c.in_ok-totals.ensures.totals.0 c.in_ok-totals.ensures.totals.1
 

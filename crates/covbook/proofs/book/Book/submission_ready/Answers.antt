@@ -1,40 +1,39 @@
 use Rattle.std.proofs.Common.{ℕ, ◌+◌, length, sym, ap, subst, ◌∙◌}
-use Rattle.covline.specs.Lawful.{IsLawful}
 use Rattle.covline.specs.Row.{items_in}
-use Rattle.covbook.specs.Op.{AcceptedAnswer, SubmitOp}
+use Rattle.covbook.specs.Op.{AcceptedAnswer, IsLawfulOp}
 use Rattle.covbook.specs.Step.{table_of, totals_at, ops_in}
-use Rattle.covbook.specs.View.{answer_data}
+use Rattle.covbook.specs.View.{answer_data, op_data}
 use Rattle.covbook.proofs.Halves.{next_with}
 use Rattle.covbook.proofs.Runs.{answer_with, kept_book, table_with}
 use Rattle.covbook.proofs.book.Book.submission_ready.Goals as goal
 
 pub invariant_of-self : goal.invariant_of-self
-invariant_of-self g c = kept_book c.self.inside.store c.prepare.new.self c.self.inside.accepted c.self.inside.history.entries c.self.invariant c.prepare.ensures.content
+invariant_of-self g c = kept_book c.self.inside.store c.prepare_in.new.store c.self.inside.accepted c.self.inside.history.entries c.self.invariant c.prepare_in.ensures.content
 
 pub invariant_of-self-in-Err : goal.invariant_of-self-in-Err
-invariant_of-self-in-Err g c = kept_book c.self.inside.store c.prepare.new.self c.self.inside.accepted c.self.inside.history.entries c.self.invariant c.prepare.ensures.content
+invariant_of-self-in-Err g c = kept_book c.self.inside.store c.prepare_in.new.store c.self.inside.accepted c.self.inside.history.entries c.self.invariant c.prepare_in.ensures.content
 
 pub invariant_of-self-in_err-answer-in-Err : goal.invariant_of-self-in_err-answer-in-Err
-invariant_of-self-in_err-answer-in-Err g c = kept_book c.self.inside.store c.prepare.new.self c.self.inside.accepted c.self.inside.history.entries c.self.invariant c.prepare.ensures.content
+invariant_of-self-in_err-answer-in-Err g c = kept_book c.self.inside.store c.prepare_in.new.store c.self.inside.accepted c.self.inside.history.entries c.self.invariant c.prepare_in.ensures.content
 
 pub ready_to_change-requires-clause-next : goal.ready_to_change-requires-clause-next
 ready_to_change-requires-clause-next g c =
     let book = c.self.inside in
-    let own = c.in_ok-copy.field-0 in
-    let given = c.get-given.result.now in
+    let given = g.S.Submitted.says c.args.submission.now in
+    let op = op_data c.in_ok-op.op in
     let table = table_of (ops_in book.history.entries) in
-    let same = c.get-given.ensures ∙ sym c.in_ok-copy.ensures in
-    let after = c.in-Ok.ensures.after table c.self.invariant.stands ∙ ap totals_at (sym (table_with book.store table own given c.self.invariant.stands c.in-Ok.ensures.agrees same)) in
+    let same = sym c.in_ok-op.ensures in
+    let after = c.in-Ok.ensures.after table c.self.invariant.stands ∙ ap totals_at (sym (table_with book.store table op given c.self.invariant.stands c.in-Ok.ensures.agrees same)) in
     let number = length table + 1 in
     let answer =
     c.accepted_answer-answer.ensures
-    ∙ ap (λ (n : ℕ). AcceptedAnswer number n c.odd.result) c.items-items.ensures.count
-    ∙ ap (λ (n : ℕ). AcceptedAnswer number (items_in given.sects) n) c.odd.ensures
-    ∙ answer_with book.store table own given c.self.invariant.stands c.in-Ok.ensures.agrees same in
-    next_with book.history.entries c.args.job (SubmitOp own) (answer_data c.accepted_answer-answer.result) c.after-after.result answer (c.after-after.ensures.value ∙ after)
+    ∙ ap (λ (n : ℕ). AcceptedAnswer number n c.count_odd.result) c.count_items-items.ensures.count
+    ∙ ap (λ (n : ℕ). AcceptedAnswer number (items_in given.sects) n) c.count_odd.ensures
+    ∙ answer_with book.store table op given c.self.invariant.stands c.in-Ok.ensures.agrees same in
+    next_with book.history.entries c.args.job op (answer_data c.accepted_answer-answer.result) c.after-after.result answer (c.after-after.ensures.value ∙ after)
 
 pub ready_to_change-requires-clause-lawful : goal.ready_to_change-requires-clause-lawful
-ready_to_change-requires-clause-lawful g c = subst IsLawful (c.get-given.ensures ∙ sym c.in_ok-copy.ensures) c.items-items.ensures.lawful
+ready_to_change-requires-clause-lawful g c = subst IsLawfulOp (sym c.in_ok-op.ensures) c.count_items-items.ensures.lawful
 
 pub ready_to_note-requires-clause-lawful : goal.ready_to_note-requires-clause-lawful
-ready_to_note-requires-clause-lawful g c = subst IsLawful (c.get-given.ensures ∙ sym c.in_ok-copy.ensures) c.items-items.ensures.lawful
+ready_to_note-requires-clause-lawful g c = subst IsLawfulOp (sym c.in_ok-op.ensures) c.count_items-items.ensures.lawful

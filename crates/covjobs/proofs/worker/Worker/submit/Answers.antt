@@ -1,5 +1,6 @@
-use Rattle.std.proofs.Common.{◌∙◌, List, ap}
-use Rattle.covbook.specs.Op.{ReceiptData, SubmitOp}
+use Rattle.std.proofs.Common.{◌∙◌, List, [], ◌∷◌, ◌++◌, ap}
+use Rattle.covbook.specs.Op.{OpData, ReceiptData}
+use Rattle.covbook.specs.View.{op_data}
 use Rattle.covjobs.specs.Collect.{ops_in}
 use Rattle.covjobs.proofs.ReadAfter.{submitted_read}
 use Rattle.covjobs.proofs.Submitted.{asked_more}
@@ -14,4 +15,5 @@ returns-clause-read g c =
 pub returns-clause-asked : goal.returns-clause-asked
 returns-clause-asked g c =
     ap (λ (rs : List ReceiptData). ops_in rs) c.read-2.ensures.receipts
-    ∙ asked_more c.args.self.now.receipts c.ask-kept.new.self.receipts c.ask-kept.new.self.seat.seen (SubmitOp c.args.submission) c.in_ok-kept.ensures.asked
+    ∙ asked_more c.args.self.now.receipts c.ask-kept.new.self.receipts c.ask-kept.new.self.seat.seen (op_data c.into_op.result) c.in_ok-kept.ensures.asked
+    ∙ ap (λ (op : OpData). ops_in c.args.self.now.receipts ++ op ∷ []) c.into_op.ensures

@@ -1,4 +1,4 @@
-use Rattle.std.proofs.Common.{◌-◌, ◌<◌, ◌≤◌, arith, refl}
+use Rattle.std.proofs.Common.{◌<◌, ◌≤◌, arith, refl}
 use Rattle.std.proofs.lemmas.Result.{err_from_is_err_and}
 use Rattle.covread.specs.Outcome.{max_bytes}
 use Rattle.covlarge.proofs.PieceSteps.{behind_piece, no_more, some_left, unread, long, last_unread, last_read, sections, piece_unread, piece_read, within_more, few_lines_more}

@@ -43,7 +43,7 @@ take_first-requires-clause-room g c =
     let h = c.loop-rest.invariant in
     let text = c.args.text.now in
     let rest = c.loop-rest.rest.now in
-    let len = open_length c.loop-rest.reader.section h.0 h.1 in
+    let len = open_length c.loop-rest.reader.section c.loop-rest.reader.sects.items h.0 h.1 in
     (h.0, record { is_open = h.1; few = omega (arith, len, reading_room law text rest (held_data c.loop-rest.reader h.0) c.loop-rest.at c.requires h.2) })
 
 pub returns-in_err-rest : goal.returns-in_err-rest
@@ -103,4 +103,4 @@ returns g c =
     let text = c.args.text.now in
     let rest = c.loop-rest.rest.now in
     let r = c.loop-rest.reader in
-    ends_without text r.test.now r.sects r.odd r.section h.0 (reading_end law text rest (held_data r h.0) c.loop-rest.at c.requires h.2 (no_lines rest c.is_empty.result c.is_empty.ensures c.loop-rest-test.false))
+    ends_without text r.test.now r.sects.sects r.odd r.section h.0 (reading_end law text rest (held_data r h.0) c.loop-rest.at c.requires h.2 (no_lines rest c.is_empty.result c.is_empty.ensures c.loop-rest-test.false))

@@ -6,7 +6,7 @@ use Rattle.covread.proofs.TraceLoop.{Reading}
 use Rattle.covread.proofs.trace.read.read_lines.Given as goal
 
 abbrev pub invariant-loop-rest : goal.invariant-loop-rest
-invariant-loop-rest g l = (inside : List LineData) × IsOpen l.reader.section inside × Reading l.text l.rest (held_data l.reader inside) l.at
+invariant-loop-rest g l = (inside : List LineData) × IsOpen l.reader inside × Reading l.text l.rest (held_data l.reader inside) l.at
 
 abbrev pub decreases-loop-rest : goal.decreases-loop-rest
 decreases-loop-rest g l = length (lines_of l.rest)

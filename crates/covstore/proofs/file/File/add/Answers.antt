@@ -3,7 +3,6 @@ use Rattle.std.specs.Cmp.Lexicographic.{slice_cmp}
 use Rattle.std.specs.Option.{is_some}
 use Rattle.std.specs.Ordering.{nat_cmp}
 use Rattle.std.proofs.lemmas.Result.{IfErr-weaker, on_ok_weaker}
-use Rattle.covline.specs.Row.{item_data}
 use Rattle.covmap.specs.Puts.{value_of}
 use Rattle.covstore.specs.FileSection.{AddsItems, ClashesIn, HasRoomIn, KeepsIn}
 use Rattle.covstore.specs.FileView.{file_staged, file_committed, with_test}
@@ -23,7 +22,7 @@ pub stage_in-requires-clause-room : goal.stage_in-requires-clause-room
 stage_in-requires-clause-room g c =
     let before = file_staged c.args.self.now in
     let test = c.args.test.now in
-    let items = map item_data c.args.items.now in
+    let items = c.args.items.now in
     subst (HasRoomIn items) (sym c.in_ok-open.ensures.staged) (room_ready before (with_test test before) (test_keeps test before) items c.requires)
 
 pub stage_in-requires-clause-there : goal.stage_in-requires-clause-there
@@ -42,7 +41,7 @@ pub returns-clause-ok : goal.returns-clause-ok
 returns-clause-ok g c =
     let before = file_staged c.args.self.now in
     let test = c.args.test.now in
-    let items = map item_data c.args.items.now in
+    let items = c.args.items.now in
     let after = file_staged c.stage_in.new.self in
     on_ok_weaker c.stage_in.result
     (λ adds. adds_ready before (with_test test before) (test_keeps test before) items test after (subst (λ (file : FileData). AddsItems items test file after) c.in_ok-open.ensures.staged adds))
@@ -52,7 +51,7 @@ pub returns-clause-clash : goal.returns-clause-clash
 returns-clause-clash g c =
     let before = file_staged c.args.self.now in
     let test = c.args.test.now in
-    let items = map item_data c.args.items.now in
+    let items = c.args.items.now in
     IfErr-weaker c.stage_in.result (ClashesIn items test (file_staged c.open.new.self)) (ClashesIn items test before)
     (λ stop clash. clashes_ready before (with_test test before) (test_keeps test before) items test stop (subst (λ (file : FileData). ClashesIn items test file stop) c.in_ok-open.ensures.staged clash))
     c.stage_in.ensures.clash

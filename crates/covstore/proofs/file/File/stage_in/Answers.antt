@@ -4,7 +4,6 @@ use Rattle.std.specs.Option.{is_some}
 use Rattle.std.specs.Ordering.{nat_cmp}
 use Rattle.std.proofs.lemmas.List.{length-map}
 use Rattle.std.proofs.lemmas.Result.{IfErr-weaker, on_ok_weaker}
-use Rattle.covline.specs.Row.{item_data}
 use Rattle.covmap.specs.Puts.{value_of}
 use Rattle.covstore.specs.declared.file.File.{File}
 use Rattle.covstore.specs.Section.{Clashes}
@@ -41,8 +40,8 @@ stage_items-requires-clause-room g c =
     let points = c.get_mut-2.result.now in
     let test = c.args.test.now in
     let few : length tests ≤ 2 ^ 63 = omega (arith, length-map {B = List ℕ × TestData} pairs (λ pair. (file_name pair.0, test_staged pair.1)), c.len.ensures.len, c.len.ensures.small) in
-    room_for (map item_data c.args.items.now) test tests (test_staged points) (index_staged c.self.inside.index) (test_value file_name test_staged test pairs points (sym c.in-Some.ensures.value ∙ ap Some (sym c.get_mut-2.ensures.value)))
-    (subst (λ (f : File g.row.A.Denot). HasRoomIn (map item_data c.args.items.now) (file_staged f)) (sym c.self.view_is) c.requires.room) few
+    room_for c.args.items.now test tests (test_staged points) (index_staged c.self.inside.index) (test_value file_name test_staged test pairs points (sym c.in-Some.ensures.value ∙ ap Some (sym c.get_mut-2.ensures.value)))
+    (subst (λ (f : File g.row.A.Denot). HasRoomIn c.args.items.now (file_staged f)) (sym c.self.view_is) c.requires.room) few
 
 pub invariant_of-self : goal.invariant_of-self
 invariant_of-self g c =
@@ -70,7 +69,7 @@ returns-clause-ok g c =
     let tests = seen names_order file_name test_staged pairs in
     let points = c.get_mut-2.result.now in
     let after = c.stage_items.new.test in
-    let items = map item_data c.args.items.now in
+    let items = c.args.items.now in
     let test = c.args.test.now in
     let index = index_staged c.self.inside.index in
     let found = sym c.in-Some.ensures.value ∙ ap Some (sym c.get_mut-2.ensures.value) in
@@ -86,7 +85,7 @@ returns-clause-clash g c =
     let pairs = c.self.inside.tests.entries in
     let tests = seen names_order file_name test_staged pairs in
     let points = c.get_mut-2.result.now in
-    let items = map item_data c.args.items.now in
+    let items = c.args.items.now in
     let test = c.args.test.now in
     let index = index_staged c.self.inside.index in
     rw (← c.self.view_is)

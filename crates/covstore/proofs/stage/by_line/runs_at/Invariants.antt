@@ -1,9 +1,8 @@
-use Rattle.std.proofs.Common.{◌≡◌, map, take}
-use Rattle.covline.specs.Row.{item_data}
+use Rattle.std.proofs.Common.{◌≡◌, take}
 use Rattle.covstore.specs.Order.{at_spots}
 use Rattle.covstore.specs.Runs.{runs_of}
 use Rattle.covstore.specs.RunsView.{runs_seen}
 use Rattle.covstore.proofs.stage.by_line.runs_at.Given as goal
 
 abbrev pub invariant-loop-spot : goal.invariant-loop-spot
-invariant-loop-spot g l = runs_seen l.runs ≡ runs_of (map item_data (at_spots l.items (take l.spot-index l.spots)))
+invariant-loop-spot g l = runs_seen l.runs ≡ runs_of (at_spots l.items (take l.spot-index l.spots))

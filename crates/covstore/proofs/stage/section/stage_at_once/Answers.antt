@@ -1,5 +1,3 @@
-use Rattle.std.proofs.Common.{map}
-use Rattle.covline.specs.Row.{item_data}
 use Rattle.covstore.specs.FileIndexView.{index_staged}
 use Rattle.covstore.specs.RunsView.{runs_seen}
 use Rattle.covstore.specs.TestView.{test_staged}
@@ -11,14 +9,14 @@ use Rattle.covstore.proofs.stage.section.stage_at_once.Goals as goal
 
 pub hold_checksums-requires : goal.hold_checksums-requires
 hold_checksums-requires g c = record {
-  room = has_room (map item_data c.args.items.now) (test_staged c.args.test.now) (index_staged c.args.index.now) c.requires.room;
+  room = has_room c.args.items.now (test_staged c.args.test.now) (index_staged c.args.index.now) c.requires.room;
   ascend = c.requires.ascend;
   follows = c.requires.follows;
 }
 
 pub stage_runs-requires : goal.stage_runs-requires
 stage_runs-requires g c = record {
-  room = room_of_held_in (map item_data c.args.items.now) (runs_seen c.in_ok-runs.runs) c.in_ok-runs.ensures c.args.test.now c.hold_checksums.new.test c.args.index.now c.hold_checksums.new.index c.hold_checksums.ensures.test
+  room = room_of_held_in c.args.items.now (runs_seen c.in_ok-runs.runs) c.in_ok-runs.ensures c.args.test.now c.hold_checksums.new.test c.args.index.now c.hold_checksums.new.index c.hold_checksums.ensures.test
       c.in_ok-hold_checksums.ensures.ok c.requires.room;
   follows = c.hold_checksums.ensures.follows.follows;
 }
@@ -29,7 +27,7 @@ returns-clause-index_committed g c = held_both c.args.index.now c.hold_checksums
 pub returns-clause-ok : goal.returns-clause-ok
 returns-clause-ok g c =
     let e = c.in_ok-stage_runs.ensures in
-    held_add_in (map item_data c.args.items.now) (runs_seen c.in_ok-runs.runs) c.in_ok-runs.ensures c.args.test.now c.hold_checksums.new.test c.args.index.now c.hold_checksums.new.index c.hold_checksums.ensures.test
+    held_add_in c.args.items.now (runs_seen c.in_ok-runs.runs) c.in_ok-runs.ensures c.args.test.now c.hold_checksums.new.test c.args.index.now c.hold_checksums.new.index c.hold_checksums.ensures.test
     c.in_ok-hold_checksums.ensures.ok c.stage_runs.new.test c.stage_runs.new.index e.test e.counts e.held
 
 pub returns-in_err-stage_runs-clause-follows : goal.returns-in_err-stage_runs-clause-follows

@@ -1,58 +1,47 @@
-use Rattle.std.proofs.Common.{◌≢◌, List, [], sym, ◌∙◌, subst}
+use Rattle.std.proofs.Common.{◌≡◌, ◌≢◌, List, [], ◌∷◌, ◌++◌, ap, sym, subst, ◌∙◌, arith}
+use Rattle.std.specs.Prelude.{None, Some}
 use Rattle.std.specs.List.{flat_map}
-use Rattle.covline.specs.Row.{SectData, rows_of_sect}
-use Rattle.covstore.specs.Store.{AddsRows, ClashesWith, HasRoomForRows}
-use Rattle.covstore.specs.RefuseView.{refuse_data}
-use Rattle.covstore.specs.Totals.{AreTotals}
-use Rattle.covstore.proofs.Prepares.{is_planned, later_bounds, planned_agrees, planned_totals, refused_too, room_for_submission}
+use Rattle.covline.specs.Row.{Row, SectData, SubmissionData, rows_of, rows_of_sect}
+use Rattle.covstore.specs.Clash.{clash_of}
+use Rattle.covstore.specs.Store.{AddsTo}
+use Rattle.covstore.specs.Table.{all_rows}
+use Rattle.covstore.specs.Content.{content_at}
+use Rattle.covstore.specs.Totals.{totals_of}
+use Rattle.covmap.proofs.SlotWrites.{on_err}
+use Rattle.covstore.proofs.Nothing.{if_ok_then, no_rows, some_rows_of}
 use Rattle.covstore.proofs.store.Store.prepare.Goals as goal
 
-pub add_all-added-requires : goal.add_all-added-requires
-add_all-added-requires g c =
-    let settled = c.rollback.ensures in
-    subst (λ (sects : List SectData). HasRoomForRows (flat_map rows_of_sect sects) c.rollback.new.self) (sym c.sects.ensures.sects)
-    (room_for_submission c.args.self.now c.kept.result c.kept.ensures c.requires c.args.submission.now c.sects.ensures.lawful c.rollback.new.self settled.sections settled.members settled.committed settled.staged settled.after)
+pub returns-then-items-eq0-clause-planned : goal.returns-then-items-eq0-clause-planned
+returns-then-items-eq0-clause-planned g c =
+    let nothing = ap (λ (s : SubmissionData). s.sects) c.of_lawful-nothing.ensures ∙ c.new.ensures.sects in
+    let same = ap (λ (sects : List SectData). flat_map rows_of_sect sects) nothing ∙ no_rows c.args.submission.now (sym c.items.ensures.count ∙ c.if-items-eq0.true) in
+    let later = c.prepare_packed.new.self in
+    if_ok_then c.prepare_packed.result
+    (λ plan is. record {
+      lawful = c.items.ensures.lawful;
+      adds = subst (λ (rows : List Row). AddsTo rows later.committed later.staged) same is.adds;
+      planned = is.planned;
+      totals = is.totals;
+      few = is.few;
+    }) c.prepare_packed.ensures.planned
 
-pub new-requires : goal.new-requires
-new-requires g c =
-    let settled = c.rollback.ensures in
-    let later = c.add_all-added.new.self in
-    let added = subst (λ (sects : List SectData). AddsRows (flat_map rows_of_sect sects) c.rollback.new.self later) c.sects.ensures.sects c.in-Ok.ensures.ok in
-    subst AreTotals (sym c.after.ensures)
-    (later_bounds c.args.self.now c.kept.result c.kept.ensures c.requires c.args.submission.now c.sects.ensures.lawful c.rollback.new.self settled.sections settled.members settled.committed settled.staged settled.after later c.add_all-added.ensures.committed added)
+pub returns-then-items-eq0-clause-after : goal.returns-then-items-eq0-clause-after
+returns-then-items-eq0-clause-after g c =
+    let nothing = ap (λ (s : SubmissionData). s.sects) c.of_lawful-nothing.ensures ∙ c.new.ensures.sects in
+    let same = ap (λ (sects : List SectData). flat_map rows_of_sect sects) nothing ∙ no_rows c.args.submission.now (sym c.items.ensures.count ∙ c.if-items-eq0.true) in
+    if_ok_then c.prepare_packed.result (λ plan is. λ table stands. is table stands ∙ ap (λ (rows : List Row). totals_of (content_at (table ++ rows ∷ []))) same) c.prepare_packed.ensures.after
 
-pub returns-in-Ok-clause-planned : goal.returns-in-Ok-clause-planned
-returns-in-Ok-clause-planned g c =
-    let settled = c.rollback.ensures in
-    let later = c.add_all-added.new.self in
-    let added = subst (λ (sects : List SectData). AddsRows (flat_map rows_of_sect sects) c.rollback.new.self later) c.sects.ensures.sects c.in-Ok.ensures.ok in
-    is_planned c.args.self.now c.kept.result c.kept.ensures c.requires c.args.submission.now c.sects.ensures.lawful c.rollback.new.self settled.sections settled.members settled.committed settled.staged settled.after later c.add_all-added.ensures.committed added
-    c.new.result (c.new.ensures ∙ c.after.ensures)
+pub returns-then-items-eq0-clause-agrees : goal.returns-then-items-eq0-clause-agrees
+returns-then-items-eq0-clause-agrees g c =
+    let nothing = ap (λ (s : SubmissionData). s.sects) c.of_lawful-nothing.ensures ∙ c.new.ensures.sects in
+    let same = ap (λ (sects : List SectData). flat_map rows_of_sect sects) nothing ∙ no_rows c.args.submission.now (sym c.items.ensures.count ∙ c.if-items-eq0.true) in
+    if_ok_then c.prepare_packed.result (λ plan is. λ table stands. subst (λ (rows : List Row). clash_of (all_rows table) rows ≡ None) same (is table stands)) c.prepare_packed.ensures.agrees
 
-pub returns-in-Ok-clause-after : goal.returns-in-Ok-clause-after
-returns-in-Ok-clause-after g c = λ table stands.
-    let settled = c.rollback.ensures in
-    let later = c.add_all-added.new.self in
-    let added = subst (λ (sects : List SectData). AddsRows (flat_map rows_of_sect sects) c.rollback.new.self later) c.sects.ensures.sects c.in-Ok.ensures.ok in
-    c.new.ensures ∙ c.after.ensures
-    ∙ planned_totals c.args.self.now c.kept.result c.kept.ensures c.requires c.args.submission.now c.sects.ensures.lawful c.rollback.new.self settled.sections settled.members settled.committed settled.staged settled.after later c.add_all-added.ensures.committed added
-    table stands
+pub returns-in_err-packed-clause-some : goal.returns-in_err-packed-clause-some
+returns-in_err-packed-clause-some g c =
+    on_err c.from_residual.result (some_rows_of c.args.submission.now (λ none. c.if-items-eq0.false (c.items.ensures.count ∙ none)))
 
-pub returns-in-Ok-clause-agrees : goal.returns-in-Ok-clause-agrees
-returns-in-Ok-clause-agrees g c = λ table stands.
-    let settled = c.rollback.ensures in
-    let later = c.add_all-added.new.self in
-    let added = subst (λ (sects : List SectData). AddsRows (flat_map rows_of_sect sects) c.rollback.new.self later) c.sects.ensures.sects c.in-Ok.ensures.ok in
-    planned_agrees c.args.self.now c.kept.result c.kept.ensures c.requires c.args.submission.now c.sects.ensures.lawful c.rollback.new.self settled.sections settled.members settled.committed settled.staged settled.after later c.add_all-added.ensures.committed added
-    table stands
-
-pub returns-in-Err-clause-refused : goal.returns-in-Err-clause-refused
-returns-in-Err-clause-refused g c = λ table stands.
-    let settled = c.rollback.ensures in
-    let later = c.add_all-added.new.self in
-    let clash = subst (λ (sects : List SectData). ClashesWith (flat_map rows_of_sect sects) c.rollback.new.self (refuse_data c.in-Err.refusal)) c.sects.ensures.sects c.in-Err.ensures.clash in
-    refused_too c.args.self.now c.kept.result c.kept.ensures c.requires c.args.submission.now c.sects.ensures.lawful c.rollback.new.self settled.sections settled.members settled.committed settled.staged settled.after later c.add_all-added.ensures.committed
-    (refuse_data c.in-Err.refusal) clash table stands
-
-pub returns-in-Err-clause-some : goal.returns-in-Err-clause-some
-returns-in-Err-clause-some g c = subst (λ (sects : List SectData). flat_map rows_of_sect sects ≢ []) c.sects.ensures.sects c.in-Err.ensures.some
+pub returns-clause-after : goal.returns-clause-after
+returns-clause-after g c =
+    if_ok_then c.prepare_packed-2.result
+    (λ plan is. λ table stands. is table stands ∙ ap (λ (s : SubmissionData). totals_of (content_at (table ++ rows_of s ∷ []))) c.in_ok-packed.ensures) c.prepare_packed-2.ensures.after

@@ -1,6 +1,5 @@
 use Rattle.std.proofs.Common.{ℕ, List, [], ◌∷◌, ◌++◌, map, sym, ap, ◌∙◌, subst}
 use Rattle.std.proofs.lemmas.Result.{err_from_is_err_and}
-use Rattle.covline.specs.Row.{item_data}
 use Rattle.covstore.specs.Store.{AddsTo, ClashesAmong, SameCommitted, StoreData}
 use Rattle.covstore.specs.StoreSection.{HasRoomAmong, rows_of_items}
 use Rattle.covstore.specs.StoreView.{AreSettledBut, files_committed, files_staged, touched_data}
@@ -21,9 +20,9 @@ last_file-path-requires g c = λ none.
 
 pub stage_in_files-requires : goal.stage_in_files-requires
 stage_in_files-requires g c =
-    let rows = rows_of_items c.args.file.now c.args.test.now (map item_data c.args.items.now) in
+    let rows = rows_of_items c.args.file.now c.args.test.now c.args.items.now in
     let file_is = c.last_file-path.ensures (touched_data c.self.inside.touched.items) c.args.file.now c.args.test.now (ap touched_data c.as_slice.ensures.value ∙ c.in_ok-push.ensures.ok) in
-    subst (λ (file : List ℕ). HasRoomAmong (rows_of_items file c.args.test.now (map item_data c.args.items.now)) (files_staged file_name c.self.inside.files.entries)) (sym file_is)
+    subst (λ (file : List ℕ). HasRoomAmong (rows_of_items file c.args.test.now c.args.items.now) (files_staged file_name c.self.inside.files.entries)) (sym file_is)
     (subst (HasRoomAmong rows) (sym (ap (λ (s : StoreData). s.staged) c.self.view_is)) (room_among rows c.args.self.now c.requires))
 
 -- the store is consistent, except for what is staged
@@ -68,34 +67,34 @@ returns-clause-committed g c =
 
 pub returns-in_err-totals-clause-clash : goal.returns-in_err-totals-clause-clash
 returns-in_err-totals-clause-clash g c =
-    let rows = rows_of_items c.args.file.now c.args.test.now (map item_data c.args.items.now) in
+    let rows = rows_of_items c.args.file.now c.args.test.now c.args.items.now in
     let p = err_from_is_err_and c.from_residual-in_err-totals.result c.from_residual-in_err-totals.ensures.1 in
     let file_is = c.last_file-path.ensures (touched_data c.self.inside.touched.items) c.args.file.now c.args.test.now (ap touched_data c.as_slice.ensures.value ∙ c.in_ok-push.ensures.ok) in
-    let clash = subst (λ (file : List ℕ). ClashesAmong (rows_of_items file c.args.test.now (map item_data c.args.items.now)) (files_staged file_name c.self.inside.files.entries) (refuse_data c.in_err-totals.field-0.0)) file_is
+    let clash = subst (λ (file : List ℕ). ClashesAmong (rows_of_items file c.args.test.now c.args.items.now) (files_staged file_name c.self.inside.files.entries) (refuse_data c.in_err-totals.field-0.0)) file_is
     c.in_err-totals.ensures.clash in
     rw (p.1, p.2) (subst (λ (files : List (List ℕ × FileData)). ClashesAmong rows files (refuse_data c.in_err-totals.field-0.0)) (ap (λ (s : StoreData). s.staged) c.self.view_is) clash)
 
 pub exchanged-self-inside-requires-clause-part : goal.exchanged-self-inside-requires-clause-part
 exchanged-self-inside-requires-clause-part g c =
-    let rows = rows_of_items c.args.file.now c.args.test.now (map item_data c.args.items.now) in
+    let rows = rows_of_items c.args.file.now c.args.test.now c.args.items.now in
     let inside = c.self.inside in
     (exchange_in rows inside.members (files_committed file_name inside.files.entries) (files_staged file_name inside.files.entries) inside.totals_after c.args.self.now c.self.view_is c.requires
     (totals_in (files_staged file_name c.stage_in_files.new.files.entries)) c.in_ok-totals.totals.0 c.in_ok-totals.totals.1 c.in_ok-totals.ensures.totals).part
 
 pub exchanged-self-inside-requires-clause-fits : goal.exchanged-self-inside-requires-clause-fits
 exchanged-self-inside-requires-clause-fits g c =
-    let rows = rows_of_items c.args.file.now c.args.test.now (map item_data c.args.items.now) in
+    let rows = rows_of_items c.args.file.now c.args.test.now c.args.items.now in
     let inside = c.self.inside in
     (exchange_in rows inside.members (files_committed file_name inside.files.entries) (files_staged file_name inside.files.entries) inside.totals_after c.args.self.now c.self.view_is c.requires
     (totals_in (files_staged file_name c.stage_in_files.new.files.entries)) c.in_ok-totals.totals.0 c.in_ok-totals.totals.1 c.in_ok-totals.ensures.totals).fits
 
 pub returns-clause-ok : goal.returns-clause-ok
 returns-clause-ok g c =
-    let rows = rows_of_items c.args.file.now c.args.test.now (map item_data c.args.items.now) in
+    let rows = rows_of_items c.args.file.now c.args.test.now c.args.items.now in
     let inside = c.self.inside in
     let later = files_staged file_name c.stage_in_files.new.files.entries in
     let file_is = c.last_file-path.ensures (touched_data c.self.inside.touched.items) c.args.file.now c.args.test.now (ap touched_data c.as_slice.ensures.value ∙ c.in_ok-push.ensures.ok) in
-    let adds = subst (λ (file : List ℕ). AddsTo (rows_of_items file c.args.test.now (map item_data c.args.items.now)) (files_staged file_name inside.files.entries) later) file_is c.in_ok-totals.ensures.ok in
+    let adds = subst (λ (file : List ℕ). AddsTo (rows_of_items file c.args.test.now c.args.items.now) (files_staged file_name inside.files.entries) later) file_is c.in_ok-totals.ensures.ok in
     record {
       adds = subst (λ (files : List (List ℕ × FileData)). AddsTo rows files later) (ap (λ (s : StoreData). s.staged) c.self.view_is) adds;
       totals = λ is. c.exchanged-self-inside.ensures ∙ (exchange_in rows inside.members (files_committed file_name inside.files.entries) (files_staged file_name inside.files.entries) inside.totals_after c.args.self.now c.self.view_is c.requires

@@ -30,21 +30,11 @@ returns-in_err-close-clause-steps g c =
 pub returns-in_err-close-clause-test : goal.returns-in_err-close-clause-test
 returns-in_err-close-clause-test g c = c.close.ensures.test
 
-pub returns-in_err-of-clause-steps : goal.returns-in_err-of-clause-steps
-returns-in_err-of-clause-steps g c =
-    let p = err_from_is_err_and c.from_residual-in_err-of.result c.from_residual-in_err-of.ensures.1 in
-    let waits = c.if-not-is_empty.ensures ∙ ap (λ (n : ℕ). eqb n 0) c.args.self.now.waiting.ok.0 ∙ none_wait c.args.self.now.waiting.items in
-    let taken = taken_path c.args.self.now.test.now c.args.at (held_data c.args.self.now) c.args.path.now (sym c.if-is_empty.false ∙ c.is_empty.ensures) waits in
-    rw (p.1, p.2) (inl (refl, ap is_ok taken, refl))
-
-pub returns-in_err-of-clause-test : goal.returns-in_err-of-clause-test
-returns-in_err-of-clause-test g c = c.close.ensures.test
-
 pub returns-clause-steps : goal.returns-clause-steps
 returns-clause-steps g c =
     let waits = c.if-not-is_empty.ensures ∙ ap (λ (n : ℕ). eqb n 0) c.args.self.now.waiting.ok.0 ∙ none_wait c.args.self.now.waiting.items in
     let taken = taken_path c.args.self.now.test.now c.args.at (held_data c.args.self.now) c.args.path.now (sym c.if-is_empty.false ∙ c.is_empty.ensures) waits in
-    rw (c.in_ok-of.ensures, c.new.ensures)
+    rw (c.forget.ensures.items, c.forget.ensures.sects)
     (taken ∙ ap (λ (h : HeldData). Ok (record { waiting = h.waiting; section = Some (record { file = c.args.path.now; items = []; anchor = None }); sects = h.sects })) (sym c.in_ok-close.ensures.ok))
 
 pub returns-clause-test : goal.returns-clause-test

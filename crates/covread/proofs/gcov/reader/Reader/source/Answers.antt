@@ -22,7 +22,7 @@ returns-in_err-push_line-clause-test g c = refl
 
 pub returns-in-Some-clause-steps : goal.returns-in-Some-clause-steps
 returns-in-Some-clause-steps g c =
-    rw (c.in-Some.is, c.in_ok-push_line.ensures.ok, c.in_ok-push_functions.ensures.ok, c.deref.ensures.value, append_assoc, c.clear.ensures.items) refl
+    rw (c.in-Some.is, c.in_ok-push_line.ensures.ok, c.in_ok-push_functions.ensures.ok, c.push_line.ensures.sects, c.push_functions.ensures.sects, c.deref.ensures.value, append_assoc, c.clear.ensures.items) refl
 
 pub returns-in-Some-clause-test : goal.returns-in-Some-clause-test
 returns-in-Some-clause-test g c = refl

@@ -7,7 +7,7 @@ pub returns-then-is_some : goal.returns-then-is_some
 returns-then-is_some g c = ends_within [] (held_data c.args.self []) c.args.self.section c.if-is_some.ensures
 
 pub of_lawful-requires : goal.of_lawful-requires
-of_lawful-requires g c = rw c.shrink.ensures (lawful_between [] (held_data c.args.self []) c.args.self.section c.if-is_some.ensures c.requires)
+of_lawful-requires g c = record { lawful = lawful_between [] (held_data c.args.self []) c.args.self.section c.if-is_some.ensures c.requires }
 
 pub returns : goal.returns
-returns g c = rw (c.of_lawful.ensures, c.shrink.ensures) (ends_between [] (held_data c.args.self []) c.args.self.section c.if-is_some.ensures)
+returns g c = rw c.of_lawful.ensures (ends_between [] (held_data c.args.self []) c.args.self.section c.if-is_some.ensures)

@@ -4,7 +4,7 @@ use mir.Val.{bool_byte}
 use Rattle.covread.specs.TraceFunctions.{AreFunctions}
 use Rattle.covread.specs.TraceSection.{mark}
 use Rattle.covread.specs.TraceSettle.{names_in}
-use Rattle.covread.proofs.TraceSection.{settled_some, settled_none, set_is, length_set, names_more}
+use Rattle.covread.proofs.TraceSection.{settled_some, settled_none, length_set, names_more}
 use Rattle.covread.proofs.trace.settle.SettledCounts.take.Goals as goal
 
 byte_is : (b : Bool) → bool_byte b ≡ cond b 1 0
@@ -32,13 +32,13 @@ returns-in-None-clause-functions g c = λ starts ms fs. names_more (λ names fun
 pub returns-clause-settled : goal.returns-clause-settled
 returns-clause-settled g c = λ starts ms before fs h.
     settled_some starts ms (mark c.args.count.now) _ c.from-more.result _ before _ _ c.in-Some.found (sym c.in-Some.is ∙ c.count_function.ensures.found starts (names_in starts ms) fs)
-    (c.from-more.ensures ∙ byte_is c.in-Some.found.is_first_hit) (set_is _ _ _ _ c.requires.place c.set_start.ensures) h
+    (c.from-more.ensures ∙ byte_is c.in-Some.found.is_first_hit) c.set_start.ensures.items h
 
 pub returns-clause-functions : goal.returns-clause-functions
 returns-clause-functions g c = λ starts ms fs. names_more (λ names functions. AreFunctions functions starts names) _ starts ms (mark c.args.count.now) (c.count_function.ensures.marks starts (names_in starts ms) fs)
 
 pub returns-clause-length : goal.returns-clause-length
-returns-clause-length g c = ap length (set_is _ _ _ _ c.requires.place c.set_start.ensures) ∙ length_set _ _ _
+returns-clause-length g c = ap length c.set_start.ensures.items ∙ length_set _ _ _
 
 pub returns-clause-few : goal.returns-clause-few
 returns-clause-few g c = omega (arith, c.from-more.ensures, byte_few c.in-Some.found.is_first_hit)

@@ -1,0 +1,12 @@
+use Rattle.std.specs.Prelude.{IfOk}
+use Rattle.std.proofs.Common.{◌≡◌, [], ◌∷◌, ◌++◌, subst}
+use Rattle.covline.specs.Row.{SubmissionData, rows_of}
+use Rattle.covstore.specs.Content.{content_at}
+use Rattle.covstore.specs.Store.{StandsFor}
+use Rattle.covstore.specs.Table.{Table}
+use Rattle.covstore.specs.Totals.{totals_of}
+use Rattle.covbook.proofs.submitted.PackedRefSubmitted.prepare_in.Goals as goal
+
+pub returns-clause-after : goal.returns-clause-after
+returns-clause-after g c =
+    subst (λ (s : SubmissionData). IfOk c.prepare_packed.result (λ plan. (table : Table) → StandsFor c.args.store.now table → plan.after ≡ totals_of (content_at (table ++ rows_of s ∷ [])))) c.get.ensures c.prepare_packed.ensures.after

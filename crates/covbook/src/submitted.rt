@@ -1,0 +1,87 @@
+//! A submission that a book is asked to add, packed or not.
+
+use crate::op::Op;
+use crate::shared::{PackedRef, SubRef};
+use covline::Memory;
+use covstore::{Plan, Refuse, Store};
+use std::alloc::Allocator;
+
+/// A shared submission, packed or not. Contracts see the submission.
+pub(crate) trait Submitted<A: Allocator + Copy> {
+    ghost use Rattle.std.specs.Prelude.{◌≡◌, ◌≢◌, ◌<◌, ◌++◌, [], ◌∷◌, None, IfErr, IfOk, OnErr};
+    ghost use Rattle.covline.specs.Lawful.{IsLawful};
+    ghost use Rattle.covline.specs.Row.{SubmissionData, items_in, rows_of};
+    ghost use Rattle.covstore.specs.Content.{content_at};
+    ghost use Rattle.covstore.specs.RefuseView.{refuse_data};
+    ghost use Rattle.covstore.specs.Store.{IsPlanOf, IsRefusedAt, SameContent, StandsFor, max_members};
+    ghost use Rattle.covstore.specs.Table.{Table, clash_at};
+    ghost use Rattle.covstore.specs.Totals.{totals_of};
+    ghost use Rattle.covbook.specs.Op.{SubmitOp};
+    ghost use Rattle.covbook.specs.View.{op_data};
+
+    // The submission.
+    ghost says: { Self → SubmissionData };
+
+    /// The operation that submits it. The submission is shared with the operation.
+    fn to_op(&self) -> Result<Op<A>, Memory>
+        ensures { IfOk result (λ op. op_data op ≡ SubmitOp (says self.now)) };
+
+    /// How many items it has.
+    fn count_items(&self) -> u64
+        ensures count { result ≡ items_in (says self.now).sects }
+        ensures lawful { IsLawful (says self.now) };
+
+    /// How many lines of its text are odd.
+    fn count_odd(&self) -> u64
+        ensures { result ≡ (says self.now).odd };
+
+    /// Prepares to add it to the store, as `Store::prepare`.
+    fn prepare_in(&self, alloc: A, store: &mut Store<A>) -> Result<Plan, Refuse<A>>
+        requires { store.old.members < max_members }
+        ensures content { SameContent store.old store.new }
+        ensures planned { IfOk result (λ plan. IsPlanOf store.new (says self.now) plan) }
+        ensures after { IfOk result (λ plan. (table : Table) → StandsFor store.old table → plan.after ≡ totals_of (content_at (table ++ rows_of (says self.now) ∷ []))) }
+        ensures agrees { IfOk result (λ _. (table : Table) → StandsFor store.old table → clash_at table (says self.now) ≡ None) }
+        ensures refused { IfErr result (λ e. (table : Table) → StandsFor store.old table → IsRefusedAt table (says self.now) (refuse_data e)) }
+        ensures some { OnErr result (rows_of (says self.now) ≢ []) };
+}
+
+impl<A: Allocator + Copy> Submitted<A> for SubRef<A> {
+    ghost says = { λ submission. submission };
+
+    fn to_op(&self) -> Result<Op<A>, Memory> {
+        Ok(Op::Submit(self.copy()?))
+    }
+
+    fn count_items(&self) -> u64 {
+        self.get().items()
+    }
+
+    fn count_odd(&self) -> u64 {
+        self.get().odd()
+    }
+
+    fn prepare_in(&self, alloc: A, store: &mut Store<A>) -> Result<Plan, Refuse<A>> {
+        store.prepare(alloc, self.get())
+    }
+}
+
+impl<A: Allocator + Copy> Submitted<A> for PackedRef<A> {
+    ghost says = { λ submission. submission };
+
+    fn to_op(&self) -> Result<Op<A>, Memory> {
+        Ok(Op::SubmitPacked(self.copy()?))
+    }
+
+    fn count_items(&self) -> u64 {
+        self.get().items()
+    }
+
+    fn count_odd(&self) -> u64 {
+        self.get().odd()
+    }
+
+    fn prepare_in(&self, alloc: A, store: &mut Store<A>) -> Result<Plan, Refuse<A>> {
+        store.prepare_packed(alloc, self.get())
+    }
+}
