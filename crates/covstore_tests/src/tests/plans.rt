@@ -119,3 +119,47 @@ fn a_million_lines(rt: HostRuntime) -> Result<(), Fail> {
     assert_eq!(rt; store.totals(), wanted);
     Ok(())
 }
+
+/// Branches whose numbers are just below 2^32, just above, and the largest: in each place, alone and together. They come in
+/// another order than they are printed in.
+const WIDE_BRANCHES: &[u8] = b"\
+TN:t
+SF:/a.c
+BRDA:18446744073709551615,18446744073709551615,18446744073709551615,9
+BRDA:4294967296,0,0,4
+BRDA:4294967295,4294967295,4294967295,3
+BRDA:1,4294967296,0,2
+BRDA:1,0,4294967296,1
+BRDA:4294967295,4294967295,4294967296,5
+BRDA:1,4294967295,18446744073709551615,7
+BRDA:1,0,4294967295,8
+end_of_record
+";
+
+/// The same, in the order of their numbers, each counted twice.
+const WIDE_BRANCHES_TWICE: &[u8] = b"\
+TN:t
+SF:/a.c
+BRDA:1,0,4294967295,16
+BRDA:1,0,4294967296,2
+BRDA:1,4294967295,18446744073709551615,14
+BRDA:1,4294967296,0,4
+BRDA:4294967295,4294967295,4294967295,6
+BRDA:4294967295,4294967295,4294967296,10
+BRDA:4294967296,0,0,8
+BRDA:18446744073709551615,18446744073709551615,18446744073709551615,18
+";
+
+#[test]
+fn branches_with_large_numbers(rt: HostRuntime) -> Result<(), Fail> {
+    let given = read(rt.alloc(), WIDE_BRANCHES)?;
+    let mut store = begun(&rt, WIDE_BRANCHES)?;
+    match store.prepare(rt.alloc(), &given) {
+        Ok(plan) => store.commit(plan),
+        Err(refuse) => panic!(rt; "refused {}", refuse.number()),
+    }
+    let text = held(rt.alloc(), &store)?;
+    check_bytes(&rt, text.get(), WIDE_BRANCHES_TWICE);
+    assert_eq!(rt; (store.totals().bf, store.totals().bh), (8, 8));
+    Ok(())
+}
