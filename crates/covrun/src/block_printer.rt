@@ -83,6 +83,7 @@ impl<'s, O: Sink, L: Place> Printer for BlockPrinter<'s, O, L> {
 
 impl<'s, O: Sink, L: Place> BlockPrinter<'s, O, L> {
     /// Writes the bytes that wait, and then the piece, block by block. The last block of the piece waits.
+    #[cold]
     fn put_further(&mut self, piece: &[u8])
         ensures { self.new.printed ++ self.new.waiting ≡ self.old.printed ++ self.old.waiting ++ piece.now }
     {

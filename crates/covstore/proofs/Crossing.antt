@@ -35,7 +35,7 @@ sole_send : (K S : RattleType) (k : Key.Ghosts K.Denot) (s : PointSum.Ghosts S.D
 sole_send K S k s sk ss = search sendable depth 40
 
 counts_send : (K S : RattleType) (k : Key.Ghosts K.Denot) (s : PointSum.Ghosts S.Denot) → IsSend K → IsSend S → IsSend (Counts.the_field K S Heap.the_row k s ghosts).row
-counts_send K S k s sk ss = search (sendable, index_send, sole_send) depth 40
+counts_send K S k s sk ss = search (sendable, boxed_send, index_send, sole_send) depth 40
 
 kind_send : (K S : RattleType) (k : Key.Ghosts K.Denot) (s : PointSum.Ghosts S.Denot) → IsSend K → IsSend S → IsSend (KindIndex.the_row K S Heap.the_row k s ghosts)
 kind_send K S k s sk ss = search (sendable, counts_send) depth 40

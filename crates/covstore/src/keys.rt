@@ -9,6 +9,7 @@ ghost use Rattle.covstore.specs.Keys.{branch_key_exact, branch_key_total};
 ghost use Rattle.covstore.specs.Value.{branch_cmp};
 ghost use Rattle.covline.specs.PointView.{branch_point_data};
 
+use crate::path::order_bytes;
 use covline::{BranchPoint, Bytes};
 use covmap::{CopyKey, Key, Query};
 use std::alloc::{AllocError, Allocator};
@@ -82,7 +83,7 @@ impl<A: Allocator> Query<FunctionName<A>, A> for &[u8] {
     ghost named = { λ query. query.now };
 
     fn compare(&self, key: &FunctionName<A>) -> Ordering {
-        compare_names(key.get(), *self)
+        order_bytes(key.get(), *self)
     }
 
     fn key(self, alloc: A) -> Result<FunctionName<A>, AllocError> {
@@ -91,13 +92,6 @@ impl<A: Allocator> Query<FunctionName<A>, A> for &[u8] {
             Err(_refused) => Err(AllocError),
         }
     }
-}
-
-/// Compares two names. They have the same lifetime, since `cmp` has a contract only for that case.
-fn compare_names<'a>(name: &'a [u8], other: &'a [u8]) -> Ordering
-    ensures { result ≡ slice_cmp nat_cmp name.now other.now }
-{
-    Ord::cmp(&name, &other)
 }
 
 /// A branch. Branches ascend by line, block and number.

@@ -6,6 +6,7 @@ ghost use Rattle.covstore.specs.KindData.{empty_kind};
 ghost use Rattle.covstore.specs.PointIndexCounts.{found_of, hit_of};
 ghost use Rattle.covstore.specs.SoleTest.{after_commit, after_rollback};
 
+use crate::boxed::Boxed;
 use crate::point_index::{KindTally, PointIndex};
 use crate::sole_test::SoleTest;
 use crate::sums::PointSum;
@@ -18,8 +19,8 @@ use std::marker::Model;
 pub(crate) enum Counts<K: Key, S: PointSum, A: Allocator> {
     /// The file has at most one test, and the counts follow that test. Each point of the test counts once.
     OfOneTest(SoleTest<K, S, A>),
-    /// The points of all tests are counted.
-    OfTests(PointIndex<K, A>),
+    /// The points of all tests are counted. Few files have several tests, so this is in a box.
+    OfTests(Boxed<PointIndex<K, A>, A>),
 }
 
 /// For each point of a kind, the number of tests of a file that have the point, and the number of tests that have it with a
@@ -58,7 +59,7 @@ impl<K: Key + Drop, S: PointSum, A: Allocator + Copy> KindIndex<K, S, A> {
     {
         match &self.counts {
             Counts::OfOneTest(sole) => sole.staged(),
-            Counts::OfTests(counts) => counts.staged(),
+            Counts::OfTests(counts) => counts.get().staged(),
         }
     }
 
@@ -69,7 +70,7 @@ impl<K: Key + Drop, S: PointSum, A: Allocator + Copy> KindIndex<K, S, A> {
     {
         match &self.counts {
             Counts::OfOneTest(sole) => sole.committed(),
-            Counts::OfTests(counts) => counts.committed(),
+            Counts::OfTests(counts) => counts.get().committed(),
         }
     }
 
@@ -84,7 +85,7 @@ impl<K: Key + Drop, S: PointSum, A: Allocator + Copy> KindIndex<K, S, A> {
     {
         match &mut self.counts {
             Counts::OfOneTest(sole) => sole.commit(points),
-            Counts::OfTests(counts) => counts.commit(),
+            Counts::OfTests(counts) => counts.get_mut().commit(),
         }
     }
 
@@ -99,7 +100,7 @@ impl<K: Key + Drop, S: PointSum, A: Allocator + Copy> KindIndex<K, S, A> {
     {
         match &mut self.counts {
             Counts::OfOneTest(sole) => sole.rollback(points),
-            Counts::OfTests(counts) => counts.rollback(),
+            Counts::OfTests(counts) => counts.get_mut().rollback(),
         }
     }
 
@@ -110,7 +111,7 @@ impl<K: Key + Drop, S: PointSum, A: Allocator + Copy> KindIndex<K, S, A> {
         ensures settled { IfSome self.old.follows (λ seen. seen.staged ≡ seen.committed) → self.new.staged ≡ self.new.committed }
     {
         if let Counts::OfTests(counts) = &mut self.counts {
-            counts.commit();
+            counts.get_mut().commit();
         }
     }
 
@@ -121,7 +122,7 @@ impl<K: Key + Drop, S: PointSum, A: Allocator + Copy> KindIndex<K, S, A> {
         ensures settled { IfSome self.old.follows (λ seen. seen.staged ≡ seen.committed) → self.new.staged ≡ self.new.committed }
     {
         if let Counts::OfTests(counts) = &mut self.counts {
-            counts.rollback();
+            counts.get_mut().rollback();
         }
     }
 }
@@ -147,7 +148,7 @@ impl<K: CopyKey<A> + Drop, S: PointSum, A: Allocator + Copy> KindIndex<K, S, A> 
     {
         if let Counts::OfOneTest(sole) = &self.counts {
             let counted = sole.counted(alloc, points)?;
-            self.counts = Counts::OfTests(counted);
+            self.counts = Counts::OfTests(Boxed::new(alloc, counted)?);
         }
         Ok(())
     }

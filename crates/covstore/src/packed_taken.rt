@@ -1,4 +1,4 @@
-//! How often a branch was taken, or `None`, in 20 bytes. An `Option<u128>` takes 32 bytes, and an option of that takes 48.
+//! How often a branch was taken, or `None`, in 17 bytes. An `Option<u128>` takes 32 bytes, and an option of that takes 48.
 
 ghost use Rattle.std.specs.Prelude.{◌≡◌, None};
 ghost use Rattle.covstore.specs.Sums.{sum_taken};

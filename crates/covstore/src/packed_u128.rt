@@ -1,5 +1,4 @@
-//! A number of 128 bits in four words of 32 bits. A struct of these words is aligned to 4 bytes, so it needs little padding. A
-//! struct with a `u128` would need more.
+//! A number of 128 bits in sixteen bytes. A struct of bytes needs no padding. A struct with a `u128` would need much.
 
 ghost use Rattle.std.specs.Prelude.{◌≡◌, ◌+◌, nat_lt};
 ghost use Rattle.covstore.specs.Value.{bounded};

@@ -1,5 +1,5 @@
-//! A number of 64 bits in two words of 32 bits. A struct of these words is aligned to 4 bytes, so an option of the struct takes
-//! 4 bytes more than the struct. With a word of 64 bits, the option would take 8 bytes more.
+//! A number of 64 bits in eight bytes. A struct of bytes needs no padding, so an option of it takes one byte more than the struct.
+//! With a word of 64 bits, the option would take 8 bytes more.
 
 ghost use Rattle.std.specs.Prelude.{◌≡◌};
 
@@ -8,16 +8,16 @@ use std::marker::Model;
 /// A number below 2^64. Contracts see the number.
 #[derive(Drop)]
 pub(crate) struct PackedU64 {
-    low: u32,
-    high: u32,
+    bytes: [u8; 8],
 }
 
 impl Model for PackedU64 {
-    ghost use Rattle.std.specs.Prelude.{ℕ, ◌+◌, ◌*◌};
+    ghost use Rattle.std.specs.Prelude.{ℕ};
+    ghost use Rattle.std.specs.Int.{from_le_bytes, w64};
 
     ghost Value = { ℕ };
 
-    ghost view = { λ split. split.high * 4294967296 + split.low };
+    ghost view = { λ packed. from_le_bytes w64 packed.bytes };
 }
 
 impl PackedU64 {
@@ -26,8 +26,7 @@ impl PackedU64 {
         ensures { result ≡ number }
     {
         PackedU64 {
-            low: (number % 4294967296) as u32,
-            high: (number / 4294967296) as u32,
+            bytes: number.to_le_bytes(),
         }
     }
 
@@ -35,16 +34,13 @@ impl PackedU64 {
     pub(crate) fn copy(&self) -> PackedU64
         ensures { result ≡ self.now }
     {
-        PackedU64 {
-            low: self.low,
-            high: self.high,
-        }
+        PackedU64 { bytes: self.bytes }
     }
 
     /// The number.
     pub(crate) fn get(&self) -> u64
         ensures { result ≡ self.now }
     {
-        u64::from(self.high) * 4294967296 + u64::from(self.low)
+        u64::from_le_bytes(self.bytes)
     }
 }

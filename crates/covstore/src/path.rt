@@ -80,9 +80,9 @@ impl<A: Allocator> Ord for Path<A> {
     }
 }
 
-/// The order of two paths, byte by byte. Paths of one source tree begin alike, so eight bytes at a time are compared, as one
-/// number.
-fn order_bytes(a: &[u8], b: &[u8]) -> Ordering
+/// The order of two paths or names, byte by byte. Paths of one source tree begin alike, and so do names of functions. So eight
+/// bytes at a time are compared, as one number.
+pub(crate) fn order_bytes(a: &[u8], b: &[u8]) -> Ordering
     ensures { result ≡ slice_cmp nat_cmp a.now b.now }
 {
     let both = a.len().min(b.len());
@@ -110,7 +110,7 @@ fn word_at(bytes: &[u8], at: usize) -> u64
     ])
 }
 
-/// The order of two paths' bytes from index `start` on.
+/// The order of two texts' bytes from index `start` on.
 fn order_rest(a: &[u8], b: &[u8], start: usize) -> Ordering
     requires { (start ≤ length a.now) × (start ≤ length b.now) }
     ensures { result ≡ slice_cmp nat_cmp (drop start a.now) (drop start b.now) }

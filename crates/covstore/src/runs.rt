@@ -33,14 +33,14 @@ pub(crate) struct Runs<'a, A: Allocator> {
 }
 
 impl<'a, A: Allocator + Copy> Runs<'a, A> {
-    /// Empty runs. The run of lines has room for `lines` items, since most items are of lines.
-    pub(crate) fn with_room(alloc: A, lines: usize) -> Result<Runs<'a, A>, AllocError>
+    /// Empty runs with room for so many items in all: all of them may be of lines, and half of them of branches.
+    pub(crate) fn with_room(alloc: A, items: usize) -> Result<Runs<'a, A>, AllocError>
         ensures { IfOk result (λ runs. runs_seen runs ≡ runs_of []) }
     {
         Ok(Runs {
-            lines: Vec::with_capacity(alloc, lines)?,
+            lines: Vec::with_capacity(alloc, items)?,
             functions: Vec::new(alloc),
-            branches: Vec::new(alloc),
+            branches: Vec::with_capacity(alloc, items / 2)?,
         })
     }
 

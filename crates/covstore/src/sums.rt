@@ -66,13 +66,13 @@ pub(crate) struct BranchSum {
 }
 
 // A map keeps an `Option` of one of these types for each point, so the size of each `Option` matters.
-const _: () = prove!(size_of::<Option<LineSum>>() <= 24);
+const _: () = prove!(size_of::<Option<LineSum>>() <= 18);
 
-const _: () = prove!(size_of::<Option<FunctionSum>>() <= 28);
+const _: () = prove!(size_of::<Option<FunctionSum>>() <= 25);
 
-const _: () = prove!(size_of::<Option<BranchSum>>() <= 24);
+const _: () = prove!(size_of::<Option<BranchSum>>() <= 18);
 
-const _: () = prove!(size_of::<Option<TestCounts>>() <= 20);
+const _: () = prove!(size_of::<Option<TestCounts>>() <= 17);
 
 /// A line's item: its count, and whether it has a checksum.
 #[derive(Clone, Copy)]

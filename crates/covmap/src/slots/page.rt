@@ -184,7 +184,8 @@ impl<K, V: Value, A: Allocator> Page<K, V, A> {
 }
 
 impl<K: Drop, V: Value, A: Allocator + Copy> Page<K, V, A> {
-    /// Inserts an empty slot.
+    /// Inserts an empty slot, mostly after all others.
+    #[inline(always)]
     pub(crate) fn insert(&mut self, index: usize, key: K) -> Result<(), AllocError>
         requires { index ≤ length self.old }
         ensures ok { OnOk result (self.new ≡ insert self.old index (key, None)) }
@@ -194,6 +195,15 @@ impl<K: Drop, V: Value, A: Allocator + Copy> Page<K, V, A> {
             self.keys.push(key)?;
             return Ok(());
         }
+        self.insert_before(index, key)
+    }
+
+    /// Inserts an empty slot before another one.
+    fn insert_before(&mut self, index: usize, key: K) -> Result<(), AllocError>
+        requires { index < length self.old }
+        ensures ok { OnOk result (self.new ≡ insert self.old index (key, None)) }
+        ensures err { OnErr result (self.new ≡ self.old) }
+    {
         if self.values.len() <= index {
             self.keys.insert(index, key)?;
             return Ok(());

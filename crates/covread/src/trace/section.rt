@@ -23,8 +23,8 @@ pub struct PendingCount<'a> {
     pub is_hit: bool,
 }
 
-/// What the lines of an open section gave so far, beside its items, which packed sections hold. Those of functions' counts have the
-/// start line 0 there. Counts of functions, and totals, depend on later lines, so they wait for the section's end.
+/// What the lines of an open section gave so far, beside its items, which packed sections hold. The item of a function's count has
+/// the start line 0 until the section ends. Counts of functions, and totals, depend on later lines, so they wait for that end.
 #[derive(Drop)]
 pub struct SectionBuilder<'a, A: Allocator> {
     /// The functions with a start line.

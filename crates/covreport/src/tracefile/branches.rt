@@ -6,6 +6,7 @@ ghost use Rattle.covline.specs.Printed.{printed};
 ghost use Rattle.covreport.specs.Report.{branch_records};
 ghost use Rattle.covstore.specs.Value.{is_taken as value_is_taken};
 
+use super::front::Front;
 use super::record::put_branch;
 use super::totals::put_totals_if_any;
 use crate::printer::Printer;
@@ -17,9 +18,10 @@ use std::alloc::Allocator;
 pub(super) fn put_branches<A: Allocator, P: Printer>(section: &Section<'_, A>, out: &mut P)
     ensures { P.text out.new ≡ P.text out.old ++ flat_map printed (branch_records section.now.branches) }
 {
+    let mut front = Front::of(b'\n');
     let mut tally = Tally::NONE;
     for branch in section.branches() {
-        put_branch(&branch, out);
+        put_branch(&branch, &mut front, out);
         tally = tally.and(is_taken(branch.taken));
     }
     put_totals_if_any(TotalKind::BranchFound, TotalKind::BranchHit, tally, out);

@@ -41,6 +41,15 @@ impl Front {
         }
     }
 
+    /// Begins anew with one byte. What was put before is gone.
+    #[inline]
+    pub(super) fn begin(&mut self, last: u8)
+        ensures { self.new ≡ last ∷ [] }
+    {
+        self.start = ROOM;
+        self.put(last);
+    }
+
     /// The bytes.
     #[inline]
     pub(super) fn get(&self) -> &[u8]

@@ -5,6 +5,7 @@ ghost use Rattle.std.specs.List.{flat_map};
 ghost use Rattle.covline.specs.Printed.{printed};
 ghost use Rattle.covreport.specs.Report.{line_records};
 
+use super::front::Front;
 use super::record::put_count;
 use super::totals::put_totals;
 use crate::printer::Printer;
@@ -16,9 +17,10 @@ use std::alloc::Allocator;
 pub(super) fn put_lines<A: Allocator, P: Printer>(section: &Section<'_, A>, out: &mut P)
     ensures { P.text out.new ≡ P.text out.old ++ flat_map printed (line_records section.now.lines) }
 {
+    let mut front = Front::of(b'\n');
     let mut tally = Tally::NONE;
     for line in section.lines() {
-        put_count(&line, out);
+        put_count(&line, &mut front, out);
         tally = tally.and(line.count > 0);
     }
     put_totals(TotalKind::LineFound, TotalKind::LineHit, tally, out);

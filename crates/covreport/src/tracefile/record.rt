@@ -56,56 +56,58 @@ pub(super) fn put_call<P: Printer>(function: &PrintedFunction<'_>, out: &mut P)
     out.put(b"\n");
 }
 
-/// Puts a branch with its value.
-pub(super) fn put_branch<P: Printer>(branch: &BranchValue, out: &mut P)
+/// Puts a branch with its value. `front` is room to put its record together.
+pub(super) fn put_branch<P: Printer>(branch: &BranchValue, front: &mut Front, out: &mut P)
     ensures { P.text out.new ≡ P.text out.old ++ printed (branch_record (branch_data branch.now)) }
 {
-    let mut record = taken_front(branch.taken);
-    record.put_field(branch.branch);
-    record.put_field(branch.block);
-    record.put_field(branch.line);
-    record.put_text(b"BRDA:");
-    out.put(record.get());
+    begin_taken(front, branch.taken);
+    front.put_field(branch.branch);
+    front.put_field(branch.block);
+    front.put_field(branch.line);
+    front.put_text(b"BRDA:");
+    out.put(front.get());
 }
 
-/// How often a branch was taken, and a line feed.
+/// Begins with how often a branch was taken, and a line feed.
 #[inline]
-fn taken_front(taken: Option<u128>) -> Front
-    ensures text { result ≡ taken_text taken ++ line_feed ∷ [] }
-    ensures size { length result ≤ 40 }
+fn begin_taken(front: &mut Front, taken: Option<u128>)
+    ensures text { front.new ≡ taken_text taken ++ line_feed ∷ [] }
+    ensures size { length front.new ≤ 40 }
 {
-    let mut front = Front::of(b'\n');
+    front.begin(b'\n');
     match taken {
         Some(taken) => front.put_count(taken),
         None => front.put(b'-'),
     }
-    front
 }
 
-/// Puts a line with its values.
-pub(super) fn put_count<P: Printer>(line: &LineValue<'_>, out: &mut P)
+/// Puts a line with its values. `front` is room to put its record together.
+pub(super) fn put_count<P: Printer>(line: &LineValue<'_>, front: &mut Front, out: &mut P)
     ensures { P.text out.new ≡ P.text out.old ++ printed (line_record (line_data line.now)) }
 {
     match line.checksum {
         Some(checksum) => {
-            out.put(count_front(line.line, line.count, b',').get());
+            begin_count(front, line.line, line.count, b',');
+            out.put(front.get());
             out.put(checksum);
             out.put(b"\n");
         }
-        None => out.put(count_front(line.line, line.count, b'\n').get()),
+        None => {
+            begin_count(front, line.line, line.count, b'\n');
+            out.put(front.get());
+        }
     }
 }
 
-/// The key of a line's record, the line, its count, and the byte `end` after the count.
+/// Begins with the key of a line's record, the line, its count, and the byte `end` after the count.
 #[inline]
-fn count_front(line: u64, count: u128, end: u8) -> Front
-    ensures { result ≡ codes "DA:" ++ decimal line ++ comma ∷ decimal count ++ end ∷ [] }
+fn begin_count(front: &mut Front, line: u64, count: u128, end: u8)
+    ensures { front.new ≡ codes "DA:" ++ decimal line ++ comma ∷ decimal count ++ end ∷ [] }
 {
-    let mut front = Front::of(end);
+    front.begin(end);
     front.put_count(count);
     front.put_field(line);
     front.put_text(b"DA:");
-    front
 }
 
 /// Puts one total.

@@ -28,7 +28,7 @@ pub(super) fn uncount_kind<'a, K: PointKey<'a, A> + Drop, S: PointSum, A: Alloca
 {
     match &mut kept.counts {
         Counts::OfOneTest(sole) => *sole = SoleTest::none(),
-        Counts::OfTests(counts) => drop_counted(counts, points),
+        Counts::OfTests(counts) => drop_counted(counts.get_mut(), points),
     }
 }
 
@@ -79,7 +79,7 @@ pub(super) fn tally_without<'a, K: PointKey<'a, A>, S: PointSum, A: Allocator>(
 {
     match &kept.counts {
         Counts::OfOneTest(_) => KindTally { found: 0, hit: 0 },
-        Counts::OfTests(counts) => tally_without_counted(counts, points),
+        Counts::OfTests(counts) => tally_without_counted(counts.get(), points),
     }
 }
 

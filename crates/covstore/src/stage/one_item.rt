@@ -187,6 +187,12 @@ pub(crate) fn stage_addend<
 {
     match &mut kept.counts {
         Counts::OfOneTest(sole) => stage_sole_addend(points, sole, alloc, query, addend),
-        Counts::OfTests(counts) => stage_counted_addend(points, counts, alloc, query, addend),
+        Counts::OfTests(counts) => stage_counted_addend(
+            points,
+            counts.get_mut(),
+            alloc,
+            query,
+            addend,
+        ),
     }
 }

@@ -39,7 +39,7 @@ pub(crate) fn stage_whole_run<
     }
     match &mut kept.counts {
         Counts::OfOneTest(sole) => stage_sole_run(points, sole, alloc, run),
-        Counts::OfTests(counts) => stage_counted_run(points, counts, alloc, run),
+        Counts::OfTests(counts) => stage_counted_run(points, counts.get_mut(), alloc, run),
     }
 }
 

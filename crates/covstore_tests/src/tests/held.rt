@@ -1,5 +1,7 @@
 //! What a store holds, and what it refuses.
 
+ghost use Rattle.std.specs.Prelude.{◌<◌, IfOk};
+ghost use Rattle.covstore.specs.Store.{max_members};
 ghost use Rattle.covstore.specs.Totals.{AreTotals};
 
 use super::wrappers::{put_line, read};
@@ -74,8 +76,10 @@ fn a_plan_that_is_dropped(rt: HostRuntime) -> Result<(), Fail> {
     Ok(())
 }
 
-/// A store that holds the text.
-pub(super) fn store_of(rt: &(impl Abort + AllocGlobal), text: &[u8]) -> Result<Store, Fail> {
+/// A store that holds the text alone, and has room for another one.
+pub(super) fn store_of(rt: &(impl Abort + AllocGlobal), text: &[u8]) -> Result<Store, Fail>
+    ensures { IfOk result (λ store. store.members < max_members) }
+{
     let given = read(rt.alloc(), text)?;
     let mut store = Store::new(rt.alloc());
     match store.prepare(rt.alloc(), &given) {

@@ -1,10 +1,7 @@
 //! Plans that are dropped and made again, and a large section.
 
-ghost use Rattle.std.specs.Prelude.{◌<◌, IfOk};
-ghost use Rattle.covstore.specs.Store.{max_members};
-
 use super::check_bytes;
-use super::held::{NOTHING, held};
+use super::held::{NOTHING, held, store_of};
 use super::wrappers::{read, read_packed};
 use covstore::{Refuse, Store, Totals};
 use std::process::Abort;
@@ -34,24 +31,11 @@ fn a_plan_that_is_made_again(rt: HostRuntime) -> Result<(), Fail> {
     Ok(())
 }
 
-/// A store that holds the text alone, with the promise that it has room for another one.
-fn begun(rt: &(impl Abort + AllocGlobal), text: &[u8]) -> Result<Store, Fail>
-    ensures { IfOk result (λ store. store.members < max_members) }
-{
-    let given = read(rt.alloc(), text)?;
-    let mut store = Store::new(rt.alloc());
-    match store.prepare(rt.alloc(), &given) {
-        Ok(plan) => store.commit(plan),
-        Err(refuse) => panic!(rt; "refused {}", refuse.number()),
-    }
-    Ok(store)
-}
-
 /// A packed submission is prepared as any other. If its plan is dropped, nothing of it is seen.
 #[test]
 fn a_packed_submission(rt: HostRuntime) -> Result<(), Fail> {
     let given = read_packed(rt.alloc(), SMALL)?;
-    let mut store = begun(&rt, b"TN:u\nSF:/a.c\nDA:2,5\nend_of_record\n")?;
+    let mut store = store_of(&rt, b"TN:u\nSF:/a.c\nDA:2,5\nend_of_record\n")?;
     match store.prepare_packed(rt.alloc(), &given) {
         Ok(plan) => assert_eq!(rt; (plan.after().lf, plan.after().lh), (2, 2)),
         Err(refuse) => panic!(rt; "refused {}", refuse.number()),
@@ -75,7 +59,7 @@ fn a_packed_submission(rt: HostRuntime) -> Result<(), Fail> {
 #[test]
 fn a_packed_clash(rt: HostRuntime) -> Result<(), Fail> {
     let given = read_packed(rt.alloc(), b"TN:u\nSF:/a.c\nDA:7,1,new\nend_of_record\n")?;
-    let mut store = begun(&rt, b"TN:t\nSF:/a.c\nDA:7,1,old\nend_of_record\n")?;
+    let mut store = store_of(&rt, b"TN:t\nSF:/a.c\nDA:7,1,old\nend_of_record\n")?;
     match store.prepare_packed(rt.alloc(), &given) {
         Err(
             Refuse::Clash {
@@ -117,5 +101,49 @@ fn a_million_lines(rt: HostRuntime) -> Result<(), Fail> {
         ..NOTHING
     };
     assert_eq!(rt; store.totals(), wanted);
+    Ok(())
+}
+
+/// Branches whose numbers are just below 2^32, just above, and the largest: in each place, alone and together. They come in
+/// another order than they are printed in.
+const WIDE_BRANCHES: &[u8] = b"\
+TN:t
+SF:/a.c
+BRDA:18446744073709551615,18446744073709551615,18446744073709551615,9
+BRDA:4294967296,0,0,4
+BRDA:4294967295,4294967295,4294967295,3
+BRDA:1,4294967296,0,2
+BRDA:1,0,4294967296,1
+BRDA:4294967295,4294967295,4294967296,5
+BRDA:1,4294967295,18446744073709551615,7
+BRDA:1,0,4294967295,8
+end_of_record
+";
+
+/// The same, in the order of their numbers, each counted twice.
+const WIDE_BRANCHES_TWICE: &[u8] = b"\
+TN:t
+SF:/a.c
+BRDA:1,0,4294967295,16
+BRDA:1,0,4294967296,2
+BRDA:1,4294967295,18446744073709551615,14
+BRDA:1,4294967296,0,4
+BRDA:4294967295,4294967295,4294967295,6
+BRDA:4294967295,4294967295,4294967296,10
+BRDA:4294967296,0,0,8
+BRDA:18446744073709551615,18446744073709551615,18446744073709551615,18
+";
+
+#[test]
+fn branches_with_large_numbers(rt: HostRuntime) -> Result<(), Fail> {
+    let given = read(rt.alloc(), WIDE_BRANCHES)?;
+    let mut store = store_of(&rt, WIDE_BRANCHES)?;
+    match store.prepare(rt.alloc(), &given) {
+        Ok(plan) => store.commit(plan),
+        Err(refuse) => panic!(rt; "refused {}", refuse.number()),
+    }
+    let text = held(rt.alloc(), &store)?;
+    check_bytes(&rt, text.get(), WIDE_BRANCHES_TWICE);
+    assert_eq!(rt; (store.totals().bf, store.totals().bh), (8, 8));
     Ok(())
 }

@@ -59,10 +59,22 @@ impl<K: Key, V: Value, A: Allocator> Page<K, V, A> {
         Ok(Along { count, next })
     }
 
-    /// Where to look for the slot of a key: at `start`, at one of the next slots, or where a search of the page leads.
+    /// Where to look for the slot of a key: at `start`, at one of the next slots, or where a search of the page leads. It is
+    /// mostly at `start`, so only this is looked at in place.
+    #[inline(always)]
     pub(crate) fn guess_near<Q: Query<K, A>>(&self, start: usize, query: Q) -> usize
         requires { IsAscending K.cmp self.now }
         ensures { order_at (λ key. K.cmp key (Q.named query)) (slice_get self.now start) ≡ Equal → result ≡ start }
+    {
+        if self.order(start, query).is_eq() {
+            return start;
+        }
+        self.search_near(start, query)
+    }
+
+    /// The same for a key that isn't at `start`.
+    fn search_near<Q: Query<K, A>>(&self, start: usize, query: Q) -> usize
+        requires { IsAscending K.cmp self.now }
     {
         if !self.order(start, query).is_lt() {
             return start;

@@ -1,4 +1,5 @@
-use Rattle.std.proofs.Common.{List, refl, subst}
+use Rattle.std.proofs.Common.{◌∙◌, List, ap, refl, subst}
+use Rattle.covmap.specs.MapData.{MapData}
 use Rattle.covstore.specs.declared.sums.TestCounts.{TestCounts}
 use Rattle.covstore.specs.PointIndexDrops.{IsTallyWithout}
 use Rattle.covstore.proofs.KindSteps.{counted_committed, sole_without}
@@ -12,4 +13,4 @@ returns-in-OfOneTest g c =
 pub returns-in-OfTests : goal.returns-in-OfTests
 returns-in-OfTests g c =
     subst (λ (own : List (g.row.K.Denot × TestCounts)). IsTallyWithout g.K.Key.cmp g.S.PointSum.above c.args.points.now.committed own c.tally_without_counted.result)
-    (counted_committed g.K.Key.cmp g.S.PointSum.above c.args.kept.now c.kept.inside.counts c.in-OfTests.counts c.kept.view_is c.in-OfTests.is) c.tally_without_counted.ensures
+    (ap (λ (k : MapData g.row.K.Denot TestCounts). k.committed) c.get.ensures ∙ counted_committed g.K.Key.cmp g.S.PointSum.above c.args.kept.now c.kept.inside.counts c.in-OfTests.counts c.kept.view_is c.in-OfTests.is) c.tally_without_counted.ensures

@@ -1,4 +1,4 @@
-use Rattle.std.proofs.Common.{List, ap, subst}
+use Rattle.std.proofs.Common.{◌∙◌, List, ap, subst}
 use Rattle.covmap.specs.MapData.{MapData}
 use Rattle.covstore.specs.declared.sums.TestCounts.{TestCounts}
 use Rattle.covstore.specs.PointIndexDrops.{LosesTest}
@@ -20,5 +20,5 @@ returns-clause-committed g c =
       | in-OfTests w ↦
           rw w.kept-inside-is
           (subst (λ (own : List (g.row.K.Denot × TestCounts)). LosesTest g.K.Key.cmp above points.committed own w.drop_counted.new.kept.committed)
-          (counted_committed g.K.Key.cmp above c.args.kept.now c.kept.inside.counts _ c.kept.view_is w.in-OfTests.is) w.drop_counted.ensures.committed)
+          (ap (λ (k : MapData g.row.K.Denot TestCounts). k.committed) w.get_mut.ensures.value ∙ counted_committed g.K.Key.cmp above c.args.kept.now c.kept.inside.counts _ c.kept.view_is w.in-OfTests.is) w.drop_counted.ensures.committed)
     ]

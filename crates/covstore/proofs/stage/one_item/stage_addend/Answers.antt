@@ -1,5 +1,6 @@
-use Rattle.std.proofs.Common.{◌+◌, ◌≤◌, List, length, subst}
+use Rattle.std.proofs.Common.{◌+◌, ◌≤◌, ◌∙◌, List, ap, length, subst}
 use Rattle.std.proofs.lemmas.Result.{on_ok_weaker}
+use Rattle.covmap.specs.MapData.{MapData}
 use Rattle.covstore.specs.declared.sums.TestCounts.{TestCounts}
 use Rattle.covstore.specs.Items.{KeepsCountsOfKind}
 use Rattle.covstore.proofs.KindSteps.{counted_staged, sole_few, sole_keeps}
@@ -20,7 +21,7 @@ returns-clause-counts g c =
           rw (w.result-is, w.points-is, w.kept-inside-is)
           (on_ok_weaker w.stage_counted_addend.result
           (λ keeps. subst (λ (own : List (g.row.K.Denot × TestCounts)). KeepsCountsOfKind g.K.Key.cmp above points.staged w.stage_counted_addend.new.points.staged own w.stage_counted_addend.new.kept.staged)
-          (counted_staged g.K.Key.cmp above c.args.kept.now c.kept.inside.counts _ c.kept.view_is w.in-OfTests.is) keeps)
+          (ap (λ (k : MapData g.row.K.Denot TestCounts). k.staged) w.get_mut.ensures.value ∙ counted_staged g.K.Key.cmp above c.args.kept.now c.kept.inside.counts _ c.kept.view_is w.in-OfTests.is) keeps)
           w.stage_counted_addend.ensures.counts)
     ]
 
@@ -38,6 +39,6 @@ returns-clause-few g c =
           rw (w.result-is, w.kept-inside-is)
           (on_ok_weaker w.stage_counted_addend.result
           (λ few. subst (λ (own : List (g.row.K.Denot × TestCounts)). length w.stage_counted_addend.new.kept.staged ≤ length own + 1)
-          (counted_staged g.K.Key.cmp above c.args.kept.now c.kept.inside.counts _ c.kept.view_is w.in-OfTests.is) few)
+          (ap (λ (k : MapData g.row.K.Denot TestCounts). k.staged) w.get_mut.ensures.value ∙ counted_staged g.K.Key.cmp above c.args.kept.now c.kept.inside.counts _ c.kept.view_is w.in-OfTests.is) few)
           w.stage_counted_addend.ensures.few)
     ]

@@ -1,5 +1,6 @@
-use Rattle.std.proofs.Common.{List, subst}
+use Rattle.std.proofs.Common.{◌∙◌, List, ap, subst}
 use Rattle.std.proofs.lemmas.Result.{on_ok_weaker}
+use Rattle.covmap.specs.MapData.{MapData}
 use Rattle.covstore.specs.declared.sums.TestCounts.{TestCounts}
 use Rattle.covstore.specs.Items.{KeepsCountsOfKind}
 use Rattle.covstore.proofs.KindSteps.{counted_staged, sole_keeps}
@@ -20,6 +21,6 @@ returns-clause-counts g c =
           rw (w.result-is, w.points-is, w.kept-inside-is)
           (on_ok_weaker w.stage_counted_run.result
           (λ keeps. subst (λ (own : List (g.row.K.Denot × TestCounts)). KeepsCountsOfKind g.K.Key.cmp above points.staged w.stage_counted_run.new.points.staged own w.stage_counted_run.new.kept.staged)
-          (counted_staged g.K.Key.cmp above c.args.kept.now c.kept.inside.counts _ c.kept.view_is w.in-OfTests.is) keeps)
+          (ap (λ (k : MapData g.row.K.Denot TestCounts). k.staged) w.get_mut.ensures.value ∙ counted_staged g.K.Key.cmp above c.args.kept.now c.kept.inside.counts _ c.kept.view_is w.in-OfTests.is) keeps)
           w.stage_counted_run.ensures.counts)
     ]
