@@ -4,6 +4,7 @@ ghost use Rattle.std.specs.Prelude.{◌≡◌, ◌+◌, nat_lt};
 ghost use Rattle.covstore.specs.Value.{bounded};
 
 use crate::packed_u64::PackedU64;
+use covmap::Value;
 use std::marker::Model;
 
 /// A number below 2^128. Contracts see the number.
