@@ -3,6 +3,7 @@
 
 ghost use Rattle.std.specs.Prelude.{◌≡◌};
 
+use covmap::Value;
 use std::marker::Model;
 
 /// A number below 2^64. Contracts see the number.
@@ -30,17 +31,16 @@ impl PackedU64 {
         }
     }
 
-    /// A copy.
-    pub(crate) fn copy(&self) -> PackedU64
-        ensures { result ≡ self.now }
-    {
-        PackedU64 { bytes: self.bytes }
-    }
-
     /// The number.
     pub(crate) fn get(&self) -> u64
         ensures { result ≡ self.now }
     {
         u64::from_le_bytes(self.bytes)
+    }
+}
+
+impl Value for PackedU64 {
+    fn copy(&self) -> PackedU64 {
+        PackedU64 { bytes: self.bytes }
     }
 }

@@ -1,5 +1,8 @@
 //! Plans that are dropped and made again, and a large section.
 
+ghost use Rattle.std.specs.Prelude.{◌<◌};
+ghost use Rattle.covstore.specs.Store.{max_members};
+
 use super::check_bytes;
 use super::held::{NOTHING, held, store_of};
 use super::wrappers::{read, read_packed};
@@ -28,6 +31,44 @@ fn a_plan_that_is_made_again(rt: HostRuntime) -> Result<(), Fail> {
     check_bytes(&rt, text.get(), b"TN:t\nSF:/a.c\nDA:1,2\nDA:2,0\n");
     assert_eq!(rt; (store.totals().lf, store.totals().lh), (2, 1));
     assert!(rt; store.has_test(b"t"));
+    Ok(())
+}
+
+/// Checksums of 22, 23, 24 and 70 bytes.
+const CHECKSUMS: &[u8] = b"\
+TN:t
+SF:/a.c
+DA:1,1,abcdefghijklmnopqrstuv
+DA:2,1,abcdefghijklmnopqrstuvw
+DA:3,1,abcdefghijklmnopqrstuvwx
+DA:4,1,abcdefghijklmnopqrstuvwxyz0123456789abcdefghijklmnopqrstuvwxyz01234567
+end_of_record
+";
+
+/// The same, each line counted twice.
+const CHECKSUMS_TWICE: &[u8] = b"\
+TN:t
+SF:/a.c
+DA:1,2,abcdefghijklmnopqrstuv
+DA:2,2,abcdefghijklmnopqrstuvw
+DA:3,2,abcdefghijklmnopqrstuvwx
+DA:4,2,abcdefghijklmnopqrstuvwxyz0123456789abcdefghijklmnopqrstuvwxyz01234567
+";
+
+/// The text is refused with a clash at the line.
+fn check_clash(
+    rt: &(impl Abort + AllocGlobal),
+    mut store: Store,
+    text: &[u8],
+    wanted: u64,
+) -> Result<(), Fail>
+    requires { store.members < max_members }
+{
+    let given = read(rt.alloc(), text)?;
+    match store.prepare(rt.alloc(), &given) {
+        Err(Refuse::Clash { line, .. }) => assert_eq!(rt; line, wanted),
+        _ => panic!(rt; "no clash"),
+    }
     Ok(())
 }
 
@@ -78,6 +119,46 @@ fn a_packed_clash(rt: HostRuntime) -> Result<(), Fail> {
     }
     assert!(rt; !store.has_test(b"u"));
     Ok(())
+}
+
+/// Checksums of 22 to 24 bytes, and one of 70: 23 fit in place. Each is printed as it was given, and given again it agrees.
+#[test]
+fn checksums_in_place_and_longer(rt: HostRuntime) -> Result<(), Fail> {
+    let given = read(rt.alloc(), CHECKSUMS)?;
+    let mut store = store_of(&rt, CHECKSUMS)?;
+    match store.prepare(rt.alloc(), &given) {
+        Ok(plan) => store.commit(plan),
+        Err(refuse) => panic!(rt; "refused {}", refuse.number()),
+    }
+    let text = held(rt.alloc(), &store)?;
+    check_bytes(&rt, text.get(), CHECKSUMS_TWICE);
+    Ok(())
+}
+
+/// A checksum that differs in its last byte alone clashes, in place and longer.
+#[test]
+fn checksums_that_differ_at_the_end(rt: HostRuntime) -> Result<(), Fail> {
+    let store = store_of(&rt, CHECKSUMS)?;
+    check_clash(
+        &rt,
+        store,
+        b"TN:u\nSF:/a.c\nDA:2,1,abcdefghijklmnopqrstuvX\nend_of_record\n",
+        2,
+    )?;
+    let store = store_of(&rt, CHECKSUMS)?;
+    check_clash(
+        &rt,
+        store,
+        b"TN:u\nSF:/a.c\nDA:3,1,abcdefghijklmnopqrstuvwX\nend_of_record\n",
+        3,
+    )?;
+    let store = store_of(&rt, CHECKSUMS)?;
+    check_clash(
+        &rt,
+        store,
+        b"TN:u\nSF:/a.c\nDA:4,1,abcdefghijklmnopqrstuvwxyz0123456789abcdefghijklmnopqrstuvwxyz0123456X\nend_of_record\n",
+        4,
+    )
 }
 
 /// A section of a million lines. If all lines were passed over for each line to get the totals, this wouldn't end in time.
