@@ -82,7 +82,8 @@ impl<'s, O: Sink, L: Place> Printer for BlockPrinter<'s, O, L> {
 }
 
 impl<'s, O: Sink, L: Place> BlockPrinter<'s, O, L> {
-    /// Writes the bytes that wait, and then the piece, block by block. The last block of the piece waits.
+    /// Writes the bytes that wait, and then the piece, block by block. The last block of the piece waits. Few
+    /// pieces don't fit, so this isn't to be inlined.
     #[cold]
     fn put_further(&mut self, piece: &[u8])
         ensures { self.new.printed ++ self.new.waiting ≡ self.old.printed ++ self.old.waiting ++ piece.now }

@@ -11,6 +11,7 @@ use Rattle.covstore.specs.declared.sums.PointSum as PointSum
 use Rattle.covstore.specs.contracts.boxed.Boxed as Boxed
 use Rattle.covstore.specs.contracts.checksums.Checksums as Checksums
 use Rattle.covstore.specs.contracts.file.File as File
+use Rattle.covstore.specs.contracts.file_checksums.FileChecksums as FileChecksums
 use Rattle.covstore.specs.contracts.index.FileIndex as FileIndex
 use Rattle.covstore.specs.contracts.kind_index.Counts as Counts
 use Rattle.covstore.specs.contracts.kind_index.KindIndex as KindIndex
@@ -43,8 +44,11 @@ kind_send K S k s sk ss = search (sendable, counts_send) depth 40
 checksums_send : IsSend (Checksums.the_row Heap.the_row ghosts)
 checksums_send = search (sendable, heap.crosses, map_send) depth 40 fits 20000
 
+file_checksums_send : IsSend (FileChecksums.the_row Heap.the_row ghosts)
+file_checksums_send = search (sendable, heap.crosses, boxed_send, checksums_send) depth 40 fits 20000
+
 file_index_send : IsSend (FileIndex.the_field Heap.the_row ghosts).row
-file_index_send = search (sendable, heap.crosses, kind_send, checksums_send) depth 40 fits 20000
+file_index_send = search (sendable, heap.crosses, kind_send, file_checksums_send) depth 40 fits 20000
 
 file_send : IsSend (File.the_field Heap.the_row ghosts).row
 file_send = search (sendable, heap.crosses, maps.crosses, boxed_send, test_send, file_index_send) depth 40 fits 20000

@@ -91,6 +91,7 @@ pub mod FewerHolders
 pub mod SeenTests
 pub mod SeenStore
 pub mod FollowsSole
+pub mod OneTest
 pub mod Settled
 pub mod FollowsSettled
 pub mod HasTest

@@ -21,12 +21,17 @@ pub mod State
 pub mod TestView
 pub mod PointIndex
 pub mod KeptTexts
+pub mod ShortText
 pub mod SoleTest
 pub mod KindData
 pub mod KindIndex
 pub mod Follows
 pub mod FileParts
+pub mod TestsHeld
+pub mod TestsLeft
+pub mod TestsLends
 pub mod Checksums
+pub mod FileChecksums
 pub mod FileIndexView
 pub mod Items
 pub mod Section

@@ -8,6 +8,8 @@ ghost use Rattle.covstore.specs.declared.stage.fault.StageFault.TheVariants as s
 ghost use Rattle.std.specs.Ordering.{nat_cmp};
 
 use crate::kept_texts::KeptTexts;
+use crate::packed_u64::PackedU64;
+use crate::short_text::ShortText;
 use crate::stage::fault::StageFault;
 use covline::Bytes;
 use covmap::{SlotIndex, StagedMap};
@@ -19,7 +21,7 @@ use std::marker::Model;
 /// numbers of tests, and the checksums.
 #[derive(Drop)]
 pub(crate) struct Checksums<A: Allocator> {
-    holders: StagedMap<u64, u64, A>,
+    holders: StagedMap<u64, PackedU64, A>,
     texts: KeptTexts<A>,
 }
 
@@ -47,7 +49,11 @@ impl<A: Allocator + Copy> Checksums<A> {
     }
 
     /// Stages that a test holds this checksum of a line. If `is_held` is true, the test already holds the line's checksum, and
-    /// isn't counted again. A checksum that differs from the held one is a clash.
+    /// isn't counted again.
+    ///
+    /// # Errors
+    ///
+    /// `Clash` if the line's held checksum differs, `Memory` if memory was refused. Then what is staged may be lost.
     pub(crate) fn hold(
         &mut self,
         alloc: A,
@@ -71,7 +77,7 @@ impl<A: Allocator + Copy> Checksums<A> {
         if is_held {
             return Ok(());
         }
-        self.set_holders(alloc, line, tests + 1)
+        self.set_holders(alloc, line, tests.get() + 1)
     }
 
     /// Stages that a first test holds a checksum of a line. From then on, the line's checksum is `text`. If memory is refused,
@@ -84,7 +90,7 @@ impl<A: Allocator + Copy> Checksums<A> {
         ensures stay { StayTexts self.old.committed self.old.texts self.new.texts }
         ensures err { IfErr result (λ stop. stop ≡ stops.Memory) }
     {
-        let kept = Bytes::of(alloc, text)?;
+        let kept = ShortText::of(alloc, text)?;
         if self.texts.set(alloc, line, kept).is_err() {
             self.holders.rollback();
             return Err(StageFault::Memory);
@@ -101,7 +107,11 @@ impl<A: Allocator + Copy> Checksums<A> {
         ensures ok { OnOk result (self.new.staged ≡ put nat_cmp line tests self.old.staged) }
         ensures err { IfErr result (λ stop. stop ≡ stops.Memory) }
     {
-        if self.holders.stage(alloc, line, tests).is_err() {
+        if self
+            .holders
+            .stage(alloc, line, PackedU64::of(tests))
+            .is_err()
+        {
             self.holders.rollback();
             return Err(StageFault::Memory);
         }
@@ -138,7 +148,7 @@ impl<A: Allocator + Copy> Checksums<A> {
         self.texts.commit();
     }
 
-    /// Forgets what is staged. Takes no memory.
+    /// Forgets the staged numbers of tests. The checksums stay: one that no test holds may be replaced. Takes no memory.
     pub(crate) fn rollback(&mut self)
         ensures committed { self.new.committed ≡ self.old.committed }
         ensures staged { self.new.staged ≡ self.old.committed }
@@ -157,7 +167,7 @@ impl<A: Allocator> Checksums<A> {
         ensures texts { self.new.texts ≡ self.old.texts }
     {
         if let Some(tests) = self.holders.lookup(line) {
-            self.holders.replace(line, one_less(tests));
+            self.holders.replace(line, one_less(tests.get()));
         }
     }
 
@@ -180,8 +190,12 @@ impl<A: Allocator> Checksums<A> {
 }
 
 /// This number of tests less one, or `None` if no test is left.
-fn one_less(tests: u64) -> Option<u64>
+fn one_less(tests: u64) -> Option<PackedU64>
     ensures { result ≡ one_less tests }
 {
-    if tests > 1 { Some(tests - 1) } else { None }
+    if tests > 1 {
+        Some(PackedU64::of(tests - 1))
+    } else {
+        None
+    }
 }

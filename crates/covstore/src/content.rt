@@ -9,6 +9,7 @@ pub use self::points::{Branches, Functions, Lines};
 use crate::boxed::Boxed;
 use crate::file::File;
 use crate::index::FileIndex;
+use crate::named_tests::NamedTests;
 use crate::path::Path;
 use crate::test::Test;
 use std::alloc::{Allocator, Global};
@@ -20,7 +21,7 @@ use std::marker::Model;
 pub(crate) struct FileSections<'a, A: Allocator> {
     file: &'a [u8],
     index: &'a FileIndex<A>,
-    tests: Iter<'a, Vec<u8, A>, Boxed<Test<A>, A>>,
+    tests: NamedTests<'a, A>,
 }
 
 impl<'a, A: Allocator> Model for FileSections<'a, A> {
@@ -134,7 +135,7 @@ impl<'a, A: Allocator> FileSections<'a, A> {
     pub(crate) fn of(
         file: &'a [u8],
         index: &'a FileIndex<A>,
-        tests: Iter<'a, Vec<u8, A>, Boxed<Test<A>, A>>,
+        tests: NamedTests<'a, A>,
     ) -> FileSections<'a, A>
         requires { AllByRecursion IsFewOf (tests_seen (λ name. name.items) file.now index.now.checksums.texts tests) }
         ensures { result ≡ tests_seen (λ name. name.items) file.now index.now.checksums.texts tests.entry }

@@ -10,11 +10,11 @@ use crate::stage::copied::stage_values;
 use crate::stage::fault::StageFault;
 use crate::stage::section::stage_items;
 use crate::test::Test;
+use crate::tests::Tests;
 use crate::totals::Totals;
 use covline::{Bytes, Memory};
 use covpacked::PackedItems;
 use std::alloc::Allocator;
-use std::collections::BTreeMap;
 use std::marker::Model;
 use std::mem;
 
@@ -23,7 +23,7 @@ use std::mem;
 /// Contracts see the tests and the index.
 #[derive(Drop)]
 pub(crate) struct File<A: Allocator> {
-    tests: BTreeMap<Vec<u8, A>, Boxed<Test<A>, A>, A>,
+    tests: Tests<A>,
     index: FileIndex<A>,
 }
 
@@ -34,7 +34,7 @@ impl<A: Allocator> Model for File<A> {
 
     ghost use Rattle.covstore.specs.Follows.{FollowsSole};
 
-    ghost view = { λ f. record { tests = record { entries = f.tests.entries }; index = f.index } };
+    ghost view = { λ f. record { tests = f.tests; index = f.index } };
 
     ghost invariant = { λ f. FollowsSole f.tests.entries f.index };
 }
@@ -80,7 +80,7 @@ impl<A: Allocator + Copy> File<A> {
         ensures settled { (tests : List (List ℕ)) → IsSettledBut tests result }
     {
         File {
-            tests: BTreeMap::new(alloc),
+            tests: Tests::new(),
             index: FileIndex::new(alloc),
         }
     }
@@ -111,7 +111,7 @@ impl<A: Allocator + Copy> File<A> {
         ensures clash { IfErr result (ClashesIn items.now test.now (file_staged self.old)) }
         ensures settled { (tests : List (List ℕ)) → list_any (λ name. bytes_eq name test.now) tests ≡ true → IsSettledBut tests self.old → IsSettledBut tests self.new }
     {
-        // Proof only: the contract of `len` says that a map has fewer than 2^63 entries.
+        // Proof only: the contract of `len` says that there are fewer than 2^63 tests.
         self.tests.len();
         let Some(points) = self.tests.get_mut(test) else {
             unreachable!();
@@ -170,13 +170,13 @@ impl<A: Allocator + Copy> File<A> {
         ensures settled { (tests : List (List ℕ)) → IsSettledBut tests self.old → IsSettledBut tests self.new }
         ensures there { is_some (value_of (slice_cmp nat_cmp) test.now (file_committed self.old).tests) ≡ true → self.new ≡ self.old }
     {
-        if self.tests.contains_key(test) {
+        if self.tests.contains(test) {
             return Ok(());
         }
         let name = Vec::from_slice(alloc, test)?;
         let points = Boxed::new(alloc, Test::new(alloc))?;
         self.start_counting(alloc)?;
-        self.tests.insert(name, points)?;
+        self.tests.insert(alloc, name, points)?;
         Ok(())
     }
 
@@ -204,12 +204,12 @@ impl<A: Allocator + Copy> File<A> {
         ensures settled { (tests : List (List ℕ)) → list_any (λ name. bytes_eq name new.now) tests ≡ true → IsSettledBut tests self.old → IsSettledBut tests self.new }
     {
         let empty = Boxed::new(alloc, Test::new(alloc))?;
-        // Proof only: the contract of `len` says that a map has fewer than 2^63 entries.
+        // Proof only: the contract of `len` says that there are fewer than 2^63 tests.
         self.tests.len();
         let Some(place) = self.tests.get_mut(new) else {
             unreachable!();
         };
-        // The new test is taken out of the map, since the old test stays borrowed from the map while the new test is changed.
+        // The new test is taken out of the file, since the old one stays borrowed from the file while the new one is changed.
         let mut points = mem::replace(place, empty);
         let Some(source) = self.tests.get(old) else {
             unreachable!();

@@ -5,7 +5,7 @@ ghost use Rattle.covstore.specs.PointIndexDrops.{totals_by};
 
 mod drops;
 
-use crate::checksums::Checksums;
+use crate::file_checksums::FileChecksums;
 use crate::index::drops::{release_checksums, tally_without, uncount_kind};
 use crate::keys::{Branch, FunctionName};
 use crate::kind_index::KindIndex;
@@ -23,7 +23,7 @@ pub(crate) struct FileIndex<A: Allocator> {
     pub lines: KindIndex<u64, LineSum, A>,
     pub functions: KindIndex<FunctionName<A>, FunctionSum, A>,
     pub branches: KindIndex<Branch, BranchSum, A>,
-    pub checksums: Checksums<A>,
+    pub checksums: FileChecksums<A>,
 }
 
 impl<A: Allocator + Copy> FileIndex<A> {
@@ -45,7 +45,7 @@ impl<A: Allocator + Copy> FileIndex<A> {
             lines: KindIndex::new(),
             functions: KindIndex::new(),
             branches: KindIndex::new(),
-            checksums: Checksums::new(alloc),
+            checksums: FileChecksums::new(),
         }
     }
 

@@ -1,11 +1,12 @@
-//! The texts of a file's checksums, in a list. Each line with a text has an index of its own in the list.
+//! The texts of a file's checksums.
 
 ghost use Rattle.std.specs.Prelude.{◌≡◌, ◌≤◌, ◌++◌, ◌∷◌, [], None, length, option_map, take, OnErr, OnOk, ℕ};
 ghost use Rattle.std.specs.Ordering.{nat_cmp};
 ghost use Rattle.covmap.specs.Puts.{put, value_of};
 ghost use Rattle.covstore.specs.KeptTexts.{AreCommitted, StillHave};
 
-use covline::Bytes;
+use crate::packed_u64::PackedU64;
+use crate::short_text::ShortText;
 use covmap::{SlotIndex, StagedMap};
 use std::alloc::{AllocError, Allocator};
 use std::marker::Model;
@@ -15,8 +16,8 @@ use std::marker::Model;
 /// lists of lines with their texts, each ascending by line: the texts that would be left if memory is refused, and all texts.
 #[derive(Drop)]
 pub(crate) struct KeptTexts<A: Allocator> {
-    places: StagedMap<u64, u64, A>,
-    texts: Vec<Bytes<A>, A>,
+    places: StagedMap<u64, PackedU64, A>,
+    texts: Vec<ShortText<A>, A>,
     /// How many texts, from the first one on, are at committed indexes.
     committed: usize,
 }
@@ -44,12 +45,13 @@ impl<A: Allocator + Copy> KeptTexts<A> {
         }
     }
 
-    /// Gives a line this text. A text that the line has already is replaced, which takes no memory.
+    /// Gives a line this text. A text that the line has already is replaced, which takes no memory. Proofs also learn that the
+    /// committed texts are among all texts (`same`).
     ///
     /// # Errors
     ///
     /// `AllocError` if memory was refused. Then only the texts at committed indexes are left.
-    pub(crate) fn set(&mut self, alloc: A, line: u64, text: Bytes<A>) -> Result<(), AllocError>
+    pub(crate) fn set(&mut self, alloc: A, line: u64, text: ShortText<A>) -> Result<(), AllocError>
         ensures committed { StillHave self.old.committed self.new.committed }
         ensures ok { OnOk result (self.new.staged ≡ put nat_cmp line text self.old.staged) }
         ensures err { OnErr result (self.new.staged ≡ self.old.committed) }
@@ -57,7 +59,7 @@ impl<A: Allocator + Copy> KeptTexts<A> {
     {
         match self.places.lookup_staged(line) {
             Some(place) => {
-                self.texts[place as usize] = text;
+                self.texts[place.get() as usize] = text;
                 Ok(())
             }
             None => self.add(alloc, line, text),
@@ -65,7 +67,7 @@ impl<A: Allocator + Copy> KeptTexts<A> {
     }
 
     /// Gives this text to a line that has none. If memory is refused, only the texts at committed indexes are left.
-    fn add(&mut self, alloc: A, line: u64, text: Bytes<A>) -> Result<(), AllocError>
+    fn add(&mut self, alloc: A, line: u64, text: ShortText<A>) -> Result<(), AllocError>
         requires { value_of nat_cmp line self.old.staged ≡ None }
         ensures committed { self.new.committed ≡ self.old.committed }
         ensures ok { OnOk result (self.new.staged ≡ put nat_cmp line text self.old.staged) }
@@ -99,19 +101,20 @@ impl<A: Allocator> KeptTexts<A> {
     {
         let (place, next) = self.places.staged_at(line, guess);
         match place {
-            Some(place) => (Some(self.texts[place as usize].get()), next),
+            Some(place) => (Some(self.texts[place.get() as usize].get()), next),
             None => (None, next),
         }
     }
 }
 
-/// Appends a text, and stages its index as the index of the line's text. If that is refused, the text stays in the list.
+/// Appends a text, and stages its index as the index of the line's text. If only the second is refused, the text stays in the
+/// list.
 fn push<A: Allocator + Copy>(
-    places: &mut StagedMap<u64, u64, A>,
-    texts: &mut Vec<Bytes<A>, A>,
+    places: &mut StagedMap<u64, PackedU64, A>,
+    texts: &mut Vec<ShortText<A>, A>,
     alloc: A,
     line: u64,
-    text: Bytes<A>,
+    text: ShortText<A>,
 ) -> Result<(), AllocError>
     ensures committed { places.new.committed ≡ places.old.committed }
     ensures places { OnOk result (places.new.staged ≡ put nat_cmp line (length texts.old.items) places.old.staged) }
@@ -120,5 +123,5 @@ fn push<A: Allocator + Copy>(
 {
     let place = texts.len();
     texts.push(text)?;
-    places.stage(alloc, line, place as u64)
+    places.stage(alloc, line, PackedU64::of(place as u64))
 }

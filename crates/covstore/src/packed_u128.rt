@@ -1,9 +1,11 @@
-//! A number of 128 bits in sixteen bytes. A struct of bytes needs no padding. A struct with a `u128` would need much.
+//! A number of 128 bits in sixteen bytes. A struct of bytes needs no padding; one with a `u128` is aligned to
+//! sixteen bytes.
 
 ghost use Rattle.std.specs.Prelude.{◌≡◌, ◌+◌, nat_lt};
 ghost use Rattle.covstore.specs.Value.{bounded};
 
 use crate::packed_u64::PackedU64;
+use covmap::Value;
 use std::marker::Model;
 
 /// A number below 2^128. Contracts see the number.

@@ -1,8 +1,9 @@
 //! A number of 64 bits in eight bytes. A struct of bytes needs no padding, so an option of it takes one byte more than the struct.
-//! With a word of 64 bits, the option would take 8 bytes more.
+//! An option of a word of 64 bits takes 8 bytes more than the word.
 
 ghost use Rattle.std.specs.Prelude.{◌≡◌};
 
+use covmap::Value;
 use std::marker::Model;
 
 /// A number below 2^64. Contracts see the number.
@@ -30,17 +31,16 @@ impl PackedU64 {
         }
     }
 
-    /// A copy.
-    pub(crate) fn copy(&self) -> PackedU64
-        ensures { result ≡ self.now }
-    {
-        PackedU64 { bytes: self.bytes }
-    }
-
     /// The number.
     pub(crate) fn get(&self) -> u64
         ensures { result ≡ self.now }
     {
         u64::from_le_bytes(self.bytes)
+    }
+}
+
+impl Value for PackedU64 {
+    fn copy(&self) -> PackedU64 {
+        PackedU64 { bytes: self.bytes }
     }
 }

@@ -1,6 +1,6 @@
 //! Iterators over the functions, branches and lines of a section, each with its value.
 
-use crate::checksums::Checksums;
+use crate::file_checksums::FileChecksums;
 use crate::keys::{Branch, FunctionName};
 use crate::sums::{BranchSum, FunctionSum, LineSum};
 use crate::values::{BranchValue, FunctionValue, LineValue};
@@ -110,7 +110,7 @@ impl<'a, A: Allocator> Iterator for Branches<'a, A> {
 #[derive(Drop)]
 pub struct Lines<'a, A: Allocator = Global> {
     rest: Entries<'a, u64, LineSum, A>,
-    checksums: &'a Checksums<A>,
+    checksums: &'a FileChecksums<A>,
     /// The slot in which the next checksum is looked for first.
     guess: SlotIndex,
 }
@@ -132,7 +132,7 @@ impl<'a, A: Allocator> Lines<'a, A> {
     /// An iterator over these lines. `checksums` are those of the file's lines.
     pub(super) fn of(
         rest: Entries<'a, u64, LineSum, A>,
-        checksums: &'a Checksums<A>,
+        checksums: &'a FileChecksums<A>,
     ) -> Lines<'a, A>
         ensures { result ≡ map (line_seen checksums.now.texts) rest.entry }
     {

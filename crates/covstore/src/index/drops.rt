@@ -1,10 +1,10 @@
-//! Removes a test from a file's index: for each kind, by a walk over the test's points.
+//! Removes a test from a file's index. The counts of several tests lose it by a walk over its points.
 
 ghost use Rattle.std.specs.Prelude.{◌≡◌, None, IfSome};
 ghost use Rattle.covstore.specs.SoleTest.{no_points};
 ghost use Rattle.covstore.specs.PointIndexDrops.{AreHoldersWith, AreWith, IsTallyWithout, LosesHolders, LosesTest};
 
-use crate::checksums::Checksums;
+use crate::file_checksums::FileChecksums;
 use crate::keys::PointKey;
 use crate::kind_index::{Counts, KindIndex};
 use crate::point_index::{KindTally, PointIndex};
@@ -50,7 +50,7 @@ fn drop_counted<'a, K: PointKey<'a, A> + Drop, S: PointSum, A: Allocator + Copy>
 
 /// Stops counting the test that has these lines as a holder of their checksums. Nothing is staged afterwards.
 pub(super) fn release_checksums<A: Allocator + Copy>(
-    checksums: &mut Checksums<A>,
+    checksums: &mut FileChecksums<A>,
     lines: &StagedMap<u64, LineSum, A>,
 )
     requires { AreHoldersWith lines.now.committed checksums.old.committed }

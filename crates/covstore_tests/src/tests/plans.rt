@@ -1,5 +1,8 @@
 //! Plans that are dropped and made again, and a large section.
 
+ghost use Rattle.std.specs.Prelude.{◌<◌};
+ghost use Rattle.covstore.specs.Store.{max_members};
+
 use super::check_bytes;
 use super::held::{NOTHING, held, store_of};
 use super::wrappers::{read, read_packed};
@@ -29,6 +32,57 @@ fn a_plan_that_is_made_again(rt: HostRuntime) -> Result<(), Fail> {
     assert_eq!(rt; (store.totals().lf, store.totals().lh), (2, 1));
     assert!(rt; store.has_test(b"t"));
     Ok(())
+}
+
+/// Checksums of 22, 23, 24 and 70 bytes.
+const CHECKSUMS: &[u8] = b"\
+TN:t
+SF:/a.c
+DA:1,1,abcdefghijklmnopqrstuv
+DA:2,1,abcdefghijklmnopqrstuvw
+DA:3,1,abcdefghijklmnopqrstuvwx
+DA:4,1,abcdefghijklmnopqrstuvwxyz0123456789abcdefghijklmnopqrstuvwxyz01234567
+end_of_record
+";
+
+/// The same, each line counted twice.
+const CHECKSUMS_TWICE: &[u8] = b"\
+TN:t
+SF:/a.c
+DA:1,2,abcdefghijklmnopqrstuv
+DA:2,2,abcdefghijklmnopqrstuvw
+DA:3,2,abcdefghijklmnopqrstuvwx
+DA:4,2,abcdefghijklmnopqrstuvwxyz0123456789abcdefghijklmnopqrstuvwxyz01234567
+";
+
+/// The text is refused with a clash at the line.
+fn check_clash(
+    rt: &(impl Abort + AllocGlobal),
+    mut store: Store,
+    text: &[u8],
+    wanted: u64,
+) -> Result<(), Fail>
+    requires { store.members < max_members }
+{
+    let given = read(rt.alloc(), text)?;
+    match store.prepare(rt.alloc(), &given) {
+        Err(Refuse::Clash { line, .. }) => assert_eq!(rt; line, wanted),
+        _ => panic!(rt; "no clash"),
+    }
+    Ok(())
+}
+
+/// A store that was given the text twice. It holds what is wanted.
+fn given_twice(rt: &(impl Abort + AllocGlobal), text: &[u8], wanted: &[u8]) -> Result<Store, Fail> {
+    let given = read(rt.alloc(), text)?;
+    let mut store = store_of(rt, text)?;
+    match store.prepare(rt.alloc(), &given) {
+        Ok(plan) => store.commit(plan),
+        Err(refuse) => panic!(rt; "refused {}", refuse.number()),
+    }
+    let printed = held(rt.alloc(), &store)?;
+    check_bytes(rt, printed.get(), wanted);
+    Ok(store)
 }
 
 /// A packed submission is prepared as any other. If its plan is dropped, nothing of it is seen.
@@ -78,6 +132,39 @@ fn a_packed_clash(rt: HostRuntime) -> Result<(), Fail> {
     }
     assert!(rt; !store.has_test(b"u"));
     Ok(())
+}
+
+/// Checksums of 22 to 24 bytes, and one of 70: 23 fit in place. Each is printed as it was given, and given again it agrees.
+#[test]
+fn checksums_in_place_and_longer(rt: HostRuntime) -> Result<(), Fail> {
+    given_twice(&rt, CHECKSUMS, CHECKSUMS_TWICE)?;
+    Ok(())
+}
+
+/// A checksum that differs in its last byte alone clashes, in place and longer.
+#[test]
+fn checksums_that_differ_at_the_end(rt: HostRuntime) -> Result<(), Fail> {
+    let store = store_of(&rt, CHECKSUMS)?;
+    check_clash(
+        &rt,
+        store,
+        b"TN:u\nSF:/a.c\nDA:2,1,abcdefghijklmnopqrstuvX\nend_of_record\n",
+        2,
+    )?;
+    let store = store_of(&rt, CHECKSUMS)?;
+    check_clash(
+        &rt,
+        store,
+        b"TN:u\nSF:/a.c\nDA:3,1,abcdefghijklmnopqrstuvwX\nend_of_record\n",
+        3,
+    )?;
+    let store = store_of(&rt, CHECKSUMS)?;
+    check_clash(
+        &rt,
+        store,
+        b"TN:u\nSF:/a.c\nDA:4,1,abcdefghijklmnopqrstuvwxyz0123456789abcdefghijklmnopqrstuvwxyz0123456X\nend_of_record\n",
+        4,
+    )
 }
 
 /// A section of a million lines. If all lines were passed over for each line to get the totals, this wouldn't end in time.
@@ -136,14 +223,7 @@ BRDA:18446744073709551615,18446744073709551615,18446744073709551615,18
 
 #[test]
 fn branches_with_large_numbers(rt: HostRuntime) -> Result<(), Fail> {
-    let given = read(rt.alloc(), WIDE_BRANCHES)?;
-    let mut store = store_of(&rt, WIDE_BRANCHES)?;
-    match store.prepare(rt.alloc(), &given) {
-        Ok(plan) => store.commit(plan),
-        Err(refuse) => panic!(rt; "refused {}", refuse.number()),
-    }
-    let text = held(rt.alloc(), &store)?;
-    check_bytes(&rt, text.get(), WIDE_BRANCHES_TWICE);
+    let store = given_twice(&rt, WIDE_BRANCHES, WIDE_BRANCHES_TWICE)?;
     assert_eq!(rt; (store.totals().bf, store.totals().bh), (8, 8));
     Ok(())
 }

@@ -40,7 +40,7 @@ returns-in_default-clause-others g c =
 
 pub returns-clause-text : goal.returns-clause-text
 returns-clause-text g c =
-    let tests = c.in-Some.tests + 1 in
+    let tests = c.get.result + 1 in
     on_ok_weaker c.set_holders.result
     (λ (staged : c.set_holders.new.self.staged ≡ put nat_cmp c.args.line tests c.lookup_staged.new.self.staged).
     record {
@@ -53,7 +53,7 @@ returns-clause-text g c =
 pub returns-clause-others : goal.returns-clause-others
 returns-clause-others g c =
     let inside = c.self.inside in
-    let tests = c.in-Some.tests + 1 in
+    let tests = c.get.result + 1 in
     on_ok_weaker c.set_holders.result
     (λ (staged : c.set_holders.new.self.staged ≡ put nat_cmp c.args.line tests c.lookup_staged.new.self.staged).
     let puts = staged ∙ ap (λ (points : MapData ℕ ℕ). put nat_cmp c.args.line tests points.staged) c.lookup_staged.ensures.same in

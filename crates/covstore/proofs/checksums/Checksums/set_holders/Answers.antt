@@ -16,7 +16,7 @@ invariant_of-self-else-is_err g c =
     let have = c.self.invariant in
     record {
       committed = subst (λ (points : List (ℕ × ℕ)). HaveTexts points texts.committed) (sym committed) have.committed;
-      staged = have_held c.args.line c.args.tests holders.staged c.stage.new.self.staged staged texts.staged there have.staged;
+      staged = have_held c.args.line c.of.result holders.staged c.stage.new.self.staged staged texts.staged there have.staged;
       committed_staged = subst (λ (points : List (ℕ × ℕ)). HaveTexts points texts.staged) (sym committed) have.committed_staged;
-      among = subst (λ (points : List (ℕ × ℕ)). AreAmong points c.stage.new.self.staged) (sym committed) (among_held c.args.line c.args.tests holders.staged c.stage.new.self.staged staged holders.committed have.among);
+      among = subst (λ (points : List (ℕ × ℕ)). AreAmong points c.stage.new.self.staged) (sym committed) (among_held c.args.line c.of.result holders.staged c.stage.new.self.staged staged holders.committed have.among);
     }

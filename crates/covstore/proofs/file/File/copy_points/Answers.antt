@@ -37,7 +37,7 @@ unreachable-requires-in_default-get g c =
     let target = c.replace-points.result in
     let empty = c.replace-points.new.dest in
     let found = sym c.in-Some.ensures.value ∙ ap Some (sym c.replace-points.ensures.value) in
-    other_there name test_staged c.args.new.now c.self.inside.tests.entries (c.get_mut.follows.lender empty).entries target empty c.get_mut.ensures.ordered found (c.get_mut.follows.holds empty).0 c.args.old.now
+    other_there name test_staged c.args.new.now c.self.inside.tests.entries (c.get_mut.follows.lender empty).entries target empty c.get_mut.ensures.ordered found (c.get_mut.follows.holds empty) c.args.old.now
     c.requires.apart (subst (λ (f : File g.row.A.Denot). HasRoomToCopyIn c.args.old.now (file_staged f)) (sym c.self.view_is) c.requires.room).source (subst (λ (f : File g.row.A.Denot). HasRoomToCopyIn c.args.old.now (file_staged f)) (sym c.self.view_is) c.requires.room).its_source (sym c.in_default-get.ensures.value)
 
 pub unreachable-requires-in_default-get_mut : goal.unreachable-requires-in_default-get_mut
@@ -46,7 +46,7 @@ unreachable-requires-in_default-get_mut g c =
     let target = c.replace-points.result in
     let empty = c.replace-points.new.dest in
     let found = sym c.in-Some.ensures.value ∙ ap Some (sym c.replace-points.ensures.value) in
-    place_there name test_staged c.args.new.now c.self.inside.tests.entries (c.get_mut.follows.lender empty).entries target empty c.get_mut.ensures.ordered found (c.get_mut.follows.holds empty).0
+    place_there name test_staged c.args.new.now c.self.inside.tests.entries (c.get_mut.follows.lender empty).entries target empty c.get_mut.ensures.ordered found (c.get_mut.follows.holds empty)
     (sym c.in_default-get_mut.ensures.value)
 
 -- the values are added
@@ -62,7 +62,7 @@ stage_values-added-requires-clause-room g c =
     let empty = c.replace-points.new.dest in
     let source = c.get-2.result.now in
     let found = sym c.in-Some.ensures.value ∙ ap Some (sym c.replace-points.ensures.value) ∙ ap Some (sym c.get_mut-2.ensures.value) in
-    let its_source = subst (λ (f : File g.row.A.Denot). value_of (slice_cmp nat_cmp) c.args.old.now (file_staged f).tests ≡ value_of (slice_cmp nat_cmp) c.args.old.now (file_committed f).tests) (sym c.self.view_is) c.requires.same ∙ other_found name test_committed new pairs (c.get_mut.follows.lender empty).entries target empty c.get_mut.ensures.ordered found (c.get_mut.follows.holds empty).0 old c.requires.apart source
+    let its_source = subst (λ (f : File g.row.A.Denot). value_of (slice_cmp nat_cmp) c.args.old.now (file_staged f).tests ≡ value_of (slice_cmp nat_cmp) c.args.old.now (file_committed f).tests) (sym c.self.view_is) c.requires.same ∙ other_found name test_committed new pairs (c.get_mut.follows.lender empty).entries target empty c.get_mut.ensures.ordered found (c.get_mut.follows.holds empty) old c.requires.apart source
     (sym c.in-Some-get.ensures.value ∙ ap Some (sym c.get-2.ensures)) in
     let few : length tests ≤ 2 ^ 63 = omega (arith, length-map {B = List ℕ × TestData} pairs (λ pair. (name pair.0, test_staged pair.1)), c.len.ensures.len, c.len.ensures.small) in
     copies_room old new tests (index_staged c.self.inside.index) (test_committed source) (test_staged target) its_source (test_value name test_staged new pairs target found) (subst (λ (f : File g.row.A.Denot). HasRoomToCopyIn c.args.old.now (file_staged f)) (sym c.self.view_is) c.requires.room) few
@@ -78,7 +78,7 @@ stage_values-added-requires-clause-holders g c =
     let empty = c.replace-points.new.dest in
     let source = c.get-2.result.now in
     let found = sym c.in-Some.ensures.value ∙ ap Some (sym c.replace-points.ensures.value) ∙ ap Some (sym c.get_mut-2.ensures.value) in
-    let its_source = subst (λ (f : File g.row.A.Denot). value_of (slice_cmp nat_cmp) c.args.old.now (file_staged f).tests ≡ value_of (slice_cmp nat_cmp) c.args.old.now (file_committed f).tests) (sym c.self.view_is) c.requires.same ∙ other_found name test_committed new pairs (c.get_mut.follows.lender empty).entries target empty c.get_mut.ensures.ordered found (c.get_mut.follows.holds empty).0 old c.requires.apart source
+    let its_source = subst (λ (f : File g.row.A.Denot). value_of (slice_cmp nat_cmp) c.args.old.now (file_staged f).tests ≡ value_of (slice_cmp nat_cmp) c.args.old.now (file_committed f).tests) (sym c.self.view_is) c.requires.same ∙ other_found name test_committed new pairs (c.get_mut.follows.lender empty).entries target empty c.get_mut.ensures.ordered found (c.get_mut.follows.holds empty) old c.requires.apart source
     (sym c.in-Some-get.ensures.value ∙ ap Some (sym c.get-2.ensures)) in
     copies_holders old new tests (index_staged c.self.inside.index) (test_committed source) (test_staged target) its_source (test_value name test_staged new pairs target found) (subst (λ (f : File g.row.A.Denot). HasRoomToCopyIn c.args.old.now (file_staged f)) (sym c.self.view_is) c.requires.room)
 
@@ -95,7 +95,7 @@ invariant_of-self g c =
     let entries = c.self.inside.tests.entries in
     let empty = c.replace-points.new.dest in
     let points = c.stage_values-added.new.test in
-    rw ((c.get_mut-3.follows.holds points).0, (c.get_mut.follows.holds empty).0, written_again here entries empty points)
+    rw ((c.get_mut-3.follows.holds points), (c.get_mut.follows.holds empty), written_again here entries empty points)
     (sole_written here entries c.self.inside.index c.stage_values-added.new.index c.get_mut-2.result.now points
     (sym c.in-Some.ensures.value ∙ ap Some (sym c.replace-points.ensures.value) ∙ ap Some (sym c.get_mut-2.ensures.value)) c.self.invariant c.stage_values-added.ensures.follows)
 
@@ -109,8 +109,8 @@ returns-clause-committed g c =
     let found = sym c.in-Some.ensures.value ∙ ap Some (sym c.replace-points.ensures.value) ∙ ap Some (sym c.get_mut-2.ensures.value) in
     rw (← c.self.view_is)
     (record {
-      tests = same_back name test_committed new c.self.inside.tests.entries (c.get_mut.follows.lender empty).entries lent empty c.get_mut.ensures.ordered found (c.get_mut.follows.holds empty).0
-          c.in-Some-get_mut.place.now points (c.get_mut-3.follows.lender points).entries c.get_mut-3.ensures.ordered (sym c.in-Some-get_mut.ensures.value) (c.get_mut-3.follows.holds points).0
+      tests = same_back name test_committed new c.self.inside.tests.entries (c.get_mut.follows.lender empty).entries lent empty c.get_mut.ensures.ordered found (c.get_mut.follows.holds empty)
+          c.in-Some-get_mut.place.now points (c.get_mut-3.follows.lender points).entries c.get_mut-3.ensures.ordered (sym c.in-Some-get_mut.ensures.value) (c.get_mut-3.follows.holds points)
           c.stage_values-added.ensures.test_committed;
       index = c.stage_values-added.ensures.index_committed;
     })
@@ -127,13 +127,13 @@ returns-clause-ok g c =
     let empty = c.replace-points.new.dest in
     let points = c.stage_values-added.new.test in
     let found = sym c.in-Some.ensures.value ∙ ap Some (sym c.replace-points.ensures.value) ∙ ap Some (sym c.get_mut-2.ensures.value) in
-    let lifted = (c.get_mut.follows.holds empty).0 in
+    let lifted = (c.get_mut.follows.holds empty) in
     let source = c.get-2.result.now in
     let its_source = subst (λ (f : File g.row.A.Denot). value_of (slice_cmp nat_cmp) c.args.old.now (file_staged f).tests ≡ value_of (slice_cmp nat_cmp) c.args.old.now (file_committed f).tests) (sym c.self.view_is) c.requires.same ∙ other_found name test_committed new pairs (c.get_mut.follows.lender empty).entries lent empty c.get_mut.ensures.ordered found lifted old c.requires.apart source
     (sym c.in-Some-get.ensures.value ∙ ap Some (sym c.get-2.ensures)) in
     let is = same_file
     (put_back name test_staged new pairs (c.get_mut.follows.lender empty).entries lent empty c.get_mut.ensures.ordered found lifted c.in-Some-get_mut.place.now points
-    (c.get_mut-3.follows.lender points).entries c.get_mut-3.ensures.ordered (sym c.in-Some-get_mut.ensures.value) (c.get_mut-3.follows.holds points).0)
+    (c.get_mut-3.follows.lender points).entries c.get_mut-3.ensures.ordered (sym c.in-Some-get_mut.ensures.value) (c.get_mut-3.follows.holds points))
     refl in
     rw (← c.self.view_is)
     (on_ok_weaker c.stage_values-added.result
@@ -150,5 +150,5 @@ returns-clause-settled g c = λ tests among settled.
     let file : File g.row.A.Denot = record { tests = record { entries = c.self.inside.tests.entries }; index = c.self.inside.index } in
     let middle : File g.row.A.Denot = record { tests = record { entries = (c.get_mut.follows.lender empty).entries }; index = c.stage_values-added.new.index } in
     let after : File g.row.A.Denot = record { tests = record { entries = (c.get_mut-3.follows.lender points).entries }; index = c.stage_values-added.new.index } in
-    test_settled tests new among middle after points (c.get_mut-3.follows.holds points).0
-    (test_settled tests new among file middle empty (c.get_mut.follows.holds empty).0 (subst (λ (f : File g.row.A.Denot). IsSettledBut tests f) (sym c.self.view_is) settled))
+    test_settled tests new among middle after points (c.get_mut-3.follows.holds points)
+    (test_settled tests new among file middle empty (c.get_mut.follows.holds empty) (subst (λ (f : File g.row.A.Denot). IsSettledBut tests f) (sym c.self.view_is) settled))

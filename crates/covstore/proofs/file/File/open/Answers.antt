@@ -21,15 +21,15 @@ use Rattle.covstore.proofs.file.File.open.Goals as goal
 
 -- the test is there
 
-pub returns-then-contains_key-clause-committed : goal.returns-then-contains_key-clause-committed
-returns-then-contains_key-clause-committed g c =
+pub returns-then-contains-clause-committed : goal.returns-then-contains-clause-committed
+returns-then-contains-clause-committed g c =
     let file : File g.row.A.Denot = record { tests = record { entries = c.self.inside.tests.entries }; index = c.self.inside.index } in
-    rw (← c.self.view_is) (test_there file_name test_committed (file_committed file) c.self.inside.tests.entries refl c.args.test.now c.contains_key.result c.contains_key.ensures c.if-contains_key.true)
+    rw (← c.self.view_is) (test_there file_name test_committed (file_committed file) c.self.inside.tests.entries refl c.args.test.now c.contains.result c.contains.ensures c.if-contains.true)
 
-pub returns-then-contains_key-clause-staged : goal.returns-then-contains_key-clause-staged
-returns-then-contains_key-clause-staged g c =
+pub returns-then-contains-clause-staged : goal.returns-then-contains-clause-staged
+returns-then-contains-clause-staged g c =
     let file : File g.row.A.Denot = record { tests = record { entries = c.self.inside.tests.entries }; index = c.self.inside.index } in
-    rw (← c.self.view_is) (test_there file_name test_staged (file_staged file) c.self.inside.tests.entries refl c.args.test.now c.contains_key.result c.contains_key.ensures c.if-contains_key.true)
+    rw (← c.self.view_is) (test_there file_name test_staged (file_staged file) c.self.inside.tests.entries refl c.args.test.now c.contains.result c.contains.ensures c.if-contains.true)
 
 -- the tests can't be counted
 
@@ -49,7 +49,7 @@ returns-in_err-start_counting-clause-settled g c = λ tests settled. settled_sam
 pub returns-in_err-start_counting-clause-there : goal.returns-in_err-start_counting-clause-there
 returns-in_err-start_counting-clause-there g c = λ there.
     let first = ap (λ (f : File g.row.A.Denot). f.tests.entries) c.self.view_is in
-    absurd (not_found file_name test_committed (file_committed c.args.self.now) c.self.inside.tests.entries (ap (names_with file_name test_committed) first) c.args.test.now c.contains_key.result c.contains_key.ensures c.if-contains_key.false there)
+    absurd (not_found file_name test_committed (file_committed c.args.self.now) c.self.inside.tests.entries (ap (names_with file_name test_committed) first) c.args.test.now c.contains.result c.contains.ensures c.if-contains.false there)
 
 -- the test can't be inserted
 
@@ -75,7 +75,7 @@ returns-in_err-insert-clause-settled g c = λ tests settled.
 pub returns-in_err-insert-clause-there : goal.returns-in_err-insert-clause-there
 returns-in_err-insert-clause-there g c = λ there.
     let first = ap (λ (f : File g.row.A.Denot). f.tests.entries) c.self.view_is in
-    absurd (not_found file_name test_committed (file_committed c.args.self.now) c.self.inside.tests.entries (ap (names_with file_name test_committed) first) c.args.test.now c.contains_key.result c.contains_key.ensures c.if-contains_key.false there)
+    absurd (not_found file_name test_committed (file_committed c.args.self.now) c.self.inside.tests.entries (ap (names_with file_name test_committed) first) c.args.test.now c.contains.result c.contains.ensures c.if-contains.false there)
 
 -- the test is inserted
 
@@ -91,8 +91,8 @@ pub returns-clause-committed : goal.returns-clause-committed
 returns-clause-committed g c =
     let first = ap (λ (f : File g.row.A.Denot). f.tests.entries) c.self.view_is in
     let entries = ap (λ (f : File g.row.A.Denot). f.tests.entries) c.self-2.view_is ∙ ap (λ (t : FileTests g.row.A.Denot). t.entries) c.start_counting.ensures.same in
-    let opened = test_opened file_name test_committed (file_committed c.args.self.now) c.self-2.inside.tests.entries (ap (names_with file_name test_committed) entries) c.args.test.now c.contains_key.result
-    (rw (entries ∙ sym first) c.contains_key.ensures) c.if-contains_key.false
+    let opened = test_opened file_name test_committed (file_committed c.args.self.now) c.self-2.inside.tests.entries (ap (names_with file_name test_committed) entries) c.args.test.now c.contains.result
+    (rw (entries ∙ sym first) c.contains.ensures) c.if-contains.false
     c.in_ok-name.name c.in_ok-name.ensures.items c.in_ok-points.points (ap test_committed c.in_ok-points.ensures ∙ c.new.ensures.committed) c.insert.new.self.entries c.in_ok-insert.ensures.entries in
     same_file (ap (λ (f : FileData). f.tests) opened) (ap (λ (f : File g.row.A.Denot). index_committed f.index) c.self-2.view_is ∙ c.start_counting.ensures.committed)
 
@@ -100,8 +100,8 @@ pub returns-clause-staged : goal.returns-clause-staged
 returns-clause-staged g c =
     let first = ap (λ (f : File g.row.A.Denot). f.tests.entries) c.self.view_is in
     let entries = ap (λ (f : File g.row.A.Denot). f.tests.entries) c.self-2.view_is ∙ ap (λ (t : FileTests g.row.A.Denot). t.entries) c.start_counting.ensures.same in
-    let opened = test_opened file_name test_staged (file_staged c.args.self.now) c.self-2.inside.tests.entries (ap (names_with file_name test_staged) entries) c.args.test.now c.contains_key.result
-    (rw (entries ∙ sym first) c.contains_key.ensures) c.if-contains_key.false
+    let opened = test_opened file_name test_staged (file_staged c.args.self.now) c.self-2.inside.tests.entries (ap (names_with file_name test_staged) entries) c.args.test.now c.contains.result
+    (rw (entries ∙ sym first) c.contains.ensures) c.if-contains.false
     c.in_ok-name.name c.in_ok-name.ensures.items c.in_ok-points.points (ap test_staged c.in_ok-points.ensures ∙ c.new.ensures.staged) c.insert.new.self.entries c.in_ok-insert.ensures.entries in
     same_file (ap (λ (f : FileData). f.tests) opened) (ap (λ (f : File g.row.A.Denot). index_staged f.index) c.self-2.view_is ∙ c.start_counting.ensures.staged)
 
@@ -116,4 +116,4 @@ returns-clause-settled g c = λ tests settled.
 pub returns-clause-there : goal.returns-clause-there
 returns-clause-there g c = λ there.
     let first = ap (λ (f : File g.row.A.Denot). f.tests.entries) c.self.view_is in
-    absurd (not_found file_name test_committed (file_committed c.args.self.now) c.self.inside.tests.entries (ap (names_with file_name test_committed) first) c.args.test.now c.contains_key.result c.contains_key.ensures c.if-contains_key.false there)
+    absurd (not_found file_name test_committed (file_committed c.args.self.now) c.self.inside.tests.entries (ap (names_with file_name test_committed) first) c.args.test.now c.contains.result c.contains.ensures c.if-contains.false there)

@@ -1,5 +1,6 @@
 use Rattle.std.proofs.Common.{ℕ, Some, [], ◌∷◌, ◌++◌, sym, ap, ◌∙◌, subst, Vec, BTreeMap}
 use Rattle.covstore.specs.declared.file.File.{File}
+use Rattle.covstore.specs.FileParts.{FileTests}
 use Rattle.covstore.specs.declared.test.Test.{Test}
 use Rattle.covstore.specs.StoreView.{IsSettledBut}
 use Rattle.covstore.specs.TestView.{test_committed}
@@ -18,13 +19,13 @@ returns-in_default-clause-settled g c = λ tests was.
     let none = sym c.in_default.ensures.value in
     settled_unfound tests c.args.test.now file later settled
     (λ all. c.rollback_counts.ensures.settled (sole_settled c.self.inside.tests.entries c.self.inside.index (all_unfound tests c.args.test.now file settled all none) c.self.invariant))
-    none (ap (λ (m : BTreeMap (Vec ℕ g.row.A.Denot) (Test g.row.A.Denot)). m.entries) c.get_mut.follows.holds-at-none)
+    none (ap (λ (m : FileTests g.row.A.Denot). m.entries) c.get_mut.follows.holds-at-none)
 
 -- the file has the test
 
 pub invariant_of-self-2 : goal.invariant_of-self-2
 invariant_of-self-2 g c =
-    rw (c.get_mut.follows.holds c.rollback.new.self).0
+    rw (c.get_mut.follows.holds c.rollback.new.self)
     (sole_written (has_name file_name c.args.test.now) c.self.inside.tests.entries c.self.inside.index c.rollback-2.new.self c.get_mut-points.result.now c.rollback.new.self (sym c.in-Some.ensures.value ∙ ap Some (sym c.get_mut-points.ensures.value)) c.self.invariant
     c.rollback-2.ensures.follows)
 
@@ -32,7 +33,7 @@ pub returns-clause-committed : goal.returns-clause-committed
 returns-clause-committed g c =
     rw (← c.self.view_is)
     (same_file
-    (tests_written test_committed c.args.test.now c.self.inside.tests.entries (c.get_mut.follows.lender c.rollback.new.self).entries c.get_mut-points.result.now c.rollback.new.self (c.get_mut.follows.holds c.rollback.new.self).0 (sym c.in-Some.ensures.value ∙ ap Some (sym c.get_mut-points.ensures.value))
+    (tests_written test_committed c.args.test.now c.self.inside.tests.entries (c.get_mut.follows.lender c.rollback.new.self).entries c.get_mut-points.result.now c.rollback.new.self (c.get_mut.follows.holds c.rollback.new.self) (sym c.in-Some.ensures.value ∙ ap Some (sym c.get_mut-points.ensures.value))
     c.rollback.ensures.committed)
     c.rollback-2.ensures.committed)
 
@@ -41,5 +42,5 @@ returns-clause-settled g c = λ tests was.
     let file : File g.row.A.Denot = record { tests = record { entries = c.self.inside.tests.entries }; index = c.self.inside.index } in
     let later : File g.row.A.Denot = record { tests = record { entries = (c.get_mut.follows.lender c.rollback.new.self).entries }; index = c.rollback-2.new.self } in
     let settled = subst (λ (f : File g.row.A.Denot). IsSettledBut (tests ++ c.args.test.now ∷ []) f) (sym c.self.view_is) was in
-    settled_found tests c.args.test.now file later settled (λ all. c.rollback-2.ensures.staged ∙ sym c.rollback-2.ensures.committed) c.get_mut-points.result.now c.rollback.new.self c.get_mut.ensures.ordered (c.get_mut.follows.holds c.rollback.new.self).0
+    settled_found tests c.args.test.now file later settled (λ all. c.rollback-2.ensures.staged ∙ sym c.rollback-2.ensures.committed) c.get_mut-points.result.now c.rollback.new.self c.get_mut.ensures.ordered (c.get_mut.follows.holds c.rollback.new.self)
     (sym c.in-Some.ensures.value ∙ ap Some (sym c.get_mut-points.ensures.value)) (c.rollback.ensures.staged ∙ sym c.rollback.ensures.committed)

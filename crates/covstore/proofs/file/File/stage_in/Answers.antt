@@ -46,7 +46,7 @@ stage_items-requires-clause-room g c =
 pub invariant_of-self : goal.invariant_of-self
 invariant_of-self g c =
     let here = has_name file_name c.args.test.now in
-    rw (c.get_mut.follows.holds c.stage_items.new.test).0
+    rw (c.get_mut.follows.holds c.stage_items.new.test)
     (sole_written here c.self.inside.tests.entries c.self.inside.index c.stage_items.new.index c.get_mut-2.result.now c.stage_items.new.test (sym c.in-Some.ensures.value ∙ ap Some (sym c.get_mut-2.ensures.value)) c.self.invariant
     c.stage_items.ensures.follows)
 
@@ -59,7 +59,7 @@ returns-clause-committed g c =
     rw (← c.self.view_is)
     (file_keeps (file_committed file) (file_committed later) (record {
       tests = test_kept file_name test_committed c.args.test.now pairs c.get_mut-2.result.now after (c.get_mut.follows.lender after).entries c.get_mut.ensures.ordered (sym c.in-Some.ensures.value ∙ ap Some (sym c.get_mut-2.ensures.value))
-          (c.get_mut.follows.holds after).0 c.stage_items.ensures.test_committed;
+          (c.get_mut.follows.holds after) c.stage_items.ensures.test_committed;
       index = c.stage_items.ensures.index_committed;
     }))
 
@@ -73,7 +73,7 @@ returns-clause-ok g c =
     let test = c.args.test.now in
     let index = index_staged c.self.inside.index in
     let found = sym c.in-Some.ensures.value ∙ ap Some (sym c.get_mut-2.ensures.value) in
-    let written = test_written file_name test_staged test pairs points after (c.get_mut.follows.lender after).entries c.get_mut.ensures.ordered found (c.get_mut.follows.holds after).0 in
+    let written = test_written file_name test_staged test pairs points after (c.get_mut.follows.lender after).entries c.get_mut.ensures.ordered found (c.get_mut.follows.holds after) in
     rw (← c.self.view_is)
     (on_ok_weaker c.stage_items.result
     (λ adds. subst (λ (list : List (List ℕ × TestData)). AddsItems items test (file_with tests index) (file_with list (index_staged c.stage_items.new.index))) (sym written)
@@ -97,4 +97,4 @@ returns-clause-settled g c = λ tests among settled.
     let after = c.stage_items.new.test in
     let file : File g.row.A.Denot = record { tests = record { entries = c.self.inside.tests.entries }; index = c.self.inside.index } in
     let later : File g.row.A.Denot = record { tests = record { entries = (c.get_mut.follows.lender after).entries }; index = c.stage_items.new.index } in
-    test_settled tests c.args.test.now among file later after (c.get_mut.follows.holds after).0 (subst (λ (f : File g.row.A.Denot). IsSettledBut tests f) (sym c.self.view_is) settled)
+    test_settled tests c.args.test.now among file later after (c.get_mut.follows.holds after) (subst (λ (f : File g.row.A.Denot). IsSettledBut tests f) (sym c.self.view_is) settled)

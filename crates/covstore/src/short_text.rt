@@ -1,0 +1,101 @@
+//! A text that mostly takes no memory beside the value itself.
+
+ghost use Rattle.std.specs.Prelude.{◌≡◌, ◌≤◌, IfOk, length};
+
+use covline::{Bytes, Memory};
+use std::alloc::Allocator;
+use std::marker::Model;
+
+/// How many bytes are kept in place. A checksum of geninfo(1) has 22.
+const ROOM: usize = 23;
+
+/// At most 23 bytes. Contracts see the bytes.
+#[derive(Drop)]
+struct InPlace {
+    bytes: [u8; ROOM],
+    len: u8,
+    ghost within: { len ≤ 23 },
+}
+
+impl Model for InPlace {
+    ghost use Rattle.std.specs.Prelude.{List, ℕ, take};
+
+    ghost Value = { List ℕ };
+
+    ghost view = { λ text. take text.len text.bytes };
+}
+
+impl InPlace {
+    /// A copy of the slice.
+    fn of(text: &[u8]) -> InPlace
+        requires { length text.now ≤ 23 }
+        ensures { result ≡ text.now }
+    {
+        let mut bytes = [0; ROOM];
+        bytes[..text.len()].copy_from_slice(text);
+        InPlace {
+            bytes,
+            len: text.len() as u8,
+        }
+    }
+
+    /// The bytes.
+    fn get(&self) -> &[u8]
+        ensures { result.now ≡ self.now }
+    {
+        &self.bytes[..self.len as usize]
+    }
+}
+
+/// The bytes of a text, in one of two forms.
+#[derive(Drop)]
+enum Form<A: Allocator> {
+    /// In place.
+    Short(InPlace),
+    /// In memory of their own.
+    Long(Bytes<A>),
+}
+
+/// A text that owns its bytes. Up to 23 bytes are kept in place, and take no memory beside the value. Contracts see the bytes.
+#[derive(Drop)]
+pub(crate) struct ShortText<A: Allocator> {
+    form: Form<A>,
+}
+
+impl<A: Allocator> Model for ShortText<A> {
+    ghost use Rattle.std.specs.Prelude.{List, ℕ};
+    ghost use Rattle.covstore.specs.ShortText.{bytes_of};
+
+    ghost Value = { List ℕ };
+
+    ghost view = { λ text. bytes_of text.form };
+}
+
+impl<A: Allocator> ShortText<A> {
+    /// A copy of the slice.
+    pub(crate) fn of(alloc: A, text: &[u8]) -> Result<ShortText<A>, Memory>
+        ensures { IfOk result (λ copy. copy ≡ text.now) }
+    {
+        if text.len() <= ROOM {
+            return Ok(ShortText {
+                form: Form::Short(InPlace::of(text)),
+            });
+        }
+        Ok(ShortText {
+            form: Form::Long(Bytes::of(alloc, text)?),
+        })
+    }
+
+    /// The bytes.
+    pub(crate) fn get(&self) -> &[u8]
+        ensures { result.now ≡ self.now }
+    {
+        match &self.form {
+            Form::Short(text) => text.get(),
+            Form::Long(text) => text.get(),
+        }
+    }
+}
+
+// As long as `Bytes`, so that neither form has room which the other can't use.
+const _: () = prove!(size_of::<InPlace>() <= 24);
