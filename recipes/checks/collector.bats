@@ -399,7 +399,7 @@ END
 # A file that takes more memory than there is doesn't end the collector for good.
 @test "memory" {
     files
-    seq 200000 | sed 's|.*|SF:/&\nDA:1,1\nend_of_record|' >hungry.info
+    seq 400000 | sed 's|.*|SF:/&\nDA:1,1\nend_of_record|' >hungry.info
     serve_spool memory bash -c 'ulimit -v 200000 && exec "$@"' limited
     until [ -s memory/pids ]; do sleep 0.1; done
     call "$collector" give memory --key first a.info
