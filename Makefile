@@ -1,10 +1,10 @@
-# covcollect: run the stored session, build, test, install, package. 'make help' lists the targets.
-# What runs, proves and builds is the Rattle toolchain's command rt, with Python 3, which rt itself wants. 'make package'
-# wants Debian's dpkg-dev too.
+# covcollect: run the stored session, test, prove, build, install, package. 'make help' lists the targets.
+# What runs, proves and builds is the Rattle toolchain's command rt, with Python 3, which rt itself wants. 'make test' wants gcc to
+# link, 'make package' Debian's dpkg-dev.
 
 PREFIX ?= /usr/local
 
-.PHONY: all run rows test check fmt install uninstall package package-check clean help toolchain
+.PHONY: all run rows test prove check fmt install uninstall package package-check clean help toolchain
 
 ## make: proves the crates of the program and builds it, build/covcollect
 all: build/covcollect
@@ -13,7 +13,7 @@ all: build/covcollect
 toolchain:
 	@command -v rt >/dev/null 2>&1 || { echo "covcollect: the Rattle toolchain's command 'rt' isn't on PATH (rattle-kit-13f is wanted)" >&2; exit 1; }
 
-# There is a line for each crate; the prover's own words go to build/log. After 'make test' has passed, the program is there.
+# There is a line for each crate; the prover's own words go to build/log. After 'make prove' has passed, the program is there.
 build/covcollect: toolchain
 	@scripts/build
 
@@ -25,9 +25,13 @@ run: toolchain
 rows: build/covcollect
 	@scripts/rows build/covcollect
 
-## make test: the gate: proofs and edits that haven't passed on this machine, all tests, the stored session, the calls
+## make test: runs every test, of crates, calls and recipes, without proofs: some minutes
 test: toolchain
-	@scripts/gate
+	@scripts/test
+
+## make prove: proves every crate, and that each edit is refused; what passed on this machine is kept: an hour from nothing
+prove: toolchain
+	@scripts/prove
 
 ## make install: installs the program, its manual page and the completions below PREFIX (/usr/local), in DESTDIR if given
 install: build/covcollect
