@@ -8,8 +8,8 @@ and are decoded when they are played.
 import os, re
 from dataclasses import dataclass, field
 
-ESCAPE = re.compile(rb"\\(?:([\\trnc])|x([0-9a-f]{2})|([0-9])|\{([0-9]+)\*([^{}\\]+)\})")
-LETTERS = {b"\\": b"\\", b"t": b"\t", b"r": b"\r", b"n": b"\n", b"c": b""}
+ESCAPE = re.compile(rb"\\(?:([\\trn])|x([0-9a-f]{2})|([0-9])|\{([0-9]+)\*([^{}\\]+)\})")
+LETTERS = {b"\\": b"\\", b"t": b"\t", b"r": b"\r", b"n": b"\n"}
 # The end of a line that has no line feed: `\c`, whose backslash isn't an escaped one.
 NO_LINE_FEED = re.compile(rb"(?<!\\)(?:\\\\)*\\c$")
 
@@ -33,8 +33,8 @@ def decoded(text, row=()):
 
 
 def line_of(text, row=()):
-    """A line with its line feed."""
-    return decoded(text, row) + (b"" if NO_LINE_FEED.search(text) else b"\n")
+    """A line with its line feed, or without it where the line says so."""
+    return decoded(text[:-2], row) if NO_LINE_FEED.search(text) else decoded(text, row) + b"\n"
 
 
 def fits(text, row=()):
@@ -60,6 +60,9 @@ class Part:
 
     def malformed(self, number, why):
         return Malformed(f"{self.file}:{number}: {self.name}: {why}")
+
+    def check_line(self, number, text, row=()):
+        self.check(number, text[:-2] if NO_LINE_FEED.search(text) else text, row)
 
     def check(self, number, text, row=()):
         if not fits(text, row):
@@ -136,20 +139,20 @@ def script_of(part):
     steps, step = [], Step()
     for number, line in part.lines:
         mark, rest = marked(line, (b"@", b"=", b"&", b"$", b">", b"!", b"%"))
-        part.check(number, rest)
         if mark in ("@", "=", "&", "$"):
+            part.check(number, rest)
             step.number, step.mark, step.said = number, mark, rest
             check_step(part, step)
             steps.append(step)
             step = Step()
-        elif mark == "%":
-            if not re.fullmatch(rb"[0-9a-f]{2}( [0-9a-f]{2})*", rest):
-                raise part.malformed(number, "bytes that aren't two digits each")
-            step.text.append((True, rest))
-        elif mark:
+            continue
+        part.check_line(number, rest)
+        if mark == "%" and not re.fullmatch(rb"[0-9a-f]{2}( [0-9a-f]{2})*", rest):
+            raise part.malformed(number, "bytes that aren't two digits each")
+        if mark in (">", "!"):
             (step.output if mark == ">" else step.faults).append(rest)
         else:
-            step.text.append((False, rest))
+            step.text.append((mark == "%", rest))
     if step.text or step.output or step.faults:
         raise part.malformed(part.lines[-1][0], "lines after the last call")
     if not any(it.mark == "$" for it in steps):
@@ -203,14 +206,14 @@ def sessions_of_part(part):
         if not mark:
             break
         places[mark].append(rest)
-        part.check(lines.pop(0)[0], rest)
+        (part.check if mark == "*" else part.check_line)(lines.pop(0)[0], rest)
     rows = [tuple(decoded(it) for it in (row, *row.split(b" "))) for row in rows] or [()]
     sessions = []
     given, wanted = [], []
     for number, line in lines:
         mark, rest = marked(line, (b">", b"="))
         for row in rows:
-            part.check(number, rest, row)
+            (part.check if mark == "=" else part.check_line)(number, rest, row)
         if mark == "=":
             whole = before + given + after
             sessions += [Session(part.file, number, rest, whole, wanted, row) for row in rows]
