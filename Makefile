@@ -4,7 +4,7 @@
 
 PREFIX ?= /usr/local
 
-.PHONY: all run rows test prove check fmt install uninstall package package-check clean help toolchain
+.PHONY: all run e2e test prove check fmt install uninstall package package-check clean help toolchain
 
 ## make: proves the crates of the program and builds it, build/covcollect
 all: build/covcollect
@@ -21,9 +21,9 @@ build/covcollect: toolchain
 run: toolchain
 	@scripts/session
 
-## make rows: plays the calls of the tests' scripts on build/covcollect
-rows: build/covcollect
-	@scripts/rows build/covcollect
+## make e2e: plays whole calls and sessions (e2e/) on build/covcollect
+e2e: build/covcollect
+	@scripts/e2e build/covcollect
 
 ## make test: runs every test, of crates, calls and recipes, without proofs: some minutes
 test: toolchain

@@ -52,7 +52,7 @@ RT
 @test "a change that the program is not built of" {
     sources
     echo '# changed' >>tree/crates/covrun_tests/src/lib.rt
-    echo '# changed' >>tree/scripts/rows
+    echo '# changed' >>tree/scripts/e2e
     call make -C tree
     ended 0 'make: a changed test leaves the program as it is'
     holds 'make: nothing is proved for a test' test ! -s calls

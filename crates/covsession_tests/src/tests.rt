@@ -1,9 +1,6 @@
-//! Tests of sessions: the bytes that a session reads, and those that it has to write. Whole calls of the program are tested by
-//! covrun_tests. What no session reaches is tested by covread_tests, covstore_tests, covbook_tests and covjobs_tests, with the
-//! public calls of the crates below. What is wanted was worked out by hand from the formats (geninfo(1), section FILES; gcov(1)),
-//! and never taken from an output.
-//!
-//! Examples are text, so that they cost the proof of these tests nothing. `check_all` says how they are written.
+//! Tests of sessions with sources and sinks that no program has, and of two whole sessions with memory to spare. All other sessions
+//! are text, which scripts/e2e plays on the built program: e2e/sessions. What no session reaches is tested by covread_tests,
+//! covstore_tests, covbook_tests and covjobs_tests, with the public calls of the crates below.
 
 ghost use Rattle.std.specs.Prelude.{◌<◌, ◌^◌};
 
@@ -13,19 +10,7 @@ use std::alloc::Global;
 use std::process::Abort;
 use std::test::*;
 
-mod back;
-mod choosing;
-mod clashes;
-mod commands;
-mod drops;
-mod gcov;
-mod lines;
-mod merging;
-mod renames;
-mod sections;
 mod streams;
-mod summaries;
-mod texts;
 
 /// How a session ends. This function promises nothing of that: a test looks at what a session does, and is proved more quickly
 /// this way.
@@ -53,50 +38,125 @@ fn run(alloc: Global, input: &[u8]) -> (Result<(), SessionFault>, Vec<u8>) {
 }
 
 /// Checks that a session on these bytes ends without a fault, and writes exactly what is wanted.
-fn check(rt: &(impl Abort + AllocGlobal), name: &[u8], input: &[u8], wanted: &[u8]) {
+fn check(rt: &(impl Abort + AllocGlobal), input: &[u8], wanted: &[u8]) {
     let (ended, output) = run(rt.alloc(), input);
     if ended.is_err() || output.as_slice() != wanted {
-        let name: Result<String, _> = String::from_utf8_lossy(rt.alloc(), name);
         let written: Result<String, _> = String::from_utf8_lossy(rt.alloc(), output.as_slice());
-        panic!(rt; "{name:?}: ended {ended:?} and wrote {written:?}");
+        panic!(rt; "ended {ended:?} and wrote {written:?}");
     }
 }
 
-/// Checks sessions, one after the other. A line that begins with `> ` is one that the session has to write, one that
-/// begins with `= ` ends the session and is its name, and the others are its input.
-fn check_all(rt: &(impl Abort + AllocGlobal), examples: &[u8]) -> Result<(), Fail> {
-    check_around(rt, b"", examples, b"")
+/// A session with each command.
+#[test]
+fn each_command(rt: HostRuntime) {
+    check(
+        &rt,
+        b"\
+trace
+TN:t
+SF:/a.c
+DA:1,2
+DA:2,0
+end_of_record
+.
+gcov u
+-:0:Source:/b.c
+1:1:x
+.
+summary
+extract *.c
+remove /a.*
+rename
+u
+t
+drop u
+report
+drop t
+report
+",
+        b"\
+accepted 1 items 2 odd 0
+accepted 2 items 1 odd 0
+Summary coverage rate:
+  lines......: 66.7% (2 of 3 lines)
+  functions..: no data found
+  branches...: no data found
+.
+TN:t
+SF:/a.c
+DA:1,2
+DA:2,0
+LF:2
+LH:1
+end_of_record
+TN:u
+SF:/b.c
+DA:1,1
+LF:1
+LH:1
+end_of_record
+.
+TN:u
+SF:/b.c
+DA:1,1
+LF:1
+LH:1
+end_of_record
+.
+renamed 1
+no such test
+TN:t
+SF:/a.c
+DA:1,2
+DA:2,0
+LF:2
+LH:1
+end_of_record
+TN:t
+SF:/b.c
+DA:1,1
+LF:1
+LH:1
+end_of_record
+.
+dropped 2
+.
+",
+    );
 }
 
-/// Checks sessions like `check_all`. Each session's input begins with `before` and ends with `after`.
-fn check_around(
-    rt: &(impl Abort + AllocGlobal),
-    before: &[u8],
-    examples: &[u8],
-    after: &[u8],
-) -> Result<(), Fail> {
-    let mut input = Vec::from_slice(rt.alloc(), before)?;
-    let mut wanted = Vec::new(rt.alloc());
-    for line in examples.split(|byte| *byte == b'\n') {
-        if let Some(name) = line.strip_prefix(b"= ") {
-            input.extend_from_slice(after)?;
-            check(rt, name, input.as_slice(), wanted.as_slice());
-            input.clear();
-            input.extend_from_slice(before)?;
-            wanted.clear();
-        } else if let Some(answer) = line.strip_prefix(b"> ") {
-            push_line(&mut wanted, answer)?;
-        } else {
-            push_line(&mut input, line)?;
-        }
-    }
-    assert!(rt; wanted.is_empty(), "the last example has no name");
-    Ok(())
-}
-
-/// Appends a line.
-fn push_line(text: &mut Vec<u8>, line: &[u8]) -> Result<(), Fail> {
-    text.extend_from_slice(line)?;
-    text.push(b'\n')?;
-    Ok(())
+/// A session whose texts are refused, clash or don't end.
+#[test]
+fn texts_that_are_not_taken(rt: HostRuntime) {
+    check(
+        &rt,
+        b"\
+trace
+SF:/a.c
+DA:1,1,x
+end_of_record
+.
+trace
+DA:1,1
+.
+gcov t
+1.5k:1:x
+.
+trace
+SF:/a.c
+DA:1,1,y
+end_of_record
+.
+bogus
+trace
+",
+        b"\
+accepted 1 items 1 odd 0
+refused Outside at 1
+refused BadMark at 1
+clash /a.c 1 x y
+unknown
+unfinished
+",
+    );
 }

@@ -1,112 +1,15 @@
-//! Calls that fail: which fault is reported if there are several, and what is printed. Only a check prints anything.
+//! Calls whose input or output fails: what is reported, and what is printed. Only a check prints anything then.
 
 ghost use Rattle.std.specs.Prelude.{None};
 
-use super::{called, check_text, play, words_of};
+use super::{called, check_text, words_of};
 use covsession::{Failed, FromRead, FromWrite, Sink, Source};
-use std::process::{self, Abort};
+use std::process::Abort;
 use std::random::RandomSource;
 use std::rt::Files;
 use std::sync::Wait;
 use std::test::*;
 use std::thread::Threads;
-
-/// Words that don't fit the command line.
-#[test]
-fn words(rt: HostRuntime) -> Result<(), Fail> {
-    play(
-        &rt,
-        process::id(rt.process()),
-        "\
-! error: invalid value '65' for '--jobs <N>': 65 is not in 1..=64
-! 
-! For more information, try '--help'.
-$ 2 covcollect merge --jobs 65 ~/a.info
-! error: the following required arguments were not provided:
-!   <PATTERN>...
-! 
-! Usage: covcollect extract <TRACEFILE> <PATTERN>...
-! 
-! For more information, try '--help'.
-$ 2 covcollect extract ~/a.info
-! error: unrecognized subcommand 'bogus'
-! 
-! Usage: covcollect [COMMAND]
-! 
-! For more information, try '--help'.
-$ 2 covcollect bogus
-",
-    )
-}
-
-/// A file that isn't there can't be read, and neither can a folder. Only the first such file is reported, and no faulty text is.
-#[test]
-fn files_that_cannot_be_read(rt: HostRuntime) -> Result<(), Fail> {
-    play(
-        &rt,
-        process::id(rt.process()),
-        "\
-DA:1,1
-@ b.info
-! ~/none.info: can't read
-$ 1 covcollect merge ~/none.info
-! ~/none.info: can't read
-$ 1 covcollect merge --jobs 3 ~/b.info ~/none.info ~/other.info
-! ~: can't read
-$ 1 covcollect summary ~ ~/none.info
-! ~/none.info: can't read
-$ 1 covcollect gcov --test t ~/none.info ~
-",
-    )
-}
-
-/// Refused texts in the order of the files, then clashes in the order of the history.
-#[test]
-fn refusals_and_clashes(rt: HostRuntime) -> Result<(), Fail> {
-    play(
-        &rt,
-        process::id(rt.process()),
-        "\
-TN:t
-SF:/a.c
-DA:1,1,abc
-end_of_record
-@ a.info
-DA:1,1
-@ b.info
-SF:/a.c
-DA:1,1
-@ c.info
-TN:u
-SF:/a.c
-DA:1,1,abd
-end_of_record
-@ d.info
-! ~/b.info: refused Outside at 1
-$ 4 covcollect merge ~/b.info
-! ~/b.info: refused Outside at 1
-! ~/c.info: refused OpenEnd
-$ 4 covcollect merge --jobs 2 ~/b.info ~/a.info ~/c.info
-! ~/b.info: refused Outside at 1
-! ~/b.info: refused Outside at 1
-$ 4 covcollect summary ~/b.info ~/b.info
-! ~/b.info: refused Outside at 1
-! ~/c.info: refused OpenEnd
-! ~/b.info: refused Outside at 1
-$ 4 covcollect merge --jobs 2 ~/b.info ~/c.info ~/b.info
-! clash /a.c 1 abc abd
-$ 4 covcollect merge ~/a.info ~/d.info
-! clash /a.c 1 abd abc
-! clash /a.c 1 abd abc
-$ 4 covcollect merge ~/d.info ~/a.info ~/a.info
-! ~/c.info: refused OpenEnd
-! clash /a.c 1 abc abd
-$ 4 covcollect merge ~/a.info ~/d.info ~/c.info
-! ~/b.info: refused Outside at 1
-$ 4 covcollect extract ~/b.info *
-",
-    )
-}
 
 /// An output that takes no byte, or that takes all bytes and can't send them on.
 #[derive(Drop)]
@@ -140,7 +43,7 @@ impl Sink for Closed {
 fn call_closed<
     R: Files<File: Send, Dir: Send> + RandomSource + AllocGlobal + Threads + Wait + Sync,
 >(rt: &R, asked: &str, takes: bool) -> Result<(u8, Vec<u8>), Fail> {
-    let words = words_of(rt.alloc(), asked, "")?;
+    let words = words_of(rt.alloc(), asked)?;
     let mut faults: Vec<u8> = Vec::new(rt.alloc());
     let status = {
         let input: &[u8] = b"";
@@ -159,7 +62,7 @@ fn call_closed<
 }
 
 /// Checks that a call with such an output ends with status 1, and writes `told` to the stream for faults.
-pub(super) fn check_closed<
+fn check_closed<
     R: Files<File: Send, Dir: Send> + RandomSource + AllocGlobal + Threads + Wait + Abort + Sync,
 >(rt: &R, asked: &str, takes: bool, told: &str) -> Result<(), Fail> {
     let (status, faults) = call_closed(rt, asked, takes)?;
@@ -172,8 +75,15 @@ pub(super) fn check_closed<
 #[test]
 fn a_closed_output(rt: HostRuntime) -> Result<(), Fail> {
     for takes in [false, true] {
-        check_closed(&rt, "covcollect summary /dev/null", takes, "write fault\n")?;
-        check_closed(&rt, "covcollect --help", takes, "write fault\n")?;
+        for asked in [
+            "covcollect summary /dev/null",
+            "covcollect summary --json /dev/null",
+            "covcollect list /dev/null",
+            "covcollect list --json /dev/null",
+            "covcollect --help",
+        ] {
+            check_closed(&rt, asked, takes, "write fault\n")?;
+        }
     }
     check_closed(
         &rt,
@@ -181,6 +91,20 @@ fn a_closed_output(rt: HostRuntime) -> Result<(), Fail> {
         true,
         "write fault\n",
     )
+}
+
+/// If the summary can't be written, this alone is told, whatever limit is missed. Of /dev/null each limit is.
+#[test]
+fn a_closed_output_with_a_limit(rt: HostRuntime) -> Result<(), Fail> {
+    for takes in [false, true] {
+        for asked in [
+            "covcollect summary --fail-under-lines 0 /dev/null",
+            "covcollect summary --json --fail-under-lines 100 --fail-under-branches 1 /dev/null",
+        ] {
+            check_closed(&rt, asked, takes, "write fault\n")?;
+        }
+    }
+    Ok(())
 }
 
 /// If the line of a file can't be written, a check reports its complaints about this file and those before it, and tells of no
@@ -239,7 +163,6 @@ fn a_check_whose_output_takes_one_line(rt: HostRuntime) -> Result<(), Fail> {
     let words = words_of(
         rt.alloc(),
         "covcollect check /dev/null /dev/null /tmp/covrun_tests-none",
-        "",
     )?;
     let mut sink = Closing {
         left: 1,
@@ -290,7 +213,7 @@ impl Source for Broken {
 fn call_broken<
     R: Files<File: Send, Dir: Send> + RandomSource + AllocGlobal + Threads + Wait + Sync,
 >(rt: &R, asked: &str) -> Result<(u8, u64), Fail> {
-    let words = words_of(rt.alloc(), asked, "")?;
+    let words = words_of(rt.alloc(), asked)?;
     let mut source = Broken { reads: 0 };
     let mut output: Vec<u8> = Vec::new(rt.alloc());
     let mut faults: Vec<u8> = Vec::new(rt.alloc());

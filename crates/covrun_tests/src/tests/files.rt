@@ -1,10 +1,7 @@
-//! Many files, large ones, and files of other kinds.
+//! Calls over files of std with memory to spare, one of each subcommand.
 
-use super::{Told, call, check_text, play};
-use std::alloc::Global;
+use super::{call, check_text, words_of};
 use std::fs;
-use std::io::{self, Write};
-use std::os::fd::AsRawFd;
 use std::process::{self, Abort};
 use std::random::RandomSource;
 use std::rt::Files;
@@ -12,150 +9,103 @@ use std::sync::Wait;
 use std::test::*;
 use std::thread::Threads;
 
-/// The words of a call that merges the file `times` times.
-fn merged(alloc: Global, path: &str, times: usize) -> Result<Vec<String>, Fail> {
-    let mut words = Vec::new(alloc);
-    words.push(String::from_str(alloc, "covcollect")?)?;
-    words.push(String::from_str(alloc, "merge")?)?;
-    words.push(String::from_str(alloc, "--jobs=4")?)?;
-    for _time in 0..times {
-        words.push(String::from_str(alloc, path)?)?;
-    }
-    Ok(words)
-}
+/// A tracefile, as it is printed.
+const TEXT: &str = "TN:t\nSF:/a.c\nDA:1,2\nDA:2,0\nLF:2\nLH:1\nend_of_record\n";
 
-/// Checks how a call ends that merges a file of these bytes `times` times.
+/// Checks that a call ends with status 0, this output and no faults. Its words are those before and after a path.
 fn check<
     R: Files<File: Send, Dir: Send> + RandomSource + AllocGlobal + Threads + Wait + Abort + Sync,
->(rt: &R, path: &str, text: &[u8], times: usize, wanted: (u8, &str, &str)) -> Result<(), Fail> {
-    fs::write(rt, path, text)?;
-    let words = merged(rt.alloc(), path, times)?;
+>(rt: &R, before: &str, path: &str, after: &str, output: &str) -> Result<(), Fail> {
+    let asked = format!(in rt.alloc(); "{before} {path} {after}")?;
+    let words = words_of(rt.alloc(), asked.as_str())?;
     let told = call(rt, words.as_slice(), b"");
-    fs::remove_file(rt, path)?;
-    check_told(rt, path, &told, wanted)
-}
-
-/// Checks how a call ended: with this status, this output and these faults.
-pub(super) fn check_told(
-    rt: &(impl Abort + AllocGlobal),
-    asked: &str,
-    told: &Told,
-    wanted: (u8, &str, &str),
-) -> Result<(), Fail> {
-    let (status, output, faults) = wanted;
-    check_text(rt, asked, told.faults.as_slice(), faults)?;
-    check_text(rt, asked, told.output.as_slice(), output)?;
-    assert!(rt; told.status == status, "the status is {}", told.status);
+    check_text(rt, before, told.faults.as_slice(), "")?;
+    check_text(rt, before, told.output.as_slice(), output)?;
+    assert!(rt; told.status == 0, "{before}: the status is {}", told.status);
     Ok(())
 }
 
-/// A call may name more files than a process may have open at once, here the same file 2,000 times.
+/// Each subcommand that reads files.
 #[test]
-fn two_thousand_files(rt: HostRuntime) -> Result<(), Fail> {
+fn each_subcommand(rt: HostRuntime) -> Result<(), Fail> {
     let path = format!(in rt.alloc(); "/tmp/covrun_tests-{}.info", process::id(rt.process()))?;
-    check(
-        &rt,
-        path.as_str(),
-        b"SF:/a.c\nDA:1,3\nend_of_record\n",
-        2_000,
+    let path = path.as_str();
+    fs::write(&rt, path, TEXT)?;
+    for (before, after, output) in [
+        ("covcollect merge --jobs 2", "/dev/null", TEXT),
         (
-            0,
-            "TN:\nSF:/a.c\nDA:1,6000\nLF:1\nLH:1\nend_of_record\n",
+            "covcollect summary",
             "",
-        ),
-    )
-}
-
-/// A line that is a comment: a `#` that is doubled `times` times, without a line feed.
-fn long_comment(alloc: Global, times: usize) -> Result<Vec<u8>, Fail> {
-    let mut text = Vec::from_slice(alloc, b"#")?;
-    for _time in 0..times {
-        let half = text.clone()?;
-        text.extend_from_slice(half.as_slice())?;
-    }
-    Ok(text)
-}
-
-/// A text of 67,108,864 bytes is read, and one with one more byte is refused.
-#[test]
-fn the_largest_text(rt: HostRuntime) -> Result<(), Fail> {
-    let path = format!(in rt.alloc(); "/tmp/covrun_tests-{}.info", process::id(rt.process()))?;
-    let mut text = long_comment(rt.alloc(), 26)?;
-    check(&rt, path.as_str(), text.as_slice(), 1, (0, "", ""))?;
-    text.push(b'#')?;
-    let faults = format!(in rt.alloc(); "{path}: refused TooLong\n")?;
-    check(
-        &rt,
-        path.as_str(),
-        text.as_slice(),
-        1,
-        (4, "", faults.as_str()),
-    )
-}
-
-/// A file that doesn't end, and has no length, is refused as too long.
-#[test]
-fn a_file_without_end(rt: HostRuntime) -> Result<(), Fail> {
-    play(
-        &rt,
-        process::id(rt.process()),
-        "\
-! /dev/zero: refused TooLong
-$ 4 covcollect merge /dev/zero
+            "\
+Summary coverage rate:
+  lines......: 50.0% (1 of 2 lines)
+  functions..: no data found
+  branches...: no data found
 ",
-    )
-}
-
-/// Makes `times` files in a folder, and returns the words of a call that merges them. They have the same line: the first file
-/// counts it 0 times, the next one once, and so on.
-fn make_files<R: Files + AllocGlobal>(
-    rt: &R,
-    folder: &str,
-    times: usize,
-) -> Result<Vec<String>, Fail> {
-    let mut words = merged(rt.alloc(), folder, 0)?;
-    for number in 0..times {
-        let path = format!(in rt.alloc(); "{folder}/{number}.info")?;
-        let text = format!(in rt.alloc(); "SF:/a.c\nDA:1,{number}\nend_of_record\n")?;
-        fs::write(rt, path.as_str(), text.as_str())?;
-        words.push(path)?;
-    }
-    Ok(words)
-}
-
-/// A thousand files with the counts 0 to 999. The sum 0 + 1 + .. + 999 is 499,500.
-#[test]
-fn a_thousand_files(rt: HostRuntime) -> Result<(), Fail> {
-    let folder = format!(in rt.alloc(); "/tmp/covrun_tests-{}-many", process::id(rt.process()))?;
-    fs::create_dir_all(&rt, folder.as_str())?;
-    let words = make_files(&rt, folder.as_str(), 1_000)?;
-    let told = call(&rt, words.as_slice(), b"");
-    fs::remove_dir_all(&rt, folder.as_str())?;
-    check_told(
-        &rt,
-        folder.as_str(),
-        &told,
-        (
-            0,
-            "TN:\nSF:/a.c\nDA:1,499500\nLF:1\nLH:1\nend_of_record\n",
-            "",
         ),
+        (
+            "covcollect list",
+            "--strict",
+            "     Lines   Functions    Branches  File
+ 50.0% 1/2       - 0/0       - 0/0  /a.c
+ 50.0% 1/2       - 0/0       - 0/0  Total
+",
+        ),
+        ("covcollect extract --large", "*.c", TEXT),
+        ("covcollect remove --lcov2", "*.c", ""),
+        ("covcollect gcov --test t", "", ""),
+    ] {
+        check(&rt, before, path, after, output)?;
+    }
+    let line = format!(in rt.alloc(); "{path}: sections 1 items 2 odd 0 skipped 0\n")?;
+    check(&rt, "covcollect check", path, "", line.as_str())?;
+    fs::remove_file(&rt, path)?;
+    Ok(())
+}
+
+/// A merge into the file that is its input.
+#[test]
+fn a_file_is_written(rt: HostRuntime) -> Result<(), Fail> {
+    let path = format!(in rt.alloc(); "/tmp/covrun_tests-{}.info", process::id(rt.process()))?;
+    let path = path.as_str();
+    fs::write(&rt, path, TEXT)?;
+    let twice = format!(in rt.alloc(); "{path} -o {path}")?;
+    check(&rt, "covcollect merge", path, twice.as_str(), "")?;
+    let held = fs::read(&rt, path)?;
+    fs::remove_file(&rt, path)?;
+    check_text(
+        &rt,
+        path,
+        held.as_slice(),
+        "TN:t\nSF:/a.c\nDA:1,4\nDA:2,0\nLF:2\nLH:1\nend_of_record\n",
     )
 }
 
-/// A pipe can be read as a file. Its text is all that was written to it until its writer was dropped.
+/// A session, and words that fit no command line.
 #[test]
-fn a_pipe(rt: HostRuntime) -> Result<(), Fail> {
-    let (reader, mut writer) = io::pipe(&rt)?;
-    writer.write_all(b"SF:/a.c\nDA:1,3\nend_of_record\n")?;
-    drop(writer);
-    let path = format!(in rt.alloc(); "/proc/self/fd/{}", reader.as_raw_fd())?;
-    let words = merged(rt.alloc(), path.as_str(), 1)?;
-    let told = call(&rt, words.as_slice(), b"");
-    check_told(
+fn calls_without_files(rt: HostRuntime) -> Result<(), Fail> {
+    let told = call(
         &rt,
-        path.as_str(),
-        &told,
-        (0, "TN:\nSF:/a.c\nDA:1,3\nLF:1\nLH:1\nend_of_record\n", ""),
-    )
+        words_of(rt.alloc(), "covcollect")?.as_slice(),
+        b"report\n",
+    );
+    check_text(&rt, "session", told.faults.as_slice(), "")?;
+    check_text(&rt, "session", told.output.as_slice(), ".\n")?;
+    assert!(&rt; told.status == 0, "the status is {}", told.status);
+    let told = call(
+        &rt,
+        words_of(rt.alloc(), "covcollect bogus")?.as_slice(),
+        b"",
+    );
+    let faults = "\
+error: unrecognized subcommand 'bogus'
+
+Usage: covcollect [COMMAND]
+
+For more information, try '--help'.
+";
+    check_text(&rt, "bogus", told.faults.as_slice(), faults)?;
+    check_text(&rt, "bogus", told.output.as_slice(), "")?;
+    assert!(&rt; told.status == 2, "the status is {}", told.status);
+    Ok(())
 }

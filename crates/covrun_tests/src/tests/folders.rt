@@ -13,7 +13,7 @@ use std::test::*;
 use std::thread::Threads;
 
 /// Makes a call of these words, with this folder.
-pub(super) fn call_over<R: AllocGlobal + Threads + Wait + Sync, F: Folder<File: Send> + Sync>(
+fn call_over<R: AllocGlobal + Threads + Wait + Sync, F: Folder<File: Send> + Sync>(
     rt: &R,
     folder: &F,
     words: &[String],
@@ -50,7 +50,7 @@ fn check_over<R: AllocGlobal + Threads + Wait + Abort + Sync, F: Folder<File: Se
     output: &str,
     faults: &str,
 ) -> Result<(), Fail> {
-    let words = words_of(rt.alloc(), asked, "")?;
+    let words = words_of(rt.alloc(), asked)?;
     let told = call_over(rt, folder, words.as_slice());
     check_text(rt, asked, told.faults.as_slice(), faults)?;
     check_text(rt, asked, told.output.as_slice(), output)?;

@@ -4,11 +4,10 @@ ghost use Rattle.std.specs.Prelude.{◌≡◌, ◌<◌, ◌^◌, None, Some, map
 ghost use Rattle.std.specs.String.{string_bytes};
 
 use super::folders::OneFile;
-use super::{check_text, play, words_of};
+use super::{check_text, words_of};
 use covrun::{OutputFault, OutputFolder, run};
 use covsession::{Failed, FromRead, FromWrite, Sink};
 use std::alloc::Global;
-use std::process;
 use std::process::Abort;
 use std::sync::Wait;
 use std::test::*;
@@ -112,7 +111,7 @@ fn call_onto<R: AllocGlobal + Threads + Wait + Abort + Sync, P: OutputFolder>(
     requires begun { P.begun files.old ≡ None }
     requires few { P.failed files.old < 2 ^ 62 }
 {
-    let words = words_of(rt.alloc(), asked, "")?;
+    let words = words_of(rt.alloc(), asked)?;
     let folder = OneFile {
         name: "a.info",
         text: b"SF:/src/a.c\nDA:1,2\nDA:2,0\nend_of_record\n",
@@ -294,119 +293,4 @@ fn a_write_to_a_file_fails(rt: HostRuntime) -> Result<(), Fail> {
     assert_eq!(rt; status, 1);
     assert_eq!(rt; files.abandoned, 1);
     Ok(())
-}
-
-/// Files of std. The file may be an input. If the call fails, it stays as it was, and no other file is left beside it.
-#[test]
-fn files_are_written(rt: HostRuntime) -> Result<(), Fail> {
-    play(
-        &rt,
-        process::id(rt.process()),
-        "\
-SF:/src/a.c
-DA:1,2
-end_of_record
-@ a.info
-$ 0 covcollect merge -o ~/out.info ~/a.info
-TN:
-SF:/src/a.c
-DA:1,2
-LF:1
-LH:1
-end_of_record
-= out.info
-& 2
-$ 0 covcollect merge ~/a.info --output ~/a.info ~/out.info
-TN:
-SF:/src/a.c
-DA:1,4
-LF:1
-LH:1
-end_of_record
-= a.info
-& 2
-! ~/none.info: can't read
-$ 1 covcollect merge -o ~/a.info ~/a.info ~/none.info
-DA:1,1
-@ bad.info
-! ~/bad.info: refused Outside at 1
-$ 4 covcollect merge -o ~/a.info ~/a.info ~/bad.info
-TN:
-SF:/src/a.c
-DA:1,4
-LF:1
-LH:1
-end_of_record
-= a.info
-! ~/none/out.info: can't write
-$ 1 covcollect merge -o ~/none/out.info ~/a.info
-! ~: can't write
-$ 1 covcollect merge -o ~ ~/a.info
-! /dev/full: can't write
-$ 1 covcollect merge -o /dev/full ~/a.info
-$ 0 covcollect merge -o /dev/null ~/a.info
-! : can't write
-$ 1 covcollect merge --output= ~/a.info
-> TN:
-> SF:/src/a.c
-> DA:1,4
-> LF:1
-> LH:1
-> end_of_record
-$ 0 covcollect merge -o /dev/stdout ~/a.info
-& 3
-",
-    )
-}
-
-/// Each subcommand that prints a text can write it into a file.
-#[test]
-fn each_text_goes_into_a_file(rt: HostRuntime) -> Result<(), Fail> {
-    play(
-        &rt,
-        process::id(rt.process()),
-        "\
-SF:/src/a.c
-DA:1,2
-end_of_record
-SF:/lib/b.c
-DA:1,0
-end_of_record
-@ a.info
-$ 0 covcollect extract -o ~/e.info ~/a.info /src/*
-TN:
-SF:/src/a.c
-DA:1,2
-LF:1
-LH:1
-end_of_record
-= e.info
-$ 0 covcollect remove -o ~/r.info ~/a.info /src/*
-TN:
-SF:/lib/b.c
-DA:1,0
-LF:1
-LH:0
-end_of_record
-= r.info
-$ 0 covcollect summary --json -o ~/s.json ~/a.info
-& 4
-        -:    0:Source:c.c
-        3:    1:f();
-@ c.gcov
-$ 0 covcollect gcov --test t -o ~/g.info ~/c.gcov
-TN:t
-SF:c.c
-DA:1,3
-LF:1
-LH:1
-end_of_record
-= g.info
-$ 0 covcollect list -o ~/l.txt ~/a.info
-& 7
-! error: unexpected argument '-o' found...
-$ 2 covcollect check -o ~/c.txt ~/a.info
-& 7
-",
-    )
 }

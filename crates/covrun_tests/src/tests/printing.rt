@@ -49,7 +49,7 @@ fn merge_into<R: AllocGlobal + Threads + Wait + Sync>(
     text: &[u8],
     writes: u64,
 ) -> Result<(u8, Vec<u8>, Closing), Fail> {
-    let words = words_of(rt.alloc(), "covcollect merge a.info", "")?;
+    let words = words_of(rt.alloc(), "covcollect merge a.info")?;
     let folder = OneFile {
         name: "a.info",
         text,

@@ -1,0 +1,1 @@
+"""What scripts/e2e plays, part by part."""

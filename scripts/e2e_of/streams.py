@@ -1,0 +1,88 @@
+"""What no function over streams shows, and only a call of a program does: pipes, disks that are full, streams that are closed, words.
+
+Each function is a job: it is handed a player and a folder of its own, where `a.info` is a tracefile.
+"""
+import os, subprocess, threading
+from e2e_of.made import MERGED, TEXT, written
+from e2e_of.player import PATIENCE
+
+LOST = (1, b"", b"write fault\n")
+
+
+def a_pipe(player, folder):
+    """A pipe is a file like others."""
+    player.shell("pipe", folder, f'cat {folder}/a.info | "$0" merge {folder}/a.info /dev/stdin', (0, MERGED, b""))
+    merged = b"TN:\nSF:/a.c\nDA:1,3\nLF:1\nLH:1\nend_of_record\n"
+    player.shell("pipe", folder, r"printf 'SF:/a.c\nDA:1,3\nend_of_record\n' | "'"$0" merge --jobs=4 /proc/self/fd/0', (0, merged, b""))
+
+
+def lost_outputs(player, folder):
+    """A disk that is full, and a standard output that is closed: told, and the status says so."""
+    for command in ("merge", "check"):
+        for end in (">/dev/full", ">&-"):
+            player.shell("output", folder, f'"$0" {command} {folder}/a.info {end}', LOST)
+
+
+def many_files(player, folder):
+    """A thousand files in one call."""
+    merged, names = [], []
+    for number in sorted(range(1000), key=str):
+        section = f"SF:/{number}.c\nDA:1,{number}\nLF:1\nLH:{min(number, 1)}\nend_of_record\n"
+        merged.append("TN:\n" + section)
+        names.append(f"{number}.info")
+        written(f"{folder}/{number}.info", [section.encode()])
+    player.shell("thousand", folder, '"$0" merge --jobs 4 "$@"', (0, "".join(merged).encode(), b""), words=reversed(names))
+
+
+def told_before_the_next(player, folder):
+    """A check tells of a file before it reads the next one, here a pipe that nobody writes to until then."""
+    words = [player.program, "check", f"{folder}/a.info", f"{folder}/pipe"]
+    os.mkfifo(f"{folder}/pipe")
+    ran = subprocess.Popen(words, stdout=subprocess.PIPE, stderr=subprocess.PIPE)
+    watch = threading.Timer(PATIENCE, ran.kill)
+    watch.start()
+    first = ran.stdout.readline()
+    threading.Thread(target=written, args=(f"{folder}/pipe", [b"DA:1,1\n"]), daemon=True).start()
+    output, told = ran.communicate()
+    watch.cancel()
+    wanted = f"{folder}/a.info: sections 1 items 2 odd 0 skipped 0\n{folder}/pipe: refused Outside at 1\n".encode()
+    player.look("lines", words, (4, wanted, b""), (ran.returncode, first + output, told))
+
+
+def lost_sessions(player, folder):
+    """A session whose input is closed, and one whose output is."""
+    player.shell("input", folder, '"$0" <&-', (1, b"", b"read fault\n"))
+    player.shell("session", folder, 'echo summary | "$0" >/dev/full', LOST)
+
+
+def strange_words(player, folder):
+    """Words that aren't text, of which the first is told; a word that is, and is none of ASCII; words that are long."""
+    for bad, told in (
+        ([b"merge", b"a\xff.info"], b"error: word 3 isn't UTF-8: a?.info\n"),
+        ([b"\xfe"], b"error: word 2 isn't UTF-8: ?\n"),
+        ([b"merge", "\u00e9.info".encode(), b"\xc3(\x07 ~\x7f", b"\xff"], b"error: word 4 isn't UTF-8: ?(? ~?\n"),
+        ([b"summary", b"x" * 70000 + b"\x80"], b"error: word 3 isn't UTF-8: " + b"x" * 70000 + b"?\n"),
+    ):
+        player.call("word", folder, [player.program, *bad], (2, b"", told))
+    player.call("long", folder, [player.program, b"merge", b"x" * 70000], (1, b"", b"x" * 70000 + b": can't read\n"))
+
+
+def whole_or_nothing(player, folder):
+    """Texts come out whole or not at all, and a subcommand leaves its input to the next program."""
+    written(f"{folder}/b.info", [b"DA:1,1\n"])
+    script = '"$0" merge --jobs 2 a.info b.info; echo $?; cat'
+    player.shell("whole", folder, script, (0, b"4\nleft\n", b"b.info: refused Outside at 1\n"), b"left\n")
+
+
+def beside_a_tracefile(part):
+    """The part as a job, with a tracefile in its folder."""
+
+    def job(player, folder):
+        written(f"{folder}/a.info", [TEXT])
+        part(player, folder)
+
+    job.__name__ = part.__name__
+    return job
+
+
+JOBS = tuple(map(beside_a_tracefile, (a_pipe, lost_outputs, many_files, told_before_the_next, lost_sessions, strange_words, whole_or_nothing)))
