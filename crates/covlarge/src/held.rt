@@ -98,7 +98,7 @@ impl Held {
         self.skipped = self.skipped.saturating_add(summary.skipped);
     }
 
-    /// The same as covcheck has it.
+    /// The summary in the form of covcheck, as of a text that is read as a whole.
     pub fn summary(&self) -> TextSummary<'_>
         ensures { summary_data result ≡ self.now }
     {

@@ -76,7 +76,7 @@ impl<S: Source + Drop> LargeTracefile<S> {
         LargeTracefile::begun(alloc, version, None, source)
     }
 
-    /// The same. At its end what the whole tracefile holds is told.
+    /// Like `new`, but the last piece also comes with a summary of the whole tracefile.
     pub fn summed(alloc: Global, version: LcovVersion, source: S) -> LargeTracefile<S>
         requires reads { S.reads source ≡ 0 }
         requires failed_reads { S.failed_reads source ≡ 0 }
@@ -122,6 +122,12 @@ impl<S: Source + Drop> LargeTracefile<S> {
 
     /// Reads the next piece: whole sections, or the end of the tracefile. Whatever the rest gives, the tracefile gives with this
     /// piece's submission in front.
+    ///
+    /// # Errors
+    ///
+    /// `Refused` with the first fault of the whole tracefile, and with its line's number there, at most 2^64 - 1. Or with
+    /// `TooLong`, if no section ends in the next 67,108,864 bytes (those of the piece's front count too), or if 1,048,575 pieces
+    /// were read. `Unreadable` only if a read failed. `Memory` at any time.
     pub fn next_piece(self, alloc: Global) -> Result<NextPiece<S>, PieceFault>
         ensures { IsNextPiece S.left S.failed_reads self result }
     {

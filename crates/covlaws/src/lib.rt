@@ -52,9 +52,8 @@ pub fn reports_read_back()
     no_versions_are_mixed();
 }
 
-/// The same for a legal history with lawful operations. If an entry's operation is a report, an extract or a remove, the text of
-/// its answer reads back. This holds if a line can hold each new name of a rename before the entry, and the text has at most
-/// 67,108,864 bytes.
+/// In a legal history with lawful operations, the text of each report, extract and remove reads back. This holds if a line can hold
+/// each new name of a rename before the entry, and the text has at most 67,108,864 bytes.
 pub fn each_report_of_a_history_reads_back()
     ensures { (entries : List EntryData) → IsLegal entries → AreLawfulOps (ops_in entries) → (before after : List EntryData) (entry : EntryData) → entries ≡ before ++ entry ∷ after → HaveGoodNames (ops_in before)
         → IsReport entry.op → (text : List ℕ) → entry.answer ≡ TextAnswer text → length text ≤ max_bytes → ReadsBack text }
