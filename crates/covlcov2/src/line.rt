@@ -3,7 +3,7 @@
 use covline::TraceLine;
 
 /// What one line says. Names are slices of the line.
-#[derive(Clone, Copy, Debug)]
+#[derive(Clone, Copy)]
 pub enum Lcov2Line<'a> {
     /// A record of version 1, but no branch. `FN:<line>,<end>,<name>` is one too: a start line and the name.
     Plain(TraceLine<'a>),

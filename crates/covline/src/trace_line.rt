@@ -23,7 +23,7 @@ pub enum TotalKind {
 }
 
 /// What one line says. Names, paths and checksums are slices of the line.
-#[derive(Clone, Copy, Debug)]
+#[derive(Clone, Copy)]
 pub enum TraceLine<'a> {
     /// `TN:<name>`, the test name of the sections that follow. It may be empty.
     Test(&'a [u8]),

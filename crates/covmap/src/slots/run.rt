@@ -1,8 +1,9 @@
 //! Slots for the keys of a run.
 
-ghost use Rattle.std.specs.Prelude.{◌≡◌, ◌<◌, IfOk, OnErr, OnOk, length};
+ghost use Rattle.std.specs.Prelude.{◌≡◌, ◌<◌, ◌≤◌, Some, IfOk, OnErr, OnOk, false, length, slice_get};
 ghost use Rattle.covmap.specs.RunPage.{AreBefore, FirstHere, IsGrown};
-ghost use Rattle.covmap.specs.Slots.{IsAscending, filled, page_at, slots_of};
+ghost use Rattle.covmap.specs.SlotPlace.{at};
+ghost use Rattle.covmap.specs.Slots.{IsAscending, IsGap, filled, page_at, slots_of};
 ghost use Rattle.covmap.specs.Staged.{AreColumnsOf, staged_of};
 
 use crate::key::{Addend, Key, Query, Value};
@@ -33,6 +34,18 @@ impl<K: Key, V, A: Allocator> Slots<K, V, A> {
             Some(page) => page.len() < PAGE_SLOTS,
             None => false,
         }
+    }
+
+    /// Whether a new key at a place is inserted on a page that there is, if `len` items of its run are left.
+    #[inline]
+    fn takes(&self, place: SlotIndex, len: usize) -> bool
+        ensures { result ≡ false → length self.now ≤ place.page }
+    {
+        if place.page < self.count() {
+            return true;
+        }
+        // A short run fills the last page first, so that short runs don't leave short pages.
+        self.has_room() && len < SHORT_RUN
     }
 
     /// Where to begin the search for a key: a place on the page of the guess, found without a search among the pages.
@@ -99,15 +112,52 @@ pub(crate) fn make_slots<
     let (query, _) = run[0];
     match slots.find(query, slots.guess_near(query, guess)) {
         Ok(place) => Ok(place),
-        Err(place) => {
-            // A short run fills the last page first, so that short runs don't leave short pages.
-            if place.page < slots.count() || slots.has_room() && run.len() < SHORT_RUN {
-                make_ahead(slots, staged, alloc, run, place)?;
-                return make_slot(slots, staged, alloc, query, place);
-            }
-            put_run(slots, staged, alloc, run)
-        }
+        Err(place) => make_absent(slots, staged, alloc, run, place),
     }
+}
+
+/// The same as `make_slots`, for a run whose first key has no slot. The key would be inserted at `place`.
+#[inline]
+fn make_absent<K: Key + Drop, V: Value, A: Allocator + Copy, Q: Query<K, A>, M: Addend<V>>(
+    slots: &mut Slots<K, V, A>,
+    staged: &mut StagedColumns<V, A>,
+    alloc: A,
+    run: &[(Q, M)],
+    place: SlotIndex,
+) -> Result<SlotIndex, AllocError>
+    requires some { 0 < length run.now }
+    requires columns { AreColumnsOf slots.old staged.old }
+    requires gap { (item : _) → slice_get run.now 0 ≡ Some item → IsGap (λ key. K.cmp key (Q.named item.0)) slots.old (at place) }
+    ensures columns { AreColumnsOf slots.new staged.new }
+    ensures committed { filled (slots_of slots.new) ≡ filled (slots_of slots.old) }
+    ensures staged { OnOk result (filled (slots_of (staged_of slots.new staged.new)) ≡ filled (slots_of (staged_of slots.old staged.old))) }
+    ensures place { IfOk result (λ place. FirstHere K.cmp Q.named (page_at slots.new place.page) place.index run.now) }
+{
+    if slots.takes(place, run.len()) {
+        return make_within(slots, staged, alloc, run, place);
+    }
+    put_run(slots, staged, alloc, run)
+}
+
+/// The same as `make_slots`, without new pages at the end for a part of the run.
+#[inline]
+fn make_within<K: Key + Drop, V: Value, A: Allocator + Copy, Q: Query<K, A>, M: Addend<V>>(
+    slots: &mut Slots<K, V, A>,
+    staged: &mut StagedColumns<V, A>,
+    alloc: A,
+    run: &[(Q, M)],
+    place: SlotIndex,
+) -> Result<SlotIndex, AllocError>
+    requires some { 0 < length run.now }
+    requires columns { AreColumnsOf slots.old staged.old }
+    ensures columns { AreColumnsOf slots.new staged.new }
+    ensures committed { filled (slots_of slots.new) ≡ filled (slots_of slots.old) }
+    ensures staged { OnOk result (filled (slots_of (staged_of slots.new staged.new)) ≡ filled (slots_of (staged_of slots.old staged.old))) }
+    ensures place { IfOk result (λ place. FirstHere K.cmp Q.named (page_at slots.new place.page) place.index run.now) }
+{
+    make_ahead(slots, staged, alloc, run, place)?;
+    let (query, _) = run[0];
+    make_slot(slots, staged, alloc, query, place)
 }
 
 /// Inserts empty slots for the keys at the front of a run. Stops when the page is full, or after the first key that belongs to

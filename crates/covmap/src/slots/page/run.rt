@@ -1,10 +1,11 @@
 //! Adds a run of keys with addends to the slots of one page.
 
-ghost use Rattle.std.specs.Prelude.{◌≡◌, ◌<◌, ◌≤◌, ◌++◌, IfOk, OnOk, length, slice_get};
+ghost use Rattle.std.specs.Prelude.{◌≡◌, ◌<◌, ◌≤◌, None, Some, [], ◌++◌, IfOk, OnOk, true, false, length, slice_get, slice_set};
+ghost use Rattle.std.specs.List.{insert};
 ghost use Rattle.std.specs.declared.cmp.Ordering.TheVariants.{Equal};
 ghost use Rattle.covmap.specs.Run.{reports_one};
 ghost use Rattle.covmap.specs.RunPage.{FirstHere, FitHere, IsAlong, IsNewPage, value_summed};
-ghost use Rattle.covmap.specs.Slots.{IsAscending, order_at, value_in};
+ghost use Rattle.covmap.specs.Slots.{IsAscending, ends_before, order_at, value_in};
 
 use crate::key::{Addend, Key, Query, ReportingAddend, Value};
 use crate::slots::PAGE_SLOTS;
@@ -111,20 +112,71 @@ impl<K: Drop, V: Value, A: Allocator + Copy> Page<K, V, A> {
         ensures { IfOk result (λ page. IsNewPage K.cmp Q.named run.now page) }
     {
         let most = run.len().min(PAGE_SLOTS);
-        let mut page = Page {
-            keys: Vec::with_capacity(alloc, most)?,
+        let mut page = Page::with_room(alloc, most)?;
+        page.push_front(alloc, run, most)?;
+        Ok(page)
+    }
+
+    /// A page with no slots, and room for `len` of them.
+    #[inline]
+    fn with_room(alloc: A, len: usize) -> Result<Page<K, V, A>, AllocError>
+        ensures { IfOk result (λ page. page ≡ []) }
+    {
+        Ok(Page {
+            keys: Vec::with_capacity(alloc, len)?,
             values: Vec::new(alloc),
-        };
+        })
+    }
+
+    /// Appends empty slots for the first `most` keys of a run to a page with no slots. Stops at the first key that isn't greater
+    /// than the key before it.
+    #[inline]
+    fn push_front<Q: Query<K, A>, M: Addend<V>>(
+        &mut self,
+        alloc: A,
+        run: &[(Q, M)],
+        most: usize,
+    ) -> Result<(), AllocError>
+    where
+        K: Key,
+        requires none { self.old ≡ [] }
+        requires some { 0 < most }
+        requires there { most ≤ length run.now }
+        requires fits { most ≤ 256 }
+        ensures { OnOk result (IsNewPage K.cmp Q.named run.now self.new) }
+    {
         let mut count = 0;
         while count < most {
             let (query, _) = run[count];
-            if !page.ends_before(query) {
-                return Ok(page);
+            let is_pushed = self.push_greater(alloc, count, query)?;
+            if !is_pushed {
+                return Ok(());
             }
-            page.insert(count, query.key(alloc)?)?;
             count += 1;
         }
-        Ok(page)
+        Ok(())
+    }
+
+    /// Appends an empty slot for a key to a page with `len` slots, if the key is greater than all others. Returns whether it is.
+    #[inline]
+    fn push_greater<Q: Query<K, A>>(
+        &mut self,
+        alloc: A,
+        len: usize,
+        query: Q,
+    ) -> Result<bool, AllocError>
+    where
+        K: Key,
+        requires { len ≡ length self.old }
+        ensures greater { IfOk result (λ pushed. pushed ≡ ends_before (λ key. K.cmp key (Q.named query)) self.old) }
+        ensures pushed { IfOk result (λ pushed. pushed ≡ true → self.new ≡ insert self.old len (Q.named query, None)) }
+        ensures same { IfOk result (λ pushed. pushed ≡ false → self.new ≡ self.old) }
+    {
+        if !self.ends_before(query) {
+            return Ok(false);
+        }
+        self.insert(len, query.key(alloc)?)?;
+        Ok(true)
     }
 }
 
@@ -141,10 +193,26 @@ fn add_at<V: Drop, A: Allocator, Q: Copy, N: Drop, M: ReportingAddend<V, N>>(
     ensures column { column.new ≡ value_summed M.sum slot (query, addend) column.old }
     ensures reports { OnOk result (reports.new.items ≡ reports.old.items ++ reports_one query (M.reports addend (value_in (slice_get column.old slot)) (M.sum addend (value_in (slice_get column.old slot))))) }
 {
+    let note = sum_at(column, slot, addend);
+    push_reports(reports, query, note)
+}
+
+/// Adds an addend to the value in a slot of a column, and returns what the addend reports.
+#[inline]
+fn sum_at<V: Drop, N, M: ReportingAddend<V, N>>(
+    column: &mut [Option<V>],
+    slot: usize,
+    addend: M,
+) -> Option<N>
+    requires there { slot < length column.old }
+    requires fits { M.fits addend (value_in (slice_get column.old slot)) }
+    ensures column { column.new ≡ slice_set column.old slot (Some (M.sum addend (value_in (slice_get column.old slot)))) }
+    ensures report { result ≡ M.reports addend (value_in (slice_get column.old slot)) (M.sum addend (value_in (slice_get column.old slot))) }
+{
     let after = addend.plus(&column[slot]);
     let note = addend.report(&column[slot], &after);
     column[slot] = Some(after);
-    push_reports(reports, query, note)
+    note
 }
 
 /// Appends a report, if there is one.

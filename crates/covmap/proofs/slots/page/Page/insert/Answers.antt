@@ -1,7 +1,7 @@
 use Rattle.std.proofs.Common.{◌≡◌, ◌∙◌, None, ap, length, arith}
 use Rattle.std.specs.List.{insert}
 use Rattle.covmap.specs.Slots.{beside}
-use Rattle.covmap.proofs.PageParts.{beside_after, beside_insert, beside_length, insert_last}
+use Rattle.covmap.proofs.PageParts.{beside_after, beside_length, insert_last}
 use Rattle.covmap.proofs.slots.page.Page.insert.Goals as goal
 
 pub insert_before-requires : goal.insert_before-requires

@@ -1,8 +1,7 @@
-use Rattle.covmap.proofs.Run.{added_column, added_fits}
+use Rattle.std.proofs.Common.{◌≡◌, ◌++◌, subst}
+use Rattle.std.specs.Prelude.{OnOk}
+use Rattle.covmap.specs.Run.{reports_one}
 use Rattle.covmap.proofs.slots.page.run.add_at.Goals as goal
 
-pub plus-after-requires : goal.plus-after-requires
-plus-after-requires g c = added_fits g.M.Addend.sum c.args.column.now c.args.slot c.args.addend c.index-column-slot.result c.requires.there g.M.Addend.fits c.requires.fits
-
-pub returns-clause-column : goal.returns-clause-column
-returns-clause-column g c = added_column g.M.Addend.sum c.args.column.now c.args.slot c.args.addend c.index-column-slot.result c.requires.there c.args.query c.plus-after.result c.plus-after.ensures
+pub returns-clause-reports : goal.returns-clause-reports
+returns-clause-reports g c = subst (λ note. OnOk c.push_reports.result (c.push_reports.new.reports.items ≡ c.args.reports.now.items ++ reports_one c.args.query note)) c.sum_at-note.ensures.report c.push_reports.ensures
