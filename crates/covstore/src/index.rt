@@ -36,7 +36,7 @@ impl<A: Allocator + Copy> FileIndex<A> {
     ghost use Rattle.covstore.specs.Follows.{CountsAll, Follows, FollowsCommitted, FollowsRolledBack, FollowsSettled, FollowsTheSame, StillFollows, no_test};
 
     /// The index of a file without tests.
-    pub(crate) fn new(alloc: A) -> FileIndex<A>
+    pub(crate) fn new() -> FileIndex<A>
         ensures committed { index_committed result ≡ empty_index }
         ensures staged { index_staged result ≡ empty_index }
         ensures follows { Follows no_test result }
