@@ -74,14 +74,14 @@ impl<A: Allocator + Copy> File<A> {
     ghost use Rattle.covstore.specs.State.{FileData, IsConsistentFile, file_totals, has_points_of};
 
     /// A file without tests.
-    pub(crate) fn new(alloc: A) -> File<A>
+    pub(crate) fn new() -> File<A>
         ensures committed { file_committed result ≡ no_file }
         ensures staged { file_staged result ≡ no_file }
         ensures settled { (tests : List (List ℕ)) → IsSettledBut tests result }
     {
         File {
             tests: Tests::new(),
-            index: FileIndex::new(alloc),
+            index: FileIndex::new(),
         }
     }
 

@@ -6,7 +6,10 @@ ghost use Rattle.covstore.specs.PointIndexDrops.{totals_by};
 mod drops;
 
 use crate::file_checksums::FileChecksums;
-use crate::index::drops::{release_checksums, tally_without, uncount_kind};
+use crate::index::drops::{
+    branches_without, functions_without, lines_without, release_checksums, uncount_branches,
+    uncount_functions, uncount_lines,
+};
 use crate::keys::{Branch, FunctionName};
 use crate::kind_index::KindIndex;
 use crate::point_index::KindTally;
@@ -36,7 +39,7 @@ impl<A: Allocator + Copy> FileIndex<A> {
     ghost use Rattle.covstore.specs.Follows.{CountsAll, Follows, FollowsCommitted, FollowsRolledBack, FollowsSettled, FollowsTheSame, StillFollows, no_test};
 
     /// The index of a file without tests.
-    pub(crate) fn new(alloc: A) -> FileIndex<A>
+    pub(crate) fn new() -> FileIndex<A>
         ensures committed { index_committed result ≡ empty_index }
         ensures staged { index_staged result ≡ empty_index }
         ensures follows { Follows no_test result }
@@ -137,9 +140,9 @@ impl<A: Allocator + Copy> FileIndex<A> {
         ensures staged { index_staged self.new ≡ index_committed self.new }
         ensures follows { StillFollows self.old no_test self.new }
     {
-        uncount_kind(&mut self.lines, &points.lines);
-        uncount_kind(&mut self.functions, &points.functions);
-        uncount_kind(&mut self.branches, &points.branches);
+        uncount_lines(&mut self.lines, &points.lines);
+        uncount_functions(&mut self.functions, &points.functions);
+        uncount_branches(&mut self.branches, &points.branches);
         release_checksums(&mut self.checksums, &points.lines);
     }
 
@@ -162,9 +165,9 @@ impl<A: Allocator + Copy> FileIndex<A> {
         ensures { (others : List TestData) (rest : FileIndexData) → IsIndexOf (test_committed points.now ∷ others) (index_committed self.now) → IsIndexOf others rest → result ≡ index_totals rest }
     {
         totals_of(
-            tally_without(&self.lines, &points.lines),
-            tally_without(&self.functions, &points.functions),
-            tally_without(&self.branches, &points.branches),
+            lines_without(&self.lines, &points.lines),
+            functions_without(&self.functions, &points.functions),
+            branches_without(&self.branches, &points.branches),
         )
     }
 }

@@ -46,7 +46,7 @@ impl<A: Allocator + Copy> KeptTexts<A> {
     }
 
     /// Gives a line this text. A text that the line has already is replaced, which takes no memory. Proofs also learn that the
-    /// committed texts are among all texts (`same`).
+    /// committed texts are among all texts (`among`).
     ///
     /// # Errors
     ///
@@ -55,7 +55,7 @@ impl<A: Allocator + Copy> KeptTexts<A> {
         ensures committed { StillHave self.old.committed self.new.committed }
         ensures ok { OnOk result (self.new.staged ≡ put nat_cmp line text self.old.staged) }
         ensures err { OnErr result (self.new.staged ≡ self.old.committed) }
-        ensures same { AreCommitted self.old }
+        ensures among { AreCommitted self.old }
     {
         match self.places.lookup_staged(line) {
             Some(place) => {

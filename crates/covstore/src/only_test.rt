@@ -100,7 +100,7 @@ impl<A: Allocator + Copy> OnlyTest<A> {
     /// The test, if it has this name. Else this `OnlyTest` comes back.
     pub(crate) fn take(self, name: &[u8]) -> Result<Boxed<Test<A>, A>, OnlyTest<A>>
         ensures ok { IfOk result (λ points. lookup (is_at (λ other. slice_cmp nat_cmp name.now other.items)) self.entries ≡ Some points) }
-        ensures none { OnOk result (remove_entry (is_at (λ other. slice_cmp nat_cmp name.now other.items)) self.entries ≡ []) }
+        ensures nothing_left { OnOk result (remove_entry (is_at (λ other. slice_cmp nat_cmp name.now other.items)) self.entries ≡ []) }
         ensures err { IfErr result (λ back. back ≡ self) }
         ensures missing { OnErr result (lookup (is_at (λ other. slice_cmp nat_cmp name.now other.items)) self.entries ≡ None) }
         ensures stays { OnErr result (remove_entry (is_at (λ other. slice_cmp nat_cmp name.now other.items)) self.entries ≡ self.entries) }

@@ -127,7 +127,7 @@ fn stage_in_new_file<A: Allocator + Copy>(
     ensures clash { IfErr result (λ e. ClashesAmong (rows_of_items file.now test.now items.now) (files_staged (λ name. name.items) files.old.entries) (refuse_data e)) }
     ensures settled { (touched : List (List ℕ × List ℕ)) → AreSettledBut (λ name. name.items) touched files.old.entries → AreSettledBut (λ name. name.items) (touched ++ (file.now, test.now) ∷ []) files.new.entries }
 {
-    let mut made = Boxed::new(alloc, File::new(alloc))?;
+    let mut made = Boxed::new(alloc, File::new())?;
     let totals = made.get_mut().stage_section(alloc, file, test, items)?;
     files.insert(Path::from_slice(alloc, file)?, made)?;
     Ok(totals)

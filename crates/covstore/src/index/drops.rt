@@ -1,21 +1,26 @@
-//! Removes a test from a file's index. The counts of several tests lose it by a walk over its points.
+//! Removes a test from a file's index. The counts of several tests lose it by a walk over its points. For each kind of points
+//! there is a function with a contract in that kind's own words, since a caller of the generic one is dear to prove.
 
 ghost use Rattle.std.specs.Prelude.{◌≡◌, None, IfSome};
+ghost use Rattle.std.specs.Cmp.Lexicographic.{slice_cmp};
+ghost use Rattle.std.specs.Ordering.{nat_cmp};
 ghost use Rattle.covstore.specs.SoleTest.{no_points};
+ghost use Rattle.covstore.specs.Kinds.{branch_above, function_above, line_above};
 ghost use Rattle.covstore.specs.PointIndexDrops.{AreHoldersWith, AreWith, IsTallyWithout, LosesHolders, LosesTest};
+ghost use Rattle.covstore.specs.Value.{branch_cmp};
 
 use crate::file_checksums::FileChecksums;
-use crate::keys::PointKey;
+use crate::keys::{Branch, FunctionName, PointKey};
 use crate::kind_index::{Counts, KindIndex};
 use crate::point_index::{KindTally, PointIndex};
 use crate::sole_test::SoleTest;
-use crate::sums::{LineSum, PointSum};
+use crate::sums::{BranchSum, FunctionSum, LineSum, PointSum};
 use covmap::StagedMap;
 use std::alloc::Allocator;
 
 /// Stops counting the test that has these points of one kind. Nothing is staged afterwards. If the counts follow a test, `points`
 /// has to be the points of that test.
-pub(super) fn uncount_kind<'a, K: PointKey<'a, A> + Drop, S: PointSum, A: Allocator + Copy>(
+fn uncount_kind<'a, K: PointKey<'a, A> + Drop, S: PointSum, A: Allocator + Copy>(
     kept: &mut KindIndex<K, S, A>,
     points: &'a StagedMap<K, S, A>,
 )
@@ -30,6 +35,54 @@ pub(super) fn uncount_kind<'a, K: PointKey<'a, A> + Drop, S: PointSum, A: Alloca
         Counts::OfOneTest(sole) => *sole = SoleTest::none(),
         Counts::OfTests(counts) => drop_counted(counts.get_mut(), points),
     }
+}
+
+/// `uncount_kind` for the lines.
+#[inline]
+pub(super) fn uncount_lines<A: Allocator + Copy>(
+    kept: &mut KindIndex<u64, LineSum, A>,
+    points: &StagedMap<u64, LineSum, A>,
+)
+    requires follows { IfSome kept.old.follows (λ seen. seen ≡ points.now) }
+    requires counted { AreWith nat_cmp line_above points.now.committed kept.old.committed }
+    ensures committed { LosesTest nat_cmp line_above points.now.committed kept.old.committed kept.new.committed }
+    ensures staged { kept.new.staged ≡ kept.new.committed }
+    ensures follows { IfSome kept.new.follows (λ seen. seen ≡ no_points) }
+    ensures counts { kept.old.follows ≡ None → kept.new.follows ≡ None }
+{
+    uncount_kind(kept, points);
+}
+
+/// `uncount_kind` for the functions.
+#[inline]
+pub(super) fn uncount_functions<A: Allocator + Copy>(
+    kept: &mut KindIndex<FunctionName<A>, FunctionSum, A>,
+    points: &StagedMap<FunctionName<A>, FunctionSum, A>,
+)
+    requires follows { IfSome kept.old.follows (λ seen. seen ≡ points.now) }
+    requires counted { AreWith (slice_cmp nat_cmp) function_above points.now.committed kept.old.committed }
+    ensures committed { LosesTest (slice_cmp nat_cmp) function_above points.now.committed kept.old.committed kept.new.committed }
+    ensures staged { kept.new.staged ≡ kept.new.committed }
+    ensures follows { IfSome kept.new.follows (λ seen. seen ≡ no_points) }
+    ensures counts { kept.old.follows ≡ None → kept.new.follows ≡ None }
+{
+    uncount_kind(kept, points);
+}
+
+/// `uncount_kind` for the branches.
+#[inline]
+pub(super) fn uncount_branches<A: Allocator + Copy>(
+    kept: &mut KindIndex<Branch, BranchSum, A>,
+    points: &StagedMap<Branch, BranchSum, A>,
+)
+    requires follows { IfSome kept.old.follows (λ seen. seen ≡ points.now) }
+    requires counted { AreWith branch_cmp branch_above points.now.committed kept.old.committed }
+    ensures committed { LosesTest branch_cmp branch_above points.now.committed kept.old.committed kept.new.committed }
+    ensures staged { kept.new.staged ≡ kept.new.committed }
+    ensures follows { IfSome kept.new.follows (λ seen. seen ≡ no_points) }
+    ensures counts { kept.old.follows ≡ None → kept.new.follows ≡ None }
+{
+    uncount_kind(kept, points);
 }
 
 /// Takes the test that has these points off the counts. Nothing is staged afterwards.
@@ -69,7 +122,7 @@ pub(super) fn release_checksums<A: Allocator + Copy>(
 
 /// The tally of a kind of points without the test that has these points. If the counts follow a test, `points` has to be the
 /// points of that test.
-pub(super) fn tally_without<'a, K: PointKey<'a, A>, S: PointSum, A: Allocator>(
+fn tally_without<'a, K: PointKey<'a, A>, S: PointSum, A: Allocator>(
     kept: &KindIndex<K, S, A>,
     points: &'a StagedMap<K, S, A>,
 ) -> KindTally
@@ -81,6 +134,45 @@ pub(super) fn tally_without<'a, K: PointKey<'a, A>, S: PointSum, A: Allocator>(
         Counts::OfOneTest(_) => KindTally { found: 0, hit: 0 },
         Counts::OfTests(counts) => tally_without_counted(counts.get(), points),
     }
+}
+
+/// `tally_without` for the lines.
+#[inline]
+pub(super) fn lines_without<A: Allocator>(
+    kept: &KindIndex<u64, LineSum, A>,
+    points: &StagedMap<u64, LineSum, A>,
+) -> KindTally
+    requires follows { IfSome kept.now.follows (λ seen. seen ≡ points.now) }
+    requires counted { AreWith nat_cmp line_above points.now.committed kept.now.committed }
+    ensures { IsTallyWithout nat_cmp line_above points.now.committed kept.now.committed result }
+{
+    tally_without(kept, points)
+}
+
+/// `tally_without` for the functions.
+#[inline]
+pub(super) fn functions_without<A: Allocator>(
+    kept: &KindIndex<FunctionName<A>, FunctionSum, A>,
+    points: &StagedMap<FunctionName<A>, FunctionSum, A>,
+) -> KindTally
+    requires follows { IfSome kept.now.follows (λ seen. seen ≡ points.now) }
+    requires counted { AreWith (slice_cmp nat_cmp) function_above points.now.committed kept.now.committed }
+    ensures { IsTallyWithout (slice_cmp nat_cmp) function_above points.now.committed kept.now.committed result }
+{
+    tally_without(kept, points)
+}
+
+/// `tally_without` for the branches.
+#[inline]
+pub(super) fn branches_without<A: Allocator>(
+    kept: &KindIndex<Branch, BranchSum, A>,
+    points: &StagedMap<Branch, BranchSum, A>,
+) -> KindTally
+    requires follows { IfSome kept.now.follows (λ seen. seen ≡ points.now) }
+    requires counted { AreWith branch_cmp branch_above points.now.committed kept.now.committed }
+    ensures { IsTallyWithout branch_cmp branch_above points.now.committed kept.now.committed result }
+{
+    tally_without(kept, points)
 }
 
 /// The tally of counted points without the test that has these points.

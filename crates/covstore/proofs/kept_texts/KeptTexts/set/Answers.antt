@@ -58,8 +58,8 @@ returns-in-Some-clause-ok g c =
     ∙ replaced c.args.line c.get.result c.args.text inside.places inside.texts.items inside.committed c.self.invariant found c.lookup_staged.ensures.staged
     ∙ ap (λ (before : KeptTextsData). put nat_cmp c.args.line c.args.text before.staged) c.self.view_is
 
-pub returns-in-Some-clause-same : goal.returns-in-Some-clause-same
-returns-in-Some-clause-same g c = subst AreCommitted c.self.view_is (are_committed c.self.inside.places c.self.inside.texts.items c.self.invariant.stay)
+pub returns-in-Some-clause-among : goal.returns-in-Some-clause-among
+returns-in-Some-clause-among g c = subst AreCommitted c.self.view_is (are_committed c.self.inside.places c.self.inside.texts.items c.self.invariant.stay)
 
-pub returns-in-None-clause-same : goal.returns-in-None-clause-same
-returns-in-None-clause-same g c = subst AreCommitted c.self.view_is (are_committed c.self.inside.places c.self.inside.texts.items c.self.invariant.stay)
+pub returns-in-None-clause-among : goal.returns-in-None-clause-among
+returns-in-None-clause-among g c = subst AreCommitted c.self.view_is (are_committed c.self.inside.places c.self.inside.texts.items c.self.invariant.stay)
