@@ -141,7 +141,7 @@ class Functions:
         """Adds the functions of a file."""
         rows, above = self.rows[path], ""
         for at, row in enumerate(rows):
-            if row and row[0] not in " {})#/":
+            if row and row[0] not in " {})#/" and row != "where":
                 above = row
             head = HEAD.match(row)
             if head and (not head[1] or above.startswith(("impl", "unsafe impl"))):

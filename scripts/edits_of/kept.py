@@ -29,10 +29,14 @@ def sum_of_script():
     return sum_of(*texts)
 
 
+# It is made as this file is loaded, so that it is of the code that runs, even if the files change meanwhile.
+SCRIPT = sum_of_script()
+
+
 def sum_of_crate(rt, crate):
     """A sum of the kit, HANDLES, the crate's text and its line of crates.txt, the libraries below as built, and this script."""
     below = [(it.name, sum_of_library(rt, it.rlib)) for it in crate.below()]
-    return sum_of(rt.own_sum(crate), below, sum_of_script())
+    return sum_of(rt.own_sum(crate), below, SCRIPT)
 
 
 @functools.lru_cache(maxsize=None)

@@ -27,8 +27,8 @@ class Lanes:
     def __enter__(self):
         return self
 
-    def __exit__(self, *_):
-        self.pool.shutdown(cancel_futures=True)
+    def __exit__(self, fault, *_):
+        self.pool.shutdown(wait=fault is None, cancel_futures=True)
         for it in self.rooms:
             it.cleanup()
 

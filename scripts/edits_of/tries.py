@@ -4,7 +4,7 @@ import os
 from . import edit as verdicts
 from .checks import Checks
 from .functions import Functions
-from .kept import sum_of, sum_of_script
+from .kept import SCRIPT, sum_of
 
 # The verdicts of rt on an edit that it tried alone.
 OF_RT = {
@@ -78,7 +78,7 @@ class Tries:
     def control(self, edits):
         """Checks the functions of the edits as they stand, if this script hasn't seen them without an open goal. An edit of one that has is not tried."""
         functions = list(dict.fromkeys(it for edit in edits for it in edit.functions))
-        names = {it: sum_of("control", self.rt.kit_sum(), sum_of_script(), self.crate.name, it.name) for it in functions}
+        names = {it: sum_of("control", self.rt.kit_sum(), SCRIPT, self.crate.name, it.name) for it in functions}
         new = [it for it in functions if not self.kept.read(names[it])]
         if not new:
             return
@@ -117,12 +117,15 @@ class Tries:
             self.judge(batch, said)
 
     def part(self, batch, said):
-        """Where the front end doesn't take the batch, what it complains of is tried alone, and the others again."""
+        """Where the front end doesn't take the batch, what it complains of is tried alone, and the others again. Where it can't be told, each is by itself."""
         blamed = [it for it in batch.edits if any(said.blames(function) for function in it.functions)]
-        for it in blamed if blamed or len(batch.edits) > 1 else batch.edits:
+        if not blamed and len(batch.edits) == 1:
+            blamed = batch.edits
+        for it in blamed:
             it.is_alone = True
-        for it in batch.edits if not blamed else []:
-            it.is_single = True
+        if not blamed:
+            for it in batch.edits:
+                it.is_single = True
 
     def judge(self, batch, said):
         """An edit is refused if a function of its own has an open goal. One that isn't may wait for a function that another edit changed."""
@@ -131,10 +134,10 @@ class Tries:
             found = [(function, goal) for function in it.functions for goal in said.open_goals(function)] if is_sound else []
             if found:
                 self.settle(it, verdicts.REFUSED, self.words_on(*found[0]))
-        others = any(it.verdict for it in batch.edits)
+        is_any_refused = any(it.verdict for it in batch.edits)
         for it in batch.edits:
-            waits = others and not all(said.is_proved(function) for function in it.functions)
-            it.is_alone = not it.verdict and not waits
+            may_wait = is_any_refused and not all(said.is_proved(function) for function in it.functions)
+            it.is_alone = not it.verdict and not may_wait
 
     def words_on(self, function, goal):
         clause = function.clause_of(goal)
