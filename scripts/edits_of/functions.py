@@ -111,12 +111,13 @@ def body_of(rows, at, depth):
     """The first and the last row of a body: both are the head's own row where the body is on one line, or there is none."""
     for row in range(at, len(rows)):
         text = rows[row]
+        is_beyond = not text or text.startswith(("}", f"{depth}}}")) or bool(HEAD.match(text))
+        if row > at and is_beyond or row == at and text.endswith((";", "}")):
+            break
         begins = text == f"{depth}{{" or text.endswith("{") and (row == at or text.startswith(f"{depth})"))
         if begins:
             end = next((it for it in range(row + 1, len(rows)) if rows[it] == f"{depth}}}"), row)
             return row, end
-        if text.endswith(";") and not text.startswith(f"{depth}     ") or row > at and not text.startswith((f"{depth} ", f"{depth})")):
-            break
     return at, at
 
 

@@ -141,7 +141,7 @@ class Tries:
 
     def words_on(self, function, goal):
         clause = function.clause_of(goal)
-        return f"{function.path} {function.name}: {goal}" + (f" [{clause}]" if clause else "")
+        return f"{function.path} {function.name}: {goal[:300]}" + (f" [{clause[:200]}]" if clause else "")
 
     def try_alone(self, edit):
         """Tries the edit in a whole check from nothing, by rt's own rules."""
