@@ -5,7 +5,7 @@ import signal
 FUNCTION = re.compile(r"^fn [^\s:]+::(\S+): (.*)")
 NOTE = re.compile(r"^note: (?:\./)?(src/\S+?):(\d+):\d+: (it is not proved that .*)")
 ERROR = re.compile(r"^(?:\./)?((?:src|specs|proofs)/\S+?):(\d+):\d+: error(?:\[[\w-]+\])?: (.*)")
-UNREAD = re.compile(r"^\./proofs/(\S+)/Proof\.antt: error: rattle does not read this file")
+UNREAD = re.compile(r"^\./proofs/(\S+)/Proof\.antt: error: (?:rattle does not read this file|`\w+` has no function `\S+` for this file)")
 UNKNOWN = re.compile(r"has no function `([^`]*)`")
 SEARCH = re.compile(r"`search` did not prove (`[^`]*`)")
 # An error of a text that names what is no longer there, or what was refused itself.
@@ -26,7 +26,7 @@ class Output:
         return bool(self.functions)
 
     def unread(self):
-        """The functions whose proof files rattle doesn't read: there are none of these names."""
+        """The names of functions whose proof files rattle doesn't read: there are none of these."""
         return {found[1].replace("/", "::") for found in map(UNREAD.match, self.lines) if found}
 
     def places(self):
