@@ -66,6 +66,10 @@ class Kept:
                 json.dump(what, file)
             os.replace(file.name, f"{self.folder}/{name}")
 
+    def remove(self, name):
+        with contextlib.suppress(FileNotFoundError):
+            os.remove(f"{self.folder}/{name}")
+
     def remove_old(self):
         """Removes what no run used for long, and what a run left that was killed."""
         oldest = time.time() - DAYS * 24 * 3600
