@@ -222,4 +222,3 @@ fi
 mv "$next" "$output"
 cat "$output/summary.txt"
 [ $short = no ] || exit 6
-

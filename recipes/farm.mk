@@ -123,7 +123,6 @@ $(machines:%=$(SHARES)/%.info): $(SHARES)/%.info: $(SHARES)/%.list $(SHARES)/che
 # program can set it, while an archive that is unpacked over a file may leave all else as it was. The list is always made, but replaced
 # only if it differs (or if cmp was killed), so the merge is made again only then. The list of machines does the same for the total; and
 # for all shares, what CHECK says, and whether the program has --lcov2.
-
 replace = if cmp -s $@.new $@; then rm $@.new; else mv -f $@.new $@; fi
 $(machines:%=$(SHARES)/%.list): $(SHARES)/%.list: again | $(SHARES)/
 	@$(call tracefiles,$*) -printf '%i %s %T@ %C@ %p\0' | sort -z >$@.new

@@ -102,7 +102,6 @@ $(tracefiles): $(EACH)/%.info: % $(USES) $(EACH)/.call
 	@rm -rf '$(run)'
 
 # Made in each run, but replaced only if they differ (or if cmp was killed), so what depends on them is made again only then.
-
 replace = if cmp -s $@.new $@; then rm $@.new; else mv -f $@.new $@; fi
 $(EACH)/.tests: again | $(EACH)/
 	@printf '%s\n' $(sort $(TESTS)) >$@.new

@@ -28,7 +28,6 @@ help=$("$program" merge --help 2>/dev/null </dev/null) || fail $?
 options=()
 [[ $help != *--lcov2* ]] || options+=(--lcov2)
 [[ $help != *--large* ]] || options+=(--large)
-"$program" merge "${options[@]}" --jobs
- "${SLURM_CPUS_PER_TASK:-1}" -- "${names[@]}" >"$share.part" || status=$?
+"$program" merge "${options[@]}" --jobs "${SLURM_CPUS_PER_TASK:-1}" -- "${names[@]}" >"$share.part" || status=$?
 [ $status -eq 0 ] || fail $status
 mv "$share.part" "$share.info"

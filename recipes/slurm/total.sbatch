@@ -25,8 +25,7 @@ status=0
 help=$("$program" merge --help 2>/dev/null </dev/null) || fail $?
 large=()
 [[ $help != *--large* ]] || large=(--large)
-"$program" merge "${large[@]}" --jobs
- "${SLURM_CPUS_PER_TASK:-1}" -- "${shares[@]}" >total.part || status=$?
+"$program" merge "${large[@]}" --jobs "${SLURM_CPUS_PER_TASK:-1}" -- "${shares[@]}" >total.part || status=$?
 [ $status -eq 0 ] || fail $status
 mv total.part "$out"
 : >'done'
