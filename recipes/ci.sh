@@ -129,7 +129,13 @@ mountpoint -q "$output" 2>/dev/null || status=$?
 [ $status -le 128 ] || lost mountpoint $status
 top=$(dirname "$output")
 mkdir -p "$top" 2>/dev/null && next=$(mktemp -d "$top/.coverage.XXXXXX" 2>/dev/null) || wrong "--output: $top can't be written"
-trap 'trap "" INT TERM HUP; rm -rf "$next" "$next.old"' EXIT
+clean() {
+    trap "" INT TERM HUP
+    # If the results of the last run were moved away and those of this one didn't come in their place.
+    [ -e "$output" ] || [ ! -e "$next.old" ] || mv "$next.old" "$output"
+    rm -rf "$next" "$next.old"
+}
+trap clean EXIT
 trap 'exit 130' INT
 trap 'exit 143' TERM HUP
 chmod 755 "$next"

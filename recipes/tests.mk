@@ -96,7 +96,7 @@ $(tracefiles): $(EACH)/%.info: % $(USES) $(EACH)/.call
 	    0) echo 'tests.mk: $*: gcov is in doubt, see above' >&2; exit 1 ;; \
 	    *) echo "tests.mk: $*: grep ended with status $$status" >&2; exit 1 ;; \
 	esac
-	@$(AWK) -v test="$$($(named) <<<'$*')" -v skip='$(subst \,\\,$(SKIP))' -f $(json) '$(run)/json' >$@.new || \
+	@name=$$($(named) <<<'$*'); $(AWK) -v test="$$name" -v skip='$(subst \,\\,$(SKIP))' -f $(json) '$(run)/json' >$@.new || \
 	    { rm -f $@.new; exit 1; }
 	@mv -f $@.new $@
 	@rm -rf '$(run)'

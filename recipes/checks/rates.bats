@@ -99,8 +99,8 @@ END
     script 80
     ended 0 'README: no file of /usr'
     same before.info own.info 'README: which changes nothing'
-    # More than 64 MiB: 900,000 comments, which count nothing, and the lines of another source.
-    { seq -f '# %09.0f of the comments of a file that is large, but has few records at its end' 900000; lines 8 8 /src/c.c; } >jobs/5.info
+    # 70 sources of a function each, with a name of 1,000,000 bytes.
+    awk 'BEGIN { name = sprintf("%01000000d", 0); for (i = 1; i <= 70; i++) print "SF:/src/" i ".c\nFN:1," name "\nFNDA:1," name "\nDA:1,1\nend_of_record" }' >jobs/5.info
     holds 'README: a tracefile above 64 MiB' [ "$(stat -c %s jobs/5.info)" -gt 67108864 ]
     script 80
     ended 0 'README: is read like the others'
