@@ -1,6 +1,7 @@
 #!/usr/bin/env bats
 # Tracefiles and merges above 64 MiB in each recipe: it gives the program --large, where the program has it.
 #
+# need gcc gcc
 # need git git
 # need lcov lcov
 # need make make
@@ -139,4 +140,32 @@ old_way() {
     call "$recipes/bazel/covcollect-bazel" --coverage_dir=dir --output_file=own.info --filter_sources='/usr/.*'
     ended 0 "covcollect-bazel: a test's counts of 102 MB"
     holds 'covcollect-bazel: are kept' [ "$(grep -c ^SF: own.info)" -eq 1000 ]
+}
+
+# What gcov says of a test is made up: two sources of 350 functions with names of 65,000 bytes, so a tracefile of 90 MB.
+@test "tests.mk" {
+    mkdir tests
+    printf 'int main(void) {\n    return 0;\n}\n' >tests/t.c
+    (cd tests && gcc --coverage -O0 -c -o t.o t.c && gcc --coverage -o t t.o)
+    cat >gcov-of-many <<'GCOV'
+#!/bin/bash
+awk 'BEGIN {
+    for (name = "0"; length(name) < 50000; name = name name) {}
+    printf "{\"current_working_directory\": \"/top\", \"files\": ["
+    for (source = 1; source <= 2; source++) {
+        printf "%s{\"file\": \"%d.c\", \"lines\": [], \"functions\": [", (source > 1 ? ", " : ""), source
+        for (line = 1; line <= 350; line++) {
+            printf "%s{\"name\": \"f%d_", (line > 1 ? ", " : ""), line
+            print name "\", \"start_line\": " line ", \"execution_count\": 3}"
+        }
+        printf "]}"
+    }
+    print "]}"
+}'
+GCOV
+    chmod +x gcov-of-many
+    call make -f "$recipes/tests.mk" TESTS=tests/t GCOV="$PWD/gcov-of-many" COVCOLLECT="$COVCOLLECT"
+    ended 0 'tests.mk: a tracefile of 90 MB'
+    holds 'tests.mk: which is that large' [ "$(stat -c %s tests.info.each/tests/t.info)" -gt 67108864 ]
+    holds 'tests.mk: is in the total' [ "$(grep -c '^FNDA:3,f' tests.info)" -eq 700 ]
 }
