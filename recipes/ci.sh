@@ -190,6 +190,10 @@ if [ $capture = yes ]; then
     options+=(--quiet --rc "$branches" --test-name "$name" "${more[@]}")
     geninfo "${options[@]}" --initial --output-filename "$next/parts/baseline.info" . >&2
     geninfo "${options[@]}" --output-filename "$next/parts/counted.info" . >&2
+    # geninfo 1.16 ends well where the find that it calls was killed.
+    for part in baseline counted; do
+        [ -s "$next/parts/$part.info" ] || { say "geninfo found nothing for the $part.info"; exit 1; }
+    done
     files=("$next"/parts/*.info)
 fi
 

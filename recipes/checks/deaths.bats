@@ -201,21 +201,24 @@ done_or_failed() { # FILE WANTED BEFORE
 
 # A collector in whose feeder a command dies, and which is started again as README does. SPOOL.said has what it says.
 mortal_collector() { # SPOOL
-    trap 'kill "$pid" 2>/dev/null; wait "$pid"; exit 0' TERM
-    local pid='' ended=1
-    while [ $ended -ne 0 ] && [ $ended -ne 2 ]; do
+    local pid='' ended=1 over=no
+    trap 'over=yes; kill "$pid" 2>/dev/null' TERM
+    while [ $over = no ] && [ $ended -ne 0 ] && [ $ended -ne 2 ]; do
         PATH=$work/mortal:$PATH COVCOLLECT=$work/mortal/covcollect "$collector" start "$1" 2>>"$1.said" &
         pid=$!
+        [ $over = no ] || kill "$pid"
         ended=0
         wait "$pid" 2>/dev/null || ended=$?
+        # The trap ends a wait.
+        while kill -0 "$pid" 2>/dev/null; do wait "$pid" 2>/dev/null || true; done
     done
 }
 # A call as README writes it for a job that must not lose its file.
 patient() { # VERB WORDS...
     # shellcheck disable=SC2016 # the inner shell expands them
-    call "$timeout" 60 bash -c 'until "$0" "$@"; do s=$?; [ $s -eq 1 ] || exit $s; sleep 0.1; done' "$collector" "$@"
+    call env PATH="$with_path" "$timeout" 60 bash -c 'until "$0" "$@"; do s=$?; [ $s -eq 1 ] || exit $s; sleep 0.1; done' "$collector" "$@"
 }
-timeout=$(command -v timeout)
+timeout=$(command -v timeout) with_path=$PATH
 collector=$recipes/collector/collector
 collector_files() {
     printf 'TN:t\nSF:/a.c\nFNL:0,1,2\nFNA:0,5,f\nDA:1,1\nend_of_record\n' >new.info
@@ -243,18 +246,21 @@ jobs_are_told() { # SPOOL
 
 # A killed grep isn't a no to "is this a file of LCOV 2?", a killed cmp isn't a no to "is this the same file?".
 @test "the collector's feeder" {
-    local name nth seen deaths=0 bad=0 what
+    local name nth seen deaths=0 bad=0 what spool
     collector_files
     mortal covcollect cat cmp find flock grep mkdir mkfifo mv rm sed setsid sync tail wc
     for name in "${mortals[@]}"; do
         for nth in 1 2 3 4; do
-            rm -rf spool "$work/deaths" spool.said
+            rm -f "$work/deaths"
             # A file that was accepted before is read again.
-            mkdir -p spool/{new,in,out,accepted,refused}
-            cp new.info spool/accepted/first
-            DIES=$name NTH=$nth DEATHS=$work/deaths daemon mortal_collector spool
-            what=$(jobs_are_told spool) || { bad=1; { echo "$name, call $nth: $what"; tail -n 3 spool.said; } | show; }
-            timeout 20 "$collector" stop spool >/dev/null 2>&1 || true
+            spool=$name.$nth
+            mkdir -p "$spool"/{new,in,out,accepted,refused}
+            cp new.info "$spool/accepted/first"
+            export DIES=$name NTH=$nth DEATHS=$work/deaths
+            daemon mortal_collector "$spool"
+            unset DIES NTH DEATHS
+            what=$(jobs_are_told "$spool") || { bad=1; { echo "$name, call $nth: $what"; tail -n 3 "$spool.said"; } | show; }
+            timeout 20 "$collector" stop "$spool" >/dev/null 2>&1 || true
             stop_daemons
             seen=0
             [ ! -e "$work/deaths" ] || read -r seen <"$work/deaths"
@@ -268,28 +274,31 @@ jobs_are_told() { # SPOOL
 
 # The same for commands of the clients, in this folder and over a connection: a file that is given again counts once.
 @test "the collector's clients" {
-    local name nth seen deaths=0 bad=0 way words
+    local name nth seen deaths=0 bad=0 way words spool
     collector_files
     mortal covcollect cat head mktemp mv realpath rm sha256sum stat sync tail timeout uname wc
     for way in folder connection; do
         for name in "${mortals[@]}"; do
             for nth in 1 2 3; do
-                rm -rf spool "$work/deaths" spool.said
-                daemon mortal_collector spool
-                until [ -s spool/pids ]; do sleep 0.05; done
-                words=(give spool)
-                [ $way = folder ] || words=(give --via "$collector answer $PWD/spool")
+                rm -f "$work/deaths"
+                spool=$way.$name.$nth
+                daemon mortal_collector "$spool"
+                until [ -s "$spool/pids" ]; do sleep 0.05; done
+                words=(give "$spool")
+                [ $way = folder ] || words=(give --via "$collector answer $PWD/$spool")
                 export DIES=$name NTH=$nth DEATHS=$work/deaths
-                PATH=$work/mortal:$PATH patient "${words[@]}" new.info
+                with_path=$work/mortal:$PATH
+                patient "${words[@]}" new.info
                 [ "$status" -eq 0 ] || { bad=1; { echo "$way, $name, call $nth: status $status"; cat "$work/err"; } | show; }
                 words[0]=report
-                PATH=$work/mortal:$PATH patient "${words[@]}"
+                patient "${words[@]}"
                 [ "$(grep -cxE 'FNDA:5,f|DA:1,1|end_of_record' "$work/out")" -eq 3 ] || { bad=1; { echo "$way, $name, call $nth: report"; cat "$work/out" "$work/err"; } | show; }
                 unset DIES NTH DEATHS
+                with_path=$PATH
                 # What was given again counts once.
-                timeout 20 "$collector" give spool new.info >/dev/null 2>&1
-                timeout 20 "$collector" report spool | grep -qx FNDA:5,f || { bad=1; echo "$way, $name, call $nth: it counts twice" | show; }
-                timeout 20 "$collector" stop spool >/dev/null 2>&1 || true
+                timeout 20 "$collector" give "$spool" new.info >/dev/null 2>&1
+                timeout 20 "$collector" report "$spool" | grep -qx FNDA:5,f || { bad=1; echo "$way, $name, call $nth: it counts twice" | show; }
+                timeout 20 "$collector" stop "$spool" >/dev/null 2>&1 || true
                 stop_daemons
                 seen=0
                 [ ! -e "$work/deaths" ] || read -r seen <"$work/deaths"
