@@ -398,9 +398,14 @@ END
 
 # A file that takes more memory than there is doesn't end the collector for good.
 @test "memory" {
+    local enough=16384
     files
     seq 400000 | sed 's|.*|SF:/&\nDA:1,1\nend_of_record|' >hungry.info
-    serve_spool memory bash -c 'ulimit -v 200000 && exec "$@"' limited
+    # The first of these limits, in KiB, within which a merge reads it. A quarter is too little.
+    until bash -c 'ulimit -v "$1" && exec "$COVCOLLECT" merge -o hungry.merged hungry.info' - $enough 2>/dev/null 3>&- 4>&-; do
+        enough=$((2 * enough))
+    done
+    serve_spool memory bash -c "ulimit -v $((enough / 4)) && exec \"\$@\"" limited
     until [ -s memory/pids ]; do sleep 0.1; done
     call "$collector" give memory --key first a.info
     ended 0 'collector: a file within a limit of memory'
