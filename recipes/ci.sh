@@ -4,10 +4,14 @@
 #
 #     COVERAGE_BUILD='make CFLAGS="--coverage -O0"' COVERAGE_TEST='make check' ci/ci.sh --lines 80 jobs/*.info
 #
-# Or many jobs build and test, each keeps its coverage/all.info, and a last job merges these (its checkout must be in a folder of the
-# same name, since genhtml reads the sources):
+# Or many jobs build and test, each keeps its coverage/all.info under a name of its own, and a last job merges these:
 #
+#     ci/ci.sh --no-html --test-name NAME && mkdir -p jobs && cp coverage/all.info jobs/NAME.info
 #     ci/ci.sh --merge-only --lines 80 jobs/*.info
+#
+# The last job needs covcollect, genhtml (or --no-html), and a checkout in a folder of the same name, since tracefiles have absolute paths;
+# it needs no compiler. --remove belongs to its call: all.info has every source. If one of the jobs never ran, no other tracefile shows it:
+# start the last job only after all of them, or name each file, of which none may be missing.
 #
 # ci.sh [OPTION]... [TRACEFILE]...
 #
@@ -33,7 +37,11 @@
 #
 # COVERAGE_BUILD and COVERAGE_TEST run in bash -euo pipefail, so each can be several commands. The folder of results has all.info
 # (every source), own.info (without the removed ones), summary.txt and html/. If a step fails, the folder of the last run stays as it
-# is. Tracefiles that are named may be of LCOV 1 or 2.
+# is. Tracefiles that are named may be of LCOV 1 or 2. The program must have --strict.
+#
+# For a tracefile without a record, such as an error page in its place, and for one with odd or skipped lines, standard error has
+#
+#     jobs/unit.info: sections 0 items 0 odd 0 skipped 41 first <html> at 1
 #
 # Exit status: 0 done; 1 the tests wrote no counts, or a tracefile isn't there or can't be read; 2 wrong call, or a program is missing;
 # 3 no memory; 4 a tracefile is refused, or checksums clash; 5 a tracefile has no record, or odd or skipped lines (the file or the line is

@@ -12,7 +12,8 @@
 # exact sum over all tests, however large. A package is a folder, a class a file, a method a function with the line that it starts at
 # and the number of its calls. A condition is a block of branches. Branches of a line that has no count of its own are in the totals
 # and rates, but belong to no line element. Rates are 0 where nothing is found, 1 only where all is hit. Where XML can't hold a byte
-# of a name, a question mark stands for it. Works with mawk, gawk and busybox awk.
+# of a name, a question mark stands for it. Works with mawk, gawk and busybox awk. The XML was compared with coverage-04.dtd; GitLab and
+# Jenkins themselves weren't run.
 #
 # Exit status: 0 done; 1 the file isn't what covcollect merge, extract or remove printed, or it is empty: standard error says why, and
 # nothing is printed; 2 wrong call.

@@ -9,7 +9,8 @@
 # SHARES       a folder for the merge of each machine, for farm.mk alone (default: TOTAL.shares)
 # EMPTY        what to do with a machine that has no tracefile: skip it with a message, or fail (default: skip)
 # CHECK        no, fail or skip (default: no). With fail the machines' tracefiles are merged with --strict, so one fails that has no
-#              record, or odd or skipped lines. With skip one without a record is told and skipped: copy intake beside farm.mk for it
+#              record, or odd or skipped lines. With skip one without a record is told and skipped: copy intake beside farm.mk for it.
+#              It is told when its machine is merged, and not by a later call without news. If CHECK changes, all machines are merged
 # JOBS         how many tracefiles the last merge reads at once (default: 4)
 # COVCOLLECT   the program (default: covcollect)
 #
@@ -17,12 +18,18 @@
 # intake.
 #
 # A machine is merged again only if one of its tracefiles changed, appeared or vanished. The total is merged again if a machine's
-# merge changed, or if a machine appeared or vanished. Each target is written to a temporary name and then moved. If a merge fails,
-# covcollect names the tracefile on standard error, make fails, and the target keeps its old content.
+# merge changed, or if a machine appeared or vanished. A file that was written again is noticed even if its size and time are the old ones.
+# Each target is written to a temporary name and then moved. If a merge fails, covcollect names the tracefile on standard error, make
+# fails (status 2), and the target keeps its old content. Make also fails if no folder has a tracefile. One in FARM itself isn't read.
 #
 # It may run at any time, also while jobs still bring their tracefiles: the total is that of the tracefiles that were there, and the next
 # run adds what came later. For that a tracefile must appear whole: write or copy it to .NAME in the same folder, then rename it. (mv from
-# another file system copies, so a reader could see a part.) Runs of make exclude each other by a lock:
+# another file system copies, so a reader could see a part.) From another machine:
+#
+#     scp job.info farm:/farm/v7/machines/m1/.job17.info
+#     ssh farm mv /farm/v7/machines/m1/.job17.info /farm/v7/machines/m1/job17.info
+#
+# Each version of the sources needs a FARM of its own, such as /farm/v7/machines. Runs of make exclude each other by a lock:
 #
 #     flock farm.lock make -f farm.mk -j 8
 #

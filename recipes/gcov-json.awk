@@ -16,7 +16,8 @@
 # Counts stay digits, as they can be larger than awk's numbers. Any awk will do.
 #
 # A path's bytes stay as they are. geninfo 1.16 writes another name where one is above 127: Latin-1 of UTF-8 (ü, the bytes c3 bc, becomes
-# fc). So if some machines use geninfo and others this, such a source has two rows in the merge.
+# fc). So if some machines use geninfo and others this, such a source has two rows in the merge. Where a compiler names one header by two
+# paths (a/../x.h and x.h), geninfo keeps one of the two, and this both.
 #
 # Exit status: 0 done; 1 the input isn't whole, or isn't gcov's JSON: what was printed until then is worth nothing; 2 wrong option.
 

@@ -19,13 +19,13 @@
 # markers LCOV_EXCL_LINE and so on. A test's name in the tracefile is its path, with _ for what isn't a letter or digit, as geninfo
 # makes it.
 #
-# GCOV_PREFIX keeps the counts of tests apart that run at the same time. A test is run again if its file or one of USES is newer than its
-# tracefile, or if RUN, SKIP, GCOV or AWK changed. Where that isn't enough, as with a script that runs a program, name the program in
-# USES. The total is merged again if a test's tracefile changed, or if a test appeared or vanished. Sources that no test's program has
-# aren't in it: add what 'geninfo --initial' makes of them.
+# Programs that run at the same time add to the same .gcda files. GCOV_PREFIX keeps the counts of such tests apart. A test is run again if
+# its file or one of USES is newer than its tracefile, or if RUN, SKIP, GCOV or AWK changed. Where that isn't enough, as with a script that
+# runs a program, name the program in USES. The total is merged again if a test's tracefile changed, or if a test appeared or vanished.
+# Sources that no test's program has aren't in it: add what 'geninfo --initial' makes of them.
 #
-# A test that fails, or leaves no counts, makes make fail. With -k the other tests run nevertheless, and there is no new total. Each
-# tracefile is written to a temporary name and then moved; if something fails, the old one stays. Runs of make exclude each other by a
+# A test that fails, or leaves no counts, makes make fail (status 2). With -k the other tests run nevertheless, and there is no new total.
+# Each tracefile is written to a temporary name and then moved; if something fails, the old one stays. Runs of make exclude each other by a
 # lock: flock tests.lock make -f tests.mk ... A total has up to some 2,000 tests: all are on one command line.
 
 TOTAL ?= tests.info

@@ -287,8 +287,9 @@ END
 @test "a lambda and a local class that are never called" {
     local found release version lcov words
     releases lcov 'LCOV 2'
-    # README's first commands, on the files of the folder jobs.
-    sed -n '/^    covcollect merge/,$p' "$recipes/../README.md" | sed '/^$/q; s/^    //; s/80/40/' >script
+    # README's quick start, on the files of the folder jobs.
+    quick_start | sed 's/80/40/' >script
+    holds 'README: its script has three commands' [ "$(sed 's/ -.*//' script | tr '\n' ,)" = 'covcollect merge,covcollect summary,genhtml,' ]
     mkdir tools
     ln -s "$COVCOLLECT" tools/covcollect
     for release in "${found[@]}"; do
@@ -306,12 +307,12 @@ END
         holds "README: its script: a page of the source by $version" grep -rq 'auto never' $release/html --include='never.cpp.gcov.html'
         for words in 'genhtml -o page' 'lcov -o sum -a' 'lcov --summary'; do
             # shellcheck disable=SC2086 # several words
-            call lcov_of "$lcov" $words $release/own.info
-            ended 1 "LCOV-USERS: $version guesses end lines: $words"
-            holds 'LCOV-USERS: and stops as it says' grep -q inconsistent "$work/err"
+            call lcov_of "$lcov" $words $release/all.info
+            ended 1 "MIGRATING: $version guesses end lines: $words"
+            holds 'MIGRATING: and stops as it says' grep -q inconsistent "$work/err"
             # shellcheck disable=SC2086
-            call lcov_of "$lcov" ${words%% *} --rc derive_function_end_line=0 ${words#* } $release/own.info
-            ended 0 "LCOV-USERS: $version with its option: $words"
+            call lcov_of "$lcov" ${words%% *} --rc derive_function_end_line=0 ${words#* } $release/all.info
+            ended 0 "MIGRATING: $version with its option: $words"
         done
     done
     # That of 1.16 ignores the option.

@@ -39,16 +39,25 @@ coverage_html() { # WHAT
     coverage_html meson
 }
 
-# As README and recipes/README.md have it, typed in the project's folder.
+# As the pages have it, typed in the project's folder: the whole line in recipes/README.md, and in the others what stands before a call.
+the_line() { # PAGE
+    local page=$recipes/../$1
+    case $1 in
+        recipes/*) sed -nE 's/^    (PATH=[^ ]+ ninja .*coverage-html)$/\1/p' "$page" ;;
+        *) echo "$(grep -oE '`PATH=[^`]+`' "$page" | tr -d '`') ninja -C build coverage-html" ;;
+    esac
+}
+
 @test 'the lines of the pages' {
     local page line
     mkdir "$BATS_FILE_TMPDIR/project/ci"
     cp "$recipes/lcov" "$BATS_FILE_TMPDIR/project/ci"
     printf '#!/bin/bash\necho "$*" >>"%s"\nexec "%s" "$@"\n' "$work/asked" "$COVCOLLECT" >"$work/noting"
     chmod +x "$work/noting"
-    for page in README.md recipes/README.md; do
+    for page in README.md docs/MIGRATING.md recipes/README.md; do
+        holds "meson: $page: names the directory ci" grep -q 'directory `ci`' "$recipes/../$page"
         rm -f "$work/asked" "$BATS_FILE_TMPDIR/project/build/meson-logs/coverage.info"
-        line=$(grep -ohE 'PATH=[^ ]+ ninja[^`]*coverage-html' "$recipes/../$page")
+        line=$(the_line "$page")
         call env -C "$BATS_FILE_TMPDIR/project" COVCOLLECT="$work/noting" bash -c "$line"
         ended 0 "meson: $page: $line"
         holds "meson: $page: covcollect merges and filters three times" [ "$(grep -E '^(merge|extract|remove) ' "$work/asked" | grep -vc -- --help)" -eq 3 ]

@@ -47,22 +47,32 @@ lines() { # HIT FOUND PATH
     says "$work/err" 'ci.sh: is told' "ci.sh: $PWD/old has no --strict, so it is older than ci.sh"
 }
 
-# README's first commands, in the file script, with the threshold as its word. What genhtml would be called with is printed.
+# README's quick start, in the file script: its first argument is the threshold, and the merge gets the others. What genhtml would be called
+# with is printed.
 readme_script() {
     mkdir -p tools
     ln -sf "$COVCOLLECT" tools/covcollect
     printf '#!/bin/sh\necho "genhtml $*"\n' >tools/genhtml
     chmod +x tools/genhtml
-    { echo 'set -e'; sed -n '/^    covcollect merge/,$p' "$recipes/../README.md" | sed '/^$/q; s/^    //; s/80/"$1"/'; } >script
+    { echo 'set -e'; quick_start | sed '/^covcollect merge/s/$/ "${@:2}"/; s/80/"$1"/'; } >script
 }
-script() { call env PATH="$PWD/tools:$PATH" bash script "$1"; } # THRESHOLD
+script() { call env PATH="$PWD/tools:$PATH" bash script "$@"; } # THRESHOLD OPTION...
+# An option of the merge that README names below the quick start, with its value: a line for each argument.
+readme_option() { # NAME
+    sed -n "s/.*\`\(merge \)\{0,1\}\($1\( '[^']*'\)\{0,1\}\)\`.*/\2/p" "$recipes/../README.md" | head -n 1 | xargs -n 1
+}
 
 @test "the script of README.md" {
+    local strict exclude
     mkdir jobs
     lines 7 8 /src/a.c >jobs/1.info
     printf 'TN:u\nSF:/src/b c.c\nFNL:0,1,5\nFNA:0,0,f\nBRDA:2,e0,0,1\nBRDA:2,0,1,-\nDA:1,0\nDA:2,1\nend_of_record\n' >jobs/2.info
-    lines 0 4 /usr/include/t.h >jobs/3.info
     readme_script
+    mapfile -t strict < <(readme_option --strict)
+    mapfile -t exclude < <(readme_option --exclude)
+    holds 'README: three commands, of which one merges, one asks for the threshold and one makes pages' \
+        [ "$(grep -c '"\$1"' script) $(sed '1d; s/ -.*//' script | tr '\n' ,)" = '1 covcollect merge,covcollect summary,genhtml,' ]
+    holds 'README: and two options' [ "${strict[*]} ${exclude[*]}" = '--strict --exclude /usr/*' ]
     # By hand: 8 of 10 lines, 0 of 1 functions, 1 of 2 branches.
     cat >wanted <<'END'
 Summary coverage rate:
@@ -76,34 +86,53 @@ END
     says "$work/err" 'README: what falls short' 'lines: 8 of 10 is below 80.1%'
     script 80
     ended 0 'README: 8 of 10 lines are 80%'
-    says "$work/out" 'README: and the script goes on' 'genhtml --branch-coverage --rc derive_function_end_line=0 -o html own.info'
+    says "$work/out" 'README: and the script goes on' 'genhtml --branch-coverage --rc derive_function_end_line=0 -o html all.info'
     cat >wanted <<'END'
        Lines   Functions    Branches  File
  87.5%   7/8       - 0/0       - 0/0  /src/a.c
  50.0%   1/2    0.0% 0/1   50.0% 1/2  /src/b c.c
  80.0%  8/10    0.0% 0/1   50.0% 1/2  Total
 END
-    call "$COVCOLLECT" list own.info
+    call "$COVCOLLECT" list all.info
     same wanted "$work/out" 'README: a table of the files'
-    cp own.info before.info
+    cp all.info before.info
+    script 80 "${strict[@]}"
+    ended 0 'README: --strict takes these files'
+    same before.info all.info 'README: which changes nothing'
     printf 'SF:/src/a.c\nDA:1,1\n' >jobs/4.info
     script 80
-    ended 4 'README: a file that was cut off has its own status'
-    same before.info own.info 'README: and own.info is as it was'
+    told_alone 4 'README: a file that was cut off has its own status' 'jobs/4.info: refused OpenEnd'
+    same before.info all.info 'README: and all.info is as it was'
     echo '<html>' >jobs/4.info
+    script 80 "${strict[@]}"
+    told_alone 5 'README: with --strict so has an error page' 'jobs/4.info: sections 0 items 0 odd 0 skipped 1 first <html> at 1'
+    same before.info all.info 'README: and all.info is still as it was'
     script 80
-    ended 5 'README: and so has an error page'
-    says "$work/err" 'README: which is told' 'jobs/4.info: sections 0 items 0 odd 0 skipped 1 first <html> at 1'
-    same before.info own.info 'README: and own.info is still as it was'
-    rm jobs/3.info jobs/4.info
+    ended 0 'README: without it an error page counts as empty'
+    same before.info all.info 'README: which changes nothing'
+    printf 'SF:/src/a.c\nDA:1,1\nLF:2\nend_of_record\n' >jobs/4.info
+    script 80 "${strict[@]}"
+    told_alone 5 'README: with --strict so has an inconsistent file' 'jobs/4.info: sections 1 items 1 odd 1 skipped 0'
+    same before.info all.info 'README: and all.info is as it was then'
+    rm jobs/4.info
+    # 8 of 14 lines.
+    lines 0 4 /usr/include/t.h >jobs/3.info
     script 80
-    ended 0 'README: no file of /usr'
-    same before.info own.info 'README: which changes nothing'
+    ended 6 'README: a system header counts'
+    says "$work/err" 'README: with its lines' 'lines: 8 of 14 is below 80%'
+    script 80 "${exclude[@]}"
+    ended 0 'README: --exclude leaves it out'
+    same before.info all.info 'README: no file of /usr'
+    script 80 "${exclude[@]}" "${strict[@]}"
+    ended 0 'README: also with --strict'
+    same before.info all.info 'README: which changes nothing'
+    rm jobs/3.info
     # 70 sources of a function each, with a name of 1,000,000 bytes.
     awk 'BEGIN { name = sprintf("%01000000d", 0); for (i = 1; i <= 70; i++) print "SF:/src/" i ".c\nFN:1," name "\nFNDA:1," name "\nDA:1,1\nend_of_record" }' >jobs/5.info
     holds 'README: a tracefile above 64 MiB' [ "$(stat -c %s jobs/5.info)" -gt 67108864 ]
     script 80
     ended 0 'README: is read like the others'
+    holds 'README: and so is what is printed of it' [ "$(stat -c %s all.info)" -gt 67108864 ]
 }
 
 @test "JSON, as jq reads it" {
