@@ -16,8 +16,9 @@
 # ci.sh [OPTION]... [TRACEFILE]...
 #
 #     --merge-only       don't build and test: merge the tracefiles that are named, and nothing else
-#     --empty skip       a tracefile without a record is told and skipped, and one with odd or skipped lines is told and merged (default:
-#                        fail, by covcollect's --strict: where there is one with no record, or with such lines, its job went wrong)
+#     --empty skip       a tracefile without a record is reported and skipped, and one with inconsistent or skipped lines is reported and
+#                        merged (default: fail, by covcollect's --strict: where there is one with no record, or with such lines, its job
+#                        went wrong)
 #     --lines PERCENT    fail if fewer lines are hit, for example 80 or 79.95, as covcollect's --fail-under-lines
 #     --remove PATTERN   leave out source files that match; can be repeated (default: '/usr/*')
 #     --test-name NAME   the test name in the tracefile (default: unit)
@@ -39,13 +40,13 @@
 # (every source), own.info (without the removed ones), summary.txt and html/. If a step fails, the folder of the last run stays as it
 # is. Tracefiles that are named may be of LCOV 1 or 2. The program must have --strict.
 #
-# For a tracefile without a record, such as an error page in its place, and for one with odd or skipped lines, standard error has
+# If a tracefile has no record, such as an error page in its place, or inconsistent ('odd') or skipped lines, standard error has
 #
 #     jobs/unit.info: sections 0 items 0 odd 0 skipped 41 first <html> at 1
 #
 # Exit status: 0 done; 1 the tests wrote no counts, or a tracefile isn't there or can't be read; 2 wrong call, or a program is missing;
-# 3 no memory; 4 a tracefile is refused, or checksums clash; 5 a tracefile has no record, or odd or skipped lines (the file or the line is
-# named on standard error); 6 too few lines are hit (the results are written); otherwise the status of the command that failed.
+# 3 no memory; 4 a tracefile is refused, or checksums clash; 5 a tracefile has no record, or inconsistent or skipped lines (the file or the
+# line is named on standard error); 6 too few lines are hit (the results are written); otherwise the status of the command that failed.
 set -euo pipefail
 
 say() { printf 'ci.sh: %s\n' "$*" >&2; }

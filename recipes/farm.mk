@@ -9,8 +9,9 @@
 # SHARES       a folder for the merge of each machine, for farm.mk alone (default: TOTAL.shares)
 # EMPTY        what to do with a machine that has no tracefile: skip it with a message, or fail (default: skip)
 # CHECK        no, fail or skip (default: no). With fail the machines' tracefiles are merged with --strict, so one fails that has no
-#              record, or odd or skipped lines. With skip one without a record is told and skipped: copy intake beside farm.mk for it.
-#              It is told when its machine is merged, and not by a later call without news. If CHECK changes, all machines are merged
+#              record, or inconsistent or skipped lines. With skip one without a record is reported and skipped, by intake, which must be
+#              beside farm.mk. It is reported when its machine is merged, and not by a later call without news. If CHECK changes, all
+#              machines are merged again
 # JOBS         how many tracefiles the last merge reads at once (default: 4)
 # COVCOLLECT   the program (default: covcollect)
 #

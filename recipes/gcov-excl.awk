@@ -14,7 +14,7 @@
 # others stay. The text can be of many sources, as with gcov -t. gcov must find the sources, since the markers stand there. Several
 # instances of a template stay, and covcollect refuses them (Instances). Works with mawk, gawk and busybox awk.
 #
-# Exit status: 0 done, also if the last START has no STOP, which is told on standard error; another: a file can't be read.
+# Exit status: 0 done, also if the last START has no STOP, which is reported on standard error; another: a file can't be read.
 
 function begin_source(path) {
     if (excluded || no_branches || no_exceptions)

@@ -7,7 +7,7 @@
 # skip      a regular expression: sources whose path matches it are left out (default: none)
 # markers   no: the sources aren't read. Otherwise LCOV_EXCL_LINE, LCOV_EXCL_START and LCOV_EXCL_STOP in them leave out lines and the
 #           functions that start there, and the same with BR_ or EXCEPTION_BR_ after EXCL_ the branches, as in geninfo 1.16. A source
-#           that can't be read is told on standard error, and all of it counts
+#           that can't be read is reported on standard error, and all of it counts
 # like      bazel: as Bazel's own merger reads it. Relative paths stay, there is no TN: and no marker, and a branch has - in place of 0
 #           if no branch of its line was taken
 #
