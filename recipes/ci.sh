@@ -12,8 +12,8 @@
 # ci.sh [OPTION]... [TRACEFILE]...
 #
 #     --merge-only       don't build and test: merge the tracefiles that are named, and nothing else
-#     --empty skip       a tracefile without a record is told and skipped, and odd and skipped lines are no fault (default: fail, by
-#                        covcollect's --strict: where there is one with no record, or with such lines, its job went wrong)
+#     --empty skip       a tracefile without a record is told and skipped, and one with odd or skipped lines is told and merged (default:
+#                        fail, by covcollect's --strict: where there is one with no record, or with such lines, its job went wrong)
 #     --lines PERCENT    fail if fewer lines are hit, for example 80 or 79.95, as covcollect's --fail-under-lines
 #     --remove PATTERN   leave out source files that match; can be repeated (default: '/usr/*')
 #     --test-name NAME   the test name in the tracefile (default: unit)
@@ -35,13 +35,15 @@
 # (every source), own.info (without the removed ones), summary.txt and html/. If a step fails, the folder of the last run stays as it
 # is. Tracefiles that are named may be of LCOV 1 or 2.
 #
-# Exit status: 0 done; 1 the tests wrote no counts, or a tracefile can't be read; 2 wrong call, or something is missing; 4 a tracefile is
-# refused or isn't clean, or checksums clash (the file or the line is named on standard error); 5 too few lines are hit (the results
-# are written); otherwise the status of the command that failed.
+# Exit status: 0 done; 1 the tests wrote no counts, or a tracefile isn't there or can't be read; 2 wrong call, or a program is missing;
+# 3 no memory; 4 a tracefile is refused, or checksums clash; 5 a tracefile has no record, or odd or skipped lines (the file or the line is
+# named on standard error); 6 too few lines are hit (the results are written); otherwise the status of the command that failed.
 set -euo pipefail
 
 say() { printf 'ci.sh: %s\n' "$*" >&2; }
 wrong() { say "$*"; exit 2; }
+# A command that was killed says neither yes nor no.
+lost() { say "$1 ended with status $2"; exit "$2"; } # COMMAND STATUS
 
 threshold=${COVERAGE_LINES-}
 patterns=()
@@ -87,36 +89,53 @@ case $empty in fail|skip) ;; *) wrong "--empty: $empty is neither fail nor skip"
 here=$(cd "$(dirname "${BASH_SOURCE[0]}")" && pwd)
 program=${COVCOLLECT-covcollect}
 command -v "$program" >/dev/null || wrong "$program isn't there"
-[[ $("$program" merge --help 2>/dev/null </dev/null || true) == *--strict* ]] || wrong "$program has no --strict, so it is older than ci.sh"
+help=$("$program" merge --help 2>/dev/null </dev/null) || lost "$program" $?
+[[ $help == *--strict* ]] || wrong "$program has no --strict, so it is older than ci.sh"
+# Tracefiles, and their merge, may be larger than 64 MiB.
+large=()
+[[ $help != *--large* ]] || large=(--large)
 limits=()
 if [ -n "$threshold" ]; then
     limits=(--fail-under-lines="$threshold")
     status=0
     "$program" summary "${limits[@]}" -- /dev/null >/dev/null 2>&1 || status=$?
-    [ $status -eq 6 ] || wrong "--lines: $threshold isn't a percentage up to 100, such as 80 or 79.95"
+    case $status in
+        6) ;;
+        2) wrong "--lines: $threshold isn't a percentage up to 100, such as 80 or 79.95" ;;
+        *) lost "$program" $status ;;
+    esac
 fi
 [ $capture = no ] || command -v geninfo >/dev/null || wrong "geninfo isn't there (it is part of lcov)"
 [ $html = no ] || command -v genhtml >/dev/null || wrong "genhtml isn't there (it is part of lcov; or use --no-html)"
 [ $empty = fail ] || [ -f "$here/intake" ] || wrong "$here/intake isn't there: copy it beside ci.sh"
 for file in "${handed[@]}"; do
-    [ -e "$file" ] || wrong "$file isn't there"
+    [ -e "$file" ] || { say "$file isn't there"; exit 1; }
     [ ! -d "$file" ] || { say "$file is a folder, and no tracefile"; exit 1; }
 done
 # The folder of results is replaced at the end, by a rename. That it can be is seen here, before anything is built.
 while [[ $output == */ ]]; do output=${output%/}; done
 [[ $output != -* ]] || output=./$output
 case ${output##*/} in ''|.|..) wrong "--output: ${output:-/} can't be replaced: choose another folder" ;; esac
-# Only an empty folder, or one from an earlier run, is replaced.
+# Only an empty folder, or one from an earlier run, is replaced. One that ls can't show may hold anything.
 if [ -L "$output" ] && [ ! -e "$output" ]; then
     wrong "--output: $output is a link that leads nowhere: choose another folder"
-elif [ -e "$output" ] && [ ! -f "$output/own.info" ] && [ -n "$(ls -A "$output" 2>&1)" ]; then
-    wrong "--output: $output exists and isn't a folder of results: choose another folder"
-elif mountpoint -q "$output" 2>/dev/null; then
-    wrong "--output: $output is a mount point, which can't be replaced: choose a folder in it"
+elif [ -e "$output" ] && [ ! -f "$output/own.info" ]; then
+    held=$(ls -A "$output" 2>/dev/null) || held=unknown
+    [ -z "$held" ] || wrong "--output: $output exists and isn't a folder of results: choose another folder"
 fi
+status=0
+mountpoint -q "$output" 2>/dev/null || status=$?
+[ $status -ne 0 ] || wrong "--output: $output is a mount point, which can't be replaced: choose a folder in it"
+[ $status -le 128 ] || lost mountpoint $status
 top=$(dirname "$output")
 mkdir -p "$top" 2>/dev/null && next=$(mktemp -d "$top/.coverage.XXXXXX" 2>/dev/null) || wrong "--output: $top can't be written"
-trap 'trap "" INT TERM HUP; rm -rf "$next" "$next.old"' EXIT
+clean() {
+    trap "" INT TERM HUP
+    # If the results of the last run were moved away and those of this one didn't come in their place.
+    [ -e "$output" ] || [ ! -e "$next.old" ] || mv "$next.old" "$output"
+    rm -rf "$next" "$next.old"
+}
+trap clean EXIT
 trap 'exit 130' INT
 trap 'exit 143' TERM HUP
 chmod 755 "$next"
@@ -125,11 +144,11 @@ chmod 755 "$next"
 short=no
 collect() { # FILE SUBCOMMAND WORDS...: runs covcollect, which writes FILE
     local file=$1 command=$2 status=0
-    "$program" "$command" -o "$next/$file" "${@:3}" || status=$?
+    "$program" "$command" "${large[@]}" -o "$next/$file" "${@:3}" || status=$?
     case $status in
         0) ;;
         4) say "covcollect $command: a tracefile is refused or checksums clash, see above; $output is unchanged"; exit 4 ;;
-        5) say "a tracefile has no record, or odd or skipped lines, see above (or use --empty skip); $output is unchanged"; exit 4 ;;
+        5) say "a tracefile has no record, or odd or skipped lines, see above (or use --empty skip); $output is unchanged"; exit 5 ;;
         6) short=yes ;;
         *) say "covcollect $command failed with status $status; $output is unchanged"; exit $status ;;
     esac
@@ -149,7 +168,8 @@ if [ $capture = yes ]; then
     find . -name '*.gcda' -delete
     run build "$build"
     run tests "$tests"
-    if [ -z "$(find . -name '*.gcda' -print -quit)" ]; then
+    counts=$(find . -name '*.gcda' -print -quit)
+    if [ -z "$counts" ]; then
         say "the tests wrote no counts (*.gcda): were they built with --coverage, in this folder?"
         exit 1
     fi
@@ -158,7 +178,11 @@ fi
 # 2. Capture the counts, and a baseline with a count of 0 for every line that was compiled. Without the baseline, sources that no test
 #    runs are missing and the rate is too high. LCOV 2 has another name for the branch option, and fails if a project has no branches
 #    (empty).
-old() { case $("$1" --version 2>/dev/null) in *' 1.'*) ;; *) return 1 ;; esac; } # whether the tool is of LCOV 1
+old() { # TOOL: whether it is of LCOV 1
+    local version
+    version=$("$1" --version 2>/dev/null) || lost "$1" $?
+    [[ $version == *' 1.'* ]]
+}
 if [ $capture = yes ]; then
     branches=branch_coverage=1 options=(--ignore-errors empty)
     ! old geninfo || branches=lcov_branch_coverage=1 options=()
@@ -166,6 +190,10 @@ if [ $capture = yes ]; then
     options+=(--quiet --rc "$branches" --test-name "$name" "${more[@]}")
     geninfo "${options[@]}" --initial --output-filename "$next/parts/baseline.info" . >&2
     geninfo "${options[@]}" --output-filename "$next/parts/counted.info" . >&2
+    # geninfo 1.16 ends well where the find that it calls was killed.
+    for part in baseline counted; do
+        [ -s "$next/parts/$part.info" ] || { say "geninfo found nothing for the $part.info"; exit 1; }
+    done
     files=("$next"/parts/*.info)
 fi
 
@@ -191,14 +219,16 @@ collect own.info remove -- "$next/all.info" "${patterns[@]}"
 collect summary.txt summary "${limits[@]}" -- "$next/own.info"
 rm -r "$next/parts"
 if [ $html = yes ]; then
-    branches=branch_coverage=1
-    ! old genhtml || branches=lcov_branch_coverage=1
+    # own.info has no end lines of functions. LCOV 2 would guess them, and stop at a lambda or a local class that is never called: its
+    # lines would be those behind it too.
+    options=(--rc branch_coverage=1 --rc derive_function_end_line=0)
+    ! old genhtml || options=(--rc lcov_branch_coverage=1)
     read -r -a more <<<"${COVERAGE_GENHTML-}"
-    genhtml --quiet --rc "$branches" --branch-coverage "${more[@]}" --output-directory "$next/html" "$next/own.info" >&2
+    genhtml --quiet "${options[@]}" --branch-coverage "${more[@]}" --output-directory "$next/html" "$next/own.info" >&2
 fi
 
 # 5. Replace the results of the last run.
 [ ! -e "$output" ] || mv "$output" "$next.old"
 mv "$next" "$output"
 cat "$output/summary.txt"
-[ $short = no ] || exit 5
+[ $short = no ] || exit 6

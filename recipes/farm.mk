@@ -29,9 +29,9 @@
 # Machine names consist of letters, digits, '.', '_' and '-' and begin with a letter or digit. Tracefile names end in .info, can have
 # any other bytes, and are ignored if they begin with a dot.
 #
-# That the result is that of a single merge rests on a proved law, for shares of at most 67,108,864 bytes (64 MiB), each one merge.
-# The last merge refuses a larger share (TooLong) and names it. Then use smaller folders, or a single merge. A total has up to some
-# 2,000 machines: all shares are on one command line.
+# That the result is that of a single merge rests on a proved law, for shares of at most 67,108,864 bytes (64 MiB), each one merge, and
+# on tests for larger ones. A covcollect without --large refuses a larger tracefile or share (TooLong) and names it. A total has up to
+# some 2,000 machines: all shares are on one command line.
 
 FARM ?= machines
 TOTAL ?= farm.info
@@ -90,9 +90,14 @@ ifeq ($(machines),)
     $(error no tracefile in any folder of $(FARM))
 endif
 
-# Where the program has it, machines' tracefiles are read by it. What a merge printed is version 1.
+# What the program has. Machines' tracefiles are read with --lcov2; what a merge printed is version 1. A program that was killed says
+# nothing of it.
 help := $(shell $(COVCOLLECT) merge --help 2>/dev/null </dev/null)
+ifneq ($(.SHELLSTATUS),0)
+    $(error '$(COVCOLLECT) merge --help' ended with status $(.SHELLSTATUS))
+endif
 lcov2 := $(findstring --lcov2,$(help))
+large := $(findstring --large,$(help))
 strict := $(if $(filter fail,$(CHECK)),$(or $(findstring --strict,$(help)),$(error CHECK=fail needs a covcollect with --strict)))
 
 .PHONY: all again
@@ -100,7 +105,7 @@ all: $(TOTAL)
 
 $(TOTAL): $(SHARES)/machines $(machines:%=$(SHARES)/%.info)
 	@echo 'farm.mk: makes $@ (shares: $(words $(machines)))' >&2
-	@$(COVCOLLECT) merge --jobs $(JOBS) -o $@ -- $(machines:%=$(SHARES)/%.info)
+	@$(COVCOLLECT) merge $(large) --jobs $(JOBS) -o $@ -- $(machines:%=$(SHARES)/%.info)
 
 # The merge of one machine, of the files in its list. If they don't fit on one command line, xargs runs several merges. Their outputs
 # in a row are a tracefile too. Where some are to be skipped, it is intake's copies that are merged.
@@ -110,14 +115,14 @@ $(machines:%=$(SHARES)/%.info): $(SHARES)/%.info: $(SHARES)/%.list $(SHARES)/che
 	@echo 'farm.mk: makes $@' >&2
 	@$(if $(filter skip,$(CHECK)),$(checked))
 	@$(if $(filter skip,$(CHECK)),printf '%s\0' $@.files/*.info,$(names)) | \
-	    xargs -0 $(COVCOLLECT) merge $(lcov2) $(strict) -- >$@.new || { rm -rf $@.new $@.files; exit 1; }
+	    xargs -0 $(COVCOLLECT) merge $(lcov2) $(large) $(strict) -- >$@.new || { rm -rf $@.new $@.files; exit 1; }
 	@rm -rf $@.files
 	@mv -f $@.new $@
 
 # A machine's list has the inode, size, two times and name of each tracefile. The second time is that of the inode's last change: no
 # program can set it, while an archive that is unpacked over a file may leave all else as it was. The list is always made, but replaced
-# only if it differs, so the merge is made again only then. The list of machines does the same for the total; and for all shares, what
-# CHECK says, and whether the program has --lcov2.
+# only if it differs (or if cmp was killed), so the merge is made again only then. The list of machines does the same for the total; and
+# for all shares, what CHECK says, and whether the program has --lcov2.
 replace = if cmp -s $@.new $@; then rm $@.new; else mv -f $@.new $@; fi
 $(machines:%=$(SHARES)/%.list): $(SHARES)/%.list: again | $(SHARES)/
 	@$(call tracefiles,$*) -printf '%i %s %T@ %C@ %p\0' | sort -z >$@.new

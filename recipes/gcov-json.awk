@@ -15,6 +15,9 @@
 # Sources get absolute paths, of the folder that the compiler ran in. Without gcov's -b there are no branches. Checksums aren't made.
 # Counts stay digits, as they can be larger than awk's numbers. Any awk will do.
 #
+# A path's bytes stay as they are. geninfo 1.16 writes another name where one is above 127: Latin-1 of UTF-8 (ü, the bytes c3 bc, becomes
+# fc). So if some machines use geninfo and others this, such a source has two rows in the merge.
+#
 # Exit status: 0 done; 1 the input isn't whole, or isn't gcov's JSON: what was printed until then is worth nothing; 2 wrong option.
 
 function fail(status, why) {

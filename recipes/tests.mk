@@ -63,14 +63,19 @@ endif
 # Two tests of one name would be one in the tracefile.
 named := tr -c 'A-Za-z0-9_\n' _
 twice := $(shell printf '%s\n' $(sort $(TESTS)) | $(named) | sort | uniq -d)
+fine = $(if $(filter-out 0,$(.SHELLSTATUS)),$(error a command ended with status $(.SHELLSTATUS)))
+$(fine)
 ifneq ($(twice),)
     $(error two tests have the same name: $(twice))
 endif
 tracefiles := $(patsubst %,$(EACH)/%.info,$(sort $(TESTS)))
+help := $(shell $(COVCOLLECT) merge --help 2>/dev/null </dev/null || [ $$? -le 128 ])
+$(fine)
+large := $(findstring --large,$(help))
 
 $(TOTAL): $(EACH)/.tests $(tracefiles)
 	@echo 'tests.mk: makes $@ (tests: $(words $(tracefiles)))' >&2
-	@$(COVCOLLECT) merge --jobs $(JOBS) -o $@ -- $(tracefiles)
+	@$(COVCOLLECT) merge $(large) --jobs $(JOBS) -o $@ -- $(tracefiles)
 
 # gcov looks for the .gcno beside the .gcda, which is below GCOV_PREFIX, under the whole path of its object.
 run = $(@:.info=.run)
@@ -86,13 +91,17 @@ $(tracefiles): $(EACH)/%.info: % $(USES) $(EACH)/.call
 	done <'$(run)/counts'
 	@cd '$(run)' && xargs -0 $(GCOV) -b -j -t -- <counts >json 2>messages || \
 	    { cat messages >&2; echo 'tests.mk: $*: gcov failed' >&2; exit 1; }
-	@! grep -v '^$$' '$(run)/messages' >&2 || { echo 'tests.mk: $*: gcov is in doubt, see above' >&2; exit 1; }
-	@$(AWK) -v test="$$($(named) <<<'$*')" -v skip='$(subst \,\\,$(SKIP))' -f $(json) '$(run)/json' >$@.new || \
+	@status=0; grep -v '^$$' '$(run)/messages' >&2 || status=$$?; case $$status in \
+	    1) ;; \
+	    0) echo 'tests.mk: $*: gcov is in doubt, see above' >&2; exit 1 ;; \
+	    *) echo "tests.mk: $*: grep ended with status $$status" >&2; exit 1 ;; \
+	esac
+	@name=$$($(named) <<<'$*'); $(AWK) -v test="$$name" -v skip='$(subst \,\\,$(SKIP))' -f $(json) '$(run)/json' >$@.new || \
 	    { rm -f $@.new; exit 1; }
 	@mv -f $@.new $@
 	@rm -rf '$(run)'
 
-# Made in each run, but replaced only if they differ, so what depends on them is made again only then.
+# Made in each run, but replaced only if they differ (or if cmp was killed), so what depends on them is made again only then.
 replace = if cmp -s $@.new $@; then rm $@.new; else mv -f $@.new $@; fi
 $(EACH)/.tests: again | $(EACH)/
 	@printf '%s\n' $(sort $(TESTS)) >$@.new

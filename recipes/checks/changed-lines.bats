@@ -104,7 +104,7 @@ END
         says "$work/err" 'changed-lines: and how many are run' 'changed-lines: 4 of 11 changed lines are run'
     done
     call env -C repository/sub "$changed" --lines 36.37 main ../../zero.info ../../second.info
-    ended 5 "changed-lines: 4 of 11 lines aren't 36.37%"
+    ended 6 "changed-lines: 4 of 11 lines aren't 36.37%"
     same wanted "$work/out" 'changed-lines: the same lines, called in a folder below'
     # What a user may have set.
     printf '[diff]\nnoprefix = true\nexternal = false\nrenames = false\ninterHunkContext = 9\nrelative = true\n' >>config
@@ -130,7 +130,7 @@ END
     ended 0 'changed-lines: where nothing changed, nothing fails'
     echo 21 >>'repository/sub/a b.c'
     call env -C repository "$changed" --lines 100 branch ../zero.info
-    ended 5 'changed-lines: what is changed and not committed counts'
+    ended 6 'changed-lines: what is changed and not committed counts'
     same <(echo 'sub/a b.c:21: changed and not run') "$work/out" 'changed-lines: and is named'
     git -C repository checkout -q .
     head -c -20 zero.info >cut.info
@@ -165,7 +165,7 @@ END
     call env -C project ci/ci.sh --no-html
     ended 0 'changed-lines: a project is captured by ci.sh'
     call env -C project "$changed" --lines 67 main coverage/own.info
-    ended 5 "changed-lines: 2 of 3 changed lines aren't 67%"
+    ended 6 "changed-lines: 2 of 3 changed lines aren't 67%"
     same <(echo 'src/twice.c:3: changed and not run') "$work/out" 'changed-lines: the line that no test runs'
     says "$work/err" 'changed-lines: the comment does not count' 'changed-lines: 2 of 3 changed lines are run'
 }

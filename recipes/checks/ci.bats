@@ -21,11 +21,11 @@ load projects
 
     # 4 of 6 is 66.67%, which the summary rounds to 66.7%.
     call ci/ci.sh --lines 66.7
-    ended 5 'ci.sh: 4 of 6 lines are not 66.7%, although the summary rounds to that'
+    ended 6 'ci.sh: 4 of 6 lines are not 66.7%, although the summary rounds to that'
     says "$work/err" 'ci.sh: says which counts there are' 'lines: 4 of 6 is below 66.7%'
     same "$work/first.info" coverage/own.info 'ci.sh: a second run in the same folder counts nothing twice, and leaves its results'
     call env COVERAGE_LINES=100 ci/ci.sh --no-html
-    ended 5 'ci.sh: takes the threshold from the environment'
+    ended 6 'ci.sh: takes the threshold from the environment'
     holds 'ci.sh: the results are replaced as a whole' [ ! -e coverage/html ]
     call ci/ci.sh --no-html --lines 66.666666
     ended 0 'ci.sh: six digits after the point'
@@ -42,7 +42,7 @@ load projects
     ended 0 'ci.sh: 4 of 8 lines are 50%'
     says "$work/out" 'ci.sh: a source that no test touches counts' '  lines......: 50.0% (4 of 8 lines)'
     call ci/ci.sh --no-html --lines 50.000001
-    ended 5 'ci.sh: 4 of 8 lines are less than 50.000001%'
+    ended 6 'ci.sh: 4 of 8 lines are less than 50.000001%'
     rm src/other.*
 
     # A header of the system whose function is compiled into the test.
@@ -56,7 +56,7 @@ load projects
     call env COVERAGE_REMOVE=$'/usr/*\n*/src/test.c\n' ci/ci.sh --no-html
     says "$work/out" 'ci.sh: removes what COVERAGE_REMOVE says' '  lines......: 50.0% (2 of 4 lines)'
     call ci/ci.sh --no-html --remove '*' --lines 1
-    ended 5 'ci.sh: no lines at all are below any threshold'
+    ended 6 'ci.sh: no lines at all are below any threshold'
 }
 
 @test "tracefiles of other jobs, and steps that fail" {
@@ -79,7 +79,7 @@ load projects
     ended 4 'ci.sh: status 4 for checksums that clash'
     clashes 'ci.sh: the clash is told' /x.c 12 abc abd
     call ci/ci.sh --no-html jobs/none.info
-    ended 2 'ci.sh: a tracefile that no job handed in'
+    ended 1 'ci.sh: a tracefile that no job handed in'
     call env COVERAGE_TEST='echo no >&2; exit 7' ci/ci.sh --no-html
     ended 7 'ci.sh: the status of tests that fail'
     call env COVERAGE_BUILD='exit 9' ci/ci.sh --no-html

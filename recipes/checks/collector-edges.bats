@@ -182,6 +182,61 @@ nobody=(setpriv --reuid=nobody --regid=nogroup --clear-groups)
     says "$work/err" 'collector: and why' "collector: $PWD/theirs is the spool of nobody: call as that user, or by --via"
 }
 
+# A wrong length would leave a part of the file unread, and nobody would know.
+@test "more bytes than were announced" {
+    local via
+    one_file
+    serve_spool spool env
+    call bash -c '"$0" give spool --key long --bytes 40 <a.info' "$collector"
+    ended 4 'collector: a byte more than --bytes says'
+    says "$work/err" 'collector: and why' 'long: not whole: fewer or more bytes came than were announced, or it is still being written'
+    call bash -c '{ cat a.info; sleep 1; printf "\0"; } | "$0" give spool --key late --bytes 41' "$collector"
+    ended 4 'collector: a byte more that comes a second later'
+    via="$collector answer $PWD/spool"
+    call bash -c "{ echo 'give long 40'; cat a.info; } | $via"
+    says "$work/out" 'collector: the same without the script' unfinished
+    holds 'collector: nothing of this was accepted' [ -z "$(ls spool/accepted)" ]
+    # Who keeps the connection open has sent all that was announced.
+    call timeout 30 bash -c "{ echo 'give open 41'; cat a.info; sleep 20; } | $via"
+    says "$work/out" 'collector: a client that keeps its connection open' 'accepted open items 2 odd 0'
+    call "$collector" give spool --key none --bytes 0
+    ended 5 'collector: no byte, as was announced, is a file without a record'
+    quietly "$collector" stop spool
+}
+
+# What a stranger leaves in the spool is told and stays, and the collector goes on, also after a restart.
+@test "folders and other strange things in the spool" {
+    local name strange=(in/folder in/folder@id in/@folder in/link@id in/nowhere@id in/pipe@id in/file 'in/a b@id' accepted/folder)
+    one_file
+    serve_spool spool env
+    call "$collector" give spool --key first a.info
+    mkdir spool/in/folder spool/in/folder@id spool/in/@folder spool/accepted/folder
+    ln -s "$PWD/a.info" spool/in/link@id
+    ln -s nothing spool/in/nowhere@id
+    mkfifo spool/in/pipe@id
+    cp a.info spool/in/file
+    cp a.info 'spool/in/a b@id'
+    call env COLLECTOR_WAIT=20 timeout 30 "$collector" give spool --key second a.info
+    says "$work/out" 'collector: strange things in the spool: a file is accepted' 'accepted second items 2 odd 0'
+    call env COLLECTOR_WAIT=20 "$collector" give spool --key folder a.info
+    says "$work/err" 'collector: a key whose name is a folder' 'a.info: differs from the file that was accepted with this key'
+    call env COLLECTOR_WAIT=20 "$collector" stop spool
+    for _ in {1..50}; do [ ! -s spool.ended ] || break; sleep 0.1; done
+    holds 'collector: and it never ended before it was stopped' [ "$(cat spool.ended)" = 0 ]
+    for name in "${strange[@]}"; do
+        [ "$name" != accepted/folder ] || continue
+        holds "collector: $name is told once" [ "$(grep -cxF "collector: $PWD/spool/$name isn't a file that a job handed in: it is passed over" spool.said)" -eq 1 ]
+    done
+    serve_spool spool env
+    call env COLLECTOR_WAIT=20 timeout 30 "$collector" summary spool
+    says "$work/out" 'collector: started again beside them' '  lines......: 50.0% (1 of 2 lines)'
+    says spool.said 'collector: a folder among the accepted files is told' "collector: $PWD/spool/accepted/folder isn't a file that a job handed in: it is passed over"
+    for name in "${strange[@]}"; do
+        holds "collector: $name stays" [ -e "spool/$name" -o -L "spool/$name" ]
+    done
+    quietly "$collector" stop spool
+}
+
 @test "a disk that is nearly full" {
     local number
     [ "$(id -u)" -eq 0 ] && quietly unshare --mount true || { not_tried 'collector: a full disk, which only root can mount'; return 0; }
@@ -236,6 +291,9 @@ INSIDE
     says small.out 'collector: and a small file' 'accepted small items 2 odd 0'
     holds 'collector: a file and a question where there is no room for a line' [ "$(<none.status):$(<asked.status)" = 1:1 ]
     holds 'collector: they end with no text' [ ! -s none.out -a ! -s asked.out ]
+    says asked.err 'collector: and a sentence says why' "collector: no room for the question in $PWD/disk/spool/new: try again when there is"
+    says none.err 'collector: also of the file' "collector: no room for the file in $PWD/disk/spool/new: try again when there is"
+    holds 'collector: which is all that is said' [ "$(cat asked.err none.err | wc -l)" -eq 2 ]
     printf '%s\n' many small >wanted
     same wanted accepted 'collector: a file that was there already waits'
     says waits.out 'collector: and is accepted when there is room again' 'accepted waits items 2 odd 0'

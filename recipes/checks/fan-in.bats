@@ -28,13 +28,13 @@ load projects
     holds "ci.sh --merge-only: own.info lacks the system's header, and all.info has it" \
         [ "$(grep -c '^SF:/usr' coverage/all.info):$(grep -c '^SF:/usr' coverage/own.info)" = 1:0 ]
     call ci/ci.sh --merge-only --no-html --lines 75.1 jobs/*.info
-    ended 5 'ci.sh --merge-only: 3 of 4 lines are less than 75.1%'
+    ended 6 'ci.sh --merge-only: 3 of 4 lines are less than 75.1%'
     cp -r coverage ../before
 
     # What jobs hand over by mistake.
     printf '<!DOCTYPE html>\n<html>404</html>\n' >jobs/page.info
     call ci/ci.sh --merge-only --no-html jobs/*.info
-    ended 4 'ci.sh: status 4 for a tracefile without a record'
+    ended 5 'ci.sh: status 5 for a tracefile without a record'
     says "$work/err" 'ci.sh: and what to do' 'ci.sh: a tracefile has no record, or odd or skipped lines, see above (or use --empty skip); coverage is unchanged'
     holds 'ci.sh: with the name of the file and its first line' grep -qE '^jobs/page\.info: sections 0 items 0 odd 0 skipped 2 first <!DOCTYPE' "$work/err"
     call diff -r ../before coverage
@@ -44,11 +44,18 @@ load projects
     holds 'ci.sh: which tells it, too' grep -q '^jobs/page\.info: sections 0 items 0' "$work/err"
     printf 'SF:/a.c\nDA:1,1\nCOUNT\nLF:7\nend_of_record\n' >jobs/page.info
     call ci/ci.sh --merge-only --no-html jobs/*.info
-    ended 4 'ci.sh: a tracefile with odd and skipped lines'
+    ended 5 'ci.sh: a tracefile with odd and skipped lines'
     says "$work/err" 'ci.sh: what it holds' 'jobs/page.info: sections 1 items 1 odd 1 skipped 1 first COUNT at 3'
     call ci/ci.sh --merge-only --no-html --empty skip jobs/*.info
     ended 0 'ci.sh: which --empty skip takes'
     says coverage/all.info 'ci.sh: with its counts' 'SF:/a.c' 'DA:1,1'
+    says "$work/err" 'ci.sh: and tells' 'jobs/page.info: sections 1 items 1 odd 1 skipped 1 first COUNT at 3'
+    # A page behind the part of a tracefile that came before the server failed.
+    printf 'SF:/a.c\nDA:1,1\nend_of_record\n<html>\n502 Bad Gateway\n</html>\n' >jobs/page.info
+    call ci/ci.sh --merge-only --no-html --empty skip jobs/*.info
+    ended 0 'ci.sh: --empty skip takes a tracefile with an error page behind it'
+    echo 'jobs/page.info: sections 1 items 1 odd 0 skipped 3 first <html> at 4' >../wanted
+    same ../wanted "$work/err" 'ci.sh: and names that alone'
     rm jobs/page.info
     printf 'SF:/a.c\nDA:1,1\nDA:2' >jobs/cut.info
     call ci/ci.sh --merge-only --no-html --empty skip jobs/*.info
@@ -153,7 +160,7 @@ load projects
         done
         rm -rf project/coverage project/test project/src/*.o project/src/*.gc*
         job_runs $file "$([ $file = github.yml ] || echo coverage-)total" ''
-        ended 5 "$file: the last job, with too few lines hit"
+        ended 6 "$file: the last job, with too few lines hit"
         says "$work/out" "$file: the summary as worked out by hand" '  lines......: 50.0% (4 of 8 lines)' 'lines: 4 of 8 is below 80%'
         says project/coverage/own.info "$file: both jobs' counts are in it" TN:check TN:extra 'FNDA:1,twice' 'FNDA:2,twice'
     done

@@ -114,10 +114,15 @@ machines() {
         done
     } >large/m1/a.info
     cp "machines/m1/f 10.info" large/m2
-    call "${make[@]}" FARM=large TOTAL=large.info
-    ended 2 'farm.mk: a share above 67,108,864 bytes'
+    old_program old
+    call "${make[@]}" FARM=large TOTAL=large.info COVCOLLECT="$PWD/old"
+    ended 2 'farm.mk: a share above 67,108,864 bytes, by a covcollect without --large'
     says "$work/err" 'farm.mk: and this share is named' 'large.info.shares/m1.info: refused TooLong'
     same before.info large.info 'farm.mk: the total is as it was, too'
+    call "${make[@]}" FARM=large TOTAL=large.info
+    ended 0 'farm.mk: a share above 67,108,864 bytes, by --large'
+    "$COVCOLLECT" merge large/m1/a.info "large/m2/f 10.info" >one.info
+    holds 'farm.mk: the total is the merge of all, then too' cmp -s one.info large.info
     rm -r large.info.shares
 }
 

@@ -109,8 +109,8 @@ END
     ended 0 'check --large: 70 MiB'
     says "$work/out" 'check --large: its line' 'seventy.info: sections 71680 items 7741440 odd 0 skipped 0'
     # It is never held as a whole.
-    call bash -c 'ulimit -v 65536; exec "$COVCOLLECT" check --large seventy.info'
-    ended 0 'check --large: 70 MiB in 64 MiB of memory'
+    call bash -c 'ulimit -v "$(($(stat -L -c %s seventy.info) / 1024))"; exec "$COVCOLLECT" check --large seventy.info'
+    ended 0 'check --large: 70 MiB in less memory than that'
     says "$work/out" 'check --large: the same line' 'seventy.info: sections 71680 items 7741440 odd 0 skipped 0'
     # Pipes have no length.
     call bash -c 'exec "$COVCOLLECT" merge --large <(cat seventy.info)'

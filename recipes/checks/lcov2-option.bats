@@ -248,6 +248,81 @@ checked() { # WHAT FILE...: no line is odd, and none unknown
     fi
 }
 
+# outer's lambda and inner's local class are never called: their lines, and the blocks round them, aren't run, and all behind them is.
+# By hand: of five functions outer, inner and main are called.
+never_called() { # FOLDER
+    project "$1"
+    rm "$1"/src/*
+    cat >"$1/src/never.cpp" <<'END'
+int outer(int x)
+{
+    if (x > 100) {
+        auto never = [&](int y) {
+            return x + y;
+        };
+        x = never(x);
+    }
+    return x;
+}
+int inner(int x)
+{
+    if (x > 100) {
+        struct Local {
+            int twice(int y) {
+                return 2 * y;
+            }
+        };
+        return Local().twice(x);
+    }
+    return x;
+}
+int main()
+{
+    return outer(1) + inner(1) == 2 ? 0 : 1;
+}
+END
+    printf 'test: src/never.cpp\n\tg++ --coverage -O0 -o $@ $<\ncheck: test\n\t./test\n' >"$1/Makefile"
+}
+
+@test "a lambda and a local class that are never called" {
+    local found release version lcov words
+    releases lcov 'LCOV 2'
+    # README's first commands, on the files of the folder jobs.
+    sed -n '/^    covcollect merge/,$p' "$recipes/../README.md" | sed '/^$/q; s/^    //; s/80/40/' >script
+    mkdir tools
+    ln -s "$COVCOLLECT" tools/covcollect
+    for release in "${found[@]}"; do
+        lcov=$BATS_FILE_TMPDIR/lcov.$release
+        version="LCOV $(cat "$lcov.version")"
+        never_called $release
+        call env -C $release PERL5LIB="$lcov/usr/share/perl5" PATH="$lcov/usr/bin:$PATH" ci/ci.sh --lines 40
+        ended 0 "ci.sh: $version, with functions that are never called"
+        says "$work/out" "ci.sh: $version: the summary as worked out by hand" '  functions..: 60.0% (3 of 5 functions)'
+        holds "ci.sh: $version: genhtml made a page of the source" grep -rq 'auto never' $release/coverage/html --include='never.cpp.gcov.html'
+        mkdir $release/jobs
+        lcov_of "$lcov" geninfo --quiet --rc branch_coverage=1 --test-name t --output-filename $release/jobs/t.info $release >"$work/log" 2>&1
+        call env -C $release PERL5LIB="$lcov/usr/share/perl5" PATH="$PWD/tools:$lcov/usr/bin:$PATH" bash -e "$PWD/script"
+        ended 0 "README: its script, with genhtml of $version"
+        holds "README: its script: a page of the source by $version" grep -rq 'auto never' $release/html --include='never.cpp.gcov.html'
+        for words in 'genhtml -o page' 'lcov -o sum -a' 'lcov --summary'; do
+            # shellcheck disable=SC2086 # several words
+            call lcov_of "$lcov" $words $release/own.info
+            ended 1 "LCOV-USERS: $version guesses end lines: $words"
+            holds 'LCOV-USERS: and stops as it says' grep -q inconsistent "$work/err"
+            # shellcheck disable=SC2086
+            call lcov_of "$lcov" ${words%% *} --rc derive_function_end_line=0 ${words#* } $release/own.info
+            ended 0 "LCOV-USERS: $version with its option: $words"
+        done
+    done
+    # That of 1.16 ignores the option.
+    never_called one
+    mkdir one/jobs
+    (cd one && make -s check && geninfo --quiet --rc lcov_branch_coverage=1 --test-name t --output-filename jobs/t.info .) >"$work/log" 2>&1
+    call env -C one PATH="$PWD/tools:$PATH" bash -e "$PWD/script"
+    ended 0 'README: its script, with genhtml 1.16'
+    holds 'README: its script: a page of the source by 1.16' grep -rq 'auto never' one/html --include='never.cpp.gcov.html'
+}
+
 @test "checksums and versions of sources" {
     local found release version files
     releases lcov 'LCOV 2'

@@ -39,6 +39,22 @@ coverage_html() { # WHAT
     coverage_html meson
 }
 
+# As README and recipes/README.md have it, typed in the project's folder.
+@test 'the lines of the pages' {
+    local page line
+    mkdir "$BATS_FILE_TMPDIR/project/ci"
+    cp "$recipes/lcov" "$BATS_FILE_TMPDIR/project/ci"
+    printf '#!/bin/bash\necho "$*" >>"%s"\nexec "%s" "$@"\n' "$work/asked" "$COVCOLLECT" >"$work/noting"
+    chmod +x "$work/noting"
+    for page in README.md recipes/README.md; do
+        rm -f "$work/asked" "$BATS_FILE_TMPDIR/project/build/meson-logs/coverage.info"
+        line=$(grep -ohE 'PATH=[^ ]+ ninja[^`]*coverage-html' "$recipes/../$page")
+        call env -C "$BATS_FILE_TMPDIR/project" COVCOLLECT="$work/noting" bash -c "$line"
+        ended 0 "meson: $page: $line"
+        holds "meson: $page: covcollect merges and filters three times" [ "$(grep -E '^(merge|extract|remove) ' "$work/asked" | grep -vc -- --help)" -eq 3 ]
+    done
+}
+
 @test 'coverage-html with a .lcovrc' {
     printf '# of the project\ngenhtml_num_spaces = 4\nlcov_list_width=100\n' >"$BATS_FILE_TMPDIR/project/.lcovrc"
     coverage_html 'meson with a .lcovrc'

@@ -10,7 +10,8 @@ refused() { # RECIPE MESSAGE WORD...
     local recipe=$1 message=$2
     shift 2
     call "$recipes/$recipe" "$@"
-    ended 2 "${recipe##*/}: $*"
+    # A tracefile that isn't there is no wrong call.
+    ended "$([[ $message == *".info isn't there" ]] && echo 1 || echo 2)" "${recipe##*/}: $*"
     says "$work/err" "${recipe##*/}: and why" "${recipe##*/}: $message"
 }
 # What holds for each recipe.

@@ -75,7 +75,25 @@ onto_disk() { # HOW
     only 'covcollect -o: nothing else is left' . a.info b.info c.info wanted
 }
 
+# A merge in so many KiB, into a file that nobody looks at if it is wanted that it succeeds.
+merge_within() { # KIB FILE
+    local out=a.info
+    [ "$1" -lt "$least" ] || out=$work/enough.info
+    call bash -c 'ulimit -v "$1"; exec "$COVCOLLECT" merge -o "$2" "$3"' - "$1" "$out" "$2"
+}
+# The least memory in which the program merges a file, in steps of 16 KiB. What the program takes may change with it.
+least_memory() { # FILE
+    local low=0 high=65536 middle least=0
+    while [ $((high - low)) -gt 1 ]; do
+        middle=$(((low + high) / 2))
+        merge_within $((16 * middle)) "$1"
+        if [ "$status" -eq 0 ]; then high=$middle; else low=$middle; fi
+    done
+    echo $((16 * high))
+}
+
 @test "a call that fails leaves FILE" {
+    local least
     small a 2 >a.info
     printf 'SF:/src/b.c\nDA:1,1\n' >cut.info
     printf 'SF:/src/a.c\nDA:1,1,x\nend_of_record\n' >x.info
@@ -95,8 +113,11 @@ onto_disk() { # HOW
     call "$COVCOLLECT" check -o a.info a.info
     ended 2 'check -o'
     text 1 >"$work/large.info"
-    call bash -c 'ulimit -v 6000; exec "$COVCOLLECT" merge -o a.info "$1"' - "$work/large.info"
-    ended 3 'merge -o: no memory'
+    least=$(least_memory "$work/large.info")
+    merge_within "$least" "$work/large.info"
+    ended 0 "merge -o: $least KiB are enough"
+    merge_within $((least - 16)) "$work/large.info"
+    ended 3 'merge -o: 16 KiB less: no memory'
     call "$COVCOLLECT" merge -o new.info a.info cut.info
     ended 4 'merge -o: the same for a new file'
     call diff -r "$work/before" .

@@ -28,36 +28,41 @@ lines() { # HIT FOUND PATH
     says "$work/out" 'ci.sh: the summary' '  lines......: 80.0% (3999 of 5000 lines)'
     holds 'ci.sh: which stands there once' [ "$(grep -c 'Summary coverage rate' "$work/out")" -eq 1 ]
     call "$recipes/ci.sh" "${words[@]}" --lines 79.980001 a.info b.info
-    ended 5 'ci.sh: and less than 79.980001%'
+    ended 6 'ci.sh: and less than 79.980001%'
     says "$work/err" 'ci.sh: as it says' 'lines: 3999 of 5000 is below 79.980001%'
     holds 'ci.sh: once' [ "$(grep -c 'is below' "$work/err")" -eq 1 ]
     rm -r coverage
     call env COVERAGE_LINES=080 "$recipes/ci.sh" "${words[@]}" a.info b.info
-    ended 5 'ci.sh: and less than 80%, although the rate is rounded to that'
+    ended 6 'ci.sh: and less than 80%, although the rate is rounded to that'
     says "$work/err" 'ci.sh: with the threshold as it was given' 'lines: 3999 of 5000 is below 080%'
     only 'ci.sh: the results are written' coverage all.info own.info summary.txt
     call "$recipes/ci.sh" "${words[@]}" --remove '*' --lines 0 a.info
-    ended 5 'ci.sh: no lines at all are below 0% too'
+    ended 6 'ci.sh: no lines at all are below 0% too'
     says "$work/err" 'ci.sh: and it says so' 'lines: 0 of 0 is below 0%'
     holds 'ci.sh: the program was asked for each summary, and for each threshold before' [ "$(grep -c '^summary .*--fail-under-lines=' asked)" -eq 8 ]
     # The jobs' files are merged as they are.
-    holds 'ci.sh: by one strict call each time' [ "$(grep -cE '^merge -o [^ ]*/all\.info --lcov2 --strict --jobs 4 -- a\.info( b\.info)?$' asked)" -eq 4 ]
+    holds 'ci.sh: by one strict call each time' [ "$(grep -cE '^merge --large -o [^ ]*/all\.info --lcov2 --strict --jobs 4 -- a\.info( b\.info)?$' asked)" -eq 4 ]
     call env COVCOLLECT="$PWD/old" "$recipes/ci.sh" "${words[@]}" a.info b.info
     ended 2 'ci.sh: a covcollect without --strict'
     says "$work/err" 'ci.sh: is told' "ci.sh: $PWD/old has no --strict, so it is older than ci.sh"
 }
+
+# README's first commands, in the file script, with the threshold as its word. What genhtml would be called with is printed.
+readme_script() {
+    mkdir -p tools
+    ln -sf "$COVCOLLECT" tools/covcollect
+    printf '#!/bin/sh\necho "genhtml $*"\n' >tools/genhtml
+    chmod +x tools/genhtml
+    { echo 'set -e'; sed -n '/^    covcollect merge/,$p' "$recipes/../README.md" | sed '/^$/q; s/^    //; s/80/"$1"/'; } >script
+}
+script() { call env PATH="$PWD/tools:$PATH" bash script "$1"; } # THRESHOLD
 
 @test "the script of README.md" {
     mkdir jobs
     lines 7 8 /src/a.c >jobs/1.info
     printf 'TN:u\nSF:/src/b c.c\nFNL:0,1,5\nFNA:0,0,f\nBRDA:2,e0,0,1\nBRDA:2,0,1,-\nDA:1,0\nDA:2,1\nend_of_record\n' >jobs/2.info
     lines 0 4 /usr/include/t.h >jobs/3.info
-    cat >script <<'END'
-set -e
-"$COVCOLLECT" merge --lcov2 --strict --jobs 4 --exclude '/usr/*' -o own.info jobs/*.info
-"$COVCOLLECT" summary --fail-under-lines "$1" own.info
-echo passed
-END
+    readme_script
     # By hand: 8 of 10 lines, 0 of 1 functions, 1 of 2 branches.
     cat >wanted <<'END'
 Summary coverage rate:
@@ -65,13 +70,13 @@ Summary coverage rate:
   functions..: 0.0% (0 of 1 function)
   branches...: 50.0% (1 of 2 branches)
 END
-    call bash script 80.1
+    script 80.1
     ended 6 'README: status 6, by set -e'
     same wanted "$work/out" 'README: the summary'
     says "$work/err" 'README: what falls short' 'lines: 8 of 10 is below 80.1%'
-    call bash script 80
+    script 80
     ended 0 'README: 8 of 10 lines are 80%'
-    says "$work/out" 'README: and the script goes on' passed
+    says "$work/out" 'README: and the script goes on' 'genhtml --branch-coverage --rc derive_function_end_line=0 -o html own.info'
     cat >wanted <<'END'
        Lines   Functions    Branches  File
  87.5%   7/8       - 0/0       - 0/0  /src/a.c
@@ -82,18 +87,23 @@ END
     same wanted "$work/out" 'README: a table of the files'
     cp own.info before.info
     printf 'SF:/src/a.c\nDA:1,1\n' >jobs/4.info
-    call bash script 80
+    script 80
     ended 4 'README: a file that was cut off has its own status'
     same before.info own.info 'README: and own.info is as it was'
     echo '<html>' >jobs/4.info
-    call bash script 80
+    script 80
     ended 5 'README: and so has an error page'
     says "$work/err" 'README: which is told' 'jobs/4.info: sections 0 items 0 odd 0 skipped 1 first <html> at 1'
-    rm jobs/3.info jobs/4.info
-    call bash script 80
-    ended 5 'README: no file of /usr'
-    says "$work/err" 'README: which is told, too' '/usr/*: matches no file'
     same before.info own.info 'README: and own.info is still as it was'
+    rm jobs/3.info jobs/4.info
+    script 80
+    ended 0 'README: no file of /usr'
+    same before.info own.info 'README: which changes nothing'
+    # 70 sources of a function each, with a name of 1,000,000 bytes.
+    awk 'BEGIN { name = sprintf("%01000000d", 0); for (i = 1; i <= 70; i++) print "SF:/src/" i ".c\nFN:1," name "\nFNDA:1," name "\nDA:1,1\nend_of_record" }' >jobs/5.info
+    holds 'README: a tracefile above 64 MiB' [ "$(stat -c %s jobs/5.info)" -gt 67108864 ]
+    script 80
+    ended 0 'README: is read like the others'
 }
 
 @test "JSON, as jq reads it" {

@@ -22,6 +22,18 @@ messages() {
     cp "$work/err" messages
     call "$COVCOLLECT" merge none.info
     cat "$work/err" >>messages
+    # What a strict call says of files, and of a pattern; an output that can't be written; and a threshold.
+    printf 'SF:/a.c\nFNDA:1,f\nDA:1,1\nend_of_record\n' >odd.info
+    printf 'SF:/a.c\nDA:1,1\nLF:9\nCOUNT:1\nend_of_record\n' >skipped.info
+    call "$COVCOLLECT" merge --strict odd.info skipped.info
+    cat "$work/err" >>messages
+    printf 'SF:/a.c\nDA:1,1\nDA:2,0\nDA:3,0\nend_of_record\n' >clean.info
+    call "$COVCOLLECT" merge --strict --exclude '/usr/*' clean.info
+    cat "$work/err" >>messages
+    call "$COVCOLLECT" merge -o none/all.info clean.info
+    cat "$work/err" >>messages
+    call "$COVCOLLECT" summary --fail-under-lines 66.7 clean.info
+    cat "$work/err" >>messages
     printf '<html>\n' >page.info
     printf 'TN:t\nSF:/a.c\nDA:1,2\nDA:2,0\nend_of_record\n' >s1.info
     call "$COVCOLLECT" summary s1.info
@@ -29,7 +41,7 @@ messages() {
     # A tracefile without a record; the line of the other one is no message of this kind, and those below aren't either.
     call "$COVCOLLECT" check page.info s1.info
     cat "$work/out" summary >>messages
-    printf 'lines: 4 of 6 is below 66.7%%\nsrc/a.c:3:1: error: expected expression\n' >>messages
+    printf 'src/a.c:3:1: error: expected expression\n' >>messages
     # As the collector tells it.
     printf 'job: 1.info: clash /s/a.c 1 abc abd\n' >>messages
 }
@@ -44,7 +56,7 @@ for (const line of fs.readFileSync(process.argv[3], "utf8").split("\n"))
     for (const m of matchers) {
         if (m.pattern.length !== 1 || m.severity !== "error") throw new Error("not what this check can play");
         const p = m.pattern[0], found = new RegExp(p.regexp).exec(line);
-        if (found) console.log([m.owner, found[p.file], p.line ? found[p.line] : "-", found[p.message]].join("\t"));
+        if (found) console.log([m.owner, p.file ? found[p.file] : "-", p.line ? found[p.line] : "-", found[p.message]].join("\t"));
     }
 END
 }
@@ -84,6 +96,11 @@ covcollect-line	jobs of today/line.info	3	refused BadLine at 3
 covcollect-file	cut.info	-	refused OpenEnd
 covcollect-clash	/src 2/a: b.c	12	clash /src 2/a: b.c 12 lZ8bZ6bGGr4EkvEwDDpwWQ mNhTZqCv3dQxJmVtQXnU7w
 covcollect-file	none.info	-	can't read
+covcollect-odd	odd.info	-	sections 1 items 1 odd 1 skipped 0
+covcollect-skipped	skipped.info	4	sections 1 items 1 odd 1 skipped 1 first COUNT at 4
+covcollect-pattern	-	-	/usr/*: matches no file
+covcollect-file	none/all.info	-	can't write
+covcollect-threshold	-	-	lines: 1 of 3 is below 66.7%
 covcollect-empty	page.info	-	sections 0 items 0 odd 0 skipped 1 first <html> at 1
 covcollect-clash	/s/a.c	1	clash /s/a.c 1 abc abd
 END
@@ -119,7 +136,7 @@ END
         job_runs $file coverage check
         ended 0 "$file: the steps of the job that builds and tests run"
         job_runs $file "$([ $file = github.yml ] || echo coverage-)total" ''
-        ended 5 "$file: those of the last job fail at 80% where 4 of 6 lines are hit"
+        ended 6 "$file: those of the last job fail at 80% where 4 of 6 lines are hit"
         cp "$work/out" log
         says log "$file: the summary is in the log" '  lines......: 66.7% (4 of 6 lines)'
         # The folder that is kept is the one that there is.

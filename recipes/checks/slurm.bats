@@ -181,7 +181,7 @@ older() { cp one.info farm.info && cp one.info before.info; }
     says big.sum 'merge-farm: which is added up in the total' 'DA:1,55340232221128654845'
     same big.one big.sum 'merge-farm: the text is that of one merge, byte for byte, there too'
     # One test with a name of 1,000,000 bytes, and 34 sources in each of two tracefiles: every section of a merge has the name, so the
-    # merge of both is above the limit, and the merge of each isn't.
+    # merge of both is above the limit, and the merge of each isn't. Only a covcollect with --large reads it.
     for number in 1 2; do
         {
             printf 'TN:%01000000d\n' 7
@@ -189,8 +189,9 @@ older() { cp one.info farm.info && cp one.info before.info; }
         } >big.$number
     done
     printf 'big.1\nbig.2\n' >list
-    call "$merge" --files list --share 2 farm.info
-    ended 4 'merge-farm: a share above 67,108,864 bytes'
+    old_program old
+    call env COVCOLLECT=./old "$merge" --files list --share 2 farm.info
+    ended 4 'merge-farm: a share above 67,108,864 bytes, by a covcollect without --large'
     says "$work/err" 'merge-farm: and what to do' 'share.000000.info: refused TooLong' \
         'merge-farm: a share is too large for a tracefile: use a --share below 2'
     same before.info farm.info 'merge-farm: the total is as it was, as before'
@@ -198,6 +199,10 @@ older() { cp one.info farm.info && cp one.info before.info; }
     call "$merge" --files list --share 1 big.sum
     ended 0 'merge-farm: in shares of one'
     holds 'merge-farm: which gives the text of one merge' cmp -s big.one big.sum
+    rm big.sum old
+    call "$merge" --files list --share 2 big.sum
+    ended 0 'merge-farm: a share above 67,108,864 bytes, by --large'
+    holds 'merge-farm: which gives that text too' cmp -s big.one big.sum
     only 'merge-farm: no folder of work is left, where a share is too large' . before.info big.1 big.2 big.info big.one big.sum farm.info in list noting one.info
 }
 
@@ -230,7 +235,7 @@ older() { cp one.info farm.info && cp one.info before.info; }
     rm unchecked.info
     printf '<html>\n' >checked/c.info
     call "$merge" --check fail --share 1 checked.info checked
-    ended 4 'merge-farm: --check, with a tracefile without a record'
+    ended 5 'merge-farm: --check, with a tracefile without a record'
     holds 'merge-farm: which is named' grep -q "^$PWD/checked/c\.info: sections 0 items 0 odd 0 skipped 1 first <html>" "$work/err"
     mv checked.info checked.before
     call "$merge" --check skip --share 1 checked.info checked

@@ -179,6 +179,25 @@ like_geninfo() { # WHAT FOLDER...
     holds 'gcov-json.awk: of which geninfo keeps one' [ "$(grep -cE '^FNDA:1,(one|two)$' theirs.info)" -eq 1 ]
 }
 
+# The two bytes of the name in UTF-8 stay. geninfo 1.16 writes one, as in Latin-1, so a merge of both has two rows.
+@test 'a path with bytes above 127' {
+    mkdir src
+    printf 'int main(void) {\n    return 0;\n}\n' >$'src/\303\274.c'
+    gcc --coverage -c -o src/a.o $'src/\303\274.c'
+    gcc --coverage -o a src/a.o
+    ./a
+    of_geninfo t theirs.info src
+    (cd src && gcov -b -j -t a.gcda) >counts.json
+    for awk in mawk gawk 'busybox awk'; do
+        call $awk -v test=t -f "$recipes/gcov-json.awk" counts.json
+        says "$work/out" "gcov-json.awk: a path with bytes above 127 stays, by $awk" "SF:$PWD/src/"$'\303\274.c'
+    done
+    says theirs.info 'gcov-json.awk: where geninfo 1.16 writes another' "SF:$PWD/src/"$'\374.c'
+    "$COVCOLLECT" merge "$work/out" theirs.info >all.info
+    holds 'gcov-json.awk: so one source has two rows in a merge' [ "$(grep -c ^SF: all.info)" -eq 2 ]
+    holds 'gcov-json.awk: as its first lines tell' grep -q 'two rows' <(sed '/^$/q' "$recipes/gcov-json.awk")
+}
+
 @test 'documents by hand' {
     # What GCC 14 adds, text that needs a \, a count beyond 2^53, and no unexecuted_block.
     cat >hand.json <<'END'

@@ -20,13 +20,14 @@ if [ "$check" != no ]; then
     rm -rf "$share.files"
     mkdir "$share.files"
     printf '%s\0' "${names[@]}" | COVCOLLECT=$program bash "$work/intake" --empty "$check" "$share.files" || status=$?
-    # A tracefile without a record is no better than a refused one.
-    [ $status -ne 5 ] || status=4
     [ $status -eq 0 ] || fail $status
     names=("$share.files"/*.info)
 fi
-lcov2=()
-case $("$program" merge --help 2>/dev/null </dev/null || true) in *--lcov2*) lcov2=(--lcov2) ;; esac
-"$program" merge "${lcov2[@]}" --jobs "${SLURM_CPUS_PER_TASK:-1}" -- "${names[@]}" >"$share.part" || status=$?
+# A program that was killed doesn't say what it has.
+help=$("$program" merge --help 2>/dev/null </dev/null) || fail $?
+options=()
+[[ $help != *--lcov2* ]] || options+=(--lcov2)
+[[ $help != *--large* ]] || options+=(--large)
+"$program" merge "${options[@]}" --jobs "${SLURM_CPUS_PER_TASK:-1}" -- "${names[@]}" >"$share.part" || status=$?
 [ $status -eq 0 ] || fail $status
 mv "$share.part" "$share.info"

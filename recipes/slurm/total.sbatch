@@ -22,7 +22,10 @@ for ((number = 0; number < count; number++)); do
     shares+=("$share")
 done
 status=0
-"$program" merge --jobs "${SLURM_CPUS_PER_TASK:-1}" -- "${shares[@]}" >total.part || status=$?
+help=$("$program" merge --help 2>/dev/null </dev/null) || fail $?
+large=()
+[[ $help != *--large* ]] || large=(--large)
+"$program" merge "${large[@]}" --jobs "${SLURM_CPUS_PER_TASK:-1}" -- "${shares[@]}" >total.part || status=$?
 [ $status -eq 0 ] || fail $status
 mv total.part "$out"
 : >'done'

@@ -3,7 +3,7 @@
 Each function is a job: it is handed a player and a folder of its own, where `a.info` and `b.info` are tracefiles. They are as they
 were after it.
 """
-import os, stat, subprocess, threading
+import os, re, signal, stat, subprocess, threading
 from e2e_of.made import MERGED, TEXT, lines_of, written
 from e2e_of.player import PATIENCE
 
@@ -127,6 +127,20 @@ def failed_writes(player, folder):
     player.holds(folder, {"a.info": TEXT, "b.info": BLOCKS, "old.info": TEXT, "link": TEXT})
 
 
+def killed_writes(player, folder):
+    """Where its signal isn't ignored, a limit on the length of files ends a call: nothing is told, the old file is as it was, and the part file stays."""
+    written(f"{folder}/old.info", [TEXT])
+    words = ["sh", "-c", 'ulimit -c 0; ulimit -f 1; exec "$0" merge b.info -o old.info', player.program]
+    ran = subprocess.run(words, cwd=folder, capture_output=True, timeout=PATIENCE)
+    player.look("killed", words[2:3], (-signal.SIGXFSZ, b"", b""), (ran.returncode, ran.stdout, ran.stderr))
+    parts = [it for it in os.listdir(folder) if re.fullmatch(r"old\.info\.[0-9a-f]{16}\.part", it)]
+    if len(parts) != 1:
+        player.differs(f"there are the part files {parts}, and there has to be one")
+    for it in parts:
+        os.remove(f"{folder}/{it}")
+    player.holds(folder, {"a.info": TEXT, "b.info": BLOCKS, "old.info": TEXT})
+
+
 def untouched_folders(player, folder):
     """No part file is made for an empty name, and none before all inputs are read. The folder's time tells it."""
     written(f"{folder}/cut.info", [b"SF:/a.c\nDA:1,1\n"])
@@ -205,5 +219,5 @@ def between_tracefiles(part):
 
 
 JOBS = tuple(
-    map(between_tracefiles, (rights_and_links, owners, devices_and_pipes, streams, failed_writes, untouched_folders, names_as_they_are))
+    map(between_tracefiles, (rights_and_links, owners, devices_and_pipes, streams, failed_writes, killed_writes, untouched_folders, names_as_they_are))
 )

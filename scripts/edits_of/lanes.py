@@ -1,4 +1,5 @@
 """Runs checks side by side, as far as there is memory: a check takes 1 to 4 GB."""
+import contextlib
 import re
 import tempfile
 import threading
@@ -16,41 +17,68 @@ def available():
 
 
 class Lanes:
-    """So many lanes, each with a folder in which what its checks have in common is kept."""
+    """So many lanes, which the checks of all crates share."""
 
-    def __init__(self, jobs):
-        self.rooms = [tempfile.TemporaryDirectory(prefix="edits-lane-") for _ in range(jobs)]
-        self.free, self.running, self.begun = [it.name for it in self.rooms], 0, []
+    def __init__(self, number):
+        self.number, self.running, self.begun = number, 0, []
         self.turn = threading.Condition()
-        self.pool = ThreadPoolExecutor(jobs)
+        self.pool = ThreadPoolExecutor(number)
 
     def __enter__(self):
         return self
 
     def __exit__(self, fault, *_):
         self.pool.shutdown(wait=fault is None, cancel_futures=True)
-        for it in self.rooms:
-            it.cleanup()
 
     def has_room(self):
-        young = [it for it in self.begun if it > time.monotonic() - GROWS]
-        return not self.running or available() >= NEEDED * (1 + len(young))
+        self.begun = [it for it in self.begun if it > time.monotonic() - GROWS]
+        return not self.running or available() >= NEEDED * (1 + len(self.begun))
 
-    def run(self, tasks):
-        """Runs the tasks, each given a lane's folder, and returns what they return, in their order."""
-        return list(self.pool.map(self.in_lane, tasks))
-
-    def in_lane(self, task):
+    @contextlib.contextmanager
+    def room(self):
+        """Waits until there is memory for one check more."""
         with self.turn:
             while not self.has_room():
                 self.turn.wait(5)
             self.running += 1
             self.begun.append(time.monotonic())
-            folder = self.free.pop()
         try:
-            return task(folder)
+            yield
         finally:
             with self.turn:
                 self.running -= 1
-                self.free.append(folder)
                 self.turn.notify_all()
+
+
+class CrateLanes:
+    """The lanes as one crate uses them: each of its checks gets a folder, in which what its checks have in common is kept."""
+
+    def __init__(self, lanes):
+        self.lanes, self.number, self.made, self.free = lanes, lanes.number, [], []
+
+    def __enter__(self):
+        return self
+
+    def __exit__(self, *_):
+        for it in self.made:
+            it.cleanup()
+
+    def run(self, tasks):
+        """Runs the tasks, each given a folder, and returns what they return, in their order."""
+        return list(self.lanes.pool.map(self.in_lane, tasks))
+
+    def in_lane(self, task):
+        with self.lanes.room():
+            folder = self.folder()
+            try:
+                return task(folder)
+            finally:
+                self.free.append(folder)
+
+    def folder(self):
+        """A folder that no other check of the crate has now."""
+        with self.lanes.turn:
+            if not self.free:
+                self.made.append(tempfile.TemporaryDirectory(prefix="edits-lane-"))
+                self.free.append(self.made[-1].name)
+            return self.free.pop()

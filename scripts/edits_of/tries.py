@@ -46,7 +46,7 @@ class Tries:
     def run(self, edits):
         """Settles each of these edits."""
         if not all(map(self.cannot_be_applied, edits)):
-            self.checks.name_functions()
+            self.lanes.run([lambda _: self.checks.name_functions()])
         for it in edits:
             it.find_functions(self.functions, self.cannot_be_applied(it))
         self.control(edits)
@@ -65,7 +65,7 @@ class Tries:
 
     def most(self, number):
         """How many of so many edits or functions one check has, so that each lane has one if there are enough."""
-        return min(MOST, max(LEAST, -(-number // len(self.lanes.rooms))))
+        return min(MOST, max(LEAST, -(-number // self.lanes.number)))
 
     def batches_of(self, edits):
         most, made = self.most(len(edits)), []
