@@ -55,7 +55,7 @@ the_line() { # PAGE
     printf '#!/bin/bash\necho "$*" >>"%s"\nexec "%s" "$@"\n' "$work/asked" "$COVCOLLECT" >"$work/noting"
     chmod +x "$work/noting"
     for page in README.md docs/MIGRATING.md recipes/README.md; do
-        holds "meson: $page: names the directory ci" grep -q 'directory `ci`' "$recipes/../$page"
+        holds "meson: $page: names the directory ci" grep -qE 'directory `ci`|into `ci/`' "$recipes/../$page"
         rm -f "$work/asked" "$BATS_FILE_TMPDIR/project/build/meson-logs/coverage.info"
         line=$(the_line "$page")
         call env -C "$BATS_FILE_TMPDIR/project" COVCOLLECT="$work/noting" bash -c "$line"
