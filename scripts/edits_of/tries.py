@@ -41,7 +41,9 @@ class Tries:
         self.rt, self.crate, self.lanes, self.kept, self.settled = rt, crate, lanes, kept, settled
         self.functions = Functions(crate.folder)
         self.checks = Checks(rt, crate, self.functions, log)
-        self.batches, self.alone, self.controlled, self.broken = 0, 0, 0, []
+        self.batches, self.alone, self.controlled = 0, 0, 0
+        # Functions that the control doesn't prove, with a goal: all, or those of a crate that is proved as it stands.
+        self.broken, self.holed = {}, {}
 
     def run(self, edits):
         """Settles each of these edits."""
@@ -85,23 +87,31 @@ class Tries:
         self.controlled, most = len(new), self.most(len(new))
         parts = [new[at : at + most] for at in range(0, len(new), most)]
         for part, said in zip(parts, self.lanes.run([lambda begun, part=it: self.check_twice({}, part, begun) for it in parts])):
-            self.judge_control(part, said, edits)
+            self.judge_control(part, said)
         for it in new:
-            if it in self.broken:
-                self.kept.remove(names[it])
-            else:
+            if it not in self.broken:
                 self.kept.write(names[it], True)
+        if self.broken:
+            self.settle_broken(edits)
 
-    def judge_control(self, functions, said, edits):
+    def judge_control(self, functions, said):
         strays = said.strays(functions)
         for function in functions:
-            if said.is_proved(function) and not strays:
-                continue
-            self.broken.append(function)
-            goals = [*said.open_goals(function), *strays, f"its check ended with status {said.status} and says nothing of it"]
-            for it in edits:
-                if function in it.functions and not it.verdict:
-                    self.settle(it, verdicts.NOT_TRIED, f"{function.name} has an open goal as it stands: {goals[0]}")
+            if strays or not said.is_proved(function):
+                goals = [*said.open_goals(function), *strays, f"its check ended with status {said.status} and says nothing of it"]
+                self.broken[function] = goals[0]
+
+    def settle_broken(self, edits):
+        """Where the crate is proved as it stands, holes are what failed: edits of such a function are tried alone. Elsewhere they aren't tried."""
+        is_proved = self.lanes.run([lambda _: self.rt.checked(self.crate, {}, ["--jobs", "1"], None).returncode])[0] == 0
+        for it in edits:
+            found = next((function for function in it.functions if function in self.broken), None)
+            if found and is_proved:
+                it.is_alone = True
+            elif found and not it.verdict:
+                self.settle(it, verdicts.NOT_TRIED, f"{found.name} has an open goal as it stands: {self.broken[found]}")
+        if is_proved:
+            self.holed, self.broken = self.broken, {}
 
     def check_twice(self, texts, functions, begun):
         """Checks, and once more where the check was killed, most likely for memory."""
