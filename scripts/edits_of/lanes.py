@@ -6,8 +6,8 @@ import threading
 import time
 from concurrent.futures import ThreadPoolExecutor
 
-# The memory that has to be there for a check that begins, in kB, and the seconds after which it has taken what it takes.
-NEEDED, GROWS = 4_000_000, 60
+# The memory that has to be there for a check that begins, in kB, and the seconds after which it has taken what it takes. Proofs beside it may grow too.
+NEEDED, GROWS = 6_000_000, 60
 
 
 def available():
