@@ -110,7 +110,7 @@ impl<A: Allocator + Copy, K: Keep<Of = Entry<A>>> Book<A, K> {
     ghost use Rattle.covbook.specs.Held.{SameBook};
     ghost use Rattle.covbook.specs.Ready.{DropChange, HasRoom, HoldChange, RenameChange, IsNextOf, IsPlanned, IsAfter, IsReadyOf, IsReadyFor};
 
-    /// A book without entries. It keeps of each entry what `K` keeps. Takes no memory.
+    /// An empty book that stores only the `K` part of each entry. Never allocates.
     pub fn keeping(alloc: A) -> Book<A, K>
         ensures { result.entries ≡ [] }
     {

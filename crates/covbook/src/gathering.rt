@@ -92,8 +92,8 @@ fn check_receipts<A: Allocator>(
     Ok(())
 }
 
-/// Checks that the receipt is that of an entry of the job, and that its place is at least `least`. Returns the least place that
-/// the next receipt may have.
+/// Checks that the receipt's index is at least `least` and that the job's entry there matches it. Returns the lower bound for the
+/// next receipt.
 fn check_receipt<A: Allocator>(
     entries: &[Entry<A>],
     job: u32,

@@ -121,7 +121,7 @@ fn pieces_of<S: Source + Drop>(alloc: Global, large: LargeTracefile<S>) -> Resul
     Ok(told)
 }
 
-/// The pieces of a tracefile whose source gives its bytes in this way.
+/// Reads a tracefile in chunks, from a source that gives its bytes in this way, and prints the chunks.
 fn read_pieces(alloc: Global, version: LcovVersion, text: &[u8], way: Way) -> Result<String, Fail> {
     let source = Given {
         bytes: text,
@@ -133,7 +133,7 @@ fn read_pieces(alloc: Global, version: LcovVersion, text: &[u8], way: Way) -> Re
     pieces_of(alloc, LargeTracefile::new(alloc, version, source))
 }
 
-/// The same, and what the whole holds.
+/// Like `read_pieces`, followed by the summary of the whole tracefile.
 fn read_summed(alloc: Global, version: LcovVersion, text: &[u8], way: Way) -> Result<String, Fail> {
     let source = Given {
         bytes: text,
@@ -145,7 +145,7 @@ fn read_summed(alloc: Global, version: LcovVersion, text: &[u8], way: Way) -> Re
     pieces_of(alloc, LargeTracefile::summed(alloc, version, source))
 }
 
-/// What a check of the whole tracefile says.
+/// Checks the whole tracefile and prints the result.
 fn check_whole(alloc: Global, version: LcovVersion, text: &[u8], way: Way) -> Result<String, Fail> {
     let source = Given {
         bytes: text,

@@ -162,7 +162,7 @@ fn take_numbered<A: Allocator + Copy>(
     )
 }
 
-/// Takes the line with this number.
+/// Processes line number `at`.
 fn take_line<'a, A: Allocator + Copy>(
     reader: &mut Lcov2Reader<'a, A>,
     alloc: A,

@@ -35,7 +35,7 @@ impl TakeFault {
     }
 }
 
-/// The same reason as the reader of version 1 has.
+/// Turns a placement error of the version 1 reader into a `TakeFault`.
 pub fn placed(why: PlacementFault) -> TakeFault
     ensures { result ≡ placed why }
 {

@@ -125,8 +125,8 @@ impl<K: Key, V, A: Allocator> Slots<K, V, A> {
         }
     }
 
-    /// The same as `find`. Looks right after the slot before the guess first. Costs a search if the key isn't there and
-    /// wouldn't be inserted there, or if the guess is the first slot of its page.
+    /// Like `find`, for a key before the guess. First looks right after the slot before the guess. Searches all slots only if the
+    /// key is neither there nor would be inserted there, or if the guess is the first slot of its page.
     fn find_before<Q: Query<K, A>>(
         &self,
         query: Q,
@@ -147,7 +147,7 @@ impl<K: Key, V, A: Allocator> Slots<K, V, A> {
         self.search(query)
     }
 
-    /// The same as `find`. The key at `place` must come before the queried key.
+    /// Like `find`, for a key after the one at `place`.
     fn find_after<Q: Query<K, A>>(&self, query: Q, place: SlotIndex) -> Result<SlotIndex, SlotIndex>
         requires { order_at (λ key. K.cmp key (Q.named query)) (slot_at self.now (at place)) ≡ Less }
         ensures found { IfOk result (λ place. IsPlace (λ key. K.cmp key (Q.named query)) self.now (at place)) }
@@ -161,7 +161,7 @@ impl<K: Key, V, A: Allocator> Slots<K, V, A> {
         }
     }
 
-    /// The same as `find`, by a search among all slots.
+    /// Like `find`, by a binary search among all slots.
     fn search<Q: Query<K, A>>(&self, query: Q) -> Result<SlotIndex, SlotIndex>
         ensures found { IfOk result (λ place. IsPlace (λ key. K.cmp key (Q.named query)) self.now (at place)) }
         ensures absent { IfErr result (λ place. IsGap (λ key. K.cmp key (Q.named query)) self.now (at place)) }

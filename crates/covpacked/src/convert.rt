@@ -14,7 +14,7 @@ use crate::sect_iter::PackedSect;
 use covline::{Bytes, Item, Items, Memory, Sect, Sects, Submission};
 use std::alloc::Allocator;
 
-/// The same submission, packed.
+/// Packs a submission.
 pub fn pack<A: Allocator + Copy>(
     alloc: A,
     submission: &Submission<A>,
@@ -94,7 +94,7 @@ pub(crate) fn borrowed<A: Allocator>(item: &Item<A>) -> ItemRef<'_>
     }
 }
 
-/// The same submission, unpacked. Takes no memory if there is no section.
+/// Unpacks a submission. Never allocates if it has no section.
 pub fn unpack<A: Allocator + Copy>(
     alloc: A,
     packed: &PackedSubmission<A>,

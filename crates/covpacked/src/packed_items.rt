@@ -45,7 +45,7 @@ impl<'a> PackedItems<'a> {
         }
     }
 
-    /// The same items. Takes no memory.
+    /// Copies the borrowed list, not the items. Never allocates.
     pub fn copy(&self) -> PackedItems<'a>
         ensures { result ≡ self.now }
     {

@@ -24,7 +24,7 @@ pub(crate) struct TextPlace {
     pub bytes: u64,
 }
 
-/// A section that is closed.
+/// A finished section: where its names lie, and how many items it has.
 #[derive(Clone, Copy, Drop)]
 pub(crate) struct ClosedSect {
     /// Where the test's name lies.

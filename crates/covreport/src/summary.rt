@@ -97,7 +97,7 @@ pub fn summary_text<A: Allocator>(alloc: A, totals: &Totals) -> Result<Bytes<A>,
     Ok(text)
 }
 
-/// What the line of a kind of points begins with, and the nouns for one point and for any other number of them.
+/// A summary line's label, and its noun in singular and plural.
 #[derive(Clone, Copy)]
 struct Words<'a> {
     label: &'a [u8],

@@ -169,7 +169,7 @@ impl<K: Key + Drop, A: Allocator + Copy> PointIndex<K, A> {
         Ok(())
     }
 
-    /// Adds a test's changes to the numbers of a run of points.
+    /// Stages a batch of changes to the counts of tests per point. Changes nothing that is staged if an allocation fails.
     pub(crate) fn add_run<Q: Query<K, A>>(
         &mut self,
         alloc: A,

@@ -53,8 +53,8 @@ pub(super) fn check_rising<R: Abort + AllocGlobal, F: Fn(&Bump, usize) -> bool>(
     check_rising_by(rt, 1, 1, is_refused);
 }
 
-/// The same for a call that takes much memory: after the heap without room, the rooms begin at `first` and rise by `more` bytes.
-/// With less room than `first`, the call's first growth is known to be refused.
+/// Like `check_rising`, for a call that allocates much: after the heap without capacity, the capacities begin at `first` and rise
+/// by `more` bytes. With less capacity than `first`, the call's first allocation is known to fail.
 pub(super) fn check_rising_by<R: Abort + AllocGlobal, F: Fn(&Bump, usize) -> bool>(
     rt: &R,
     first: usize,

@@ -30,7 +30,7 @@ fn check_read<'h>(
     check_bytes(rt, report.get(), wanted);
 }
 
-/// The same of a packed submission.
+/// Like `check_read`, for a packed submission.
 fn check_packed<'h>(
     rt: &impl Abort,
     heap: &'h Bump,

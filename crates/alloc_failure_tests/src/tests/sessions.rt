@@ -44,7 +44,7 @@ impl<'a> Source for Slow<'a> {
     }
 }
 
-/// How a session ends. This function promises nothing of that.
+/// Runs a session and returns how it ended. Deliberately without a contract.
 fn session_end<I: Source, O: Sink, A: Allocator + Copy>(
     alloc: A,
     source: &mut I,

@@ -208,7 +208,7 @@ fn check_done<L: Name, A: Allocator + Copy>(
     check_live(rt, live, 2, reading.totals);
 }
 
-/// The same in a new book.
+/// Like `performs`, with a new book.
 fn performs_anew<R: Wait + Abort + AllocGlobal>(
     rt: &R,
     heap: &Bump,
@@ -252,7 +252,7 @@ fn reads<L: Name, A: Allocator + Copy, R: Wait + Abort>(
     }
 }
 
-/// The same for a reader of a new book.
+/// Like `reads`, with a new book.
 fn reads_anew(rt: &(impl Wait + Abort), heap: &Bump, room: usize) -> bool {
     reads::<Brand, &Bump, _>(rt, heap, made(rt, start(heap, 1)), heap, room)
 }
@@ -299,7 +299,7 @@ fn check_jobs<L: Name>(rt: &impl Abort, seats: &[Seat<L>], given_up: Option<u32>
     assert_eq!(rt; jobs.next(), None);
 }
 
-/// The same for the seats of a new book.
+/// Like `hands_in`, with a new book.
 fn hands_in_anew(rt: &(impl Wait + Abort), heap: &Bump, room: usize) -> bool {
     hands_in::<Brand, &Bump, _>(rt, heap, made(rt, start(heap, 9)), heap, room)
 }

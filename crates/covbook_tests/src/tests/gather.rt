@@ -315,7 +315,7 @@ const EXAMPLES: &[u8] = b"0 000 222 444
 > BadReading 0 0
 = a reading comes before a receipt of the next log";
 
-/// The same six calls, but job 1 renames the test that both submit, instead of dropping one that isn't there.
+/// Like the six calls of the history above, but job 1 renames the test that both submit, instead of dropping one that isn't there.
 const A_RENAME: &[u8] = b"0 submit DA:1,2;DA:2,0
 1 submit DA:1,2;DA:2,0
 0 summary

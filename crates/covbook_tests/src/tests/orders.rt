@@ -1,4 +1,4 @@
-//! The same submissions in other orders.
+//! The order of submissions doesn't change the result.
 
 use super::list::{Random, random_text};
 use super::script::{check_printed, printed};

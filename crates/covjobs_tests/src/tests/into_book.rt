@@ -142,7 +142,7 @@ pub(super) fn is_clash(answer: Option<&Answered>, wanted: u64) -> bool {
     }
 }
 
-/// The same line with two checksums: the second input clashes with the first.
+/// The second input has another checksum for the line, so it clashes with the first.
 fn two_versions<R: Threads + Wait + Sync + AllocGlobal + Abort>(rt: &R) -> Result<(), Fail> {
     let texts: [&[u8]; 2] = [
         b"TN:t\nSF:/a.c\nDA:7,1,one\nend_of_record\n",

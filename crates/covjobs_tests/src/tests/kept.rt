@@ -157,7 +157,7 @@ fn put_first(logs: &mut [JobLog], first: JobLog) {
     }
 }
 
-/// `gather` refuses a report after two submissions whose answer has only the first submission.
+/// `gather` rejects a stale report, whose answer misses the second of two submissions.
 #[test]
 fn answer_from_an_old_copy(rt: HostRuntime) -> Result<(), Fail> {
     let first = report_log(&rt, rt.alloc(), old_report(&rt)?);

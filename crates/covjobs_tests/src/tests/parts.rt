@@ -113,7 +113,7 @@ fn a_fault_after_two_parts(rt: HostRuntime) {
     check_report(&rt, &collected, ADDED_UP);
 }
 
-/// The same line with two checksums.
+/// `ONE` and `TWO` have different checksums for one line.
 const ONE: &[u8] = b"TN:t\nSF:/a.c\nDA:7,1,one\nend_of_record\n";
 
 const TWO: &[u8] = b"TN:t\nSF:/a.c\nDA:7,1,two\nend_of_record\n";

@@ -116,7 +116,7 @@ pub(crate) fn make_slots<
     }
 }
 
-/// The same as `make_slots`, for a run whose first key has no slot. The key would be inserted at `place`.
+/// Like `make_slots`, for a run whose first key has no slot. The key would be inserted at `place`.
 #[inline]
 fn make_absent<K: Key + Drop, V: Value, A: Allocator + Copy, Q: Query<K, A>, M: Addend<V>>(
     slots: &mut Slots<K, V, A>,
@@ -139,7 +139,7 @@ fn make_absent<K: Key + Drop, V: Value, A: Allocator + Copy, Q: Query<K, A>, M: 
     put_run(slots, staged, alloc, run)
 }
 
-/// The same as `make_slots`, without new pages at the end for a part of the run.
+/// Like `make_absent`, but never appends new pages for a part of the run.
 #[inline]
 fn make_within<K: Key + Drop, V: Value, A: Allocator + Copy, Q: Query<K, A>, M: Addend<V>>(
     slots: &mut Slots<K, V, A>,

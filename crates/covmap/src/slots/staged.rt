@@ -65,7 +65,7 @@ impl<V, A: Allocator> StagedColumns<V, A> {
         self.search(page)
     }
 
-    /// The same as `index_of`, by a search among all columns.
+    /// Like `index_of`, by a binary search among all columns.
     fn search(&self, page: usize) -> usize
         ensures { result ≡ lead (λ column. nat_lt column.0 page) self.now }
     {

@@ -41,7 +41,7 @@ fn an_open_section(rt: HostRuntime) {
     assert!(rt; closed.next().is_none());
 }
 
-/// The same six sections as elsewhere, one more at a time.
+/// Closes 0 to 6 sections and reads all of them back each time.
 #[test]
 fn six_sections(rt: HostRuntime) {
     for count in 0..=ALL_SECTS {
@@ -51,7 +51,7 @@ fn six_sections(rt: HostRuntime) {
     }
 }
 
-/// The same test's name twice, then another one, then the first one again.
+/// One test's name comes twice in a row, and again after another one. Names that only begin like it stay apart.
 #[test]
 fn names_of_tests(rt: HostRuntime) {
     let mut sects = PackedSects::new(rt.alloc());

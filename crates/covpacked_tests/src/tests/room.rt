@@ -17,7 +17,7 @@ fn check(rt: &(impl Abort + AllocGlobal), item: ItemRef<'_>, bytes: usize) {
     }
 }
 
-/// Checks the room of a line with this checksum. Its numbers are the largest that are packed into few bytes.
+/// Checks the capacity for lines with this checksum. Their numbers are the largest that are packed into few bytes.
 fn check_line(rt: &(impl Abort + AllocGlobal), count: u128, checksum: Option<&[u8]>, bytes: usize) {
     let item = ItemRef::Line {
         line: 1_073_741_823,
@@ -27,7 +27,7 @@ fn check_line(rt: &(impl Abort + AllocGlobal), count: u128, checksum: Option<&[u
     check(rt, item, bytes);
 }
 
-/// The same of a branch.
+/// Checks the capacity for branches. Their numbers are the largest that are packed into few bytes.
 fn check_branch(rt: &(impl Abort + AllocGlobal), taken: Option<u128>, bytes: usize) {
     let item = ItemRef::Branch {
         line: 1_073_741_823,

@@ -358,7 +358,7 @@ end_of_record
     )
 }
 
-/// The same in faults. The last two texts show why the front needs an `FNL:` line: without one above it, the total is a fault.
+/// Errors of grouped functions. The last two inputs show why the prefix needs an `FNL:` line: without one, the total is an error.
 #[test]
 fn grouped_faults(rt: HostRuntime) -> Result<(), Fail> {
     check_faults(

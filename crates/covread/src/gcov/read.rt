@@ -75,7 +75,7 @@ fn read_lines<'a, A: Allocator + Copy>(
     Ok(reader)
 }
 
-/// Takes the line with this number.
+/// Processes line number `at`.
 fn take_line<'a, A: Allocator + Copy>(
     reader: &mut Reader<'a, A>,
     at: u64,

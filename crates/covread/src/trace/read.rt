@@ -132,7 +132,7 @@ pub fn take_branch<A: Allocator + Copy>(
     }
 }
 
-/// Takes the line with this number.
+/// Processes line number `at`.
 fn take_line<'a, A: Allocator + Copy>(
     reader: &mut Reader<'a, A>,
     alloc: A,

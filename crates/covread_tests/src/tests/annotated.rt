@@ -50,7 +50,7 @@ fn check_counted(
     Ok(())
 }
 
-/// What beginnings of one text give. After `> ` is what all the lines above it give together.
+/// Prefixes of one input: each `> ` line is the result expected of all lines above it.
 #[test]
 fn first_lines(rt: HostRuntime) -> Result<(), Fail> {
     let lines = b"> sections 0 items 0
@@ -109,7 +109,7 @@ fn longest_text(rt: HostRuntime) -> Result<(), Fail> {
     check_counted(&rt, b"t", &text[1..], b"sections 0 items 0")
 }
 
-/// The same for a text of line feeds alone, all of whose lines are blank.
+/// Like `longest_text`, with an input of line feeds alone, whose lines are all blank.
 #[test]
 fn most_line_feeds(rt: HostRuntime) -> Result<(), Fail> {
     let text = vec![in rt.alloc(); b'\n'; 67_108_865]?;

@@ -194,7 +194,7 @@ end_of_record\x00
     )
 }
 
-/// The same for the names in annotated source.
+/// Names in annotated source may hold any byte but a line feed; carriage returns at a line's end are stripped.
 #[test]
 fn bytes_of_annotated_names(rt: HostRuntime) -> Result<(), Fail> {
     let text = b"-:0:Source:\xff\r\x00\r\r\r\nfunction \x00\r\xff called 2\n1:3:\x00\xff\n";

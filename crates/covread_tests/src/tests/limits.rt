@@ -30,7 +30,7 @@ fn longest_text(rt: HostRuntime) -> Result<(), Fail> {
     Ok(())
 }
 
-/// The same for a text of line feeds alone, all of whose lines are blank.
+/// Like `longest_text`, with an input of line feeds alone, whose lines are all blank.
 #[test]
 fn most_line_feeds(rt: HostRuntime) -> Result<(), Fail> {
     let text = vec![in rt.alloc(); b'\n'; 67_108_865]?;

@@ -10,7 +10,7 @@ use std::cell::Cell;
 use std::io::{self, Read, Write};
 use std::test::*;
 
-/// The same tracefile twice, a report and a summary: 133 bytes. The commands end at the bytes 59, 118, 125 and 133.
+/// A session: one tracefile twice, a report and a summary, 133 bytes together. The commands end after 59, 118, 125 and 133 bytes.
 const INPUT: &[u8] = b"\
 trace
 TN:t
@@ -130,9 +130,8 @@ impl Sink for Narrow {
     }
 }
 
-/// How a session on `INPUT` ends that gets one byte at each read, how many bytes it wrote, and whether these are a beginning of
-/// `ANSWER`. The read after `good_reads` good ones fails, and so does the write after `good_writes` good ones. A write takes at
-/// most `width` bytes.
+/// Runs a session on `INPUT`, one byte per read, at most `width` bytes per write. Read number `good_reads` + 1 fails, and write
+/// number `good_writes` + 1. Returns the session's result, the number of bytes written, and whether they are a prefix of `ANSWER`.
 fn by_pieces(
     alloc: Global,
     good_reads: usize,
@@ -254,7 +253,8 @@ impl Sink for Holding {
     }
 }
 
-/// How a session on `INPUT` ends with a sink that holds back, and whether all of `ANSWER` was sent on.
+/// Runs a session on `INPUT` with a sink that holds bytes back until it is flushed. Returns the session's result, and whether all
+/// of `ANSWER` was sent on.
 fn by_flushes(alloc: Global, can_send: bool) -> (Result<(), SessionFault>, bool) {
     let mut source = FromRead::new(INPUT);
     let mut sink = Holding {
@@ -475,8 +475,8 @@ fn a_failed_call_is_not_made_again(rt: HostRuntime) {
     );
 }
 
-/// How a session on `INPUT` ends with a writer of std that has room for `bytes` bytes, and whether all of this room has the first
-/// bytes of `ANSWER`.
+/// Runs a session on `INPUT` with a std writer that has capacity for `bytes` bytes. Returns the session's result, and whether the
+/// writer got a full prefix of `ANSWER`.
 fn into_room(alloc: Global, bytes: usize) -> Result<(Result<(), SessionFault>, bool), Fail> {
     let mut room = vec![in alloc; b'?'; bytes]?;
     let ended = {

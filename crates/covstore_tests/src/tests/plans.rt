@@ -45,7 +45,7 @@ DA:4,1,abcdefghijklmnopqrstuvwxyz0123456789abcdefghijklmnopqrstuvwxyz01234567
 end_of_record
 ";
 
-/// The same, each line counted twice.
+/// The report of `CHECKSUMS` submitted twice.
 const CHECKSUMS_TWICE: &[u8] = b"\
 TN:t
 SF:/a.c
@@ -207,7 +207,7 @@ BRDA:1,0,4294967295,8
 end_of_record
 ";
 
-/// The same, in the order of their numbers, each counted twice.
+/// The report of `WIDE_BRANCHES` submitted twice, in the order of the numbers.
 const WIDE_BRANCHES_TWICE: &[u8] = b"\
 TN:t
 SF:/a.c

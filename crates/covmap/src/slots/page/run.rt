@@ -73,7 +73,7 @@ impl<K: Key, V: Value, A: Allocator> Page<K, V, A> {
         self.search_near(start, query)
     }
 
-    /// The same for a key that isn't at `start`. No clause says what it returns, since `guess_near` may return any place then.
+    /// Like `guess_near`, for a key that isn't at `start`. Has no contract, since `guess_near` may return any place then.
     fn search_near<Q: Query<K, A>>(&self, start: usize, query: Q) -> usize
         requires { IsAscending K.cmp self.now }
     {
