@@ -64,8 +64,8 @@ pub fn check_gcov<'a, A: Allocator + Copy>(
     Ok(summary_of(&submission, text, Format::Gcov))
 }
 
-/// The summary of a text that was read as this submission. Whether the text is read as this submission isn't checked. Takes no
-/// memory.
+/// The summary of a text that was read as this submission. Whether the text is read as this submission isn't checked. Never
+/// allocates.
 pub fn summary_of<'a, S: ReadText>(
     submission: &S,
     text: &'a [u8],

@@ -1,4 +1,4 @@
-//! What texts hold, without adding them up: how many sections and items, how many odd lines, and which lines aren't read.
+//! What texts hold, without adding them up: how many sections and items, how many inconsistent lines, and which lines aren't read.
 //!
 //! A text is read as covread or covlcov2 reads it, so a check returns the same fault. Lines that aren't read are no fault: a
 //! tracefile may have records of later versions (`FNL:`), and gcov's text has `call` lines. Unless such a line is empty, or of a

@@ -107,8 +107,8 @@ pub struct SourceFilter {
 pub enum Strictness {
     /// Without `--strict`: they are used as they are. A session and `gcov`, which have no such flag, are always lenient.
     Lenient,
-    /// With `--strict`: a file with no item, an odd line or a skipped line is refused, and so is a pattern that matches no source
-    /// file.
+    /// With `--strict`: a file with no item, an inconsistent line or a skipped line is refused, and so is a pattern that matches no
+    /// source file.
     Strict,
 }
 

@@ -14,7 +14,7 @@ pub enum CommandFault {
     /// Fault 2: the words don't fit. The text says why, and how to call the program, for standard error.
     #[error("{0}")]
     Line(String),
-    /// Fault 3: memory was refused.
+    /// Fault 3: an allocation failed.
     #[error("out of memory")]
     Memory,
     /// Fault 4: the version was asked for. This is its text, for standard output.

@@ -32,7 +32,7 @@ impl Names {
         }
     }
 
-    /// Appends a name. On `Memory` the name is dropped and the list stays as it was.
+    /// Appends a name. On `Memory`, drops the name and leaves the list unchanged.
     pub fn push(&mut self, name: String) -> Result<(), Memory>
         ensures ok { OnOk result (self.new ≡ self.old ++ string_bytes name ∷ []) }
         ensures err { OnErr result (self.new ≡ self.old) }

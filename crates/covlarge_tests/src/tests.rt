@@ -75,7 +75,8 @@ fn held_words(alloc: Global, held: &Held) -> Result<String, Fail> {
     Ok(String::from_utf8_lossy(alloc, line.as_slice())?)
 }
 
-/// Appends what a piece holds: the test of its first section, or `-` if it has none, and how many sections, items and odd lines.
+/// Appends what a piece holds: the test of its first section, or `-` if it has none, and how many sections, items and inconsistent
+/// lines.
 fn push_piece(alloc: Global, told: &mut String, piece: &PackedSubmission) -> Result<(), Fail> {
     let test: String = match piece.sects().next() {
         Some(first) => String::from_utf8_lossy(alloc, first.test)?,

@@ -41,8 +41,8 @@ use covread::each_text_has_one_outcome;
 use covstore::laws::{order_of_rows_does_not_matter, the_first_clash_is_told};
 
 /// Each text with which a run over lawful operations answers a report, an extract or a remove reads back: it is read as a lawful
-/// submission without odd lines, and an empty book accepts this submission and then reports the same text. This holds if a line
-/// can hold each new name of a rename, and the text has at most 67,108,864 bytes.
+/// submission without inconsistent lines, and an empty book accepts this submission and then reports the same text. This holds if a
+/// line can hold each new name of a rename, and the text has at most 67,108,864 bytes.
 pub fn reports_read_back()
     ensures { (ops : List OpData) → AreLawfulOps ops → HaveGoodNames ops → (op : OpData) → IsReport op → (text : List ℕ) → answer_of (table_of ops) op ≡ TextAnswer text → length text ≤ max_bytes → ReadsBack text }
 {

@@ -30,7 +30,7 @@ impl<A: Allocator + Copy> Indexes<A> {
         }
     }
 
-    /// Forgets what is kept.
+    /// Discards what is kept.
     pub fn clear(&mut self, alloc: A)
         ensures { AreIndexes self.new [] }
     {

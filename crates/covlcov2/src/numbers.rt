@@ -60,7 +60,7 @@ impl<A: Allocator + Copy> Numbers<A> {
         Numbers::Given(Runs::new(alloc))
     }
 
-    /// Forgets all branches. Keeps the room for runs, if there is any.
+    /// Discards all branches. Keeps the room for runs, if there is any.
     pub fn clear(&mut self, alloc: A)
         ensures { HasNumbers self.new [] }
     {
@@ -106,7 +106,7 @@ impl<A: Allocator> Runs<A> {
         }
     }
 
-    /// Forgets all runs. Keeps the room for them.
+    /// Discards all runs. Keeps the room for them.
     fn clear(&mut self)
         ensures { (q : Block) → next_in_runs q self.new ≡ 0 }
     {

@@ -30,9 +30,9 @@ impl<A: Allocator> Limits<A> {
     }
 }
 
-/// A line for each kind of points that are below the rate that is asked for, in the order lines, functions, branches: `lines:
-/// 3996 of 5000 is below 80%`. The rate is written as the call gave it. If no point of a kind is found, its points are below any
-/// rate. The text is empty if no rate is missed, and then nothing is refused. The fault is that memory was refused.
+/// A line for each kind of points that are below the rate that is asked for, in the order lines, functions, branches: `lines: 3996
+/// of 5000 is below 80%`. The rate is written as the call gave it. If no point of a kind is found, its points are below any rate.
+/// The text is empty if no rate is missed, and then nothing is refused. The fault is that an allocation failed.
 pub fn shortfall_lines<A: Allocator>(
     alloc: A,
     limits: &Limits<A>,

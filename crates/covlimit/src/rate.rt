@@ -30,8 +30,8 @@ impl<A: Allocator> Rate<A> {
     ghost use Rattle.covlimit.specs.Shortfalls.{is_below};
 
     /// The rate that the word says. A rate has at most three digits, then nothing, or a point and at most six digits. It has at
-    /// least one digit, and is at most 100. So `80`, `79.5`, `.5` and `80.` are rates; `-1`, `1e1`, `80%` and `101` aren't.
-    /// `None` if the word isn't a rate. Takes no memory.
+    /// least one digit, and is at most 100. So `80`, `79.5`, `.5` and `80.` are rates; `-1`, `1e1`, `80%` and `101` aren't. `None`
+    /// if the word isn't a rate. Never allocates.
     pub fn of(word: Bytes<A>) -> Option<Rate<A>>
         ensures rate { IsSome result ↔ IsRate word }
         ensures kept { IfSome result (λ r. r ≡ word) }
@@ -47,8 +47,8 @@ impl<A: Allocator> Rate<A> {
         self.word.get()
     }
 
-    /// Whether `hit` of `found` points are below the rate. Nothing is rounded. If no point is found, they are below any rate,
-    /// even 0. Takes no memory.
+    /// Whether `hit` of `found` points are below the rate. Nothing is rounded. If no point is found, they are below any rate, even
+    /// 0. Never allocates.
     pub fn is_missed_by(&self, hit: u64, found: u64) -> bool
         ensures { result ≡ is_below self.now hit found }
     {

@@ -28,7 +28,7 @@ impl<A: Allocator> Bytes<A> {
         }
     }
 
-    /// The empty text, with room for `bytes` bytes. Appending allocates nothing until the text is longer than that. Room for 0
+    /// The empty text, with capacity for `bytes` bytes. Appending allocates nothing until the text is longer than that. Room for 0
     /// bytes is never refused.
     pub fn with_room(alloc: A, bytes: usize) -> Result<Bytes<A>, Memory>
         ensures empty { IfOk result (λ b. b ≡ []) }
@@ -79,7 +79,7 @@ impl<A: Allocator> Bytes<A> {
         self.text.truncate(len);
     }
 
-    /// Whether the other text has the same bytes. Takes no memory.
+    /// Whether the other text has the same bytes. Never allocates.
     pub fn is_same(&self, other: &Bytes<A>) -> bool
         ensures { IsTrue result ↔ (self.now ≡ other.now) }
     {

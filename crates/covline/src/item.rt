@@ -84,7 +84,7 @@ impl<A: Allocator> Item<A> {
     ghost use Rattle.std.specs.Prelude.{◌≡◌, ◌↔◌, IsTrue};
     ghost use Rattle.covline.specs.Row.{LineItem, FuncItem, BranchItem, item_data};
 
-    /// Whether the other item says the same. Takes no memory.
+    /// Whether the other item says the same. Never allocates.
     pub fn is_same(&self, other: &Item<A>) -> bool
         ensures { IsTrue result ↔ (item_data self.now ≡ item_data other.now) }
     {
@@ -270,7 +270,7 @@ impl<A: Allocator> Items<A> {
         }
     }
 
-    /// Appends an item. On `Memory` the item is dropped and the list stays as it was.
+    /// Appends an item. On `Memory`, drops the item and leaves the list unchanged.
     pub fn push(&mut self, item: Item<A>) -> Result<(), Memory>
         ensures ok { OnOk result (self.new ≡ self.old ++ item_data item ∷ []) }
         ensures err { OnErr result (self.new ≡ self.old) }
@@ -296,7 +296,7 @@ impl<A: Allocator> Items<A> {
         self.items.len()
     }
 
-    /// Whether the other list has equal items in the same order. Takes no memory.
+    /// Whether the other list has equal items in the same order. Never allocates.
     pub fn is_same(&self, other: &Items<A>) -> bool
         ensures { IsTrue result ↔ (self.now ≡ other.now) }
     {

@@ -37,7 +37,7 @@ impl<A: Allocator> Sect<A> {
     ghost use Rattle.std.specs.Prelude.{◌≡◌, ◌↔◌, IsTrue};
     ghost use Rattle.covline.specs.SectView.{sect_data};
 
-    /// Whether the other section says the same of the same test and file. Takes no memory.
+    /// Whether the other section says the same of the same test and file. Never allocates.
     pub fn is_same(&self, other: &Sect<A>) -> bool
         ensures { IsTrue result ↔ (sect_data self.now ≡ sect_data other.now) }
     {
@@ -101,7 +101,7 @@ impl<A: Allocator> Sects<A> {
         }
     }
 
-    /// Appends a section. On `Memory` the section is dropped and the list stays as it was.
+    /// Appends a section. On `Memory`, drops the section and leaves the list unchanged.
     pub fn push(&mut self, sect: Sect<A>) -> Result<(), Memory>
         ensures ok { OnOk result (self.new ≡ self.old ++ sect_data sect ∷ []) }
         ensures err { OnErr result (self.new ≡ self.old) }
@@ -110,7 +110,7 @@ impl<A: Allocator> Sects<A> {
         Ok(())
     }
 
-    /// Whether the other list has equal sections in the same order. Takes no memory.
+    /// Whether the other list has equal sections in the same order. Never allocates.
     pub fn is_same(&self, other: &Sects<A>) -> bool
         ensures { IsTrue result ↔ (self.now ≡ other.now) }
     {

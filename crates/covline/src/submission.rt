@@ -33,8 +33,8 @@ impl BadSubmission {
     }
 }
 
-/// What one text says: its sections and its number of odd lines. The sections have at most 67,108,864 items in all, and their
-/// texts are lawful. A line is odd if it doesn't fit its section. Contracts see the sections and the number.
+/// What one text says: its sections and its number of inconsistent lines. The sections have at most 67,108,864 items in all, and
+/// their texts are lawful. A line is odd if it doesn't fit its section. Contracts see the sections and the number.
 #[derive(Drop)]
 pub struct Submission<A: Allocator = Global> {
     sects: Sects<A>,
@@ -75,8 +75,8 @@ impl<A: Allocator> Submission<A> {
     ghost use Rattle.covline.specs.SectView.{sect_data};
     ghost use Rattle.covline.specs.Lawful.{IsLawful, IsRefusedAs};
 
-    /// The submission of these sections, with the number of odd lines of their text. If it is refused, the sections are given
-    /// back: they have too many items, or else one of their texts is unlawful.
+    /// The submission of these sections, with the number of inconsistent lines of their text. If it is refused, the sections are
+    /// given back: they have too many items, or else one of their texts is unlawful.
     pub fn of(sects: Sects<A>, odd: u64) -> Result<Submission<A>, (Sects<A>, BadSubmission)>
         ensures ok { IfOk result (λ s. s ≡ record { sects = sects; odd = odd }) }
         ensures lawful { IsOk result ↔ IsLawful (record { sects = sects; odd = odd }) }
@@ -92,7 +92,7 @@ impl<A: Allocator> Submission<A> {
         Ok(Submission { sects, items, odd })
     }
 
-    /// The submission of sections that are known to be lawful, with the number of odd lines of their text. The names and
+    /// The submission of sections that are known to be lawful, with the number of inconsistent lines of their text. The names and
     /// checksums of the sections aren't tested again.
     pub fn of_lawful(sects: Sects<A>, odd: u64) -> Submission<A>
         requires { IsLawful (record { sects = sects; odd = odd }) }
@@ -102,7 +102,7 @@ impl<A: Allocator> Submission<A> {
         Submission { sects, items, odd }
     }
 
-    /// Whether the other submission says the same, with as many odd lines. Takes no memory.
+    /// Whether the other submission says the same, with as many inconsistent lines. Never allocates.
     pub fn is_same(&self, other: &Submission<A>) -> bool
         ensures { IsTrue result ↔ (self.now ≡ other.now) }
     {
@@ -125,8 +125,8 @@ impl<A: Allocator> Submission<A> {
         self.items
     }
 
-    /// The number of odd lines in the text. A line is odd if it counts a function that has no start line, or if it states a
-    /// total that isn't the section's own.
+    /// The number of inconsistent lines in the text. A line is odd if it counts a function that has no start line, or if it states
+    /// a total that isn't the section's own.
     pub fn odd(&self) -> u64
         ensures { result ≡ self.now.odd }
     {

@@ -6,7 +6,7 @@ ghost use Rattle.covline.specs.Spells.{comma};
 use itoa::{Buffer, write_digits};
 use std::marker::Model;
 
-/// How many bytes there is room for. A line has at most a key of 5 bytes, four numbers of up to 39 digits, a comma after each,
+/// How many bytes there is capacity for. A line has at most a key of 5 bytes, four numbers of up to 39 digits, a comma after each,
 /// and a line feed.
 const ROOM: usize = 168;
 

@@ -22,7 +22,7 @@ use std::alloc::Allocator;
 ///
 /// # Errors
 ///
-/// `Memory` if memory was refused.
+/// `Memory` if an allocation failed.
 pub fn list_json<A: Allocator + Copy>(
     alloc: A,
     store: &Store<A>,
@@ -43,7 +43,7 @@ pub fn list_json<A: Allocator + Copy>(
 ///
 /// # Errors
 ///
-/// `Memory` if memory was refused.
+/// `Memory` if an allocation failed.
 pub fn summary_json<A: Allocator>(alloc: A, totals: &Totals) -> Result<Bytes<A>, Memory>
     ensures { IfOk result (λ t. t ≡ summary_json_of totals.now) }
 {

@@ -12,7 +12,7 @@ use std::alloc::Allocator;
 ///
 /// # Errors
 ///
-/// `Memory` if memory was refused. The text may then end in a part of the name.
+/// `Memory` if an allocation failed. The text may then end in a part of the name.
 pub fn put_shown_name<A: Allocator>(name: &[u8], text: &mut Bytes<A>) -> Result<(), Memory>
     ensures { OnOk result (text.new ≡ text.old ++ shown_name name.now) }
 {

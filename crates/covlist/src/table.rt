@@ -22,7 +22,7 @@ use std::alloc::Allocator;
 ///
 /// # Errors
 ///
-/// `Memory` if memory was refused.
+/// `Memory` if an allocation failed.
 pub fn list_table<A: Allocator + Copy>(
     alloc: A,
     store: &Store<A>,

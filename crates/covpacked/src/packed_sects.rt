@@ -58,7 +58,7 @@ impl<A: Allocator> Model for PackedSects<A> {
 impl<A: Allocator + Copy> PackedSects<A> {
     ghost use Rattle.std.specs.Prelude.{◌≡◌, []};
 
-    /// No sections, and no items of an open one. Takes no memory.
+    /// No sections, and no items of an open one. Never allocates.
     pub fn new(alloc: A) -> PackedSects<A>
         ensures sects { result.sects ≡ [] }
         ensures items { result.items ≡ [] }
@@ -237,7 +237,7 @@ impl<A: Allocator> PackedSects<A> {
         set_line(&mut self.numbers, word, line);
     }
 
-    /// Removes the open section's items at these places, which have to ascend. Takes no memory.
+    /// Removes the open section's items at these places, which have to ascend. Never allocates.
     pub fn remove(&mut self, places: &[usize])
         ensures sects { self.new.sects ≡ self.old.sects }
         ensures items { self.new.items ≡ left 0 places.now self.old.items }
@@ -245,7 +245,7 @@ impl<A: Allocator> PackedSects<A> {
         remove_words(&mut self.words, self.closed, places);
     }
 
-    /// Removes all items of the open section. Takes no memory.
+    /// Removes all items of the open section. Never allocates.
     pub fn forget(&mut self)
         ensures sects { self.new.sects ≡ self.old.sects }
         ensures items { self.new.items ≡ [] }

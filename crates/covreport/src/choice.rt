@@ -25,7 +25,7 @@ impl<A: Allocator> Choice<A> {
     ghost use Rattle.covreport.specs.Choice.{is_chosen};
     ghost use Rattle.covreport.specs.ChoiceView.{choice_data};
 
-    /// Whether the file is chosen. Takes no memory.
+    /// Whether the file is chosen. Never allocates.
     pub fn takes(&self, file: &[u8]) -> bool
         ensures { result ≡ is_chosen (choice_data self.now) file.now }
     {

@@ -21,7 +21,7 @@ pub fn a_pattern_begins_with_its_head()
     ensures needs_a_byte { (rest : List ℕ) (first : ℕ) → first ≢ 42 → matches (first ∷ rest) [] ≡ false }
 {}
 
-/// A star takes any run of bytes. A pattern that begins with a star matches a path exactly if the rest of the pattern matches
+/// A star takes any run of bytes. A pattern that begins with a star matches a path if and only if the rest of the pattern matches
 /// what follows some run of bytes at the front of the path.
 pub fn a_star_takes_any_run()
     ensures { (rest path : List ℕ) → (matches (42 ∷ rest) path ≡ true) ↔ ((run end : List ℕ) × (path ≡ run ++ end) × (matches rest end ≡ true)) }
@@ -48,8 +48,8 @@ pub fn functions_are_printed_by_start()
     ensures { (functions : List FunctionValueData) → IsSorted function_cmp (by_start functions) × IsPermutation functions (by_start functions) }
 {}
 
-/// A printed rate differs from the true one by less than one tenth of a percent. It is 100.0 percent exactly if every point is
-/// hit, and 0.0 percent exactly if no point is.
+/// A printed rate differs from the true one by less than one tenth of a percent. It is 100.0 percent if and only if every point is
+/// hit, and 0.0 percent if and only if no point is.
 pub fn rates_are_told_truly()
     ensures near { (hit found : ℕ) → 0 < found → hit ≤ found → (found * tenths_of hit found < 1000 * hit + found) × (1000 * hit < found * tenths_of hit found + found) }
     ensures all { (hit found : ℕ) → 0 < found → hit ≤ found → (tenths_of hit found ≡ 1000) ↔ (hit ≡ found) }

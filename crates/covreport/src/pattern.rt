@@ -12,7 +12,7 @@ pub(crate) mod steps;
 
 use steps::Matcher;
 
-/// Whether the pattern matches the whole path. Takes no memory. A match goes back to the last star only.
+/// Whether the pattern matches the whole path. Never allocates. A match goes back to the last star only.
 pub fn matches(pattern: &[u8], path: &[u8]) -> bool
     ensures { result ≡ pattern_matches pattern.now path.now }
 {

@@ -53,7 +53,7 @@ impl<'s, A: Allocator + Copy> Printing<'s, A> {
         })
     }
 
-    /// A text that is there already. Takes no memory.
+    /// A text that is there already. Never allocates.
     pub fn of_text(text: Bytes<A>) -> Printing<'s, A>
         ensures { result ≡ text }
     {
@@ -62,7 +62,7 @@ impl<'s, A: Allocator + Copy> Printing<'s, A> {
         }
     }
 
-    /// Prints the text. Between sections, printing stops if the printer wants no more. Takes no memory.
+    /// Prints the text. Between sections, printing stops if the printer wants no more. Never allocates.
     pub fn print<P: Printer>(self, printer: &mut P)
         ensures begun { (rest : List ℕ) × (P.text printer.new ++ rest ≡ P.text printer.old ++ self.entry) }
         ensures whole { P.is_open printer.new ≡ true → P.text printer.new ≡ P.text printer.old ++ self.entry }

@@ -13,7 +13,7 @@ use covstore::{Store, Totals};
 use itoa::Buffer;
 use std::alloc::Allocator;
 
-/// The totals of the chosen files, over all tests. Takes no memory.
+/// The totals of the chosen files, over all tests. Never allocates.
 pub fn chosen_totals<A: Allocator + Copy>(store: &Store<A>, choice: &Choice<A>) -> Totals
     ensures value { result ≡ totals_of (filter (λ s. is_chosen (choice_data choice.now) s.key.file) store.now.sections) }
     ensures bounds { AreTotals result }
@@ -42,8 +42,8 @@ fn without(whole: Totals, part: Totals) -> Totals
     }
 }
 
-/// The rate of points hit, in tenths of a percent from 0 to 1000: rounded to the nearest, halves up, but at most 999 if some
-/// point isn't hit, and at least 1 if some point is. Takes no memory.
+/// The rate of points hit, in tenths of a percent from 0 to 1000: rounded to the nearest, halves up, but at most 999 if some point
+/// isn't hit, and at least 1 if some point is. Never allocates.
 pub fn tenths(hit: u64, found: u64) -> u32
     requires some { 0 < found }
     requires fewer { hit ≤ found }

@@ -27,8 +27,8 @@ use covstore::{Section, Store};
 use std::alloc::Allocator;
 use std::marker::Model;
 
-/// The text of the sections of all chosen files, in order. It allocates this text, and room for the functions of one section. If
-/// no section is chosen, it allocates nothing.
+/// The text of the sections of all chosen files, in order. It allocates this text, and capacity for the functions of one section.
+/// If no section is chosen, it allocates nothing.
 pub fn trace_text<A: Allocator + Copy>(
     alloc: A,
     store: &Store<A>,
@@ -43,8 +43,8 @@ pub fn trace_text<A: Allocator + Copy>(
     text.into_text()
 }
 
-/// The text of the sections of chosen files, ready to be printed: there is room for the functions of each of them. Contracts see
-/// the text.
+/// The text of the sections of chosen files, ready to be printed: there is capacity for the functions of each of them. Contracts
+/// see the text.
 #[derive(Drop)]
 pub(crate) struct Tracefile<'s, A: Allocator> {
     store: &'s Store<A>,
@@ -82,7 +82,7 @@ impl<'s, A: Allocator + Copy> Tracefile<'s, A> {
         })
     }
 
-    /// Prints the text. Between sections, printing stops if the printer wants no more. Takes no memory.
+    /// Prints the text. Between sections, printing stops if the printer wants no more. Never allocates.
     pub(crate) fn print<P: Printer>(self, out: &mut P)
         ensures begun { (rest : List ℕ) × (P.text out.new ++ rest ≡ P.text out.old ++ self.entry) }
         ensures whole { P.is_open out.new ≡ true → P.text out.new ≡ P.text out.old ++ self.entry }
@@ -96,7 +96,7 @@ impl<'s, A: Allocator + Copy> Tracefile<'s, A> {
     }
 }
 
-/// Puts the sections of all chosen files, as long as the printer wants more. `functions` has room for those of each section.
+/// Puts the sections of all chosen files, as long as the printer wants more. `functions` has capacity for those of each section.
 fn put_chosen<'s, A: Allocator + Copy, P: Printer>(
     store: &'s Store<A>,
     choice: &Choice<A>,

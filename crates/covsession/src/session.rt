@@ -157,11 +157,11 @@ fn answer_to_the_end<I: Source, O: Sink, A: Allocator + Copy>(
 ///
 /// # Errors
 ///
-/// `Read` if a read failed, or if more than 4,294,967,296 reads were needed. `Write` if a write or flush failed. `Memory` if
-/// memory was refused. `Full` if the commands ask for more operations than the book's history has room for. What the sink has
-/// taken is a beginning of two session texts: that of the bytes that were read, and that of the whole input. Unless the fault is
-/// `Write`, it is the whole answers to the commands before the fault, and they were sent on. If a write fails after another
-/// fault, `Write` is returned instead of that fault.
+/// `Read` if a read failed, or if more than 4,294,967,296 reads were needed. `Write` if a write or flush failed. `Memory` if an
+/// allocation failed. `Full` if the commands ask for more operations than the book's history has capacity for. What the sink has
+/// taken is a prefix of two session texts: that of the bytes that were read, and that of the whole input. Unless the fault is
+/// `Write`, it is the whole answers to the commands before the fault, and they were sent on. If a write fails after another fault,
+/// `Write` is returned instead of that fault.
 pub fn session<I: Source, O: Sink, A: Allocator + Copy>(
     alloc: A,
     source: &mut I,
@@ -182,7 +182,7 @@ pub fn session<I: Source, O: Sink, A: Allocator + Copy>(
     ensures sent { OnOk result (O.held sink.new ≡ 0) }
     // However it ended, it made at most 4,294,967,296 reads.
     ensures few_reads { I.reads source.new ≤ I.reads source.old + 2 ^ 32 }
-    // After a fault, a beginning of the session text was written, and the counts of calls show the fault's cause.
+    // After a fault, a prefix of the session text was written, and the counts of calls show the fault's cause.
     ensures short { IfErr result (λ f. IsCutShort f (I.left source.old) (I.left source.new) (O.written sink.old) (O.written sink.new)) }
     ensures cause { IfErr result (λ f. HasCause f (calls (I.reads source.old) (I.failed_reads source.old) (O.failed_writes sink.old))
         (calls (I.reads source.new) (I.failed_reads source.new) (O.failed_writes sink.new))) }

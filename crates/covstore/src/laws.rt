@@ -39,9 +39,8 @@ pub fn order_is_unique()
     ensures lines { (all some others : List ℕ) → IsAscendingOf nat_cmp all some → IsAscendingOf nat_cmp all others → some ≡ others }
 {}
 
-/// Suppose that the held checksums agree with each other. Then `first_clash` gives a clash exactly if that clash is the first
-/// one. The first clash is that of the first given checksum that differs from a held checksum or from an earlier given one. The
-/// held checksums and the given checksums before that one all agree with each other. `first_clash` gives `None` exactly if all
+/// `first_clash` finds the first clash, provided that the held checksums agree with each other. The first clash is that of the
+/// first given checksum that differs from a held one or from an earlier given one. `first_clash` gives `None` if and only if all
 /// held and given checksums agree with each other.
 pub fn the_first_clash_is_told()
     ensures first { (held given : List Checksum) (clash : ClashData) → Agree held → first_clash held given ≡ Some clash ↔ IsFirstClash held given clash }

@@ -14,7 +14,7 @@ pub enum PrintFault {
     /// A line can't be read.
     #[error("{0}")]
     Line(#[from] LineFault),
-    /// Memory was refused.
+    /// An allocation failed.
     #[error("{0}")]
     Memory(#[from] Memory),
 }

@@ -1,4 +1,4 @@
-//! Lists to which elements are appended. A refusal drops the element, and the list stays as it was.
+//! Lists to which elements are appended. A refusal drops the element, and leaves the list unchanged.
 
 use super::heap::{check_rising, narrow, widen};
 use super::made;

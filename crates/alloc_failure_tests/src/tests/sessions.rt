@@ -1,4 +1,4 @@
-//! Sessions in which memory runs out. Such a session has written a beginning of what it would have written with ample memory.
+//! Sessions in which memory runs out. Such a session has written a prefix of what it would have written with ample memory.
 
 ghost use Rattle.std.specs.Prelude.{◌<◌, ◌^◌, None};
 
@@ -72,8 +72,7 @@ fn run<A: Allocator + Copy>(
     (ended, output)
 }
 
-/// Whether a session on these bytes is refused memory. If so, it has written a beginning of what is wanted, and otherwise all
-/// of it.
+/// Whether a session on these bytes is refused memory. If so, it has written a prefix of what is wanted, and otherwise all of it.
 fn is_refused(
     rt: &(impl Abort + AllocGlobal),
     heap: &Bump,

@@ -262,7 +262,7 @@ fn readers_take_no_memory(rt: HostRuntime) {
     check_none(&rt, |heap, room| reads_anew(&rt, heap, room));
 }
 
-/// Appends the seats of nine jobs to a list. If one is refused, it is given up, and the list stays as it was.
+/// Appends the seats of nine jobs to a list. If one is refused, it is given up, and leaves the list unchanged.
 fn hands_in<L: Name, A: Allocator + Copy, R: Wait + Abort>(
     rt: &R,
     alloc: A,

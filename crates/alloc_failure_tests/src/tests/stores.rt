@@ -133,7 +133,7 @@ fn first_text(rt: &impl Abort, heap: &Bump, room: usize) -> bool {
     holds(rt, room, heap, store, (b"", SMALL))
 }
 
-/// A store that holds the submission alone, as by `stored`, with the promise that it has room for another one.
+/// A store that holds the submission alone, as by `stored`, with the promise that it has capacity for another one.
 fn begun<A: Allocator + Copy>(rt: &impl Abort, alloc: A, given: &Submission<A>) -> Store<A>
     ensures { result.members < max_members }
 {

@@ -34,7 +34,7 @@ fn check_seat<L: Name>(rt: &impl Abort, seat: &Seat<L>, calls: u64) {
     assert_eq!(rt; (seat.calls(), seat.seen()), (calls, calls));
 }
 
-/// Asks for summaries until the heap has no more room, and returns how many were answered. Meanwhile a part of the heap is kept
+/// Asks for summaries until the heap has no more capacity, and returns how many were answered. Meanwhile a part of the heap is kept
 /// back here, so that there is room again later. The refused call leaves the seat as it was.
 fn fill_heap<L: Name, A: Allocator + Copy, R: Wait + Abort>(
     rt: &R,

@@ -8,8 +8,8 @@ use std::test::*;
 /// How many bytes of room a heap has.
 const AMPLE: usize = 20_000;
 
-/// A heap that has room. It has several blocks, so it never uses memory again that is given back to it: each growth needs room of
-/// its own.
+/// A heap that has capacity. It has several blocks, so it never uses memory again that is given back to it: each growth needs room
+/// of its own.
 fn new_heap(rt: &(impl Abort + AllocGlobal)) -> Bump {
     let heap = Bump::new(rt.alloc());
     take(rt, &heap, 1);

@@ -115,7 +115,7 @@ fn read_sample(rt: &(impl Abort + AllocGlobal), text: &[u8]) -> Submission {
     made(rt, Submission::of(sects, 0))
 }
 
-/// The submission of one section with these items, and with this number of odd lines.
+/// The submission of one section with these items, and with this number of inconsistent lines.
 fn submission_of(rt: &(impl Abort + AllocGlobal), letters: &[u8], odd: u64) -> Submission {
     let mut sects = Sects::new(rt.alloc());
     made(rt, sects.push(sect_of(rt, b"t", b"a.c", letters)));

@@ -32,7 +32,7 @@ pub struct Reader<'a, A: Allocator> {
     pub section: Option<OpenSection<'a, A>>,
     /// The sections that ended, and the items of the open one.
     pub sects: PackedSects<A>,
-    /// The number of odd lines in these.
+    /// The number of inconsistent lines in these.
     pub odd: u64,
 }
 

@@ -12,7 +12,7 @@ fn counted(alloc: Global, text: &[u8]) -> Result<(u64, u64), ReadFault> {
     Ok((submission.items(), submission.odd()))
 }
 
-/// Checks how many items and odd lines a text has, or its fault.
+/// Checks how many items and inconsistent lines a text has, or its fault.
 fn check_counted(
     rt: &(impl Abort + AllocGlobal),
     text: &[u8],

@@ -362,7 +362,7 @@ fn lists_and_their_copies(rt: HostRuntime) -> Result<(), Fail> {
     check_copied_items(&rt, copy.get())
 }
 
-/// The submission of `TWO`, with 14 odd lines.
+/// The submission of `TWO`, with 14 inconsistent lines.
 fn of_two(alloc: Global) -> Result<Submission, Fail> {
     match submission_of(two_sects(alloc)?, 14) {
         Ok(submission) => Ok(submission),
@@ -370,7 +370,7 @@ fn of_two(alloc: Global) -> Result<Submission, Fail> {
     }
 }
 
-/// Checks that the submission is that of `TWO`, with 14 odd lines.
+/// Checks that the submission is that of `TWO`, with 14 inconsistent lines.
 fn check_two(rt: &(impl Abort + AllocGlobal), submission: &Submission) -> Result<(), Fail> {
     assert_eq!(rt; submission.items(), 6);
     assert_eq!(rt; submission.odd(), 14);
@@ -482,7 +482,7 @@ fn numbers_of_faults(rt: HostRuntime) {
     );
 }
 
-/// Checks that a text is read as these sections, with no odd line, packed and not.
+/// Checks that a text is read as these sections, with no inconsistent line, packed and not.
 fn check_read(rt: &(impl Abort + AllocGlobal), text: &[u8], wanted: &[u8]) -> Result<(), Fail> {
     let submission = read(rt.alloc(), text)?;
     assert_eq!(rt; submission.odd(), 0);

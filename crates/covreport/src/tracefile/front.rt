@@ -6,7 +6,7 @@ ghost use Rattle.covline.specs.Spells.{comma};
 use itoa::{Buffer, write_digits};
 use std::marker::Model;
 
-/// How many bytes there is room for. A record has at most a key of 5 bytes, three numbers of 64 bits, one number of 128 bits,
+/// How many bytes there is capacity for. A record has at most a key of 5 bytes, three numbers of 64 bits, one number of 128 bits,
 /// and a byte after each number.
 const ROOM: usize = 112;
 

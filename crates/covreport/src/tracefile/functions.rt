@@ -36,7 +36,7 @@ impl<'a> PrintedFunction<'a> {
     }
 }
 
-/// Puts the functions of a section and their totals. `functions` has room for them; what it had before is dropped.
+/// Puts the functions of a section and their totals. `functions` has capacity for them; what it had before is dropped.
 pub(super) fn put_functions<'a, A: Allocator, P: Printer>(
     section: &Section<'a, A>,
     functions: &mut Vec<PrintedFunction<'a>, A>,
@@ -53,7 +53,7 @@ pub(super) fn put_functions<'a, A: Allocator, P: Printer>(
     put_totals_if_any(TotalKind::FuncFound, TotalKind::FuncHit, tally, out);
 }
 
-/// Replaces the functions by those of a section, in the order that they are printed in. There is room for them.
+/// Replaces the functions by those of a section, in the order that they are printed in. There is capacity for them.
 fn sort_by_start_line<'a, A: Allocator>(
     section: &Section<'a, A>,
     functions: &mut Vec<PrintedFunction<'a>, A>,
@@ -68,7 +68,7 @@ fn sort_by_start_line<'a, A: Allocator>(
     functions.sort_unstable();
 }
 
-/// Fills the list with the functions of a section. There is room for them.
+/// Fills the list with the functions of a section. There is capacity for them.
 fn collect<'a, A: Allocator>(section: &Section<'a, A>, functions: &mut Vec<PrintedFunction<'a>, A>)
     requires empty { functions.old.items ≡ [] }
     requires none { vec_len functions.old ≡ 0 }

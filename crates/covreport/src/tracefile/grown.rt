@@ -20,7 +20,7 @@ pub(super) struct Grown<A: Allocator> {
 impl<A: Allocator> Grown<A> {
     ghost use Rattle.std.specs.Prelude.{◌≡◌, ◌≢◌, [], true, IfOk, OnOk, OnErr};
 
-    /// The empty text. Takes no memory.
+    /// The empty text. Never allocates.
     pub(super) fn new(alloc: A) -> Grown<A>
         ensures empty { result.put.bytes ≡ [] }
         ensures whole { result.is_whole ≡ true }
@@ -32,7 +32,7 @@ impl<A: Allocator> Grown<A> {
         }
     }
 
-    /// The whole text, if no memory was refused.
+    /// The whole text, if no an allocation failed.
     pub(super) fn into_text(self) -> Result<Bytes<A>, Memory>
         ensures ok { IfOk result (λ t. t ≡ self.put.bytes) }
         ensures whole { OnOk result (self.is_whole ≡ true) }

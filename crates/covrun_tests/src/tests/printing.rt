@@ -64,7 +64,7 @@ fn merge_into<R: AllocGlobal + Threads + Wait + Sync>(
 }
 
 /// Checks a merge of a tracefile that is printed as it is, in `blocks` writes. If the output fails before one of them, it has a
-/// beginning of the text, and the failure is reported. If it takes all, it has the whole text.
+/// prefix of the text, and the failure is reported. If it takes all, it has the whole text.
 fn check_blocks<R: AllocGlobal + Threads + Wait + Abort + Sync>(
     rt: &R,
     text: &[u8],

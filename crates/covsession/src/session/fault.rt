@@ -11,9 +11,9 @@ pub enum SessionFault {
     Read = 1,
     /// A write or a flush failed, or a write took no byte although it was given some.
     Write = 2,
-    /// Memory was refused.
+    /// An allocation failed.
     Memory = 3,
-    /// The history has no room for another entry.
+    /// The history has no capacity for another entry.
     Full = 4,
 }
 
@@ -21,7 +21,7 @@ impl SessionFault {
     ghost use Rattle.std.specs.Prelude.{◌≡◌};
     ghost use Rattle.covsession.specs.SessionFaults.{fault_number};
 
-    /// The number of the fault, from 1.
+    /// The number of the error, from 1.
     pub fn number(self) -> u32
         ensures { result ≡ fault_number self }
     {

@@ -160,7 +160,7 @@ impl<'s, O: Sink, A: Allocator> Output<'s, O, A> {
     }
 }
 
-/// Writes all these bytes, in as many calls as are needed. If a write fails, the sink has taken a beginning of them.
+/// Writes all these bytes, in as many calls as are needed. If a write fails, the sink has taken a prefix of them.
 pub fn put_bytes<O: Sink>(bytes: &[u8], sink: &mut O) -> Result<(), SessionFault>
     requires { O.failed_writes sink.old < 2 ^ 63 }
     ensures written { OnOk result (Appends (O.written sink.old) (O.written sink.new) bytes.now) }

@@ -76,7 +76,7 @@ fn a_plan_that_is_dropped(rt: HostRuntime) -> Result<(), Fail> {
     Ok(())
 }
 
-/// A store that holds the text alone, and has room for another one.
+/// A store that holds the text alone, and has capacity for another one.
 pub(super) fn store_of(rt: &(impl Abort + AllocGlobal), text: &[u8]) -> Result<Store, Fail>
     ensures { IfOk result (λ store. store.members < max_members) }
 {
