@@ -44,7 +44,7 @@ fn receipts_below<A: Allocator>(logs: &[JobLog<A>], place: u64) -> u64
     count
 }
 
-/// How many receipts of the log have a place below this one. The log's places rise, so a binary search finds the number.
+/// How many receipts of the log have an index below `place`. The indices ascend, so a binary search finds the number.
 fn log_below<A: Allocator>(log: &JobLog<A>, place: u64) -> u64
     requires { Rise (places_of (log_data log.now)) }
     ensures { result ≡ below place (places_of (log_data log.now)) }

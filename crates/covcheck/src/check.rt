@@ -1,4 +1,4 @@
-//! Checking a text.
+//! Checks one input.
 
 ghost use Rattle.std.specs.Prelude.{◌≡◌, ◌⊎◌, [], Result, Err};
 ghost use Rattle.covline.specs.Row.{SubmissionData};
@@ -18,8 +18,8 @@ use covpacked::ReadText;
 use covread::{ReadFault, read_gcov_packed, read_trace_packed};
 use std::alloc::Allocator;
 
-/// Reads a tracefile (geninfo(1) of LCOV 1.x, section FILES). Returns what it holds, or the fault that `read_trace`
-/// returns. What was read is freed.
+/// Reads a tracefile (geninfo(1) of LCOV 1.x, section FILES), and returns its summary, or the error of `read_trace`. Frees what was
+/// read.
 pub fn check_trace<'a, A: Allocator + Copy>(
     alloc: A,
     text: &'a [u8],
@@ -33,8 +33,8 @@ pub fn check_trace<'a, A: Allocator + Copy>(
     Ok(summary_of(&submission, text, Format::Trace))
 }
 
-/// Reads a tracefile of LCOV 2 (geninfo(1) of LCOV 2.x, TRACEFILE FORMAT). Returns what it holds, or the fault that `read_lcov2`
-/// returns. What was read is freed.
+/// Reads a tracefile of LCOV 2 (geninfo(1) of LCOV 2.x, TRACEFILE FORMAT), and returns its summary, or the error of `read_lcov2`.
+/// Frees what was read.
 pub fn check_lcov2<'a, A: Allocator + Copy>(
     alloc: A,
     text: &'a [u8],
@@ -48,8 +48,8 @@ pub fn check_lcov2<'a, A: Allocator + Copy>(
     Ok(summary_of(&submission, text, Format::Lcov2))
 }
 
-/// Reads gcov's annotated source (gcov(1)), as counts of the test with the empty name. Returns what it holds, or the fault
-/// that `read_gcov` returns. What was read is freed.
+/// Reads gcov's annotated source (gcov(1)), as counts of the test with the empty name. Returns its summary, or the error of
+/// `read_gcov`. Frees what was read.
 pub fn check_gcov<'a, A: Allocator + Copy>(
     alloc: A,
     text: &'a [u8],
@@ -64,8 +64,7 @@ pub fn check_gcov<'a, A: Allocator + Copy>(
     Ok(summary_of(&submission, text, Format::Gcov))
 }
 
-/// The summary of a text that was read as this submission. Whether the text is read as this submission isn't checked. Never
-/// allocates.
+/// The summary of an input that was read as this submission. Doesn't check that it was. Never allocates.
 pub fn summary_of<'a, S: ReadText>(
     submission: &S,
     text: &'a [u8],

@@ -26,7 +26,7 @@ impl<L: Name, A: Allocator> Model for Live<L, A> {
     ghost view = { λ live. live.longest };
 }
 
-/// News of the published history. Returns `None` after the publisher was closed.
+/// News of the published history. Returns `None` if the reader gets no view of it, as after a close.
 fn look<L: Name, A: Allocator>(
     reader: SnapshotReader<L, A>,
 ) -> (SnapshotReader<L, A>, Option<News<L>>) {
@@ -63,8 +63,8 @@ impl<L: Name, A: Allocator> Live<L, A> {
         self.longest = self.longest.longer(news);
     }
 
-    /// The totals of the longest history that this reader knows: the published one, or a longer one that it saw or learned. After
-    /// the publisher was closed, the reader no longer sees the published history. Never allocates or waits.
+    /// The totals of the longest history that this reader knows: the published one, or a longer one that it saw or learned. If the
+    /// reader gets no view of the published one, as after a close, only the latter counts. Never allocates or waits.
     pub fn totals(&mut self) -> Reading
         ensures own { IsPrefix self.old self.new }
         ensures legal { IsLegal self.new }
@@ -76,7 +76,7 @@ impl<L: Name, A: Allocator> Live<L, A> {
         self.longest.reading()
     }
 
-    /// News of the published history. After the publisher was closed, news of the longest history that the reader saw or learned.
+    /// News of the published history. If the reader gets no view of it, news of the longest history that it saw or learned.
     fn published(&mut self) -> News<L>
         ensures { self.new ≡ self.old }
     {

@@ -12,8 +12,8 @@ pub enum Choice<A: Allocator = Global> {
     Extract(Patterns<A>),
     /// The files that match none of the patterns; every file if there are no patterns.
     Remove(Patterns<A>),
-    /// The files that match at least one of the includes and none of the excludes. Without includes, all files that match none
-    /// of the excludes (lcov(1) of LCOV 2.x, `--include` and `--exclude`).
+    /// The files that match at least one of the includes (any file if there are none) and none of the excludes (lcov(1) of LCOV
+    /// 2.x, `--include` and `--exclude`).
     Filter {
         includes: Patterns<A>,
         excludes: Patterns<A>,

@@ -12,10 +12,10 @@ pub const MAX_PATTERNS: usize = 64;
 /// The most bytes in one pattern.
 pub const MAX_PATTERN_BYTES: usize = 1_024;
 
-/// Why a pattern isn't added to a list.
+/// Why a pattern couldn't be added to a list.
 #[derive(Clone, Copy, Debug, PartialEq, Eq, Error)]
 pub enum PatternFault {
-    /// The list has 64 patterns. This is tested first.
+    /// The list has 64 patterns. This is checked first.
     #[error("TooMany")]
     TooMany = 1,
     /// The pattern has more than 1,024 bytes.
@@ -81,7 +81,7 @@ impl<A: Allocator + Copy> Patterns<A> {
         }
     }
 
-    /// Appends a pattern. If it is refused, leaves the list unchanged.
+    /// Appends a pattern. An error leaves the list unchanged.
     pub fn add(&mut self, alloc: A, pattern: &[u8]) -> Result<(), PatternFault>
         ensures ok { OnOk result (self.new ≡ self.old ++ pattern.now ∷ []) }
         ensures err { OnErr result (self.new ≡ self.old) }
@@ -109,7 +109,7 @@ impl<A: Allocator + Copy> Patterns<A> {
         Ok(())
     }
 
-    /// An equal list, in memory of its own.
+    /// Copies the list.
     pub fn copy(&self, alloc: A) -> Result<Patterns<A>, Memory>
         ensures { IfOk result (λ p. p ≡ self.now) }
     {

@@ -1,19 +1,19 @@
-//! The faults that end a session.
+//! The errors that end a session.
 
 use covbook::BookFault;
 use covline::Memory;
 use std::alloc::AllocError;
 
-/// The fault that ended a session.
+/// The error that ended a session.
 #[derive(Clone, Copy, Debug, PartialEq, Eq)]
 pub enum SessionFault {
     /// A read failed, or more than 2^32 reads were needed.
     Read = 1,
-    /// A write or a flush failed, or a write took no byte although it was given some.
+    /// A write or a flush failed, or a write of some bytes took none.
     Write = 2,
     /// An allocation failed.
     Memory = 3,
-    /// The history has no capacity for another entry.
+    /// The history is full.
     Full = 4,
 }
 
