@@ -112,7 +112,7 @@ pub enum Strictness {
     Strict,
 }
 
-/// How long a tracefile may be that a call reads.
+/// How long a tracefile may be.
 #[derive(Clone, Copy)]
 pub enum TextSize {
     /// Without `--large`: a file above 64 MiB is rejected. A session and `gcov`, which have no such flag, are always limited.

@@ -1,5 +1,5 @@
-//! What is wanted was worked out by hand from geninfo(1) of LCOV 2.3.1, section TRACEFILE FORMAT, never taken from an output. It is
-//! written as a tracefile of version 1.
+//! Expected values were worked out by hand from geninfo(1) of LCOV 2.3.1, section TRACEFILE FORMAT. It is written as a tracefile of
+//! version 1.
 
 use covlcov2::{read_lcov2, read_lcov2_packed};
 use covline::Submission;

@@ -1,4 +1,4 @@
-//! Histories as text. Each line that is asked is a job and what it asks for, and each step is told in words.
+//! Histories as text. Each line of a script has a job and its operation, and each step is printed in words.
 
 use super::push_line;
 use super::said::{put_answer, put_number, words_of};
@@ -63,7 +63,7 @@ fn section_of(alloc: Global, lines: &[u8]) -> Result<Vec<u8>, Fail> {
     Ok(text)
 }
 
-/// The job that asks what a line says: the digit at the line's beginning.
+/// The job of a line: its first digit.
 fn job_of(line: &[u8]) -> u32 {
     match line.first() {
         Some(job) => u32::from(job.wrapping_sub(b'0')),
@@ -71,7 +71,7 @@ fn job_of(line: &[u8]) -> u32 {
     }
 }
 
-/// What a line asks, after its job and a space.
+/// The operation of a line, after its job and a space.
 fn asked(line: &[u8]) -> &[u8] {
     match line.get(2..) {
         Some(words) => words,

@@ -8,7 +8,7 @@ use std::alloc::Global;
 use std::process::Abort;
 use std::test::*;
 
-/// Checks how many lines would be found and hit after the text's submission. Its step is made ready and dropped.
+/// Checks how many lines would be found and hit after submitting the text. Makes the step ready and drops it.
 fn check_dropped(
     rt: &(impl Abort + AllocGlobal),
     book: &mut Book,
@@ -21,7 +21,7 @@ fn check_dropped(
     Ok(())
 }
 
-/// A step can be taken in two halves. If its second half never comes, it isn't taken.
+/// A step can be done in two halves. Without its second half, it has no effect.
 #[test]
 fn halves_of_a_step(rt: HostRuntime) -> Result<(), Fail> {
     let mut book = Book::new(rt.alloc());

@@ -1,4 +1,4 @@
-//! Words as text.
+//! Arguments as text.
 
 use super::refused;
 use covcommand::{CommandFault, word_at};
@@ -6,8 +6,8 @@ use std::alloc::Global;
 use std::process::Abort;
 use std::test::*;
 
-/// A word that is UTF-8 is taken as it is. Any other word is reported with its place and its bytes, of which those that can't be
-/// printed are a `?`.
+/// A UTF-8 argument is returned unchanged. Any other argument is reported with its index and its bytes, with `?` for those that
+/// can't be printed.
 #[test]
 fn words_as_text(rt: HostRuntime) -> Result<(), Fail> {
     check_word(&rt, 2, b"my files/a.info", "my files/a.info")?;

@@ -1,5 +1,5 @@
-//! A shared book from its opening to its history. These functions panic at a refusal. A function that returned early would have
-//! to drop its book and its seats on each way out, and each of these ways would have to be proved.
+//! A shared book from its opening to its history. These functions panic on an error. A function that returned early would have to
+//! drop its book and its seats on each way out, and each of these ways would have to be proved.
 
 ghost use Rattle.std.specs.Prelude.{◌≡◌};
 

@@ -1,4 +1,4 @@
-//! Calls in functions without contracts. A test looks only at values, and its proof is quicker without contracts.
+//! Calls in functions without contracts. A test looks only at values, and its proof is faster without contracts.
 
 ghost use Rattle.std.specs.Prelude.{◌≡◌};
 

@@ -1,4 +1,4 @@
-//! Sections are closed.
+//! Closes sections.
 
 use super::made;
 use super::mixed::{check_numbers, push_numbers};
@@ -27,7 +27,7 @@ fn none(rt: HostRuntime) {
     assert!(rt; sects.sects().next().is_none());
 }
 
-/// A section that isn't closed isn't among the others, and then it is.
+/// A section is among the others only after it is closed.
 #[test]
 fn an_open_section(rt: HostRuntime) {
     let mut sects = PackedSects::new(rt.alloc());
@@ -71,7 +71,7 @@ fn names_of_tests(rt: HostRuntime) {
     assert!(rt; closed.next().is_none());
 }
 
-/// Empty names, at first, between others and twice.
+/// Empty names come first, between others and twice.
 #[test]
 fn empty_names(rt: HostRuntime) {
     let mut sects = PackedSects::new(rt.alloc());
@@ -87,7 +87,7 @@ fn empty_names(rt: HostRuntime) {
     assert!(rt; closed.next().is_none());
 }
 
-/// Sections without items, at first, between others and at the end.
+/// Sections without items come first, between others and last.
 #[test]
 fn sections_without_items(rt: HostRuntime) {
     let mut sects = PackedSects::new(rt.alloc());

@@ -103,7 +103,7 @@ pub(super) fn check_packed<A: Allocator>(
     assert_eq!(rt; packed.odd(), odd);
 }
 
-/// Packs the first `count` sections, unpacks them and packs them again. They have so many items.
+/// Packs the first `count` sections, unpacks them and packs them again. Checks that they have `items` items.
 fn check(rt: &(impl Abort + AllocGlobal), count: usize, items: u64, odd: u64) {
     let given = submission_of(rt, rt.alloc(), count, odd);
     let first = made(rt, packed(rt.alloc(), &given));
