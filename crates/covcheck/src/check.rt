@@ -24,9 +24,9 @@ pub fn check_trace<'a, A: Allocator + Copy>(
     alloc: A,
     text: &'a [u8],
 ) -> Result<TextSummary<'a>, ReadFault>
-    // The result fits an answer of the reader: what the text is read as, or `Memory`. The answer is `Memory` only after a path.
+    // The summary fits a result of the reader: what the input is read as, or `Memory`. It is `Memory` only after a path.
     ensures answers { (read : Result SubmissionData Fault) × Answers text.now read × GrowsLate text.now read × Tells IsSkippedRecord text.now read result }
-    // The result fits what the text is read as, or it is `Memory`.
+    // The summary fits what the input is read as, or the result is `Memory`.
     ensures only { (outcome : Result SubmissionData Fault) → IsOutcome text.now outcome → (result ≡ Err NoMemory) ⊎ Tells IsSkippedRecord text.now outcome result }
 {
     let submission = read_trace_packed(alloc, text)?;
@@ -39,9 +39,9 @@ pub fn check_lcov2<'a, A: Allocator + Copy>(
     alloc: A,
     text: &'a [u8],
 ) -> Result<TextSummary<'a>, ReadFault>
-    // The result fits an answer of the reader: what the text is read as, or `Memory`. The answer is `Memory` only after a path.
+    // The summary fits a result of the reader: what the input is read as, or `Memory`. It is `Memory` only after a path.
     ensures answers { (read : Result SubmissionData Fault) × lcov2.Answers text.now read × lcov2.GrowsLate text.now read × Tells IsSkippedLcov2 text.now read result }
-    // The result fits what the text is read as, or it is `Memory`.
+    // The summary fits what the input is read as, or the result is `Memory`.
     ensures only { (outcome : Result SubmissionData Fault) → lcov2.IsOutcome text.now outcome → (result ≡ Err NoMemory) ⊎ Tells IsSkippedLcov2 text.now outcome result }
 {
     let submission = read_lcov2_packed(alloc, text)?;
@@ -54,10 +54,10 @@ pub fn check_gcov<'a, A: Allocator + Copy>(
     alloc: A,
     text: &'a [u8],
 ) -> Result<TextSummary<'a>, ReadFault>
-    // The result fits an answer of the reader: what the text is read as, or `Memory`. The answer is `Memory` only after a path or
-    // a function.
+    // The summary fits a result of the reader: what the input is read as, or `Memory`. It is `Memory` only after a path or a
+    // function.
     ensures answers { (read : Result SubmissionData Fault) × gcov.Answers [] text.now read × gcov.GrowsLate text.now read × Tells IsSkippedGcov text.now read result }
-    // The result fits what the text is read as, or it is `Memory`.
+    // The summary fits what the input is read as, or the result is `Memory`.
     ensures only { (outcome : Result SubmissionData Fault) → gcov.IsOutcome [] text.now outcome → (result ≡ Err NoMemory) ⊎ Tells IsSkippedGcov text.now outcome result }
 {
     let submission = read_gcov_packed(alloc, b"", text)?;

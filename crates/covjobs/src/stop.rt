@@ -61,8 +61,8 @@ pub(crate) fn both(first: Option<Refusal>, next: Refusal) -> Refusal
     }
 }
 
-/// The stop at the unreadable input if all inputs before it were read, else that of the refusal. Returns `None` if neither is
-/// given.
+/// Chooses the stop to report. This is the unreadable input `least` if no job with a refusal stopped reading before it, and
+/// otherwise the refusal. Returns `None` if there is no stop.
 pub(crate) fn worst(least: Option<usize>, refused: Option<Refusal>) -> Option<Stop>
     ensures { result ≡ worst_of least refused }
 {

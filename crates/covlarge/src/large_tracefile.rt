@@ -63,7 +63,7 @@ pub enum NextPiece<S: Source> {
 }
 
 impl<S: Source + Drop> LargeTracefile<S> {
-    /// Opens the rest of the source as a tracefile. Its chunks together are read as the whole tracefile would be.
+    /// Opens the rest of the source as a tracefile. Reading all its chunks gives the same as reading the tracefile as a whole.
     pub fn new(alloc: Global, version: LcovVersion, source: S) -> LargeTracefile<S>
         requires reads { S.reads source ≡ 0 }
         requires failed_reads { S.failed_reads source ≡ 0 }

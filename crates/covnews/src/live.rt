@@ -63,8 +63,8 @@ impl<L: Name, A: Allocator> Live<L, A> {
         self.longest = self.longest.longer(news);
     }
 
-    /// The totals of the longest history that this reader knows: the published one, or a longer one that it saw or learned. If the
-    /// reader gets no view of the published one, as after a close, only the latter counts. Never allocates or waits.
+    /// The totals of the longest history that this reader knows: one that it saw or learned, or a longer published one. After a
+    /// close, the reader no longer gets a view of the published history. Never allocates or waits.
     pub fn totals(&mut self) -> Reading
         ensures own { IsPrefix self.old self.new }
         ensures legal { IsLegal self.new }

@@ -34,9 +34,9 @@ pub fn two_parts_are_read_as_one()
     what_is_read_as_lcov2_is_lawful();
 }
 
-/// The chunks of a tracefile are together read as the whole: their sections, in order, are those of the whole, their numbers of
-/// inconsistent lines add up, and the first error is that of the whole, with its line number there. The exception is a chunk that
-/// is too long with its prefix: its error says nothing about the whole.
+/// Reading the chunks of a tracefile gives the same as reading the whole: their sections, in order, are those of the whole, their
+/// numbers of inconsistent lines add up, and the first error is that of the whole, with its line number there. The exception is a
+/// chunk that is too long with its prefix: its error says nothing about the whole.
 pub fn pieces_are_read_as_the_whole()
     ensures trace { (text : List ℕ) (pieces : List (List ℕ)) (r : Result SubmissionData Fault) → IsCut text pieces
         → ReadsInPieces IsOutcome carried_after nothing_carried pieces r → (r ≡ Err TooMuch) ⊎ IsWholeOutcome text r }

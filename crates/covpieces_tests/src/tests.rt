@@ -28,7 +28,7 @@ fn read(alloc: Global, text: &[u8], version: Version) -> Result<Submission, Read
     }
 }
 
-/// A chunk after its prefix.
+/// Makes the input of the reader for a chunk: its prefix, followed by the chunk.
 fn behind_front(alloc: Global, carried: &Carried, piece: &[u8]) -> Result<Bytes, Memory> {
     let mut text = carried.front(alloc)?;
     text.append(piece)?;

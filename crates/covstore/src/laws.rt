@@ -64,26 +64,25 @@ pub fn totals_count_different_points()
     ensures branches { (rows : List Row) → ((totals_of (content_of rows)).bf ≡ found branches rows) × ((totals_of (content_of rows)).bh ≡ hit branches rows) }
 {}
 
-/// For each kind of points, no more points are hit than found. This holds for any sections, and so for the sections that any
-/// rows add up to.
+/// For each kind of points, no more points are hit than found. This holds for any sections, and so for those of any rows.
 pub fn no_more_are_hit_than_found()
     ensures sections { (sections : List SectionData) → AreTotals (totals_of sections) }
     ensures rows { (rows : List Row) → AreTotals (totals_of (content_of rows)) }
 {}
 
-/// Rows add up to sections. The totals of these sections can be counted from the rows themselves. For each file, the points
-/// found are the distinct points of its rows, over all tests. A point is hit if some row gives it a count above 0.
+/// The totals of the sections of some rows can be counted from the rows themselves. For each file, the points found are the
+/// distinct points of its rows, over all tests. A point is hit if some row gives it a count above 0.
 pub fn totals_count_the_rows()
     ensures { (rows : List Row) → totals_of (content_of rows) ≡ totals_over rows }
 {}
 
-/// What rows add up to doesn't depend on their order, if their checksums agree.
+/// The sum of rows doesn't depend on their order, if their checksums agree.
 pub fn order_of_rows_does_not_matter()
     ensures content { (rows others : List Row) → IsPermutation rows others → Agree (checksums_in rows) → content_of rows ≡ content_of others }
     ensures agree { (rows others : List Row) → IsPermutation rows others → Agree (checksums_in rows) → Agree (checksums_in others) }
 {}
 
-/// What a table adds up to doesn't depend on the order of its submissions, if their checksums agree.
+/// The sum of a table doesn't depend on the order of its submissions, if their checksums agree.
 pub fn order_of_submissions_does_not_matter()
     ensures content { (table others : Table) → IsPermutation table others → Agree (checksums_in (all_rows table)) → content_at table ≡ content_at others }
     ensures agree { (table others : Table) → IsPermutation table others → Agree (checksums_in (all_rows table)) → Agree (checksums_in (all_rows others)) }

@@ -25,8 +25,8 @@ impl KindTally {
     ghost use Rattle.covstore.specs.PointIndexDrops.{CanBeLess, IsLess};
     ghost use Rattle.covstore.specs.SoleTest.{found_by, hit_by};
 
-    /// The tally after a point's numbers grow. The point is newly found if it had no numbers before, and newly hit if it wasn't hit
-    /// before.
+    /// The tally after a point's numbers grow. The point is newly found if it had no numbers before, and newly hit if it is hit now
+    /// and wasn't before.
     fn more(self, before: &Option<TestCounts>, after: &TestCounts) -> KindTally
         requires found { self.found < 2 ^ 63 }
         requires hit { self.hit < 2 ^ 63 }

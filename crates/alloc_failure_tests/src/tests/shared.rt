@@ -73,7 +73,7 @@ fn check_live<L: Name, A: Allocator>(
     assert_eq!(rt; reading.totals, totals);
 }
 
-/// Checks the number of successful calls, all of which were the seat's.
+/// Checks that the seat made `calls` successful calls, and that it saw no other entries than theirs.
 fn check_seat<L: Name>(rt: &impl Abort, seat: &Seat<L>, calls: u64) {
     assert_eq!(rt; (seat.calls(), seat.seen()), (calls, calls));
 }

@@ -128,8 +128,8 @@ fn check_drops(rt: &(impl Abort + AllocGlobal), book: &mut Book) -> Result<(), F
     check_drop(rt, book, b"0 drop t0", without_t0, b"0 0 0 0 0 0")
 }
 
-/// What each test has in each of the five files follows from the places in `text_of_one`. The count of test t at a place is
-/// `place % (t + 2)`, and a point is hit if one of its counts isn't 0.
+/// The points of each test in the five files follow from the places in `text_of_one`. The count of test t at a place is `place % (t
+/// + 2)`, and a point is hit if one of its counts isn't 0.
 ///
 /// | test | lines   | hit        | functions | hit   | branches | hit |
 /// |------|---------|------------|-----------|-------|----------|-----|

@@ -27,7 +27,7 @@ fn words_as_text(rt: HostRuntime) -> Result<(), Fail> {
     )
 }
 
-/// Checks that the word at this place is taken as `wanted`, or refused in these words.
+/// Checks that the argument with this index is returned as `wanted`, or that its error has this text.
 fn check_word(
     rt: &(impl Abort + AllocGlobal),
     place: usize,
@@ -39,12 +39,12 @@ fn check_word(
     Ok(())
 }
 
-/// The word as text, or its refusal. This function has no contract.
+/// The argument as text, or its error. This function has no contract.
 fn taken(alloc: Global, place: usize, word: &[u8]) -> Result<String, CommandFault> {
     word_at(alloc, place, word)
 }
 
-/// The text, or the refusal in words.
+/// The text, or the error in words.
 fn told_of(alloc: Global, taken: Result<String, CommandFault>) -> Result<String, Fail> {
     match taken {
         Ok(text) => Ok(text),

@@ -105,7 +105,7 @@ pub(super) fn check_report<R: AllocGlobal + Abort>(
     }
 }
 
-/// The second of four inputs is refused. Job 0 has two of the others.
+/// The second of four inputs is rejected. Job 0 has two of the others.
 fn by_three<R: Threads + Wait + Sync + AllocGlobal + Abort>(rt: &R) -> Result<(), Fail> {
     let inputs = lates(rt.alloc(), &[SMALL, b"DA:1,1", OTHERS, SMALL])?;
     let collected = collected_of(rt, inputs, 3);

@@ -131,7 +131,7 @@ fn the_order_of_parts(rt: HostRuntime) {
     assert!(rt; is_clash(kept.get(3), 7));
 }
 
-/// Job 0 has the first input and the third, and job 1 the second, which is refused after its first part.
+/// Job 0 has the first input and the third, and job 1 the second, which is rejected after its first part.
 #[test]
 fn parts_of_two_jobs(rt: HostRuntime) {
     let collected = collected_of(&rt, &[&[SMALL], &[OTHERS, b"DA:1,1"], &[SMALL]], 2);

@@ -29,7 +29,7 @@ fn summaries<L: Name, A: Allocator + Copy, R: Wait>(
     (most, None)
 }
 
-/// Checks the number of successful calls, all of which were the seat's.
+/// Checks that the seat made `calls` successful calls, and that it saw no other entries than theirs.
 fn check_seat<L: Name>(rt: &impl Abort, seat: &Seat<L>, calls: u64) {
     assert_eq!(rt; (seat.calls(), seat.seen()), (calls, calls));
 }

@@ -29,7 +29,7 @@ pub(super) fn open<L: Name, A: Allocator + Copy>(
     open_book::<L, A>(alloc, start)
 }
 
-/// What the book answers to the call.
+/// The answer of the book to the call.
 pub(super) fn done<L: Name, A: Allocator + Copy, R: Wait>(
     rt: &R,
     alloc: A,

@@ -18,8 +18,8 @@ pub fn each_gcov_text_has_one_outcome()
     ensures one { (test text : List ℕ) (x y : Result SubmissionData Fault) → IsOutcome test text x → IsOutcome test text y → x ≡ y }
 {}
 
-/// An early error is returned, whatever the memory: if nothing is stored before the first invalid line, `read_gcov` can't run out
-/// of memory before it. This holds for an input within the size limit and a test name that a tracefile can hold.
+/// `read_gcov` returns the first error even if memory is short, provided that nothing is stored before the invalid line. This holds
+/// for an input within the size limit and a test name that a tracefile can hold.
 pub fn an_early_fault_is_told()
     ensures { (test text : List ℕ) (answer : Result SubmissionData Fault) (fault : Fault) → Answers test text answer → GrowsLate text answer
         → length text ≤ max_bytes → IsGoodTest test → FaultsEarly (lines_of text) fault → answer ≡ Err fault }

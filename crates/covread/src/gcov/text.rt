@@ -15,9 +15,9 @@ pub(crate) enum Class {
     Digit,
     /// The space alone.
     Space,
-    /// What a mark is made of: all but space and colon.
+    /// A byte of a mark: all but space and colon.
     Mark,
-    /// What a word is made of: all but space.
+    /// A byte of a word: all but space.
     Word,
 }
 

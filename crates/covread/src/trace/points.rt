@@ -11,7 +11,7 @@ use covline::{BranchPoint, Memory, Tally};
 use covpacked::{ItemRef, PackedItems};
 use std::alloc::Allocator;
 
-/// What identifies a line, or a branch, within its section.
+/// A line's or a branch's identity within its section.
 pub trait Point: Ord + Copy + Drop {
     ghost points: { ItemData → List Self };
 

@@ -31,9 +31,9 @@ pub struct SectionBuilder<'a, A: Allocator> {
     pub functions: Functions<'a, A>,
     /// The counts of functions.
     pub waiting: Vec<PendingCount<'a>, A>,
-    /// The lines of items.
+    /// The lines that the items count.
     pub lines: Points<u64>,
-    /// The branches of items.
+    /// The branches that the items count.
     pub branches: Points<BranchPoint>,
     /// The stated totals.
     pub totals: Vec<StatedTotal, A>,

@@ -35,7 +35,7 @@ impl Printer for Pieces {
     }
 }
 
-/// A printer that wants at most about `most` bytes.
+/// A printer that wants no more after `most` bytes.
 fn printer(alloc: Global, most: usize) -> Pieces {
     Pieces {
         text: Bytes::new(alloc),
