@@ -71,10 +71,10 @@ pub fn each_fault_has_its_cause()
     ensures same_job { (entries : List EntryData) (logs : List LogData) (log : ℕ) → IsGatherFault entries logs (SameJob log) ↔ IsSameJob logs log }
 {}
 
-/// Two steps that lead from counted calls to a gathered history. A job's log of the history of its latest news stays one after one
-/// more call, even if the job stores no history. And a history is gathered from the jobs' logs if its length is the number of all
-/// successful calls, each job's latest news are a prefix of it, and the readings are of it: no two receipts have the same index, so
-/// each entry has one.
+/// Two laws that lead from counted calls to a gathered history. First, a job's log that belongs to the history of its latest news
+/// still does after one more call, even if the job stores no history. Second, a history is gathered from the jobs' logs if its
+/// length is the number of all successful calls, each job's latest news are a prefix of it, and the readings are of it: no two
+/// receipts have the same index, so each entry has one.
 pub fn calls_count_a_history()
     ensures one_more { (log : LogData) (calls seen : ℕ) (latest before : List EntryData) (entry : EntryData) (told : ReceiptData) → IsKept log calls seen latest → entry.job ≡ log.job → receipt_of told.place entry ≡ told → length before ≡ told.place → seen ≤ told.place → IsPrefix latest (before ++ entry ∷ []) → IsKept (with_receipt log told) (calls + 1) (told.place + 1) (before ++ entry ∷ []) }
     ensures gathered { (entries : List EntryData) (jobs : ℕ) (kept : List KeptData) → jobs_of (logs_kept kept) ≡ range_with_len 0 jobs → AllByRecursion IsKeptWell kept → AllByRecursion (AreReadingsOf entries) (logs_kept kept) → AreBefore entries kept → length entries ≡ calls_kept kept → IsGathered entries (logs_kept kept) }

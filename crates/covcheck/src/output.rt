@@ -8,8 +8,8 @@ use covline::Memory;
 use itoa::Buffer;
 use std::alloc::Allocator;
 
-/// Prints the summary line of an input, without the name of its file and with a line feed: `sections 3 items 40 odd 6 skipped 9
-/// first FNL at 3`.
+/// Prints the summary line of an input, without the name of its file and with a line feed. An example is `sections 3 items 40 odd 6
+/// skipped 9 first FNL at 3`.
 pub fn summary_line<A: Allocator>(alloc: A, summary: &TextSummary<'_>) -> Result<Vec<u8, A>, Memory>
     ensures { IfOk result (λ line. line.items ≡ summary_text summary.now) }
 {

@@ -92,8 +92,9 @@ pub fn filters_by_their_words()
         (Merge One 1 (record { includes = []; excludes = [] }) (codes "--include" ∷ codes "a" ∷ [])) }
 {}
 
-/// The form and the thresholds of `summary` and `list`: JSON with the flag `--json` and text without it, and for each option
-/// `--fail-under-..` its argument, whatever it is, or none. After `--`, the argument `--json` is the name of a file.
+/// Command lines of `summary` and `list` give a form and thresholds. The form is JSON with the flag `--json` and text without it.
+/// The threshold of each option `--fail-under-..` is its argument, whatever it is, or none. After `--`, the argument `--json` is
+/// the name of a file.
 pub fn totals_by_their_words()
     ensures summary { AsksFor (subcommand_of covcollect (codes "covcollect" ∷ codes "summary" ∷ codes "--json" ∷ codes "--fail-under-lines" ∷ codes "80" ∷ codes "--fail-under-branches" ∷ codes "79.5" ∷ codes "a" ∷ []))
         (Summary One 1 (record { includes = []; excludes = [] }) Json (record { lines = Some (codes "80"); functions = None; branches = Some (codes "79.5") }) (codes "a" ∷ [])) }
@@ -105,8 +106,8 @@ pub fn totals_by_their_words()
         (commands.List One 1 (record { includes = []; excludes = [] }) Words (codes "--json" ∷ [])) }
 {}
 
-/// The output file that `--output` or `-o` gives: the argument after it, after `=`, or joined to `-o`. Standard output (`None`)
-/// without the option, with it after `--`, and for `check`.
+/// `--output` or `-o` gives the output file of a command line. It is the argument after the option, after `=`, or joined to `-o`.
+/// It is standard output (`None`) without the option, with it after `--`, and for `check`.
 pub fn outputs_by_their_words()
     ensures merge { (output : Option (String Global)) → Some (codes "out") ≡ option_map string_bytes output
         → AsksForAll (subcommand_of covcollect (codes "covcollect" ∷ codes "merge" ∷ codes "-o" ∷ codes "out" ∷ codes "f" ∷ []))
@@ -131,8 +132,8 @@ pub fn outputs_by_their_words()
         (record { command = Check (format.Tracefile One) 1 (codes "f" ∷ []); strictness = Lenient; size = Limited; output = None }) }
 {}
 
-/// The strictness that `--strict` gives: `Strict` with the flag, before, between or after other arguments, and `Lenient` without
-/// it. A session and `gcov`, which don't have it, are lenient. After `--` it is the name of a file.
+/// `--strict` decides how strict a command line is. It is `Strict` with the flag, before, between or after other arguments, and
+/// `Lenient` without it. A session and `gcov`, which don't have the flag, are lenient. After `--` it is the name of a file.
 pub fn strict_by_their_words()
     ensures merge { AsksForAll (subcommand_of covcollect (codes "covcollect" ∷ codes "merge" ∷ codes "--strict" ∷ codes "f" ∷ []))
         (record { command = Merge One 1 (record { includes = []; excludes = [] }) (codes "f" ∷ []); strictness = Strict; size = Limited; output = None }) }
@@ -160,8 +161,9 @@ pub fn strict_by_their_words()
         (record { command = Merge One 1 (record { includes = []; excludes = [] }) (codes "--strict" ∷ []); strictness = Lenient; size = Limited; output = None }) }
 {}
 
-/// The size that `--large` gives: `Large` with the flag, before, between or after other arguments, and `Limited` without it. A
-/// session and `gcov`, which don't have it, are limited. After `--` it is the name of a file.
+/// `--large` decides how long the tracefiles of a command line may be. It is `Large` with the flag, before, between or after other
+/// arguments, and `Limited` without it. A session and `gcov`, which don't have the flag, are limited. After `--` it is the name of
+/// a file.
 pub fn large_by_their_words()
     ensures merge { AsksForAll (subcommand_of covcollect (codes "covcollect" ∷ codes "merge" ∷ codes "--large" ∷ codes "f" ∷ []))
         (record { command = Merge One 1 (record { includes = []; excludes = [] }) (codes "f" ∷ []); strictness = Lenient; size = Large; output = None }) }

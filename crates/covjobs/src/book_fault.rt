@@ -7,9 +7,10 @@ use covline::Memory;
 use covlock::OpenFault;
 use thiserror::Error;
 
-/// Why inputs couldn't be collected in a book. All jobs run to their end. After a failed call or allocation, a job submits nothing
-/// more but still reads its other inputs. So in most cases the first unreadable input is known, and `Unread` takes precedence over
-/// `Full` and `Memory`. It isn't known if memory runs out while an earlier input is read, or if a job can't be started.
+/// Why inputs couldn't be collected in a book. All jobs run to their end. After a failed call, or a failed allocation of one of its
+/// lists, a job submits nothing more but still reads its other inputs. So in most cases the first unreadable input is known, and
+/// `Unread` takes precedence over `Full` and `Memory`. It isn't known if memory runs out while an earlier input is read, or if a
+/// job can't be started.
 #[derive(Clone, Copy, Debug, PartialEq, Eq, Error)]
 pub enum IntoBookFault {
     /// Faults 1 to 5: those of `collect`. `Full` and `Memory` are those of the lowest-numbered job that got such an error.

@@ -79,8 +79,8 @@ impl<L: Name, A: Allocator + Copy, P: Keep<Of = Receipt<A>>, F: Drop> Worker<L, 
         }
     }
 
-    /// Reads the input, part by part. `first` is the job's first failed call or allocation so far. While it is `None`, submits each
-    /// part before reading the next one, or notes that the input is rejected. Returns the first failure up to the end of this
+    /// Reads the input, part by part. `first` is the job's first failed call or list allocation so far. While it is `None`, submits
+    /// each part before reading the next one, or notes that the input is rejected. Returns the first failure up to the end of this
     /// input. The input is consumed before its last part is submitted.
     fn go_on<R: Wait, G: Gate, T: LateInput<A, Fault = F>, K: Keep<Of = Entry<A>>>(
         &mut self,
@@ -111,8 +111,9 @@ impl<L: Name, A: Allocator + Copy, P: Keep<Of = Receipt<A>>, F: Drop> Worker<L, 
         Ok(fault)
     }
 
-    /// Reads the next part of the input. `first` is the job's first failed call or allocation so far. If it is `None`, submits the
-    /// part, or notes that the input is rejected. Returns the rest of the input, and the first failure up to the end of this part.
+    /// Reads the next part of the input. `first` is the job's first failed call or list allocation so far. If it is `None`, submits
+    /// the part, or notes that the input is rejected. Returns the rest of the input, and the first failure up to the end of this
+    /// part.
     fn take_part<R: Wait, G: Gate, T: LateInput<A, Fault = F>, K: Keep<Of = Entry<A>>>(
         &mut self,
         rt: &R,
@@ -315,9 +316,9 @@ ghost use Rattle.covjobs.specs.Shares.{share_of};
 ghost use Rattle.covjobs.specs.Work.{HasEnded, IsPartOf, MayHaveReader, work_of};
 ghost use Rattle.covlock.specs.Seat.{fresh_seat};
 
-/// Does the work of one of `jobs` jobs: processes the job's share of the inputs, in order. After a failed call or allocation, only
-/// reads the inputs that are left. Stops at an input that can't be read, or if memory runs out while one is read. Without a place
-/// for one more reader, the job has no readings.
+/// Does the work of one of `jobs` jobs: processes the job's share of the inputs, in order. After a failed call or list allocation,
+/// only reads the inputs that are left. Stops at an input that can't be read, or if memory runs out while one is read. Without a
+/// place for one more reader, the job has no readings.
 pub(crate) fn work<
     R: Wait,
     G: Gate,
@@ -359,8 +360,8 @@ pub(crate) fn work<
 ghost use Rattle.std.specs.Prelude.{IfErr, IfSome};
 ghost use Rattle.covjobs.specs.Stops.{IsStopAt, of_late};
 
-/// Reads the next part of the input. Returns it with the rest of the input, or where the job stops. `first` is the job's first
-/// failed call or allocation.
+/// Reads the next part of the input. Returns the part and the rest of the input. The error says where the job stops. `first` is the
+/// job's first failed call or list allocation.
 fn next_part<A: Allocator, T: LateInput<A>>(
     alloc: A,
     index: usize,

@@ -30,9 +30,9 @@ impl<A: Allocator> Limits<A> {
     }
 }
 
-/// Prints a line for each kind of points below its threshold, in the order lines, functions, branches: `lines: 3996 of 5000 is
-/// below 80%`. The threshold is printed as it was given. If no points of a kind are found, they are below any threshold. The result
-/// is empty if no kind is below its threshold; then nothing is allocated. Fails only if an allocation fails.
+/// Prints a line for each kind of points below its threshold, in the order lines, functions, branches. An example is `lines: 3996
+/// of 5000 is below 80%`. The threshold is printed as it was given. If no points of a kind are found, they are below any threshold.
+/// The result is empty if no kind is below its threshold; then nothing is allocated. Fails only if an allocation fails.
 pub fn shortfall_lines<A: Allocator>(
     alloc: A,
     limits: &Limits<A>,

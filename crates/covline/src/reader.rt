@@ -184,7 +184,7 @@ pub fn read_field(text: &[u8]) -> Option<(Number, &[u8])>
     split_comma(number, rest)
 }
 
-/// Parses how often a branch was taken: `Some(None)` for `-`. Returns `None` if the text is neither `-` nor a number.
+/// Parses how often a branch was taken. Returns `Some(None)` for `-`, and `None` if the text is neither `-` nor a number.
 pub fn read_taken(text: &[u8]) -> Option<Option<Number>>
     ensures { result ≡ taken_of text.now }
 {
@@ -201,8 +201,8 @@ fn whole_checksum(text: &[u8]) -> Option<&[u8]>
     good_checksum(text).then_some(text)
 }
 
-/// Parses the checksum after a line's count: `Some(None)` if the text is empty. Returns `None` if it is anything but a comma and a
-/// checksum.
+/// Parses the checksum after a line's count. Returns `Some(None)` if the text is empty, and `None` if it is anything but a comma
+/// and a checksum.
 fn read_checksum(text: &[u8]) -> Option<Option<&[u8]>>
     ensures { option_map (option_map (λ c. c.now)) result ≡ checksum_of text.now }
 {
@@ -601,8 +601,8 @@ pub fn small_number(text: &[u8]) -> Option<(u64, &[u8])>
     Some((number.small()?, rest))
 }
 
-/// Parses the field at the front of the text as how often a branch was taken: `-`, which gives `None`, or a number below 2^64.
-/// Returns it with what follows it.
+/// Parses the field at the front of the text, which says how often a branch was taken. The field is `-`, which gives `None`, or a
+/// number below 2^64. Returns it with what follows it.
 #[inline(always)]
 pub fn front_taken(text: &[u8]) -> Option<(Option<u64>, &[u8])>
     ensures { option_map (λ front. (front.0, front.1.now)) result ≡ taken_front text.now }

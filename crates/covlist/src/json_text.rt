@@ -15,9 +15,9 @@ use covstore::{FileTotals, Store, Totals};
 use json::Writer;
 use std::alloc::Allocator;
 
-/// Prints the chosen files with their totals as one JSON object (RFC 8259): `{"files":[..],"total":{..}}`. `files` has an object
-/// for each chosen file, ascending by path, each on a line of its own. `total` has the totals of the chosen files. Totals are those
-/// of lines, functions and branches, each `{"found":7,"hit":6}`. A file has its path under `file`, or under `file_hex` in
+/// Prints the chosen files with their totals as one JSON object (RFC 8259). It is `{"files":[..],"total":{..}}`. `files` has an
+/// object for each chosen file, ascending by path, each on a line of its own. `total` has the totals of the chosen files. Totals
+/// are those of lines, functions and branches, each `{"found":7,"hit":6}`. A file has its path under `file`, or under `file_hex` in
 /// lower-case hexadecimal if the path isn't UTF-8.
 ///
 /// # Errors

@@ -158,7 +158,7 @@ fn put_percentage<A: Allocator>(tenths: u32, text: &mut Bytes<A>) -> Result<(), 
     text.append(b"%")
 }
 
-/// Appends the numbers of points hit and found, each padded to `width` characters.
+/// Appends the numbers of points hit and found as one text, padded to `width` characters.
 fn put_numbers<A: Allocator>(
     width: usize,
     hit: u64,

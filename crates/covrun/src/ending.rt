@@ -38,7 +38,7 @@ pub(crate) enum Failure<'a> {
     Unclean(Bytes),
 }
 
-/// Turns a failure to collect the files into the run's.
+/// Turns an error of collecting into the failure of the run.
 pub(crate) fn failure_of_collect<'a>(fault: CollectFault) -> Failure<'a>
     ensures { failure_data result ≡ of_collect fault }
 {
@@ -50,7 +50,7 @@ pub(crate) fn failure_of_collect<'a>(fault: CollectFault) -> Failure<'a>
     }
 }
 
-/// Turns an error found before the work begins into the run's.
+/// Turns an error that is found before the work begins into the failure of the run.
 pub(crate) fn failure_of_work<'a>(fault: WorkFault) -> Failure<'a>
     ensures { failure_data result ≡ of_work fault }
 {

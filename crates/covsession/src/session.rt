@@ -151,15 +151,15 @@ fn answer_to_the_end<I: Source, O: Sink, A: Allocator + Copy>(
 
 /// Answers the commands of the source with a new book, as job 0, and writes the answers to the sink. Rejects a text of more than
 /// 67,108,864 bytes, and doesn't store its further bytes. Buffers at most 65,536 bytes of output. Before each read and at the end,
-/// writes the buffer and flushes the sink, unless the sink has taken no byte since its last flush.
+/// writes the buffer and flushes the sink, unless the sink has taken no byte since the session last flushed it.
 ///
 /// # Errors
 ///
 /// `Read` if a read failed, or if more than 4,294,967,296 reads were needed. `Write` if a write or flush failed. `Memory` if an
 /// allocation failed. `Full` if the commands ask for more operations than a history can have. The sink has then taken a prefix of
-/// two session texts: that of the bytes that were read, and that of the whole input. Unless the error is `Write`, this prefix has
-/// the whole answers to the commands before the error, and it was flushed. A failed write after another error replaces that error
-/// by `Write`.
+/// two session texts: that of the bytes that were read, and that of the whole input. Unless the error is `Write`, this prefix
+/// consists of the whole answers to the commands before the error, and it was flushed. A failed write after another error replaces
+/// that error by `Write`.
 pub fn session<I: Source, O: Sink, A: Allocator + Copy>(
     alloc: A,
     source: &mut I,

@@ -190,7 +190,7 @@ impl<A: Allocator + Copy> Store<A> {
         }
     }
 
-    /// Prepares to add the submission. The content of the store doesn't change. The parts of a plan are private. Its caller knows
+    /// Prepares to add the submission. The content of the store doesn't change. The parts of a plan are private. The caller knows
     /// that the submission clashes with no table that the store represents, which totals the store will have, and that the plan is
     /// made for the store as this call leaves it, which `commit` requires.
     ///
@@ -261,7 +261,7 @@ impl<A: Allocator + Copy> Store<A> {
     }
 
     /// Prepares to give the rows of the test `old` the name `new`, which may be the name of another test. The content of the store
-    /// doesn't change. The parts of a renaming are private. Its caller knows the number of sections of the old test, and that the
+    /// doesn't change. The parts of a renaming are private. The caller knows the number of sections of the old test, and that the
     /// renaming is made for the store as this call leaves it, which `commit_rename` requires. The rename does nothing if the old
     /// test has no row, or if both names are the same. Otherwise, the call stages each of the old test's points, after looking the
     /// test up in each file.
