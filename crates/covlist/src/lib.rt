@@ -1,7 +1,8 @@
 //! Lists the source files of a store with their totals: as a table (lcov(1), `--list`) and as JSON (RFC 8259). Gives totals alone as
 //! JSON, too.
 //!
-//! `list_table` is for people. A control byte in a file's name is shown as `\x` and two digits, so each file has one line.
+//! `list_table` is for people. A control byte in a file's name is shown as `\x` and two digits, and a backslash twice, so each file
+//! has one line.
 //! `list_json` is for programs. A name that is UTF-8 is a string under `file`. Any other name stands under `file_hex`, in
 //! hexadecimal.
 //!
@@ -22,5 +23,5 @@ mod shown;
 mod table;
 
 pub use json_text::{list_json, summary_json};
-pub use shown::put_shown_name;
+pub use shown::{put_shown_lines, put_shown_name};
 pub use table::list_table;
