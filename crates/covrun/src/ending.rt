@@ -23,23 +23,23 @@ pub(crate) struct ReadyAnswer<'a> {
 
 /// Why a call has no answer: this decides its exit status and what it writes.
 #[derive(Drop)]
-pub(crate) enum Failure<'a> {
+pub(crate) enum Failure {
     /// The patterns, the limits, the test's name or the number of jobs are refused.
     Words(ArgumentFault),
-    /// This file can't be read.
-    Unreadable(&'a str),
+    /// A file can't be read. This is its name, as it is told.
+    Unreadable(Bytes),
     /// Memory ran out, or the history was full.
     Stopped(SessionFault),
     /// Collecting ended in `Gather` or `NotLast`, which no run meets.
     Ungathered,
     /// Texts were refused or clashed. These lines report them.
-    Refused(Vec<u8>),
+    Refused(Bytes),
     /// The call is strict. These lines report texts that aren't clean, or patterns that match no file.
     Unclean(Bytes),
 }
 
 /// Why a call has no answer if its texts weren't collected.
-pub(crate) fn failure_of_collect<'a>(fault: CollectFault) -> Failure<'a>
+pub(crate) fn failure_of_collect(fault: CollectFault) -> Failure
     ensures { failure_data result ≡ of_collect fault }
 {
     match fault {
@@ -51,7 +51,7 @@ pub(crate) fn failure_of_collect<'a>(fault: CollectFault) -> Failure<'a>
 }
 
 /// Why a call has no answer if its work doesn't begin.
-pub(crate) fn failure_of_work<'a>(fault: WorkFault) -> Failure<'a>
+pub(crate) fn failure_of_work(fault: WorkFault) -> Failure
     ensures { failure_data result ≡ of_work fault }
 {
     match fault {
@@ -60,14 +60,14 @@ pub(crate) fn failure_of_work<'a>(fault: WorkFault) -> Failure<'a>
     }
 }
 
-impl<'a> From<SessionFault> for Failure<'a> {
+impl From<SessionFault> for Failure {
     ghost use Rattle.std.specs.Prelude.{◌≡◌};
     ghost use Rattle.covrun.specs.Ending.{Stopped};
     ghost use Rattle.covrun.specs.View.{failure_data};
 
     ghost from_gives = { λ fault f. failure_data f ≡ Stopped fault };
 
-    fn from(fault: SessionFault) -> Failure<'a> {
+    fn from(fault: SessionFault) -> Failure {
         Failure::Stopped(fault)
     }
 }
