@@ -20,7 +20,8 @@ class Lanes:
     """So many lanes, which the checks of all crates share."""
 
     def __init__(self, number):
-        self.number, self.running, self.begun = number, 0, []
+        # When each check began that runs now.
+        self.number, self.running = number, []
         self.turn = threading.Condition()
         self.pool = ThreadPoolExecutor(number)
 
@@ -31,8 +32,8 @@ class Lanes:
         self.pool.shutdown(wait=fault is None, cancel_futures=True)
 
     def has_room(self):
-        self.begun = [it for it in self.begun if it > time.monotonic() - GROWS]
-        return not self.running or available() >= NEEDED * (1 + len(self.begun))
+        young = [it for it in self.running if it > time.monotonic() - GROWS]
+        return not self.running or available() >= NEEDED * (1 + len(young))
 
     @contextlib.contextmanager
     def room(self):
@@ -40,13 +41,13 @@ class Lanes:
         with self.turn:
             while not self.has_room():
                 self.turn.wait(5)
-            self.running += 1
-            self.begun.append(time.monotonic())
+            begun = time.monotonic()
+            self.running.append(begun)
         try:
             yield
         finally:
             with self.turn:
-                self.running -= 1
+                self.running.remove(begun)
                 self.turn.notify_all()
 
 
