@@ -1,4 +1,4 @@
-//! Tests in which memory runs out: each growth of a call is refused in turn. This crate has nothing but its tests: a crate with
+//! Tests in which memory runs out: each allocation of a call fails in turn. This crate has nothing but its tests: a crate with
 //! functions would be proved a second time for tests of its own.
 #![tactic(auto)]
 

@@ -1,13 +1,13 @@
-//! The check that a single thread gets the same answers.
+//! Checks that a single thread gets the same answers.
 
 use covbook::{Answer, Book, Entry, JobLog, Op, SubRef};
 use covread::read_trace;
 use covstore::Totals;
 use std::alloc::Global;
 
-/// Checks that a book of a single thread, which takes the steps of the history in order, gives the same answers and totals. It
-/// must also print the report that job 0 got last. Read back into an empty book, this report must give the same totals and the
-/// same report.
+/// Checks that a single thread with its own book gets the same answers and totals for the history's operations in order. Its book
+/// must also print the report that job 0 got last. An empty book that gets this report must have the same totals and print the same
+/// report.
 pub(crate) fn check_alone(alloc: Global, entries: &[Entry], logs: &[JobLog]) -> anyhow::Result<()> {
     let mut book = Book::new(alloc);
     for entry in entries {
@@ -19,7 +19,7 @@ pub(crate) fn check_alone(alloc: Global, entries: &[Entry], logs: &[JobLog]) -> 
     }
 }
 
-/// Takes the entry's step with this book, and checks that the answer and the totals are those of the entry.
+/// Performs the entry's operation on this book, and checks its answer and totals against the entry.
 fn check_step(alloc: Global, book: &mut Book, entry: &Entry) -> anyhow::Result<()> {
     let receipt = book.step(alloc, entry.job, &entry.op)?;
     let place = receipt.place;
@@ -32,13 +32,13 @@ fn check_step(alloc: Global, book: &mut Book, entry: &Entry) -> anyhow::Result<(
     Ok(())
 }
 
-/// The text that answers the first job's last call; `None` if the answer isn't a text.
+/// The text of the answer to the first job's last call. Returns `None` if the answer isn't a text.
 fn last_text(logs: &[JobLog]) -> Option<&[u8]> {
     let receipt = logs.first()?.receipts.get().last()?;
     text_of(&receipt.answer)
 }
 
-/// The answer's text; `None` if the answer isn't a text.
+/// The answer's text. Returns `None` if the answer isn't a text.
 fn text_of(answer: &Answer) -> Option<&[u8]> {
     match answer {
         Answer::Text(text) => Some(text.get().get()),
@@ -46,8 +46,7 @@ fn text_of(answer: &Answer) -> Option<&[u8]> {
     }
 }
 
-/// Checks that the book prints this report. If the report is submitted to an empty book, that book must print it too, and have
-/// the same totals.
+/// Checks that the book prints this report, and that an empty book that gets the report prints it too and has the same totals.
 fn check_report(alloc: Global, book: &mut Book, report: &[u8]) -> anyhow::Result<()> {
     let totals = book.totals();
     check_printed(alloc, book, report, totals)?;

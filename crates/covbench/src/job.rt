@@ -7,21 +7,21 @@ use covjobs::{Live, Name, News, Seat, Shared};
 use std::alloc::Global;
 use std::sync::Wait;
 
-/// A job: its seat, its reader, its random numbers, and what it keeps.
+/// A job: its seat, its reader, its random numbers, and its log.
 #[derive(Drop)]
 pub(crate) struct Job<L: Name> {
     seat: Seat<L>,
     live: Live<L>,
     random: Random,
     log: JobLog,
-    /// The largest number of entries that it read or learned of. No later reading may have fewer.
+    /// The largest number of entries that it has read or learned of. No later reading may have fewer.
     known: u64,
-    /// How its work ended. Before it is begun, this is an error.
+    /// How its work ended. An error before the work begins.
     ended: anyhow::Result<()>,
 }
 
 impl<L: Name> Job<L> {
-    /// The job of the seat, which has done nothing yet.
+    /// A job that has done nothing yet.
     pub(crate) fn new(alloc: Global, seat: Seat<L>, live: Live<L>, seed: u64) -> Job<L> {
         let job = seat.job();
         Job {
@@ -38,13 +38,13 @@ impl<L: Name> Job<L> {
         }
     }
 
-    /// Makes `calls` random calls, up to the first fault, and keeps how this ended.
+    /// Makes `calls` random calls, up to the first error, and stores how this ended.
     pub(crate) fn work<R: Wait>(&mut self, rt: &R, alloc: Global, book: &Shared<L>, calls: u64) {
         self.ended = self.call_often(rt, alloc, book, calls);
     }
 
-    /// Makes `calls` random calls, and keeps the receipts. After each call it learns the news in two of three cases, and then
-    /// reads the totals in two of three cases.
+    /// Makes `calls` random calls, and stores the receipts. After each call, learns the news in two of three cases, and reads the
+    /// totals in two of three cases.
     fn call_often<R: Wait>(
         &mut self,
         rt: &R,
@@ -65,7 +65,7 @@ impl<L: Name> Job<L> {
         Ok(())
     }
 
-    /// Makes one call, keeps its receipt, and returns its news.
+    /// Makes one call, stores its receipt, and returns its news.
     pub(crate) fn ask<R: Wait>(
         &mut self,
         rt: &R,
@@ -84,7 +84,7 @@ impl<L: Name> Job<L> {
         self.known = self.known.max(news.reading().upto);
     }
 
-    /// Reads the totals, and keeps the reading. It is an error if the reading has fewer entries than were read or learned of.
+    /// Reads the totals, and stores the reading. Fails if the reading has fewer entries than were read or learned of before.
     fn read(&mut self) -> anyhow::Result<()> {
         let reading = self.live.totals();
         if reading.upto < self.known {

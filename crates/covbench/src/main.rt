@@ -1,4 +1,4 @@
-//! covbench tests and measures a shared book with many threads. `bench/soak` and `bench/readers.sh` call it.
+//! covbench tests and measures a book that many threads share. `bench/soak` and `bench/readers.sh` call it.
 //!
 //! ```text
 //! covbench soak THREADS ROUNDS CALLS SEED
@@ -6,16 +6,15 @@
 //! ```
 //!
 //! `soak`: in each round, THREADS threads (1 to 64) make CALLS random calls each on one shared book, and read its totals in
-//! between. Then the book is closed, and two checks are made: the history is gathered from what the threads kept, and a single
-//! thread that takes the same steps in the same order gets the same answers. The first round has the seed SEED, and each later
-//! round the next number. If a check fails, covbench reports the round's seed and ends with status 1. Otherwise it prints one
-//! line at the end.
+//! between. Then the book is closed, and two checks are made: the history matches the threads' logs, and a single thread gets the
+//! same answers for the same operations in the same order. The first round has the seed SEED, and each later round the next number.
+//! If a check fails, covbench reports the round's seed and ends with status 1. Otherwise it prints one line at the end.
 //!
-//! `pace`: SUBMITTERS threads (1 to 64) submit one small tracefile to one shared book, SUBMITS times each, while READERS others
-//! (0 to 64) ask for the totals without a pause. It prints one line: submits a second, the slowest submit in microseconds, and
-//! readings a second.
+//! `pace`: SUBMITTERS threads (1 to 64) submit one small tracefile to one shared book, SUBMITS times each, while READERS others (0
+//! to 64) read the totals without a pause. It prints one line: submits per second, the slowest submit in microseconds, and readings
+//! per second.
 //!
-//! If it is called with any other words, covbench prints the two lines above.
+//! With any other arguments, covbench prints the two lines above.
 #![tactic(auto)]
 
 mod alone;
@@ -35,7 +34,7 @@ use std::env;
 const USAGE: &str =
     "covbench soak THREADS ROUNDS CALLS SEED\ncovbench pace SUBMITTERS READERS SUBMITS";
 
-/// What is asked of the program.
+/// The parsed command line.
 #[derive(Clone, Copy)]
 enum Plan {
     Soak(SoakPlan),
@@ -61,7 +60,7 @@ fn main(rt: HostRuntime) -> anyhow::Result<()> {
     Ok(())
 }
 
-/// The plan that the words of the call give, or `None` if they don't fit. The first word is the program's name.
+/// Parses the command line, whose first argument is the program's name. Returns `None` if it is invalid.
 fn plan_of(words: &[String]) -> Option<Plan> {
     match words.get(1)?.as_str() {
         "soak" => Some(Plan::Soak(soak_of(words)?)),
@@ -70,7 +69,7 @@ fn plan_of(words: &[String]) -> Option<Plan> {
     }
 }
 
-/// The plan of a soak that the words give, or `None` if they don't fit.
+/// Parses the arguments of `soak`. Returns `None` if they are invalid.
 fn soak_of(words: &[String]) -> Option<SoakPlan> {
     let [_name, _soak, threads, rounds, calls, seed] = words else {
         return None;
@@ -83,7 +82,7 @@ fn soak_of(words: &[String]) -> Option<SoakPlan> {
     })
 }
 
-/// The plan of a measurement that the words give, or `None` if they don't fit.
+/// Parses the arguments of `pace`. Returns `None` if they are invalid.
 fn pace_of(words: &[String]) -> Option<PacePlan> {
     let [_name, _pace, submitters, readers, submits] = words else {
         return None;
@@ -95,7 +94,7 @@ fn pace_of(words: &[String]) -> Option<PacePlan> {
     })
 }
 
-/// The number that the word spells, or `None` if it spells none.
+/// Parses a number. Returns `None` if the argument isn't one.
 fn number(word: &String) -> Option<u64> {
     word.as_str().parse::<u64>().ok()
 }

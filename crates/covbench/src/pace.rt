@@ -1,4 +1,4 @@
-//! What readers cost the threads that submit.
+//! Measures how much readers slow down the threads that submit.
 
 ghost use Rattle.std.specs.Prelude.{◌≡◌};
 
@@ -16,7 +16,7 @@ use std::time::{Clock, Instant};
 /// How many lines of its source file the submitted tracefile counts.
 const LINES: u64 = 100;
 
-/// What is asked of a measurement.
+/// The parameters of a measurement.
 #[derive(Clone, Copy)]
 pub(crate) struct PacePlan {
     pub(crate) submitters: u32,
@@ -24,14 +24,14 @@ pub(crate) struct PacePlan {
     pub(crate) submits: u64,
 }
 
-/// A thread that submits: its seat, and the nanoseconds that its slowest submit took.
+/// A thread that submits: its seat, and the duration of its slowest submit in nanoseconds.
 #[derive(Drop)]
 struct Submitter<L: Name> {
     seat: Seat<L>,
     slowest: u64,
 }
 
-/// A thread that reads: its reader, and how many readings it took.
+/// A thread that reads: its reader, and the number of its readings.
 #[derive(Drop)]
 struct Watcher<L: Name> {
     live: Live<L>,
@@ -130,7 +130,7 @@ fn timed<L: Name + Send + Sync, R: Threads + Wait + Clock + Sync>(
     Ok(begun.elapsed(rt)?.as_nanos())
 }
 
-/// The line that says what was measured.
+/// Prints the result of a measurement.
 fn line_of<L: Name>(
     alloc: Global,
     nanos: u128,
@@ -216,8 +216,8 @@ fn watch<L: Name>(watcher: &mut Watcher<L>, running: &AtomicU64) {
     }
 }
 
-/// Submits `submits` times, up to the first refusal, and keeps how long the slowest submit took. The seat counts the submits
-/// that succeeded.
+/// Submits `submits` times, up to the first failure, and stores the duration of the slowest submit. The seat counts the successful
+/// submits.
 fn submit_often<L: Name, R: Wait + Clock>(
     rt: &R,
     alloc: Global,
@@ -234,7 +234,7 @@ fn submit_often<L: Name, R: Wait + Clock>(
     }
 }
 
-/// Submits once, and returns how many nanoseconds this took; `None` if the submit was refused or the time can't be told.
+/// Submits once, and returns the duration in nanoseconds. Returns `None` if the submit failed or the clock can't be read.
 fn submit_once<L: Name, R: Wait + Clock>(
     rt: &R,
     alloc: Global,

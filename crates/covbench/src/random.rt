@@ -7,7 +7,7 @@ pub(crate) struct Random {
 }
 
 impl Random {
-    /// The numbers of this job in the round with this seed.
+    /// The pseudorandom numbers of this job in the round with this seed.
     pub(crate) fn of(seed: u64, job: u32) -> Random {
         let mut seeds = Random { state: seed };
         let state = seeds.next().wrapping_add(u64::from(job));
@@ -29,7 +29,7 @@ impl Random {
         self.next().checked_rem(limit).unwrap_or(0)
     }
 
-    /// True in about one of `limit` cases: whether a random number below the limit is 0.
+    /// `true` in about one of `limit` cases.
     pub(crate) fn one_in(&mut self, limit: u64) -> bool {
         self.below(limit) == 0
     }

@@ -11,7 +11,7 @@ use std::sync::Wait;
 use std::thread;
 use std::thread::Threads;
 
-/// What the jobs hand in when all have ended.
+/// The results of all jobs, when all have ended.
 #[derive(Drop)]
 struct HandedIn<L: Name> {
     seats: Seats<L>,
@@ -19,8 +19,8 @@ struct HandedIn<L: Name> {
     lives: Vec<Live<L>>,
 }
 
-/// Makes the round with this seed. Each job makes `calls` random calls, and then the first job asks for the report. Checks the
-/// history against what the jobs kept, and against the answers that a single thread gets. Returns how many calls were made.
+/// Runs the round with this seed. Each job makes `calls` random calls, and then the first job asks for the report. Checks the
+/// history against the jobs' logs, and against the answers of a single thread. Returns the number of calls.
 pub(crate) fn soaked<L: Name + Send + Sync, R: Threads + Wait + Sync>(
     rt: &R,
     alloc: Global,
@@ -50,7 +50,7 @@ pub(crate) fn soaked<L: Name + Send + Sync, R: Threads + Wait + Sync>(
     Ok(made)
 }
 
-/// Lets the jobs make their random calls at once, and then the first job ask for the report. Returns what they hand in.
+/// Lets the jobs make their random calls at the same time, and then the first job ask for the report. Returns their results.
 fn worked<L: Name + Send + Sync, R: Threads + Wait + Sync>(
     rt: &R,
     alloc: Global,
@@ -81,13 +81,13 @@ fn work_at_once<L: Name + Send + Sync, R: Threads + Wait + Sync>(
 ) {
     thread::scope(thread::scope_env(), rt, |scope| {
         for job in jobs.iter_mut() {
-            // If a thread isn't started, the `ended` of its job still says so.
+            // If a thread can't be started, `ended` of its job is still an error.
             let _ = scope.spawn(move || job.work(rt, alloc, book, calls));
         }
     });
 }
 
-/// What the jobs hand in, if all of them ended well.
+/// The results of the jobs, if all of them ended well.
 fn hand_in<L: Name>(alloc: Global, jobs: Vec<Job<L>>) -> anyhow::Result<HandedIn<L>> {
     let mut seats = Seats::new(alloc);
     let mut logs = Logs::new(alloc);
@@ -122,8 +122,8 @@ fn closed<L: Name, R: Wait>(
     }
 }
 
-/// Checks that there are as many entries as calls, that the news are of all of them, and that each reader reports the same
-/// totals as the news once it has learned them.
+/// Checks that the history has one entry per call, that the news are of all entries, and that each reader reports the totals of the
+/// news after learning them.
 fn check_news<L: Name>(
     entries: &Entries,
     news: &News<L>,

@@ -7,7 +7,7 @@ use std::marker::Brand;
 use std::sync::Wait;
 use std::thread::Threads;
 
-/// What is asked of a soak.
+/// The parameters of a soak.
 #[derive(Clone, Copy)]
 pub(crate) struct SoakPlan {
     pub(crate) threads: u32,
@@ -16,8 +16,7 @@ pub(crate) struct SoakPlan {
     pub(crate) seed: u64,
 }
 
-/// Makes all rounds, and returns how many calls they made together. The first failure ends them, and is reported with the
-/// round's seed.
+/// Runs all rounds, and returns their total number of calls. The first failure ends them, and is reported with the round's seed.
 pub(crate) fn all_rounds<R: Threads + Wait + Sync>(
     rt: &R,
     alloc: Global,
@@ -34,7 +33,7 @@ pub(crate) fn all_rounds<R: Threads + Wait + Sync>(
     Ok(made)
 }
 
-/// Makes the round of this seed, and returns how many calls it made.
+/// Runs the round with this seed, and returns its number of calls.
 fn one_round<R: Threads + Wait + Sync>(
     rt: &R,
     alloc: Global,

@@ -1,5 +1,5 @@
-//! Functions of other crates without their `ensures` clauses. A measurement only calls these functions, and is proved faster if
-//! the prover knows nothing of what they ensure.
+//! Calls of other crates, in functions without `ensures` clauses. A measurement needs none of these, and its proof is faster
+//! without them.
 
 ghost use Rattle.std.specs.Prelude.{◌≡◌};
 
@@ -14,7 +14,7 @@ pub(crate) fn read<A: Allocator + Copy>(alloc: A, text: &[u8]) -> Result<Submiss
     read_trace(alloc, text)
 }
 
-/// The submission, as an operation holds it.
+/// Makes the submission shareable, as an operation needs it.
 pub(crate) fn shared<A: Allocator + Copy>(
     alloc: A,
     given: Submission<A>,

@@ -1,4 +1,4 @@
-//! The book: what a table of counts was asked, in order, and what it answered.
+//! The book: a table of counts, and the history of its operations with their answers.
 
 use crate::entry::{Entries, Entry, Receipt};
 use crate::history::History;
@@ -15,13 +15,13 @@ use std::alloc::{Allocator, Global};
 use std::marker::Model;
 use thiserror::Error;
 
-/// Why a book refuses a step.
+/// Why a book rejects a step.
 #[derive(Clone, Copy, Debug, PartialEq, Eq, Error)]
 pub enum BookFault {
-    /// The history has 1,048,576 entries. This is tested first.
+    /// The history is full: it has 1,048,576 entries. This is checked first.
     #[error("book full")]
     Full = 1,
-    /// Memory was refused.
+    /// An allocation failed.
     #[error("out of memory")]
     Memory = 2,
 }
@@ -30,7 +30,7 @@ impl BookFault {
     ghost use Rattle.std.specs.Prelude.{◌≡◌};
     ghost use Rattle.covbook.specs.Fault.{fault_number};
 
-    /// The number of the fault, from 1.
+    /// The number of the error, from 1.
     pub fn number(self) -> u32
         ensures { result ≡ fault_number self }
     {
@@ -49,10 +49,10 @@ impl From<Memory> for BookFault {
     }
 }
 
-/// A table of counts with its history. Contracts see the history, which is always legal. The table is what the run of its
-/// operations gives. Contracts also see what `finish` relies on: for how many entries there is room, and the model of the store.
+/// A table of counts with its history. Contracts see the history, which is always legal: the table is the result of its operations.
+/// Contracts also see what `finish` relies on: the capacity for entries, and the model of the store.
 ///
-/// `K` is what the book keeps of each entry: all of it, its answer, or nothing. Contracts see whole entries in any case.
+/// `K` is the part of each entry that the book stores: all of it, its answer, or nothing. Contracts see whole entries in any case.
 #[derive(Drop)]
 pub struct Book<A: Allocator = Global, K: Keep<Of = Entry<A>> = Entry<A>> {
     store: Store<A>,
@@ -77,7 +77,7 @@ impl<A: Allocator + Copy> Book<A> {
     ghost use Rattle.covbook.specs.Step.{IsLegal, table_of, ops_in};
     ghost use Rattle.covbook.specs.EntryView.{entry_data};
 
-    /// A book without entries, which keeps its entries whole. Takes no memory.
+    /// An empty book that stores whole entries. Never allocates.
     pub fn new(alloc: A) -> Book<A>
         ensures { result.entries ≡ [] }
     {
@@ -110,7 +110,7 @@ impl<A: Allocator + Copy, K: Keep<Of = Entry<A>>> Book<A, K> {
     ghost use Rattle.covbook.specs.Held.{SameBook};
     ghost use Rattle.covbook.specs.Ready.{DropChange, HasRoom, HoldChange, RenameChange, IsNextOf, IsPlanned, IsAfter, IsReadyOf, IsReadyFor};
 
-    /// A book without entries. It keeps of each entry what `K` keeps. Takes no memory.
+    /// An empty book that stores only the `K` part of each entry. Never allocates.
     pub fn keeping(alloc: A) -> Book<A, K>
         ensures { result.entries ≡ [] }
     {
@@ -121,14 +121,14 @@ impl<A: Allocator + Copy, K: Keep<Of = Entry<A>>> Book<A, K> {
         }
     }
 
-    /// How many entries the history has. Takes no memory.
+    /// How many entries the history has. Never allocates.
     pub fn len(&self) -> u64
         ensures { result ≡ length self.now.entries }
     {
         self.history.place()
     }
 
-    /// Whether the history takes no more entries: `step` would return `Full`. Takes no memory.
+    /// Whether the history is full, so that `step` would return `Full`. Never allocates.
     pub fn is_full(&self) -> bool
         ensures full { IsTrue result ↔ (length self.now.entries ≡ max_entries) }
         ensures few { length self.now.entries ≤ max_entries }
@@ -136,8 +136,8 @@ impl<A: Allocator + Copy, K: Keep<Of = Entry<A>>> Book<A, K> {
         self.history.is_full()
     }
 
-    /// What is kept of the history's entries, in order. The history is legal, each submission in it is lawful, and the store
-    /// represents the last table of its run. Takes no memory.
+    /// The stored parts of the history's entries, in order. The history is legal, each submission in it is lawful, and the store
+    /// represents the table after the last entry. Never allocates.
     pub fn kept(&self) -> &[K]
         ensures entries { map (λ k. entry_data (K.shows k)) result.now ≡ self.now.entries }
         ensures legal { IsLegal self.now.entries }
@@ -147,7 +147,7 @@ impl<A: Allocator + Copy, K: Keep<Of = Entry<A>>> Book<A, K> {
         self.history.get()
     }
 
-    /// The totals now: those after the last entry, or zeros if there are no entries. Takes no memory.
+    /// The totals after the last entry, or zeros without entries. Never allocates.
     pub fn totals(&self) -> Totals
         ensures last { result ≡ last_totals self.now.entries }
         ensures table { result ≡ totals_at (table_of (ops_in self.now.entries)) }
@@ -156,8 +156,8 @@ impl<A: Allocator + Copy, K: Keep<Of = Entry<A>>> Book<A, K> {
         self.store.totals()
     }
 
-    /// The store. It represents the table after the last entry. A caller can make texts from it that no operation asks for.
-    /// Takes no memory.
+    /// The store, which represents the table after the last entry. A caller can print from it what no operation asks for. Never
+    /// allocates.
     pub fn store(&self) -> &Store<A>
         ensures store { result.now ≡ self.now.store }
         ensures stands { StandsFor self.now.store (table_of (ops_in self.now.entries)) }
@@ -165,8 +165,8 @@ impl<A: Allocator + Copy, K: Keep<Of = Entry<A>>> Book<A, K> {
         &self.store
     }
 
-    /// Takes one step of the table: answers the operation, and appends its entry. If the step is refused, history and table stay
-    /// as they were. This is `ready` and then `finish`.
+    /// Performs one step: answers the operation and appends its entry. Calls `ready` and then `finish`. A failed step changes
+    /// neither history nor table.
     pub fn step(&mut self, alloc: A, job: u32, op: &Op<A>) -> Result<Receipt<A>, BookFault>
         ensures answer { IfOk result (λ r. answer_data r.answer ≡ answer_of (table_of (ops_in self.old.entries)) (op_data op.now)) }
         ensures place { IfOk result (λ r. r.place ≡ length self.old.entries) }
@@ -180,10 +180,10 @@ impl<A: Allocator + Copy, K: Keep<Of = Entry<A>>> Book<A, K> {
         Ok(self.finish(ready))
     }
 
-    /// Takes the first half of a step: all that can be refused. It finds the answer, makes the entry, and makes room for it. For
-    /// a submission or a rename, it prepares the change of the store. For a drop, it finds the number of the test's sections,
-    /// and the totals without the test. History and table stay as they are, whatever the answer is. `finish` does the rest, if
-    /// the book is still as this call left it. Dropping the `Ready` cancels the step.
+    /// Does the first half of a step, which can fail. Finds the answer, makes the entry, and reserves capacity for it. Prepares the
+    /// store's change for a submission or a rename. For a drop, finds the number of the test's sections, and the totals without the
+    /// test. Changes neither history nor table, whatever the answer is. `finish` does the rest, if the book is still as this call
+    /// left it. Dropping the `Ready` cancels the step.
     pub fn ready(&mut self, alloc: A, job: u32, op: &Op<A>) -> Result<Ready<A>, BookFault>
         ensures same { SameBook self.old self.new }
         ensures ready { IfOk result (λ r. IsReadyFor self.new job (op_data op.now) r) }
@@ -197,8 +197,8 @@ impl<A: Allocator + Copy, K: Keep<Of = Entry<A>>> Book<A, K> {
         Ok(self.made_ready(alloc, job, op)?)
     }
 
-    /// Takes the second half of a step: appends the step's entry, and makes its change to the store. The book must be as `ready`
-    /// left it. Takes no memory.
+    /// Does the second half of a step: appends its entry and changes the store. The book must be as `ready` left it. Never
+    /// allocates.
     pub fn finish(&mut self, ready: Ready<A>) -> Receipt<A>
         requires { IsReadyOf self.old ready }
         ensures receipt { receipt_data result ≡ receipt_of (length self.old.entries) (next_entry self.old.entries ready.entry.job ready.entry.op) }
@@ -215,7 +215,7 @@ impl<A: Allocator + Copy, K: Keep<Of = Entry<A>>> Book<A, K> {
         receipt
     }
 
-    /// Makes a step ready, if the history isn't full. Before anything else, makes room for the step's entry.
+    /// Makes a step ready, provided that the history isn't full. Reserves capacity for the step's entry first.
     fn made_ready(&mut self, alloc: A, job: u32, op: &Op<A>) -> Result<Ready<A>, Memory>
         requires { length self.old.entries < max_entries }
         ensures same { SameBook self.old self.new }
@@ -233,7 +233,7 @@ impl<A: Allocator + Copy, K: Keep<Of = Entry<A>>> Book<A, K> {
         }
     }
 
-    /// Makes room for one more entry.
+    /// Reserves capacity for one more entry.
     fn make_room(&mut self) -> Result<(), Memory>
         requires { length self.old.entries < max_entries }
         ensures same { SameBook self.old self.new }
@@ -275,7 +275,7 @@ impl<A: Allocator + Copy, K: Keep<Of = Entry<A>>> Book<A, K> {
         }
     }
 
-    /// The answer that accepts a submission with these numbers of items and odd lines. The submission gets the next number.
+    /// The answer that accepts a submission with these numbers of items and inconsistent lines, as the next submission.
     fn accepted_answer(&self, items: u64, odd: u64) -> Answer<A>
         ensures { answer_data result ≡ AcceptedAnswer (length (table_of (ops_in self.now.entries)) + 1) items odd }
     {
@@ -316,7 +316,7 @@ impl<A: Allocator + Copy, K: Keep<Of = Entry<A>>> Book<A, K> {
         (Answer::Dropped { sections }, after)
     }
 
-    /// Makes the rename of a test ready. If the test has no row, the answer is `NoSuchTest`. The totals stay.
+    /// Makes the rename of a test ready. If the test has no row, the answer is `NoSuchTest`. The totals don't change.
     fn rename_ready(
         &mut self,
         alloc: A,
@@ -336,7 +336,7 @@ impl<A: Allocator + Copy, K: Keep<Of = Entry<A>>> Book<A, K> {
             return self.ready_to_note(alloc, job, op, Answer::NoSuchTest);
         }
         let renaming = self.store.prepare_rename(alloc, old.get(), new.get())?;
-        // Proof only: the totals stay.
+        // Proof only: the totals don't change.
         renaming_keeps_totals();
         let entry = Entry {
             job,
@@ -349,7 +349,7 @@ impl<A: Allocator + Copy, K: Keep<Of = Entry<A>>> Book<A, K> {
         self.ready_to_change(alloc, entry, Change::Rename(renaming))
     }
 
-    /// Makes a text ready: it is printed, and shared between the entry and the receipt.
+    /// Makes a step ready that asks for a text: prints the text, which the entry and the receipt share.
     fn text_ready(&self, alloc: A, job: u32, op: &Op<A>) -> Result<Ready<A>, Memory>
         requires room { HasRoom self.now }
         requires text { IsText (op_data op.now) }
@@ -360,7 +360,7 @@ impl<A: Allocator + Copy, K: Keep<Of = Entry<A>>> Book<A, K> {
         self.ready_to_note(alloc, job, op, Answer::Text(text))
     }
 
-    /// The step that appends this entry and makes this change to the store.
+    /// Makes the step that appends this entry and makes this change to the store.
     fn ready_to_change(
         &self,
         alloc: A,
@@ -378,7 +378,7 @@ impl<A: Allocator + Copy, K: Keep<Of = Entry<A>>> Book<A, K> {
         Ok(Ready::new(entry, receipt, change))
     }
 
-    /// The step that appends the entry of this answer and leaves the table as it is.
+    /// Makes the step that appends the entry with this answer and doesn't change the table.
     fn ready_to_note(
         &self,
         alloc: A,
@@ -442,7 +442,7 @@ impl<A: Allocator + Copy, K: Keep<Of = Entry<A>>> Book<A, K> {
         self.history.append(entry);
     }
 
-    /// Appends the entry of an operation that leaves the table as it is.
+    /// Appends the entry of an operation that doesn't change the table.
     fn note(&mut self, entry: Entry<A>)
         requires room { HasRoom self.old }
         requires next { IsNextOf self.old (entry_data entry) }
@@ -454,7 +454,7 @@ impl<A: Allocator + Copy, K: Keep<Of = Entry<A>>> Book<A, K> {
         self.history.append(entry);
     }
 
-    /// The text that the operation asks for, from the table as it is now. Appends no entry.
+    /// Prints the text that the operation asks for, from the current table. Appends no entry.
     pub fn text_of(&self, alloc: A, op: &Op<A>) -> Result<Bytes<A>, Memory>
         requires { IsText (op_data op.now) }
         ensures { IfOk result (λ t. TextAnswer t ≡ answer_of (table_of (ops_in self.now.entries)) (op_data op.now)) }
@@ -474,8 +474,8 @@ impl<A: Allocator + Copy, K: Keep<Of = Entry<A>>> Book<A, K> {
         }
     }
 
-    /// The text that the operation asks for, from the table as it is now, ready to be printed. Appends no entry. Reserves all
-    /// memory that printing takes, so nothing is printed if memory is refused.
+    /// Prepares the text that the operation asks for, from the current table, for printing. Appends no entry. Reserves all memory
+    /// that printing needs, so nothing is printed if an allocation fails.
     pub fn printing(&self, alloc: A, op: &Op<A>) -> Result<Printing<'_, A>, Memory>
         requires { IsText (op_data op.now) }
         ensures { IfOk result (λ p. TextAnswer p ≡ answer_of (table_of (ops_in self.now.entries)) (op_data op.now)) }
@@ -504,7 +504,7 @@ impl<A: Allocator> Book<A> {
     ghost use Rattle.covbook.specs.Op.{AreLawfulOps};
     ghost use Rattle.covbook.specs.Step.{ops_in};
 
-    /// Consumes the book, and returns its entries; each submission in them is lawful. Takes no memory.
+    /// Consumes the book and returns its entries, each submission of which is lawful. Never allocates.
     pub fn into_entries(self) -> Entries<A>
         ensures entries { result ≡ self.entries }
         ensures lawful { AreLawfulOps (ops_in self.entries) }
@@ -518,7 +518,7 @@ ghost use Rattle.covstore.specs.RefuseView.{refuse_data};
 ghost use Rattle.covbook.specs.Refusal.{refusal_answer};
 ghost use Rattle.covbook.specs.View.{answer_data};
 
-/// The answer for a clash. If memory was refused, there is no answer: `Memory` is returned as an error.
+/// Turns a clash into an answer. Returns `Memory` if the error isn't a clash but a failed allocation.
 fn clash_of<A: Allocator>(refuse: Refuse<A>) -> Result<Answer<A>, Memory>
     ensures { MatchResult result (λ a. refusal_answer (refuse_data refuse) ≡ Some (answer_data a)) (λ _. refusal_answer (refuse_data refuse) ≡ None) }
 {

@@ -23,7 +23,7 @@ impl<A: Allocator + Copy> Entry<A> {
     ghost use Rattle.covbook.specs.EntryView.{entry_data, receipt_data};
     ghost use Rattle.covbook.specs.Step.{receipt_of};
 
-    /// The receipt of the entry at this place, with copies of the operation and the answer.
+    /// Makes the receipt of this entry at this index, with copies of the operation and the answer.
     pub(crate) fn receipt(&self, alloc: A, place: u64) -> Result<Receipt<A>, Memory>
         ensures { IfOk result (λ r. receipt_data r ≡ receipt_of place (entry_data self.now)) }
     {
@@ -35,7 +35,7 @@ impl<A: Allocator + Copy> Entry<A> {
     }
 }
 
-/// What a job gets back for an operation: the place of its entry in the history, counted from 0, the operation, and the answer.
+/// A job's proof of an operation: its entry's index in the history (`place`, counted from 0), the operation, and the answer.
 #[derive(Drop)]
 pub struct Receipt<A: Allocator = Global> {
     pub place: u64,
@@ -63,7 +63,7 @@ impl<A: Allocator> Entries<A> {
     ghost use Rattle.std.specs.Prelude.{◌≡◌, ◌++◌, [], ◌∷◌, OnOk, OnErr, map};
     ghost use Rattle.covbook.specs.EntryView.{entry_data};
 
-    /// The empty list. Takes no memory.
+    /// The empty list. Never allocates.
     pub fn new(alloc: A) -> Entries<A>
         ensures { result ≡ [] }
     {
@@ -79,7 +79,7 @@ impl<A: Allocator> Entries<A> {
         Entries { entries }
     }
 
-    /// Appends an entry. On `Memory` the entry is dropped and the list stays as it was.
+    /// Appends an entry. On `Memory`, drops the entry and leaves the list unchanged.
     pub fn push(&mut self, entry: Entry<A>) -> Result<(), Memory>
         ensures ok { OnOk result (self.new ≡ self.old ++ entry_data entry ∷ []) }
         ensures err { OnErr result (self.new ≡ self.old) }
@@ -125,14 +125,14 @@ impl<A: Allocator> Receipts<A> {
         }
     }
 
-    /// The list of these receipts. Takes no memory.
+    /// The list of these receipts. Never allocates.
     pub fn of(receipts: Vec<Receipt<A>, A>) -> Receipts<A>
         ensures { result ≡ map receipt_data receipts.items }
     {
         Receipts { receipts }
     }
 
-    /// Appends a receipt. On `Memory` the receipt is dropped and the list stays as it was.
+    /// Appends a receipt. On `Memory`, drops the receipt and leaves the list unchanged.
     pub fn push(&mut self, receipt: Receipt<A>) -> Result<(), Memory>
         ensures ok { OnOk result (self.new ≡ self.old ++ receipt_data receipt ∷ []) }
         ensures err { OnErr result (self.new ≡ self.old) }

@@ -1,27 +1,27 @@
-//! The faults of `gather`.
+//! The errors of `gather`.
 
 use thiserror::Error;
 
-/// Why a history isn't gathered from logs. Logs, receipts, readings and places are counted from 0. The jobs of the logs are
-/// tested first. Then each log is tested in turn, first its receipts and then its readings. A missing entry is looked for last.
+/// Why a history doesn't match the logs. Logs, receipts, readings and entries (`place`) are counted from 0. `gather` checks the
+/// jobs of the logs first, then each log in turn: its receipts, then its readings. It looks for missing entries last.
 #[derive(Clone, Copy, Debug, PartialEq, Eq, Error)]
 pub enum GatherFault {
-    /// Fault 1: at the receipt's place there is no entry, or one of another job.
+    /// Fault 1: the receipt's `place` has no entry, or an entry of another job.
     #[error("stranger")]
     Stranger { log: usize, index: usize },
-    /// Fault 2: the entry at the receipt's place has another operation or answer.
+    /// Fault 2: the entry at the receipt's `place` has another operation or answer.
     #[error("differs")]
     Differs { log: usize, index: usize },
-    /// Fault 3: the receipt's place isn't above the place of the receipt before it in the log.
+    /// Fault 3: the receipt's `place` isn't above that of the receipt before it in the log.
     #[error("backwards")]
     Backwards { log: usize, index: usize },
-    /// Fault 4: this is the least place whose entry is in no log.
+    /// Fault 4: the entry at `place` is the first that is in no log.
     #[error("missing")]
     Missing { place: u64 },
-    /// Fault 5: the reading counts more entries than there are, or its totals aren't those after its number of entries.
+    /// Fault 5: the reading's number of entries is too large, or its totals aren't those after that many entries.
     #[error("bad reading")]
     BadReading { log: usize, index: usize },
-    /// Fault 6: an earlier log has the same job. This is tested first.
+    /// Fault 6: an earlier log has the same job. This is checked first.
     #[error("same job")]
     SameJob { log: usize },
 }
@@ -30,7 +30,7 @@ impl GatherFault {
     ghost use Rattle.std.specs.Prelude.{◌≡◌};
     ghost use Rattle.covbook.specs.GatherFault.{gather_fault_number};
 
-    /// The number of the fault, from 1.
+    /// The number of the error, from 1.
     pub fn number(self) -> u32
         ensures { result ≡ gather_fault_number self }
     {

@@ -1,4 +1,4 @@
-//! Gathering: checks the entries of a history against what each job kept of it.
+//! Checks the entries of a history against the logs of the jobs.
 
 ghost use Rattle.std.specs.Prelude.{◌≡◌, ◌≢◌, ◌↔◌, ◌+◌, ◌<◌, ◌≤◌, [], Err, IfOk, IsOk, IsTrue, MatchOption, length, map, take};
 ghost use Rattle.std.specs.List.{All};
@@ -17,11 +17,10 @@ use crate::reading::Reading;
 use covstore::Totals;
 use std::alloc::Allocator;
 
-/// Checks that the entries are a merge of the logs and that the readings are right: the logs' jobs differ, in each log
-/// the places rise, each receipt is that of an entry of the log's job, each entry is in a log, and each reading has the
-/// totals after its number of entries. Otherwise returns the first fault (`GatherFault` has their order). Takes no
-/// memory. The time is linear in entries, receipts, readings and the bytes that are compared, except that the job of each log is
-/// compared with the jobs of all logs before it.
+/// Checks that the entries are a merge of the logs and that the readings are right: the logs' jobs differ, the `place`s ascend
+/// within each log, each receipt is that of an entry of the log's job, each entry is in a log, and each reading has the totals
+/// after its number of entries. Otherwise returns the first error (`GatherFault` has their order). Never allocates. Takes linear
+/// time in the number of entries, receipts, readings and compared bytes; the jobs of all logs are compared in pairs.
 pub fn gather<A: Allocator>(entries: &[Entry<A>], logs: &[JobLog<A>]) -> Result<(), GatherFault>
     ensures gathered { IsOk result ↔ IsGathered (map entry_data entries.now) (map log_data logs.now) }
     ensures fault { (fault : GatherFault) → (result ≡ Err fault) ↔ IsGatherFault (map entry_data entries.now) (map log_data logs.now) fault }
@@ -92,8 +91,8 @@ fn check_receipts<A: Allocator>(
     Ok(())
 }
 
-/// Checks that the receipt is that of an entry of the job, and that its place is at least `least`. Returns the least place that
-/// the next receipt may have.
+/// Checks that the receipt's index is at least `least` and that the job's entry there matches it. Returns the lower bound for the
+/// next receipt.
 fn check_receipt<A: Allocator>(
     entries: &[Entry<A>],
     job: u32,
@@ -144,7 +143,7 @@ fn check_readings<A: Allocator>(
     Ok(())
 }
 
-/// Whether the reading's totals are those after its first `upto` entries. False if there are fewer entries.
+/// Whether the reading's totals are those after the first `upto` entries. Returns `false` if there are fewer entries.
 fn is_reading_of<A: Allocator>(reading: &Reading, entries: &[Entry<A>]) -> bool
     ensures { IsTrue result ↔ IsReadingOf (map entry_data entries.now) reading.now }
 {
@@ -154,8 +153,8 @@ fn is_reading_of<A: Allocator>(reading: &Reading, entries: &[Entry<A>]) -> bool
     }
 }
 
-/// The totals after the first `upto` entries: those of the last of these entries, or zeros if `upto` is 0. `None` if there are
-/// fewer than `upto` entries.
+/// The totals after the first `upto` entries: those of the last of these, or zeros if `upto` is 0. Returns `None` if there are
+/// fewer entries.
 fn totals_after<A: Allocator>(entries: &[Entry<A>], upto: u64) -> Option<Totals>
     ensures { MatchOption result (length entries.now < upto) (λ totals. (upto ≤ length entries.now) × (totals ≡ last_totals (take upto (map entry_data entries.now)))) }
 {

@@ -1,4 +1,4 @@
-//! The history of a book, and room for its next entries.
+//! The history of a book, with reserved capacity for its next entries.
 
 use crate::entry::{Entry, MAX_ENTRIES, Receipt};
 use crate::keep::Keep;
@@ -6,7 +6,7 @@ use covline::Memory;
 use std::alloc::Allocator;
 use std::marker::Model;
 
-/// The entries of a book. Contracts see the entries as plain data, and for how many entries there is room.
+/// The entries of a book. Contracts see the entries as plain data, and the capacity for entries.
 #[derive(Drop)]
 pub(crate) struct History<A: Allocator, K: Keep<Of = Entry<A>>> {
     kept: Vec<K, A>,
@@ -36,28 +36,28 @@ impl<A: Allocator, K: Keep<Of = Entry<A>>> History<A, K> {
         }
     }
 
-    /// What is kept of the entries, in order.
+    /// The stored parts of the entries, in order.
     pub(crate) fn get(&self) -> &[K]
         ensures { map (λ k. entry_data (K.shows k)) result.now ≡ self.now.entries }
     {
         self.kept.as_slice()
     }
 
-    /// How many entries there are, which is the place of the next one.
+    /// How many entries there are, which is also the index of the next one.
     pub(crate) fn place(&self) -> u64
         ensures { result ≡ length self.now.entries }
     {
         self.get().len() as u64
     }
 
-    /// Whether the history takes no more entries.
+    /// Whether the history has the greatest number of entries.
     pub(crate) fn is_full(&self) -> bool
         ensures { IsTrue result ↔ (length self.now.entries ≡ max_entries) }
     {
         self.place() == MAX_ENTRIES
     }
 
-    /// Makes room for one more entry.
+    /// Reserves capacity for one more entry.
     pub(crate) fn make_room(&mut self) -> Result<(), Memory>
         ensures entries { self.new.entries ≡ self.old.entries }
         ensures room { OnOk result (length self.new.entries < self.new.room) }
@@ -66,7 +66,7 @@ impl<A: Allocator, K: Keep<Of = Entry<A>>> History<A, K> {
         Ok(())
     }
 
-    /// Appends an entry. The history must have room for it.
+    /// Appends an entry. The history must have capacity for it.
     pub(crate) fn append(&mut self, entry: Entry<A>)
         requires { length self.old.entries < self.old.room }
         ensures { self.new.entries ≡ self.old.entries ++ entry_data entry ∷ [] }
@@ -74,7 +74,7 @@ impl<A: Allocator, K: Keep<Of = Entry<A>>> History<A, K> {
         self.kept.push_reserved(K::keep(entry));
     }
 
-    /// Consumes the history, and returns what it kept.
+    /// Consumes the history and returns the stored parts of its entries.
     pub(crate) fn into_kept(self) -> Vec<K, A>
         ensures { map (λ k. entry_data (K.shows k)) result.items ≡ self.entries }
     {
@@ -87,7 +87,7 @@ impl<A: Allocator + Copy, K: Keep<Of = Entry<A>>> History<A, K> {
     ghost use Rattle.covbook.specs.EntryView.{entry_data, receipt_data};
     ghost use Rattle.covbook.specs.Step.{receipt_of};
 
-    /// The receipt that this entry gets if it is the next one of the history.
+    /// Makes the receipt of this entry as the next one of the history.
     pub(crate) fn receipt(&self, alloc: A, entry: &Entry<A>) -> Result<Receipt<A>, Memory>
         ensures { IfOk result (λ r. receipt_data r ≡ receipt_of (length self.now.entries) (entry_data entry.now)) }
     {

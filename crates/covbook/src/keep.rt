@@ -1,26 +1,26 @@
-//! What is kept of an entry or a receipt.
+//! The parts of entries and receipts that are stored.
 
 use crate::entry::{Entry, Receipt};
 use crate::op::Answer;
 use std::alloc::{Allocator, Global};
 use std::snapshot::Snapshot;
 
-/// What is kept of an entry of a history, or of a receipt. Contracts see the whole entry or receipt, whatever is kept of it.
+/// The part of an entry or a receipt that is stored. Contracts see the whole entry or receipt, whatever is stored of it.
 pub trait Keep: Drop {
     /// The entry or the receipt.
     type Of;
 
     ghost use Rattle.std.specs.Prelude.{◌≡◌};
 
-    /// The whole entry or receipt of which this is kept.
+    /// The whole entry or receipt of which this is a part.
     ghost shows: { Self → Self.Of };
 
-    /// Keeps what this type keeps of `whole`, and drops the rest. Takes no memory.
+    /// Stores this type's part of `whole`, and drops the rest. Never allocates.
     fn keep(whole: Self::Of) -> Self
         ensures { shows result ≡ whole };
 }
 
-/// All of an entry is kept.
+/// Stores a whole entry.
 impl<A: Allocator> Keep for Entry<A> {
     type Of = Entry<A>;
 
@@ -31,7 +31,7 @@ impl<A: Allocator> Keep for Entry<A> {
     }
 }
 
-/// All of a receipt is kept.
+/// Stores a whole receipt.
 impl<A: Allocator> Keep for Receipt<A> {
     type Of = Receipt<A>;
 
@@ -42,7 +42,7 @@ impl<A: Allocator> Keep for Receipt<A> {
     }
 }
 
-/// Nothing is kept. The entry or the receipt exists only in proofs, so a list of these takes no memory for each.
+/// Stores nothing. The entry or receipt exists only in proofs, so it uses no memory in a list.
 impl<T: Drop> Keep for Snapshot<T> {
     type Of = T;
 
@@ -57,7 +57,7 @@ impl<T: Drop> Keep for Snapshot<T> {
 #[derive(Drop)]
 pub struct Answered<A: Allocator = Global> {
     pub answer: Answer<A>,
-    /// The whole entry. It takes no memory.
+    /// The whole entry, which exists only in proofs and uses no memory.
     pub entry: Snapshot<Entry<A>>,
 }
 

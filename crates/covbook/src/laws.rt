@@ -28,16 +28,16 @@ pub fn no_versions_are_mixed()
     renaming_keeps_totals();
 }
 
-/// A run goes on where it ended: one more operation adds one answer and one set of totals, and takes the table one step on.
+/// One more operation after a run adds one answer and one set of totals, and takes the table one step on.
 pub fn a_run_goes_on()
     ensures answers { (ops : List OpData) (op : OpData) → answers_to (ops ++ op ∷ []) ≡ answers_to ops ++ answer_of (table_of ops) op ∷ [] }
     ensures totals { (ops : List OpData) (op : OpData) → totals_to (ops ++ op ∷ []) ≡ totals_to ops ++ totals_at (table_after (table_of ops) op) ∷ [] }
     ensures table { (ops : List OpData) (op : OpData) → table_of (ops ++ op ∷ []) ≡ table_after (table_of ops) op }
 {}
 
-/// The order in which submissions come doesn't matter, if their checksums agree. None of them clashes, and the table has the
-/// rows of each. With the same submissions in another order, each text is the same, whatever texts were asked for in between.
-/// In the other order the checksums agree too, so no submission clashes there either.
+/// The order of submissions doesn't matter if their checksums agree. None of them clashes, and the table has the rows of each. With
+/// the same submissions in another order, each text is the same, whatever texts were requested in between; the checksums agree too,
+/// so no submission clashes there either.
 pub fn order_does_not_matter()
     ensures accepted { (ops : List OpData) → OnlySubmitsAndAsks ops → AreAgreeing (submissions_in ops) → (clash : ClashData) → ¬ Contains (answers_to ops) (ClashAnswer clash) }
     ensures table { (ops : List OpData) → OnlySubmitsAndAsks ops → AreAgreeing (submissions_in ops) → table_of ops ≡ map rows_of (submissions_in ops) }
@@ -51,9 +51,8 @@ pub fn order_does_not_matter()
     order_of_submissions_does_not_matter();
 }
 
-/// The claims on entries and logs all hold exactly if the history is gathered from the logs. There is at most one first fault.
-/// If there is one, the history isn't gathered from the logs. If this fault isn't `BadReading`, the entries aren't a merge of
-/// the logs either.
+/// The claims about entries and logs hold if and only if the history matches the logs. There is at most one first error; with one,
+/// the history doesn't match the logs. If this error isn't `BadReading`, the entries aren't a merge of the logs either.
 pub fn claims_make_a_gathering()
     ensures gathered { (entries : List EntryData) (logs : List LogData) → AllHold (gather_claims entries logs) ↔ IsGathered entries logs }
     ensures fault { (entries : List EntryData) (logs : List LogData) (some other : GatherFault) → IsGatherFault entries logs some → IsGatherFault entries logs other → some ≡ other }
@@ -61,8 +60,8 @@ pub fn claims_make_a_gathering()
     ensures merge { (entries : List EntryData) (logs : List LogData) (fault : GatherFault) → IsGatherFault entries logs fault → ((log index : ℕ) → fault ≢ BadReading log index) → ¬ IsMerge entries logs }
 {}
 
-/// A fault is the first one exactly if it has its cause: something is wrong at the log, receipt, reading or place that the
-/// fault names, and all that is tested before is right.
+/// An error is the first one if and only if it has its cause: the log, receipt, reading or entry that it names is wrong, and all
+/// that is checked before is right.
 pub fn each_fault_has_its_cause()
     ensures stranger { (entries : List EntryData) (logs : List LogData) (log index : ℕ) → IsGatherFault entries logs (Stranger log index) ↔ IsStranger entries logs log index }
     ensures differs { (entries : List EntryData) (logs : List LogData) (log index : ℕ) → IsGatherFault entries logs (Differs log index) ↔ IsDiffering entries logs log index }
@@ -72,10 +71,10 @@ pub fn each_fault_has_its_cause()
     ensures same_job { (entries : List EntryData) (logs : List LogData) (log : ℕ) → IsGatherFault entries logs (SameJob log) ↔ IsSameJob logs log }
 {}
 
-/// If a job's log is of the history of its latest news, this stays so after one more call, even if the job keeps no history.
-/// Suppose that a history has as many entries as all jobs together have successful calls, that the history of each job's latest
-/// news is a beginning of this history, and that the readings in the jobs' logs are of this history. Then this history is
-/// gathered from these logs: no two receipts have the same place, so there is one for each entry.
+/// Two laws that lead from counted calls to a gathered history. First, a job's log that belongs to the history of its latest news
+/// still does after one more call, even if the job stores no history. Second, a history is gathered from the jobs' logs if its
+/// length is the number of all successful calls, each job's latest news are a prefix of it, and the readings are of it: no two
+/// receipts have the same index, so each entry has one.
 pub fn calls_count_a_history()
     ensures one_more { (log : LogData) (calls seen : ℕ) (latest before : List EntryData) (entry : EntryData) (told : ReceiptData) → IsKept log calls seen latest → entry.job ≡ log.job → receipt_of told.place entry ≡ told → length before ≡ told.place → seen ≤ told.place → IsPrefix latest (before ++ entry ∷ []) → IsKept (with_receipt log told) (calls + 1) (told.place + 1) (before ++ entry ∷ []) }
     ensures gathered { (entries : List EntryData) (jobs : ℕ) (kept : List KeptData) → jobs_of (logs_kept kept) ≡ range_with_len 0 jobs → AllByRecursion IsKeptWell kept → AllByRecursion (AreReadingsOf entries) (logs_kept kept) → AreBefore entries kept → length entries ≡ calls_kept kept → IsGathered entries (logs_kept kept) }

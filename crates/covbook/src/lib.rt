@@ -1,20 +1,20 @@
-//! The book of one collector: a table of counts, and the history of all that the table was asked and what it answered.
+//! The book of one collector: a table of counts, and the history of its operations with their answers.
 //!
-//! An `Op` is an operation on the table: add a submission, drop a test or rename it, or print a text of what is held.
-//! `Book::step` answers one and appends its entry; the job that asked gets a `Receipt` with the entry's place and answer. The
-//! history is legal at every moment: its answers are those of a run over its operations from an empty table.
+//! An `Op` is an operation on the table: add a submission, drop or rename a test, or print a text. `Book::step` answers an
+//! operation and appends its entry; the job that asked gets a `Receipt` with the entry's index and answer. The history is always
+//! legal: its answers are those of a run of its operations from an empty table.
 //!
-//! A caller with something to do in between takes a step in two halves. `Book::ready` does all that can be refused, and
-//! returns a `Ready`, which has the totals after the step (`Ready::after`). `Book::finish` does the rest. It takes no memory.
+//! A caller that has work to do in between takes a step in two halves. `Book::ready` does everything that can fail, and returns a
+//! `Ready` with the totals after the step (`Ready::after`). `Book::finish` does the rest, and never allocates.
 //!
-//! Several jobs that share a book keep their receipts and the totals that they read, each in a `JobLog`. `gather` checks that
-//! the history is a merge of these logs and that each reading has the right totals. Otherwise it returns the first fault.
+//! Jobs that share a book store their receipts and their readings of the totals in a `JobLog` each. `gather` checks that the
+//! history is a merge of these logs and that each reading has the right totals. Otherwise it returns the first error.
 //!
-//! A book keeps its whole history by default. `Book::keeping` makes one that keeps less (`Keep`): the answers alone
-//! (`Answered`), or nothing (`Snapshot<Entry>`). Then the rest of its entries exists only in proofs. Each contract of `Book`
-//! is the same for all of them, since it speaks of whole entries.
+//! A book stores its whole history by default. `Book::keeping` makes one that stores less (`Keep`): only the answers (`Answered`),
+//! or nothing (`Snapshot<Entry>`). Then the rest of its entries exists only in proofs. Each contract of `Book` speaks of whole
+//! entries, so it is the same in each case.
 //!
-//! An example, proved and run in `covuses`: what a book answers to a submission of job 1, and then to a report of job 2. The
+//! An example, proved and run in `covuses`: the answers of a book to a submission of job 1, and then to a report of job 2. The
 //! first answer is `Answer::Accepted` or `Answer::Clash`, the second `Answer::Text`.
 //!
 //! ```text

@@ -1,4 +1,4 @@
-//! What jobs keep of a history: their receipts and readings.
+//! The logs of jobs: their receipts and readings.
 
 use crate::entry::Receipts;
 use crate::reading::Readings;
@@ -6,7 +6,7 @@ use covline::Memory;
 use std::alloc::{Allocator, Global};
 use std::marker::Model;
 
-/// The receipts that one job kept, in the order of its calls, and the totals that it read.
+/// The receipts of one job, in the order of its calls, and its readings of the totals.
 #[derive(Drop)]
 pub struct JobLog<A: Allocator = Global> {
     pub job: u32,
@@ -34,7 +34,7 @@ impl<A: Allocator> Logs<A> {
     ghost use Rattle.std.specs.Prelude.{◌≡◌, ◌++◌, [], ◌∷◌, OnOk, OnErr, map};
     ghost use Rattle.covbook.specs.LogView.{log_data};
 
-    /// The empty list. Takes no memory.
+    /// The empty list. Never allocates.
     pub fn new(alloc: A) -> Logs<A>
         ensures { result ≡ [] }
     {
@@ -43,7 +43,7 @@ impl<A: Allocator> Logs<A> {
         }
     }
 
-    /// Appends a log. On `Memory` the log is dropped and the list stays as it was.
+    /// Appends a log. On `Memory`, drops the log and leaves the list unchanged.
     pub fn push(&mut self, log: JobLog<A>) -> Result<(), Memory>
         ensures ok { OnOk result (self.new ≡ self.old ++ log_data log ∷ []) }
         ensures err { OnErr result (self.new ≡ self.old) }

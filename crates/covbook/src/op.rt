@@ -1,4 +1,4 @@
-//! What a book is asked, and what it answers.
+//! The operations of a book, and their answers.
 
 use crate::shared::{PackedRef, SubRef, TextRef};
 use covline::{Bytes, Memory};
@@ -10,13 +10,13 @@ use std::alloc::{Allocator, Global};
 pub enum Op<A: Allocator = Global> {
     /// Add the counts of a submission.
     Submit(SubRef<A>),
-    /// Add the counts of a packed submission. This is equal to adding the same submission that isn't packed.
+    /// Add the counts of a packed submission. Equal to adding the same submission unpacked.
     SubmitPacked(PackedRef<A>),
     /// Remove the counts of a test, in all files.
     DropTest(Bytes<A>),
-    /// Give the counts of a test another name, in all files. If there are counts of a test with this name already, the counts of
-    /// each point are added up. Any new name is accepted, but a printed tracefile can be read back only if the name fits into
-    /// one line of it (`covline::good_test`).
+    /// Give the counts of a test another name, in all files. If there is a test with the new name already, the counts of each point
+    /// are added up. Any new name is accepted, but a printed tracefile can be read back only if the name fits into one line
+    /// (`covline::good_test`).
     Rename { old: Bytes<A>, new: Bytes<A> },
     /// Print the merged tracefile.
     Report,
@@ -32,7 +32,7 @@ impl<A: Allocator + Copy> Op<A> {
     ghost use Rattle.std.specs.Prelude.{◌≡◌, IfOk};
     ghost use Rattle.covbook.specs.View.{op_data};
 
-    /// An equal operation. A submission is shared with it. Names of tests are copied, and so are patterns.
+    /// Copies the operation. Shares its submission; copies names of tests and patterns.
     pub fn copy(&self, alloc: A) -> Result<Op<A>, Memory>
         ensures { IfOk result (λ o. op_data o ≡ op_data self.now) }
     {
@@ -57,7 +57,7 @@ impl<A: Allocator> Op<A> {
     ghost use Rattle.covbook.specs.Op.{SubmitOp, DropTestOp, RenameOp, ExtractOp, RemoveOp};
     ghost use Rattle.covbook.specs.View.{op_data};
 
-    /// Whether the operations are equal. They may share memory or not. Takes no memory.
+    /// Whether the operations are equal, whether or not they share memory. Never allocates.
     pub fn is_same(&self, other: &Op<A>) -> bool
         ensures { IsTrue result ↔ (op_data self.now ≡ op_data other.now) }
     {
@@ -142,26 +142,26 @@ impl<A: Allocator> Op<A> {
 /// The answer to an operation.
 #[derive(Drop)]
 pub enum Answer<A: Allocator = Global> {
-    /// The submission is accepted, as the book's submission with this number, counted from 1. It has this number of items, and
-    /// its text has this number of odd lines.
+    /// The submission is accepted. It is the book's submission with this number, counted from 1, and has these numbers of items and
+    /// of inconsistent lines.
     Accepted {
         number: u64,
         items: u64,
         odd: u64,
     },
-    /// The submission has another checksum for this line of this file than the one that is held, so it comes from
-    /// another version of the source. Nothing of it is taken.
+    /// The submission's checksum for this line of this file differs from the held one, so it comes from another version of the
+    /// source. Nothing of it is added.
     Clash {
         file: Bytes<A>,
         line: u64,
         held: Bytes<A>,
         given: Bytes<A>,
     },
-    /// The test's counts are gone from this number of sections, one for each file that had them.
+    /// The test's counts were removed from this number of sections, one for each file with counts of the test.
     Dropped {
         sections: u64,
     },
-    /// The test's counts have the new name in this number of sections, one for each file that had them.
+    /// The test's counts got the new name in this number of sections, one for each file with counts of the test.
     Renamed {
         sections: u64,
     },
@@ -175,7 +175,7 @@ impl<A: Allocator + Copy> Answer<A> {
     ghost use Rattle.std.specs.Prelude.{◌≡◌, IfOk};
     ghost use Rattle.covbook.specs.View.{answer_data};
 
-    /// An equal answer. A text is shared with it. The file's name and the checksums of a clash are copied.
+    /// Copies the answer. Shares its text; copies the file's name and the checksums of a clash.
     pub fn copy(&self, alloc: A) -> Result<Answer<A>, Memory>
         ensures { IfOk result (λ a. answer_data a ≡ answer_data self.now) }
     {
@@ -213,7 +213,7 @@ impl<A: Allocator> Answer<A> {
     ghost use Rattle.covbook.specs.Op.{AcceptedAnswer, ClashAnswer, DroppedAnswer, RenamedAnswer, TextAnswer};
     ghost use Rattle.covbook.specs.View.{answer_data};
 
-    /// Whether the answers are equal. They may share memory or not. Takes no memory.
+    /// Whether the answers are equal, whether or not they share memory. Never allocates.
     pub fn is_same(&self, other: &Answer<A>) -> bool
         ensures { IsTrue result ↔ (answer_data self.now ≡ answer_data other.now) }
     {

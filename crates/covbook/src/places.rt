@@ -1,4 +1,4 @@
-//! The places of receipts.
+//! The indices (`place`) of receipts.
 
 ghost use Rattle.std.specs.Prelude.{◌≡◌, map};
 ghost use Rattle.covbook.specs.Gather.{Rise, places_in, places_of};
@@ -8,9 +8,9 @@ ghost use Rattle.covbook.specs.LogView.{log_data};
 use crate::log::JobLog;
 use std::alloc::Allocator;
 
-/// The least place below `count` that no receipt of the logs has, if there is one. No two receipts have the same place. So
-/// receipts have all places below n exactly if n receipts have places below n. A binary search finds the least place that is
-/// missing.
+/// The least index below `count` that no receipt of the logs has. Returns `None` if none is missing. No two receipts have the same
+/// index, so the receipts have all indices below n if and only if n receipts have an index below n. A binary search finds the least
+/// missing one.
 pub(crate) fn least_missing<A: Allocator>(count: u64, logs: &[JobLog<A>]) -> Option<u64>
     requires { AreApart (map log_data logs.now) }
     ensures { ReturnsLeast result count (places_in (map log_data logs.now)) }
@@ -32,7 +32,7 @@ pub(crate) fn least_missing<A: Allocator>(count: u64, logs: &[JobLog<A>]) -> Opt
     Some(told)
 }
 
-/// How many receipts of the logs have a place below this one.
+/// How many receipts of the logs have an index below `place`.
 fn receipts_below<A: Allocator>(logs: &[JobLog<A>], place: u64) -> u64
     requires { AreApart (map log_data logs.now) }
     ensures { result ≡ below place (places_in (map log_data logs.now)) }
@@ -44,7 +44,7 @@ fn receipts_below<A: Allocator>(logs: &[JobLog<A>], place: u64) -> u64
     count
 }
 
-/// How many receipts of the log have a place below this one. The log's places rise, so a binary search finds the number.
+/// How many receipts of the log have an index below `place`. The indices ascend, so a binary search finds the number.
 fn log_below<A: Allocator>(log: &JobLog<A>, place: u64) -> u64
     requires { Rise (places_of (log_data log.now)) }
     ensures { result ≡ below place (places_of (log_data log.now)) }

@@ -31,7 +31,7 @@ impl<A: Allocator> Model for Readings<A> {
 impl<A: Allocator> Readings<A> {
     ghost use Rattle.std.specs.Prelude.{◌≡◌, ◌++◌, [], ◌∷◌, OnOk, OnErr};
 
-    /// The empty list. Takes no memory.
+    /// The empty list. Never allocates.
     pub fn new(alloc: A) -> Readings<A>
         ensures { result ≡ [] }
     {
@@ -40,7 +40,7 @@ impl<A: Allocator> Readings<A> {
         }
     }
 
-    /// Appends a reading. On `Memory` the reading is dropped and the list stays as it was.
+    /// Appends a reading. On `Memory`, drops the reading and leaves the list unchanged.
     pub fn push(&mut self, reading: Reading) -> Result<(), Memory>
         ensures ok { OnOk result (self.new ≡ self.old ++ reading ∷ []) }
         ensures err { OnErr result (self.new ≡ self.old) }

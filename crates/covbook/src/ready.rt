@@ -1,4 +1,4 @@
-//! A step that a book has made ready.
+//! Steps that are ready to be finished.
 
 use crate::entry::{Entry, Receipt};
 use covline::Bytes;
@@ -6,21 +6,21 @@ use covstore::{Plan, Renaming, Totals};
 use std::alloc::{Allocator, Global};
 use std::marker::Model;
 
-/// What a step does to the store.
+/// The effect of a step on the store.
 #[derive(Drop)]
 pub(crate) enum Change<A: Allocator> {
     /// Nothing: a text is printed, or the operation has no effect.
     Nothing,
-    /// A submission is held, as it is planned.
+    /// The planned submission is added.
     Hold(Plan),
     /// The test of this name is dropped.
     Drop(Bytes<A>),
-    /// A test is renamed, as it is planned.
+    /// A test is renamed as planned.
     Rename(Renaming<A>),
 }
 
-/// A step that its book can take without further memory. Contracts see its entry with its place, what it does to the
-/// store, and the totals after it. Dropping it cancels the step: the book's history and content stay as they are.
+/// A step that its book can finish without allocating. Contracts see its entry with its index, its effect on the store, and the
+/// totals after it. Dropping it cancels the step: the book's history and content stay as they are.
 #[derive(Drop)]
 pub struct Ready<A: Allocator = Global> {
     entry: Entry<A>,
@@ -54,7 +54,7 @@ impl<A: Allocator> Ready<A> {
     ghost use Rattle.covbook.specs.Step.{receipt_of};
     ghost use Rattle.covbook.specs.View.{op_data};
 
-    /// The step that appends this entry with this receipt, and makes this change to the store.
+    /// Makes the step that appends this entry, with this receipt and this effect on the store.
     pub(crate) fn new(entry: Entry<A>, receipt: Receipt<A>, change: Change<A>) -> Ready<A>
         requires receipt { receipt_data receipt ≡ receipt_of receipt.place (entry_data entry) }
         requires totals { AreTotals entry.after }
@@ -71,7 +71,7 @@ impl<A: Allocator> Ready<A> {
         }
     }
 
-    /// The totals after the step. Takes no memory.
+    /// The totals after the step. Never allocates.
     pub fn after(&self) -> Totals
         ensures value { result ≡ self.now.after }
         ensures bounds { AreTotals result }
@@ -79,14 +79,14 @@ impl<A: Allocator> Ready<A> {
         self.entry.after
     }
 
-    /// The entry that the step appends. Takes no memory.
+    /// The entry that the step appends. Never allocates.
     pub fn entry(&self) -> &Entry<A>
         ensures { entry_data result.now ≡ self.now.entry }
     {
         &self.entry
     }
 
-    /// The entry, its receipt, and what is done to the store.
+    /// The entry, its receipt, and the effect on the store.
     pub(crate) fn into_parts(self) -> (Entry<A>, Receipt<A>, Change<A>)
         ensures entry { entry_data result.0 ≡ self.entry }
         ensures receipt { receipt_data result.1 ≡ receipt_of self.place self.entry }

@@ -1,4 +1,4 @@
-//! Submissions and texts that several owners share. Contracts see what is shared.
+//! Submissions and texts that several owners share.
 
 use covline::{Bytes, Memory, Submission};
 use covpacked::PackedSubmission;
@@ -21,7 +21,7 @@ impl<T: Drop, A: Allocator> Model for SharedValue<T, A> {
 impl<T: Drop, A: Allocator> SharedValue<T, A> {
     ghost use Rattle.std.specs.Prelude.{◌≡◌, IfOk};
 
-    /// The value, to be shared. On `Memory` it is dropped.
+    /// Makes the value shareable. On `Memory`, drops it.
     fn of(alloc: A, value: T) -> Result<SharedValue<T, A>, Memory>
         ensures { IfOk result (λ s. s ≡ value) }
     {
@@ -30,7 +30,7 @@ impl<T: Drop, A: Allocator> SharedValue<T, A> {
         })
     }
 
-    /// The value that is shared.
+    /// The shared value.
     fn get(&self) -> &T
         ensures { result.now ≡ self.now }
     {
@@ -64,7 +64,7 @@ impl<A: Allocator> Model for SubRef<A> {
 impl<A: Allocator> SubRef<A> {
     ghost use Rattle.std.specs.Prelude.{◌≡◌, ◌↔◌, IfOk, IsTrue};
 
-    /// The submission, to be shared. On `Memory` it is dropped.
+    /// Makes the submission shareable. On `Memory`, drops it.
     pub fn of(alloc: A, submission: Submission<A>) -> Result<SubRef<A>, Memory>
         ensures { IfOk result (λ s. s ≡ submission) }
     {
@@ -73,14 +73,14 @@ impl<A: Allocator> SubRef<A> {
         })
     }
 
-    /// The submission that is shared.
+    /// The shared submission.
     pub fn get(&self) -> &Submission<A>
         ensures { result.now ≡ self.now }
     {
         self.shared.get()
     }
 
-    /// Whether the submissions are equal, shared or not. Takes no memory.
+    /// Whether the submissions are equal, shared or not. Never allocates.
     pub fn is_same(&self, other: &SubRef<A>) -> bool
         ensures { IsTrue result ↔ (self.now ≡ other.now) }
     {
@@ -114,7 +114,7 @@ impl<A: Allocator> Model for PackedRef<A> {
 impl<A: Allocator> PackedRef<A> {
     ghost use Rattle.std.specs.Prelude.{◌≡◌, ◌↔◌, IfOk, IsTrue};
 
-    /// The submission, to be shared. On `Memory` it is dropped.
+    /// Makes the submission shareable. On `Memory`, drops it.
     pub fn of(alloc: A, submission: PackedSubmission<A>) -> Result<PackedRef<A>, Memory>
         ensures { IfOk result (λ s. s ≡ submission) }
     {
@@ -123,21 +123,21 @@ impl<A: Allocator> PackedRef<A> {
         })
     }
 
-    /// The submission that is shared.
+    /// The shared submission.
     pub fn get(&self) -> &PackedSubmission<A>
         ensures { result.now ≡ self.now }
     {
         self.shared.get()
     }
 
-    /// Whether the submissions are equal, shared or not. Takes no memory.
+    /// Whether the submissions are equal, shared or not. Never allocates.
     pub fn is_same(&self, other: &PackedRef<A>) -> bool
         ensures { IsTrue result ↔ (self.now ≡ other.now) }
     {
         self.get().is_same(other.get())
     }
 
-    /// Whether this is the same submission as one that isn't packed. Takes no memory.
+    /// Whether this equals a submission that isn't packed. Never allocates.
     pub fn is_same_as(&self, other: &SubRef<A>) -> bool
         ensures { IsTrue result ↔ (self.now ≡ other.now) }
     {
@@ -171,7 +171,7 @@ impl<A: Allocator> Model for TextRef<A> {
 impl<A: Allocator> TextRef<A> {
     ghost use Rattle.std.specs.Prelude.{◌≡◌, ◌↔◌, IfOk, IsTrue};
 
-    /// The text, to be shared. On `Memory` it is dropped.
+    /// Makes the text shareable. On `Memory`, drops it.
     pub fn of(alloc: A, text: Bytes<A>) -> Result<TextRef<A>, Memory>
         ensures { IfOk result (λ t. t ≡ text) }
     {
@@ -180,14 +180,14 @@ impl<A: Allocator> TextRef<A> {
         })
     }
 
-    /// The text that is shared.
+    /// The shared text.
     pub fn get(&self) -> &Bytes<A>
         ensures { result.now ≡ self.now }
     {
         self.shared.get()
     }
 
-    /// Whether the texts are equal, shared or not. Takes no memory.
+    /// Whether the texts are equal, shared or not. Never allocates.
     pub fn is_same(&self, other: &TextRef<A>) -> bool
         ensures { IsTrue result ↔ (self.now ≡ other.now) }
     {

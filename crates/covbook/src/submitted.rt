@@ -1,4 +1,4 @@
-//! A submission that a book is asked to add, packed or not.
+//! Submissions to be added to a book, packed or not.
 
 use crate::op::Op;
 use crate::shared::{PackedRef, SubRef};
@@ -22,7 +22,7 @@ pub(crate) trait Submitted<A: Allocator + Copy> {
     // The submission.
     ghost says: { Self → SubmissionData };
 
-    /// The operation that submits it. The submission is shared with the operation.
+    /// Makes the operation that submits it. The operation shares the submission.
     fn to_op(&self) -> Result<Op<A>, Memory>
         ensures { IfOk result (λ op. op_data op ≡ SubmitOp (says self.now)) };
 
@@ -31,11 +31,11 @@ pub(crate) trait Submitted<A: Allocator + Copy> {
         ensures count { result ≡ items_in (says self.now).sects }
         ensures lawful { IsLawful (says self.now) };
 
-    /// How many lines of its text are odd.
+    /// How many inconsistent lines its input has.
     fn count_odd(&self) -> u64
         ensures { result ≡ (says self.now).odd };
 
-    /// Prepares to add it to the store, as `Store::prepare`.
+    /// Prepares to add it to the store, as `Store::prepare` does.
     fn prepare_in(&self, alloc: A, store: &mut Store<A>) -> Result<Plan, Refuse<A>>
         requires { store.old.members < max_members }
         ensures content { SameContent store.old store.new }

@@ -1,4 +1,4 @@
-//! The book. What is wanted was worked out by hand from the formats, never taken from an output.
+//! The book. Expected values were worked out by hand from the formats.
 
 use std::test::*;
 

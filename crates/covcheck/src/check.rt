@@ -1,4 +1,4 @@
-//! Checking a text.
+//! Checks one input.
 
 ghost use Rattle.std.specs.Prelude.{◌≡◌, ◌⊎◌, [], Result, Err};
 ghost use Rattle.covline.specs.Row.{SubmissionData};
@@ -18,54 +18,53 @@ use covpacked::ReadText;
 use covread::{ReadFault, read_gcov_packed, read_trace_packed};
 use std::alloc::Allocator;
 
-/// Reads a tracefile (geninfo(1) of LCOV 1.x, section FILES). Returns what it holds, or the fault that `read_trace`
-/// returns. What was read is freed.
+/// Reads a tracefile (geninfo(1) of LCOV 1.x, section FILES), and returns its summary, or the error of `read_trace`. Frees what was
+/// read.
 pub fn check_trace<'a, A: Allocator + Copy>(
     alloc: A,
     text: &'a [u8],
 ) -> Result<TextSummary<'a>, ReadFault>
-    // The result fits an answer of the reader: what the text is read as, or `Memory`. The answer is `Memory` only after a path.
+    // The summary fits a result of the reader: what the input is read as, or `Memory`. It is `Memory` only after a path.
     ensures answers { (read : Result SubmissionData Fault) × Answers text.now read × GrowsLate text.now read × Tells IsSkippedRecord text.now read result }
-    // The result fits what the text is read as, or it is `Memory`.
+    // The summary fits what the input is read as, or the result is `Memory`.
     ensures only { (outcome : Result SubmissionData Fault) → IsOutcome text.now outcome → (result ≡ Err NoMemory) ⊎ Tells IsSkippedRecord text.now outcome result }
 {
     let submission = read_trace_packed(alloc, text)?;
     Ok(summary_of(&submission, text, Format::Trace))
 }
 
-/// Reads a tracefile of LCOV 2 (geninfo(1) of LCOV 2.x, TRACEFILE FORMAT). Returns what it holds, or the fault that `read_lcov2`
-/// returns. What was read is freed.
+/// Reads a tracefile of LCOV 2 (geninfo(1) of LCOV 2.x, TRACEFILE FORMAT), and returns its summary, or the error of `read_lcov2`.
+/// Frees what was read.
 pub fn check_lcov2<'a, A: Allocator + Copy>(
     alloc: A,
     text: &'a [u8],
 ) -> Result<TextSummary<'a>, ReadFault>
-    // The result fits an answer of the reader: what the text is read as, or `Memory`. The answer is `Memory` only after a path.
+    // The summary fits a result of the reader: what the input is read as, or `Memory`. It is `Memory` only after a path.
     ensures answers { (read : Result SubmissionData Fault) × lcov2.Answers text.now read × lcov2.GrowsLate text.now read × Tells IsSkippedLcov2 text.now read result }
-    // The result fits what the text is read as, or it is `Memory`.
+    // The summary fits what the input is read as, or the result is `Memory`.
     ensures only { (outcome : Result SubmissionData Fault) → lcov2.IsOutcome text.now outcome → (result ≡ Err NoMemory) ⊎ Tells IsSkippedLcov2 text.now outcome result }
 {
     let submission = read_lcov2_packed(alloc, text)?;
     Ok(summary_of(&submission, text, Format::Lcov2))
 }
 
-/// Reads gcov's annotated source (gcov(1)), as counts of the test with the empty name. Returns what it holds, or the fault
-/// that `read_gcov` returns. What was read is freed.
+/// Reads gcov's annotated source (gcov(1)), as counts of the test with the empty name. Returns its summary, or the error of
+/// `read_gcov`. Frees what was read.
 pub fn check_gcov<'a, A: Allocator + Copy>(
     alloc: A,
     text: &'a [u8],
 ) -> Result<TextSummary<'a>, ReadFault>
-    // The result fits an answer of the reader: what the text is read as, or `Memory`. The answer is `Memory` only after a path or
-    // a function.
+    // The summary fits a result of the reader: what the input is read as, or `Memory`. It is `Memory` only after a path or a
+    // function.
     ensures answers { (read : Result SubmissionData Fault) × gcov.Answers [] text.now read × gcov.GrowsLate text.now read × Tells IsSkippedGcov text.now read result }
-    // The result fits what the text is read as, or it is `Memory`.
+    // The summary fits what the input is read as, or the result is `Memory`.
     ensures only { (outcome : Result SubmissionData Fault) → gcov.IsOutcome [] text.now outcome → (result ≡ Err NoMemory) ⊎ Tells IsSkippedGcov text.now outcome result }
 {
     let submission = read_gcov_packed(alloc, b"", text)?;
     Ok(summary_of(&submission, text, Format::Gcov))
 }
 
-/// The summary of a text that was read as this submission. Whether the text is read as this submission isn't checked. Takes no
-/// memory.
+/// The summary of an input that was read as this submission. Doesn't check that it was. Never allocates.
 pub fn summary_of<'a, S: ReadText>(
     submission: &S,
     text: &'a [u8],

@@ -1,4 +1,4 @@
-//! The formats that a text can have, and which lines aren't read in each.
+//! The formats of inputs, and their skipped lines.
 
 ghost use Rattle.std.specs.Prelude.{◌≡◌, ◌++◌, ◌↔◌, IsTrue, IfSome, codes};
 ghost use Rattle.covline.specs.Spells.{line_data, Begins, HasKey, Skip, Spells};
@@ -9,7 +9,7 @@ use covlcov2::{Lcov2Line, read_lcov2_line};
 use covline::{TraceLine, read_line, strip_key};
 use covread::fits_no_shape;
 
-/// How a text is read.
+/// The format of an input.
 #[derive(Clone, Copy)]
 pub enum Format {
     /// As a tracefile.
@@ -21,7 +21,7 @@ pub enum Format {
 }
 
 impl Format {
-    /// Whether the line isn't read in a text of this format. False for an empty line.
+    /// Whether the line is skipped in an input of this format. Returns `false` for an empty line.
     #[inline]
     pub(crate) fn skips(self, line: &[u8]) -> bool
         ensures { IsTrue result ↔ IsSkippedIn self line.now }
@@ -34,8 +34,8 @@ impl Format {
     }
 }
 
-/// Whether the line isn't read in a tracefile: it isn't empty, and says nothing. Most lines begin with `DA:` or `BRDA:`. For
-/// these the key alone gives the answer `false`, and their fields aren't looked at.
+/// Whether the line is skipped in a tracefile: it isn't empty and has no meaning. Most lines begin with `DA:` or `BRDA:`, for which
+/// the key alone decides, without a look at the fields.
 #[inline]
 fn is_skipped_record(line: &[u8]) -> bool
     ensures { IsTrue result ↔ IsSkippedRecord line.now }
@@ -46,8 +46,8 @@ fn is_skipped_record(line: &[u8]) -> bool
     !line.is_empty() && says_nothing(line)
 }
 
-/// Whether the line isn't read in a tracefile of LCOV 2, and no LCOV of either version writes it. The keys of most lines give the
-/// answer `false` here too.
+/// Whether the line is skipped in a tracefile of LCOV 2: it has no meaning, and no version of LCOV writes it. Here too, the keys of
+/// most lines decide.
 #[inline]
 fn is_skipped_lcov2(line: &[u8]) -> bool
     ensures { IsTrue result ↔ IsSkippedLcov2 line.now }
@@ -66,7 +66,7 @@ fn has_common_key(line: &[u8]) -> bool
     after_line_key(line).is_some() || after_branch_key(line).is_some()
 }
 
-/// What follows `DA:`, if the line begins with it.
+/// The line after `DA:`. Returns `None` if the line doesn't begin with `DA:`.
 #[inline]
 fn after_line_key(line: &[u8]) -> Option<&[u8]>
     ensures { IfSome result (λ rest. line.now ≡ codes "DA:" ++ rest.now) }
@@ -77,7 +77,7 @@ fn after_line_key(line: &[u8]) -> Option<&[u8]>
     }
 }
 
-/// What follows `BRDA:`, if the line begins with it.
+/// The line after `BRDA:`. Returns `None` if the line doesn't begin with `BRDA:`.
 #[inline]
 fn after_branch_key(line: &[u8]) -> Option<&[u8]>
     ensures { IfSome result (λ rest. line.now ≡ codes "BRDA:" ++ rest.now) }
@@ -88,7 +88,7 @@ fn after_branch_key(line: &[u8]) -> Option<&[u8]>
     }
 }
 
-/// Whether the line of a tracefile says nothing.
+/// Whether the line of a tracefile has no meaning.
 fn says_nothing(line: &[u8]) -> bool
     ensures { IsTrue result ↔ Spells line.now Skip }
 {
@@ -105,7 +105,7 @@ fn is_skip(says: TraceLine<'_>) -> bool
     matches!(says, TraceLine::Skip)
 }
 
-/// Whether the line of a tracefile of LCOV 2 says nothing.
+/// Whether the line of a tracefile of LCOV 2 has no meaning.
 fn says_nothing_in_lcov2(line: &[u8]) -> bool
     ensures { IsTrue result ↔ Lcov2Spells line.now (Plain Skip) }
 {
@@ -125,7 +125,7 @@ fn is_plain_skip(says: Lcov2Line<'_>) -> bool
     }
 }
 
-/// Whether the line is a version (`VER:`), a comment, or a record of conditions. LCOV 2 writes these, and they aren't read.
+/// Whether the line is a version (`VER:`), a comment, or a record of conditions. LCOV 2 writes these; covcollect ignores them.
 fn is_of_lcov2_alone(line: &[u8]) -> bool
     ensures { IsTrue result ↔ IsOfLcov2Alone line.now }
 {

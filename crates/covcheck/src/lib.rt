@@ -1,11 +1,12 @@
-//! What texts hold, without adding them up: how many sections and items, how many odd lines, and which lines aren't read.
+//! Checks single inputs, without adding up their counts: how many sections, items and inconsistent lines they have, and which lines
+//! are skipped.
 //!
-//! A text is read as covread or covlcov2 reads it, so a check returns the same fault. Lines that aren't read are no fault: a
-//! tracefile may have records of later versions (`FNL:`), and gcov's text has `call` lines. Unless such a line is empty, or of a
-//! kind that is known to say nothing of counts, it is counted as skipped, and the first skipped line is shown: a text that has
-//! no other lines, such as a page of HTML, is read as an empty submission.
+//! An input is read as by covread or covlcov2, so a check returns the same error. Skipped lines are no error: a tracefile may have
+//! records of later versions (`FNL:`), and gcov's output has `call` lines. The summary counts them, and shows the first one. An
+//! input of only such lines, such as a page of HTML, is read as an empty submission. Empty lines, and kinds of lines that are known
+//! to have no counts, aren't counted as skipped.
 //!
-//! An example, proved and run in `covuses`: the line that says what a tracefile holds.
+//! An example, proved and run in `covuses`: the summary line of a tracefile.
 //!
 //! ```text
 //! pub fn check_line(alloc: Global, text: &[u8]) -> Result<Vec<u8>, ReadFault> {

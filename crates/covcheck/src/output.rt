@@ -1,4 +1,4 @@
-//! The line that says what a text holds.
+//! Prints the summary line of an input.
 
 ghost use Rattle.std.specs.Prelude.{◌≡◌, ◌++◌, IfOk, OnOk, decimal, map};
 ghost use Rattle.covcheck.specs.SummaryLine.{first_text, summary_text, shown};
@@ -8,7 +8,7 @@ use covline::Memory;
 use itoa::Buffer;
 use std::alloc::Allocator;
 
-/// The line that says what a text holds, without the name of its file and with a line feed: `sections 3 items 40 odd 6
+/// Prints the summary line of an input, without the name of its file and with a line feed. An example is `sections 3 items 40 odd 6
 /// skipped 9 first FNL at 3`.
 pub fn summary_line<A: Allocator>(alloc: A, summary: &TextSummary<'_>) -> Result<Vec<u8, A>, Memory>
     ensures { IfOk result (λ line. line.items ≡ summary_text summary.now) }
@@ -32,7 +32,7 @@ fn put_number<A: Allocator>(line: &mut Vec<u8, A>, words: &[u8], number: u64) ->
     Ok(())
 }
 
-/// Appends the beginning and the number of the first line that isn't read. Appends nothing if there is no such line.
+/// Appends the beginning and the number of the first skipped line. Appends nothing if there is none.
 fn put_first<A: Allocator>(
     line: &mut Vec<u8, A>,
     first: Option<SkippedLine<'_>>,
@@ -47,7 +47,7 @@ fn put_first<A: Allocator>(
     put_number(line, b" at ", first.at)
 }
 
-/// Appends the bytes as they are shown.
+/// Appends the bytes in printed form.
 fn put_shown<A: Allocator>(line: &mut Vec<u8, A>, text: &[u8]) -> Result<(), Memory>
     ensures { OnOk result (line.new.items ≡ line.old.items ++ map shown text.now) }
 {
@@ -57,7 +57,8 @@ fn put_shown<A: Allocator>(line: &mut Vec<u8, A>, text: &[u8]) -> Result<(), Mem
     Ok(())
 }
 
-/// The byte as it is shown: a question mark for a space and for any byte that isn't printable ASCII, and any other byte as it is.
+/// The printed form of a byte: a question mark for a space and for any byte that isn't printable ASCII. Any other byte is
+/// unchanged.
 fn shown(byte: u8) -> u8
     ensures { result ≡ shown byte }
 {

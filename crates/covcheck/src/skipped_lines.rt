@@ -1,4 +1,4 @@
-//! The pass over the lines of a text that finds those that aren't read.
+//! Finds the skipped lines of an input.
 
 ghost use Rattle.std.specs.Prelude.{◌≡◌, ℕ, List, length, None, Some, IfSome, MatchOption};
 ghost use Rattle.covcheck.specs.TextSummary.{AreLinesThat, IsFirstOf};
@@ -9,7 +9,7 @@ use crate::start::start_of;
 use crate::text_summary::SkippedLine;
 use covline::lines;
 
-/// The lines of a text that aren't read: their number, and the first one.
+/// The skipped lines of an input: their number, and the first one.
 #[derive(Clone, Copy)]
 pub(crate) struct SkippedLines<'a> {
     /// How many such lines there are.
@@ -18,7 +18,7 @@ pub(crate) struct SkippedLines<'a> {
     pub(crate) first: Option<SkippedLine<'a>>,
 }
 
-/// Finds the lines of the text that aren't read in this format.
+/// Finds the lines of the input that this format skips.
 pub(crate) fn skipped_lines_in(text: &[u8], format: Format) -> SkippedLines<'_>
     ensures { (lines : List (ℕ × List ℕ)) × AreLinesThat (IsSkippedIn format) text.now lines × (result.count ≡ length lines) × IsFirstOf lines result.first }
 {
@@ -35,7 +35,7 @@ pub(crate) fn skipped_lines_in(text: &[u8], format: Format) -> SkippedLines<'_>
     SkippedLines { count, first }
 }
 
-/// The first line that isn't read: `first`, or this line with its number if `first` is `None`.
+/// The first skipped line: `first`, or this line with its number if `first` is `None`.
 fn first_with<'a>(
     first: Option<SkippedLine<'a>>,
     line: &'a [u8],

@@ -1,10 +1,10 @@
-//! How a line begins.
+//! Cuts the beginning of a line.
 
 ghost use Rattle.std.specs.Prelude.{◌≡◌};
 ghost use Rattle.covcheck.specs.Skipped.{is_cut, start_of};
 ghost use Rattle.covcheck.specs.CheckSteps.{after_cuts, after_word};
 
-/// The most bytes that the beginning of a line can have.
+/// The greatest length of a line's beginning, in bytes.
 const MAX_SHOWN: usize = 16;
 
 /// The beginning of a line: the colons, spaces and tabs at its front, and what follows them up to the next colon, space or tab.
@@ -24,7 +24,7 @@ fn is_cut(byte: u8) -> bool
     byte == b':' || byte == b' ' || byte == b'\t'
 }
 
-/// What follows the colons, spaces and tabs at the front.
+/// The text without the colons, spaces and tabs at its front.
 fn after_cuts(text: &[u8]) -> &[u8]
     ensures { result.now ≡ after_cuts text.now }
 {
@@ -38,7 +38,7 @@ fn after_cuts(text: &[u8]) -> &[u8]
     rest
 }
 
-/// The text from its first colon, space or tab on. It is empty if the text has none of these.
+/// The text from its first colon, space or tab on; empty if it has none.
 fn after_word(text: &[u8]) -> &[u8]
     ensures { result.now ≡ after_word text.now }
 {

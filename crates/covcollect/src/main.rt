@@ -1,9 +1,9 @@
-//! covcollect, a coverage collector for lcov tracefiles. Without a subcommand it reads commands from standard input, and answers
-//! them on standard output. A fault that ends the program is reported on standard error and by the exit status. A subcommand
-//! reads the files that its arguments name, and prints one text.
+//! covcollect, a coverage collector for lcov tracefiles. Without a subcommand it reads commands from standard input and answers
+//! them on standard output. A subcommand reads the files that its arguments name, and prints one text. An error that ends the
+//! program is reported on standard error and by the exit status.
 //!
-//! `main` only collects the words of the call and makes the streams; the rest of the program is covrun's `run`. By the laws of
-//! covlaws, what `merge`, `extract`, `remove` and `gcov` print reads back.
+//! `main` only collects the arguments and makes the streams; the rest of the program is covrun's `run`. By the laws of covlaws, the
+//! output of `merge`, `extract`, `remove` and `gcov` reads back.
 //!
 //! ```text
 //! $ covcollect <<'END'
@@ -49,7 +49,7 @@ fn main(rt: HostRuntime) -> ExitCode {
     ExitCode::from(status)
 }
 
-/// The words of the call as strings, the program's name first. A word that isn't UTF-8 is a fault.
+/// The arguments as strings, the program's name first. Fails for an argument that isn't UTF-8.
 fn words_of_call<R: Env + AllocGlobal>(rt: &R) -> Result<Vec<String>, CommandFault> {
     let mut words = Vec::new(rt.alloc());
     for index in 0..usize::MAX {
@@ -64,7 +64,7 @@ fn words_of_call<R: Env + AllocGlobal>(rt: &R) -> Result<Vec<String>, CommandFau
     Ok(words)
 }
 
-/// The bytes of the word with this index; `None` if there are fewer words. The program's name has the index 0.
+/// The bytes of the argument with this index. Returns `None` if the index is too large. The program's name has the index 0.
 fn bytes_of_word<R: Env + AllocGlobal>(
     rt: &R,
     index: usize,

@@ -1,22 +1,22 @@
-//! What a call of the program asks for.
+//! A parsed command line.
 
 use crate::names::Names;
 use covline::Bytes;
 
-/// What the words of a call ask for: a command, how strict it is, how long its tracefiles may be, and where its text goes.
+/// A parsed command line: a command, how strict it is, how long its tracefiles may be, and where its output goes.
 #[derive(Drop)]
 pub struct Asked {
     /// The command.
     pub command: Command,
-    /// How the call takes files and patterns that look wrong.
+    /// Whether files and patterns that look wrong are accepted.
     pub strictness: Strictness,
-    /// How long a tracefile of the call may be.
+    /// How long a tracefile may be.
     pub size: TextSize,
-    /// The path of the file that the text goes to, or `None`: to standard output.
+    /// The path of the output file, or `None` for standard output.
     pub output: Option<String>,
 }
 
-/// What a call of the program asks for.
+/// A parsed command line.
 #[derive(Drop)]
 pub enum Command {
     /// No subcommand: a session over standard input and output.
@@ -32,7 +32,7 @@ pub enum Command {
         /// The files' paths, at least one.
         names: Names,
     },
-    /// `summary`: how many of the lines, functions and branches are hit.
+    /// `summary`: how many lines, functions and branches are hit.
     Summary {
         /// Which tracefiles are read.
         version: LcovVersion,
@@ -42,12 +42,12 @@ pub enum Command {
         filter: SourceFilter,
         /// How the totals are printed.
         form: TotalsForm,
-        /// How much has to be hit.
+        /// The thresholds.
         limits: Limits,
         /// The files' paths, at least one.
         names: Names,
     },
-    /// `list`: how many of the lines, functions and branches are hit, of each source file and of all (lcov(1), `--list`).
+    /// `list`: how many lines, functions and branches are hit in each source file and in all (lcov(1), `--list`).
     List {
         /// Which tracefiles are read.
         version: LcovVersion,
@@ -60,28 +60,28 @@ pub enum Command {
         /// The files' paths, at least one.
         names: Names,
     },
-    /// `extract`: the tracefile's sections of those source files that match a pattern.
+    /// `extract`: the tracefile's sections of source files that match a pattern.
     Extract {
         /// Which tracefiles are read.
         version: LcovVersion,
         /// The tracefile's path, followed by the patterns, at least one.
         names: Names,
     },
-    /// `remove`: the tracefile's sections of those source files that match no pattern.
+    /// `remove`: the tracefile's sections of source files that match no pattern.
     Remove {
         /// Which tracefiles are read.
         version: LcovVersion,
         /// The tracefile's path, followed by the patterns, at least one.
         names: Names,
     },
-    /// `gcov`: the tracefile of gcov's annotated sources.
+    /// `gcov`: a tracefile made of gcov's annotated sources.
     Gcov {
         /// The test's name, which may be empty.
         test: Bytes,
         /// The files' paths, at least one.
         names: Names,
     },
-    /// `check`: what is read of each file, and what isn't.
+    /// `check`: a summary of each file, with its skipped lines.
     Check {
         /// How the files are read.
         format: TextFormat,
@@ -92,71 +92,70 @@ pub enum Command {
     },
 }
 
-/// Which source files a call is about, by shell patterns of their paths. Each list has the patterns in their order, and is empty
-/// if the call gives none.
+/// The choice of source files, by shell patterns of their paths. Each list has the patterns in their order, and is empty if none
+/// are given.
 #[derive(Drop)]
 pub struct SourceFilter {
-    /// `--include`: a file has to match at least one of these, if there are any.
+    /// `--include`: a file must match at least one of these, unless the list is empty.
     pub includes: Names,
-    /// `--exclude`: a file has to match none of these.
+    /// `--exclude`: a file must match none of these.
     pub excludes: Names,
 }
 
-/// How a call takes files and patterns that look wrong, but can be used.
+/// Whether files and patterns that look wrong, but can be used, are accepted.
 #[derive(Clone, Copy)]
 pub enum Strictness {
-    /// Without `--strict`: they are used as they are. A session and `gcov`, which have no such flag, are always lenient.
+    /// Without `--strict`: they are accepted. A session and `gcov`, which have no such flag, are always lenient.
     Lenient,
-    /// With `--strict`: a file with no item, an odd line or a skipped line is refused, and so is a pattern that matches no source
-    /// file.
+    /// With `--strict`: a file with no item, an inconsistent line or a skipped line is rejected, and so is a pattern that matches
+    /// no source file.
     Strict,
 }
 
-/// How long a tracefile may be that a call reads.
+/// How long a tracefile may be.
 #[derive(Clone, Copy)]
 pub enum TextSize {
-    /// Without `--large`: a file that is longer than 64 MiB is refused. A session and `gcov`, which have no such flag, are always
-    /// limited.
+    /// Without `--large`: a file above 64 MiB is rejected. A session and `gcov`, which have no such flag, are always limited.
     Limited,
-    /// With `--large`: a tracefile that is longer than 64 MiB is read in pieces that end with a section.
+    /// With `--large`: a tracefile above 64 MiB is read in chunks of whole sections.
     Large,
 }
 
-/// The form in which totals are printed.
+/// The form of printed totals.
 #[derive(Clone, Copy)]
 pub enum TotalsForm {
-    /// Lines of words.
+    /// Lines of text.
     Words,
     /// JSON.
     Json,
 }
 
-/// How much has to be hit (lcov(1) of LCOV 2.x, `--fail-under-lines`): the words that a call gives for `--fail-under-..`, as they
-/// are, or `None` for an option that it doesn't give. Whether such a word is a number isn't checked here.
+/// The thresholds (lcov(1) of LCOV 2.x, `--fail-under-lines`): the arguments of `--fail-under-..`, unchanged, or `None` for an
+/// option that isn't given. They aren't parsed here.
 #[derive(Drop)]
 pub struct Limits {
-    /// `--fail-under-lines`: how many percent of the lines.
+    /// `--fail-under-lines`: the percentage of lines.
     pub lines: Option<Bytes>,
-    /// `--fail-under-functions`: how many percent of the functions.
+    /// `--fail-under-functions`: the percentage of functions.
     pub functions: Option<Bytes>,
-    /// `--fail-under-branches`: how many percent of the branches.
+    /// `--fail-under-branches`: the percentage of branches.
     pub branches: Option<Bytes>,
 }
 
-/// How the text of a file is read.
+/// The format of a file.
 #[derive(Clone, Copy)]
 pub enum TextFormat {
-    /// As a tracefile, which lcov writes.
+    /// A tracefile, which lcov writes.
     Tracefile(LcovVersion),
-    /// As annotated source, which gcov writes.
+    /// Annotated source, which gcov writes.
     Gcov,
 }
 
-/// Which tracefiles a call reads.
+/// The versions of tracefiles that are read.
 #[derive(Clone, Copy)]
 pub enum LcovVersion {
-    /// Those of LCOV 1.x.
+    /// Only those of LCOV 1.x.
     One,
-    /// Those of LCOV 2.x as well.
+    /// Also those of LCOV 2.x.
     Two,
 }

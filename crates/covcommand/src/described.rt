@@ -1,4 +1,4 @@
-//! The command line, as it is described to clap.
+//! Describes the command line to clap.
 
 ghost use Rattle.std.specs.Prelude.{◌≡◌, IfOk, codes};
 ghost use Rattle.clap.specs.Words.{app_of};
@@ -9,7 +9,7 @@ use crate::help;
 use clap::{Arg, ArgAction, Command, value_parser};
 use std::alloc::{AllocError, Global};
 
-/// The command with its subcommands.
+/// The command line with its subcommands.
 pub(crate) fn described<'a>(alloc: Global) -> Result<Command<'a>, AllocError>
     ensures { IfOk result (λ c. app_of c ≡ line.covcollect) }
 {
@@ -60,15 +60,15 @@ fn list<'a>(alloc: Global) -> Result<Command<'a>, AllocError>
     Ok(list.about(help::LIST).after_help(help::LIST_END))
 }
 
-/// A command that takes what `merging` takes, and prints totals, as JSON if that is asked for.
+/// A command like those of `merging` that prints totals, with `--json`.
 fn listing<'a>(alloc: Global, name: &'a str) -> Result<Command<'a>, AllocError>
     ensures { IfOk result (HasNoGlobals (line.listing name.entry.now)) }
 {
     merging(alloc, name)?.arg(json(alloc))
 }
 
-/// A command that takes tracefiles, which jobs may read at once, a file for its text, three flags, and patterns of the source
-/// files to keep and to leave out.
+/// A command for tracefiles, with a number of jobs, an output file, three flags, and patterns of the source files to include and to
+/// exclude.
 fn merging<'a>(alloc: Global, name: &'a str) -> Result<Command<'a>, AllocError>
     ensures { IfOk result (HasNoGlobals (line.merging name.entry.now)) }
 {
@@ -98,7 +98,7 @@ fn remove<'a>(alloc: Global) -> Result<Command<'a>, AllocError>
     Ok(remove.about(help::REMOVE).after_help(help::REMOVE_END))
 }
 
-/// A command that takes a tracefile, patterns, a file for its text, and three flags.
+/// A command for a tracefile and patterns, with an output file and three flags.
 fn filter<'a>(alloc: Global, name: &'a str) -> Result<Command<'a>, AllocError>
     ensures { IfOk result (HasNoGlobals (line.filtering name.entry.now)) }
 {
@@ -138,7 +138,7 @@ fn check<'a>(alloc: Global) -> Result<Command<'a>, AllocError>
         .arg(large(alloc))
 }
 
-/// A required argument of one word or more.
+/// A required argument that may be repeated.
 fn several<'a>(alloc: Global, id: &'a str, help: &'a str) -> Arg<'a>
     ensures { IsRule (line.several id.entry.now) result }
 {
@@ -173,7 +173,7 @@ fn jobs<'a>(alloc: Global) -> Arg<'a>
         .help(help::JOBS)
 }
 
-/// `--output FILE` or `-o FILE`, the file that the text goes to.
+/// `--output FILE` or `-o FILE`, the output file.
 fn output<'a>(alloc: Global) -> Arg<'a>
     ensures { IsRule line.output result }
 {
@@ -197,7 +197,7 @@ fn test<'a>(alloc: Global) -> Arg<'a>
         .help(help::TEST)
 }
 
-/// An option for a pattern, which a call may give any number of times.
+/// An option for a pattern, which may be repeated.
 fn patterns<'a>(alloc: Global, id: &'a str, help: &'a str) -> Arg<'a>
     ensures { IsRule (line.patterns id.entry.now) result }
 {
@@ -208,7 +208,7 @@ fn patterns<'a>(alloc: Global, id: &'a str, help: &'a str) -> Arg<'a>
         .help(help)
 }
 
-/// An option for a limit, which a call may give at most once.
+/// An option for a threshold, which may be given once.
 fn limit<'a>(alloc: Global, id: &'a str, help: &'a str) -> Arg<'a>
     ensures { IsRule (line.limit id.entry.now) result }
 {
@@ -219,42 +219,42 @@ fn limit<'a>(alloc: Global, id: &'a str, help: &'a str) -> Arg<'a>
         .help(help)
 }
 
-/// The flag `--gcov`, which says that gcov wrote the files.
+/// The flag `--gcov`: the files are gcov's output.
 fn annotated<'a>(alloc: Global) -> Arg<'a>
     ensures { IsRule line.annotated result }
 {
     flag(alloc, "gcov", help::ANNOTATED)
 }
 
-/// The flag `--lcov2`, which says that tracefiles of LCOV 2 are read too.
+/// The flag `--lcov2`: tracefiles of LCOV 2 are read too.
 fn lcov2<'a>(alloc: Global) -> Arg<'a>
     ensures { IsRule line.lcov2 result }
 {
     flag(alloc, "lcov2", help::LCOV2)
 }
 
-/// The flag `--strict`, which says that files and patterns that look wrong are refused.
+/// The flag `--strict`: files and patterns that look wrong are rejected.
 fn strict<'a>(alloc: Global, help: &'a str) -> Arg<'a>
     ensures { IsRule line.strict result }
 {
     flag(alloc, "strict", help)
 }
 
-/// The flag `--large`, which says that tracefiles above the limit are read in pieces.
+/// The flag `--large`: tracefiles above the size limit are read in chunks.
 fn large<'a>(alloc: Global) -> Arg<'a>
     ensures { IsRule line.large result }
 {
     flag(alloc, "large", help::LARGE)
 }
 
-/// The flag `--json`, which says that totals are printed as JSON.
+/// The flag `--json`: totals are printed as JSON.
 fn json<'a>(alloc: Global) -> Arg<'a>
     ensures { IsRule line.json result }
 {
     flag(alloc, "json", help::JSON)
 }
 
-/// A flag, which a call has or hasn't.
+/// A flag without a value.
 fn flag<'a>(alloc: Global, id: &'a str, help: &'a str) -> Arg<'a>
     ensures { IsRule (line.flag id.entry.now) result }
 {

@@ -1,23 +1,23 @@
-//! Why the words of a call give no command.
+//! Why a command line gives no command.
 
 use clap::error::{Error as LineError, ErrorKind};
 use covline::Memory;
 use std::alloc::{AllocError, AllocFailed, Global};
 use thiserror::Error;
 
-/// Why the words of a call give no command, with the text to be printed.
+/// Why a command line gives no command, with the text to print.
 #[derive(Debug, Drop, Error)]
 pub enum CommandFault {
-    /// Fault 1: help was asked for. This is its text, for standard output.
+    /// Fault 1: help was requested. This is its text, for standard output.
     #[error("{0}")]
     Help(String),
-    /// Fault 2: the words don't fit. The text says why, and how to call the program, for standard error.
+    /// Fault 2: the command line is invalid. The text says why, and how to call the program, for standard error.
     #[error("{0}")]
     Line(String),
-    /// Fault 3: memory was refused.
+    /// Fault 3: an allocation failed.
     #[error("out of memory")]
     Memory,
-    /// Fault 4: the version was asked for. This is its text, for standard output.
+    /// Fault 4: the version was requested. This is its text, for standard output.
     #[error("{0}")]
     Version(String),
 }
@@ -27,7 +27,7 @@ impl CommandFault {
     ghost use Rattle.covcommand.specs.Fault.{fault_number, fault_status, Tells};
     ghost use Rattle.clap.specs.Values.{kind_of};
 
-    /// The number of the fault.
+    /// The number of the error.
     pub fn number(&self) -> u32
         ensures { result ≡ fault_number self.now }
     {
@@ -39,7 +39,7 @@ impl CommandFault {
         }
     }
 
-    /// The exit status of a program that ends with this.
+    /// The exit status of a program that ends with this error.
     pub fn status(&self) -> u8
         ensures { result ≡ fault_status self.now }
     {
@@ -50,7 +50,8 @@ impl CommandFault {
         }
     }
 
-    /// The fault for an error of clap's, with the error's text. `Memory` if clap ran out of memory or if the text can't be made.
+    /// Turns an error of clap, with its text, into a `CommandFault`. Returns `Memory` if clap ran out of memory or the text can't
+    /// be allocated.
     pub(crate) fn of(alloc: Global, error: &LineError) -> CommandFault
         ensures { Tells (kind_of error.now) result }
     {

@@ -1,13 +1,12 @@
-//! What help says to the user. Lines have at most 80 columns, since clap doesn't wrap them.
+//! The texts of help. Lines have at most 80 columns, since clap doesn't wrap them.
 
-/// The program's version, which `--version` prints. It is written here alone: the package and the manual page take it from this
-/// line.
+/// The program's version, which `--version` prints. The package and the manual page take it from this line.
 pub const VERSION: &str = "0.9.0";
 
 /// What the program is for.
 pub(crate) const PROGRAM: &str = "Merges, filters and sums up coverage data of lcov and gcov";
 
-/// What the program's help has after the list of the subcommands: the session, the calls of lcov, the exit statuses.
+/// The end of the program's help, after the list of subcommands: the session, the calls of lcov, the exit statuses.
 pub(crate) const PROGRAM_END: &str = "\
 Without a subcommand a session is read from standard input: a command on each
 line, answered on standard output. covcollect(1) has its commands.
@@ -173,7 +172,7 @@ pub(crate) const TEST: &str = "Test that the counts are of; --test= is the empty
 /// The help of `--lcov2`.
 pub(crate) const LCOV2: &str = "Tracefiles of LCOV 2 are read too";
 
-/// The help of `--strict`. Of the longest option of `summary` 46 columns are left, so it has two lines.
+/// The help of `--strict`, in two lines: the longest option of `summary` leaves 46 columns.
 pub(crate) const STRICT: &str = "\
 Refuse files with no items, odd or skipped
 lines; unmatched patterns";

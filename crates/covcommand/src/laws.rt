@@ -1,4 +1,4 @@
-//! Laws of single calls: what clap's definitions say of these words for this program's command line.
+//! Laws of single command lines: what clap's definitions say of these arguments for this program's command line.
 
 ghost use Rattle.std.specs.Prelude.{◌≡◌, [], ◌∷◌, Option, Some, None, String, true, codes, option_map};
 ghost use Rattle.std.specs.String.{string_bytes};
@@ -16,7 +16,7 @@ ghost use Rattle.covcommand.specs.declared.asked.TotalsForm.TheVariants.{Words, 
 ghost use Rattle.covcommand.specs.declared.asked.TextFormat.TheVariants as format;
 ghost use Rattle.covcommand.specs.declared.asked.LcovVersion.TheVariants.{One, Two};
 
-/// A call of each kind is taken: for these words the only fault of `command` is `Memory`.
+/// A command line of each kind is accepted: for these arguments the only error of `command` is `Memory`.
 pub fn calls_are_taken()
     ensures session { takes covcollect (codes "covcollect" ∷ []) ≡ true }
     ensures merge { takes covcollect (codes "covcollect" ∷ codes "merge" ∷ codes "--jobs" ∷ codes "64" ∷ codes "a.info" ∷ []) ≡ true }
@@ -59,8 +59,9 @@ pub fn calls_are_taken()
     ensures check_large { takes covcollect (codes "covcollect" ∷ codes "check" ∷ codes "--large" ∷ codes "--strict" ∷ codes "--gcov" ∷ codes "a.c.gcov" ∷ []) ≡ true }
 {}
 
-/// What calls of `check` ask for. With the flag `--gcov`, before or after the files, the files are gcov's, also beside `--lcov2`;
-/// without it they are tracefiles, with `--lcov2` also those of LCOV 2. After `--`, the word `--gcov` is the name of a file.
+/// The format that command lines of `check` choose. With the flag `--gcov`, before or after the files, the files are gcov's, also
+/// beside `--lcov2`; without it they are tracefiles, with `--lcov2` also those of LCOV 2. After `--`, the argument `--gcov` is the
+/// name of a file.
 pub fn checks_by_their_words()
     ensures tracefile { AsksFor (subcommand_of covcollect (codes "covcollect" ∷ codes "check" ∷ codes "a.info" ∷ []))
         (Check (format.Tracefile One) 1 (codes "a.info" ∷ [])) }
@@ -78,8 +79,8 @@ pub fn checks_by_their_words()
         (Check format.Gcov 3 (codes "a.c.gcov" ∷ codes "b.c.gcov" ∷ [])) }
 {}
 
-/// What calls of `merge` and `summary` ask for by `--include` and `--exclude`: all patterns of each, in their order. Without these
-/// options there are none, and after `--` they are names of files.
+/// The patterns that `--include` and `--exclude` give `merge` and `summary`: all patterns of each, in their order, or none without
+/// these options. After `--`, the options are names of files.
 pub fn filters_by_their_words()
     ensures merge { AsksFor (subcommand_of covcollect (codes "covcollect" ∷ codes "merge" ∷ codes "--include" ∷ codes "b" ∷ codes "--exclude" ∷ codes "x" ∷ codes "--include=a" ∷ codes "--exclude" ∷ codes "y" ∷ codes "f" ∷ []))
         (Merge One 1 (record { includes = codes "b" ∷ codes "a" ∷ []; excludes = codes "x" ∷ codes "y" ∷ [] }) (codes "f" ∷ [])) }
@@ -91,8 +92,9 @@ pub fn filters_by_their_words()
         (Merge One 1 (record { includes = []; excludes = [] }) (codes "--include" ∷ codes "a" ∷ [])) }
 {}
 
-/// What calls of `summary` and `list` ask for: JSON with the flag `--json` and words without it, and for each option
-/// `--fail-under-..` its word, whatever it is, or none. After `--`, the word `--json` is the name of a file.
+/// Command lines of `summary` and `list` give a form and thresholds. The form is JSON with the flag `--json` and text without it.
+/// The threshold of each option `--fail-under-..` is its argument, whatever it is, or none. After `--`, the argument `--json` is
+/// the name of a file.
 pub fn totals_by_their_words()
     ensures summary { AsksFor (subcommand_of covcollect (codes "covcollect" ∷ codes "summary" ∷ codes "--json" ∷ codes "--fail-under-lines" ∷ codes "80" ∷ codes "--fail-under-branches" ∷ codes "79.5" ∷ codes "a" ∷ []))
         (Summary One 1 (record { includes = []; excludes = [] }) Json (record { lines = Some (codes "80"); functions = None; branches = Some (codes "79.5") }) (codes "a" ∷ [])) }
@@ -104,8 +106,8 @@ pub fn totals_by_their_words()
         (commands.List One 1 (record { includes = []; excludes = [] }) Words (codes "--json" ∷ [])) }
 {}
 
-/// What calls ask for by `--output` or `-o`, with its word after it, after `=`, or joined to `-o`: that word. A call without the
-/// option, with it after `--`, or of `check` asks for standard output (`None`).
+/// `--output` or `-o` gives the output file of a command line. It is the argument after the option, after `=`, or joined to `-o`.
+/// It is standard output (`None`) without the option, with it after `--`, and for `check`.
 pub fn outputs_by_their_words()
     ensures merge { (output : Option (String Global)) → Some (codes "out") ≡ option_map string_bytes output
         → AsksForAll (subcommand_of covcollect (codes "covcollect" ∷ codes "merge" ∷ codes "-o" ∷ codes "out" ∷ codes "f" ∷ []))
@@ -130,8 +132,8 @@ pub fn outputs_by_their_words()
         (record { command = Check (format.Tracefile One) 1 (codes "f" ∷ []); strictness = Lenient; size = Limited; output = None }) }
 {}
 
-/// How strict calls are by `--strict`: `Strict` with the flag, before, between or after other words, and `Lenient` without it. A
-/// session and `gcov`, which don't take it, are lenient. After `--` it is the name of a file.
+/// `--strict` decides how strict a command line is. It is `Strict` with the flag, before, between or after other arguments, and
+/// `Lenient` without it. A session and `gcov`, which don't have the flag, are lenient. After `--` it is the name of a file.
 pub fn strict_by_their_words()
     ensures merge { AsksForAll (subcommand_of covcollect (codes "covcollect" ∷ codes "merge" ∷ codes "--strict" ∷ codes "f" ∷ []))
         (record { command = Merge One 1 (record { includes = []; excludes = [] }) (codes "f" ∷ []); strictness = Strict; size = Limited; output = None }) }
@@ -159,8 +161,9 @@ pub fn strict_by_their_words()
         (record { command = Merge One 1 (record { includes = []; excludes = [] }) (codes "--strict" ∷ []); strictness = Lenient; size = Limited; output = None }) }
 {}
 
-/// How long the tracefiles of calls may be by `--large`: `Large` with the flag, before, between or after other words, and `Limited`
-/// without it. A session and `gcov`, which don't take it, are limited. After `--` it is the name of a file.
+/// `--large` decides how long the tracefiles of a command line may be. It is `Large` with the flag, before, between or after other
+/// arguments, and `Limited` without it. A session and `gcov`, which don't have the flag, are limited. After `--` it is the name of
+/// a file.
 pub fn large_by_their_words()
     ensures merge { AsksForAll (subcommand_of covcollect (codes "covcollect" ∷ codes "merge" ∷ codes "--large" ∷ codes "f" ∷ []))
         (record { command = Merge One 1 (record { includes = []; excludes = [] }) (codes "f" ∷ []); strictness = Lenient; size = Large; output = None }) }
@@ -190,7 +193,7 @@ pub fn large_by_their_words()
         (record { command = Merge One 1 (record { includes = []; excludes = [] }) (codes "--large" ∷ []); strictness = Lenient; size = Limited; output = None }) }
 {}
 
-/// Calls that are refused, with clap's kind of error for each. The program takes `--version`, but its subcommands don't.
+/// Command lines that are rejected, with clap's kind of error for each. The program has `--version`, but its subcommands don't.
 pub fn calls_are_refused()
     ensures jobs { fault_of covcollect (codes "covcollect" ∷ codes "merge" ∷ codes "--jobs" ∷ codes "65" ∷ codes "a.info" ∷ [])
         ≡ kind.ValueValidation ∷ [] }

@@ -1,10 +1,10 @@
-//! The command line of the coverage collector: which words ask for what, and what its help says.
+//! The command line of the coverage collector: parses it, and has the texts of its help.
 //!
-//! `word_at` makes a `String` of a word of a call, if it is UTF-8. `described` describes the command line to clap. `command`
-//! finds what the words ask for. `help` has the texts for the user.
+//! `word_at` makes a `String` of an argument, if it is UTF-8. `described` describes the command line to clap. `command` parses the
+//! arguments. `help` has the texts for the user.
 //!
-//! An example, proved and run in `covuses`: a function that finds what a call merges, if it is a merge. The other commands are
-//! variants of [`Command`] too.
+//! An example, proved and run in `covuses`: a function that returns the files of a merge, if the command is one. The other commands
+//! are variants of [`Command`] too.
 //!
 //! ```text
 //! pub fn merge_of(alloc: Global, words: &[String]) -> Result<Option<(u32, Names)>, CommandFault> {

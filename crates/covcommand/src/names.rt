@@ -4,7 +4,7 @@ use covline::Memory;
 use std::alloc::Global;
 use std::marker::Model;
 
-/// Words of a call in their order: paths, and patterns. Contracts see a list with the bytes of each word.
+/// Arguments in their order: paths, and patterns. Contracts see a list with the bytes of each argument.
 #[derive(Drop)]
 pub struct Names {
     words: Vec<String>,
@@ -32,7 +32,7 @@ impl Names {
         }
     }
 
-    /// Appends a name. On `Memory` the name is dropped and the list stays as it was.
+    /// Appends a name. On `Memory`, drops the name and leaves the list unchanged.
     pub fn push(&mut self, name: String) -> Result<(), Memory>
         ensures ok { OnOk result (self.new ≡ self.old ++ string_bytes name ∷ []) }
         ensures err { OnErr result (self.new ≡ self.old) }
@@ -41,7 +41,7 @@ impl Names {
         Ok(())
     }
 
-    /// Appends a copy of each word, in order.
+    /// Appends a copy of each argument, in order.
     pub(crate) fn push_copies(&mut self, alloc: Global, words: &[&str]) -> Result<(), Memory>
         ensures { OnOk result (self.new ≡ self.old ++ map (λ w. w.now) words.now) }
     {

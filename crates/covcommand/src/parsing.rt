@@ -1,4 +1,4 @@
-//! Parsing the words of a call into a command.
+//! Parses the command line.
 
 ghost use Rattle.std.specs.Prelude.{◌≡◌, ◌≤◌, ◌++◌, [], IfOk, IfErr, OnOk, map, true, Some, codes, length};
 ghost use Rattle.std.specs.String.{string_bytes};
@@ -19,10 +19,10 @@ use clap::ArgMatches;
 use covline::{Bytes, Memory};
 use std::alloc::Global;
 
-/// What the words of a call ask for. The first word is the program's name.
+/// Parses the arguments. The first one is the program's name.
 ///
-/// Faults: `Help` or `Version` if the words ask for one of these, `Line` if they don't fit, each with its text; and `Memory`. If
-/// clap takes the words, `Memory` is the only fault.
+/// Errors: `Help` or `Version` if one of these is requested, `Line` if the command line is invalid, each with its text; and
+/// `Memory`. If clap accepts the arguments, `Memory` is the only error.
 pub fn command(alloc: Global, words: &[String]) -> Result<Asked, CommandFault>
     ensures asks { IfOk result (λ asked. AsksFor (subcommand_of covcollect (map string_bytes words.now)) asked.command) }
     ensures strictness { IfOk result (λ asked. HasStrictness (rows_met (subcommand_of covcollect (map string_bytes words.now))) asked.command asked.strictness) }
@@ -49,7 +49,7 @@ pub fn command(alloc: Global, words: &[String]) -> Result<Asked, CommandFault>
     }
 }
 
-/// What the subcommand of this name asks for, how strict it is, how long its tracefiles may be, and where its text goes.
+/// Makes the parsed command line of this subcommand.
 fn asked_from(alloc: Global, name: &str, found: &ArgMatches<'_>) -> Result<Asked, CommandFault>
     requires { Fits name.now (rows_of (found_of found.now)) }
     ensures asks { IfOk result (λ asked. AsksFor (Some (name.now, rows_of (found_of found.now))) asked.command) }
@@ -71,7 +71,7 @@ fn asked_from(alloc: Global, name: &str, found: &ArgMatches<'_>) -> Result<Asked
     })
 }
 
-/// How strict the command is, by what clap found for its arguments.
+/// How strict the command is, from what clap found.
 fn strictness_for(command: &Command, found: &ArgMatches<'_>) -> Strictness
     requires { TellsFlags (rows_of (found_of found.now)) command.now }
     ensures { HasStrictness (rows_of (found_of found.now)) command.now result }
@@ -82,7 +82,7 @@ fn strictness_for(command: &Command, found: &ArgMatches<'_>) -> Strictness
     }
 }
 
-/// How strict the call is: strict if clap found the flag `--strict`, else lenient.
+/// How strict the command is: strict if clap found the flag `--strict`, else lenient.
 fn strictness_of(found: &ArgMatches<'_>) -> Strictness
     requires { HasFlag (codes "strict") (rows_of (found_of found.now)) }
     ensures { IsStrictnessOf (rows_of (found_of found.now)) result }
@@ -94,7 +94,7 @@ fn strictness_of(found: &ArgMatches<'_>) -> Strictness
     }
 }
 
-/// How long a tracefile of the command may be, by what clap found for its arguments.
+/// How long a tracefile of the command may be, from what clap found.
 fn size_for(command: &Command, found: &ArgMatches<'_>) -> TextSize
     requires { TellsFlags (rows_of (found_of found.now)) command.now }
     ensures { HasSize (rows_of (found_of found.now)) command.now result }
@@ -105,7 +105,7 @@ fn size_for(command: &Command, found: &ArgMatches<'_>) -> TextSize
     }
 }
 
-/// How long a tracefile of the call may be: longer than the limit if clap found the flag `--large`, else within it.
+/// How long a tracefile may be: above the size limit if clap found the flag `--large`, else within it.
 fn size_of(found: &ArgMatches<'_>) -> TextSize
     requires { HasFlag (codes "large") (rows_of (found_of found.now)) }
     ensures { IsSizeOf (rows_of (found_of found.now)) result }
@@ -117,7 +117,7 @@ fn size_of(found: &ArgMatches<'_>) -> TextSize
     }
 }
 
-/// Where the text of the command goes, by what clap found for its arguments.
+/// The output file of the command, from what clap found.
 fn output_for(
     alloc: Global,
     command: &Command,
@@ -131,7 +131,7 @@ fn output_for(
     }
 }
 
-/// The word that clap found for `--output`, or `None` if the option isn't given.
+/// The argument of `--output`. Returns `None` if the option isn't given.
 fn output_of(alloc: Global, found: &ArgMatches<'_>) -> Result<Option<String>, Memory>
     ensures { IfOk result (IsOutputOf (rows_of (found_of found.now))) }
 {
@@ -141,7 +141,7 @@ fn output_of(alloc: Global, found: &ArgMatches<'_>) -> Result<Option<String>, Me
     }
 }
 
-/// What the subcommand of this name asks for, with the values that clap found for its arguments.
+/// Makes the command of this subcommand, with the values that clap found.
 fn command_from(alloc: Global, name: &str, found: &ArgMatches<'_>) -> Result<Command, CommandFault>
     requires { Fits name.now (rows_of (found_of found.now)) }
     ensures asks { IfOk result (AsksFor (Some (name.now, rows_of (found_of found.now)))) }
@@ -191,7 +191,7 @@ fn command_from(alloc: Global, name: &str, found: &ArgMatches<'_>) -> Result<Com
     }
 }
 
-/// The number that clap found for `--jobs`.
+/// The argument of `--jobs`.
 fn jobs_of(found: &ArgMatches<'_>) -> u32
     requires { HasJobs (rows_of (found_of found.now)) }
     ensures number { IsNumberOf (rows_of (found_of found.now)) result }
@@ -211,7 +211,7 @@ fn files_of(alloc: Global, found: &ArgMatches<'_>) -> Result<Names, Memory>
     Ok(names)
 }
 
-/// Which source files the call is about, by the patterns that clap found for `--include` and `--exclude`.
+/// The patterns of `--include` and `--exclude`.
 fn source_filter_of(alloc: Global, found: &ArgMatches<'_>) -> Result<SourceFilter, Memory>
     ensures { IfOk result (IsFilterOf (rows_of (found_of found.now))) }
 {
@@ -221,7 +221,7 @@ fn source_filter_of(alloc: Global, found: &ArgMatches<'_>) -> Result<SourceFilte
     })
 }
 
-/// The patterns that clap found for the option, in their order.
+/// The arguments of a pattern option, in their order.
 fn patterns_of(alloc: Global, found: &ArgMatches<'_>, id: &str) -> Result<Names, Memory>
     ensures { IfOk result (λ n. n ≡ values_of id.now (rows_of (found_of found.now))) }
 {
@@ -230,7 +230,7 @@ fn patterns_of(alloc: Global, found: &ArgMatches<'_>, id: &str) -> Result<Names,
     Ok(patterns)
 }
 
-/// How totals are printed: as JSON if clap found the flag `--json`, else as lines of words.
+/// The form of printed totals: JSON if clap found the flag `--json`, else text.
 fn form_of(found: &ArgMatches<'_>) -> TotalsForm
     requires { HasFlag (codes "json") (rows_of (found_of found.now)) }
     ensures { IsFormOf (rows_of (found_of found.now)) result }
@@ -242,7 +242,7 @@ fn form_of(found: &ArgMatches<'_>) -> TotalsForm
     }
 }
 
-/// How much has to be hit, by the words that clap found for `--fail-under-..`.
+/// The arguments of `--fail-under-..`.
 fn limits_of(alloc: Global, found: &ArgMatches<'_>) -> Result<Limits, Memory>
     ensures { IfOk result (AreLimitsOf (rows_of (found_of found.now))) }
 {
@@ -253,7 +253,7 @@ fn limits_of(alloc: Global, found: &ArgMatches<'_>) -> Result<Limits, Memory>
     })
 }
 
-/// The word that clap found for the option, or `None` if the option isn't given.
+/// The argument of a threshold option. Returns `None` if the option isn't given.
 fn limit_of(alloc: Global, found: &ArgMatches<'_>, id: &str) -> Result<Option<Bytes>, Memory>
     ensures { IfOk result (IsLimitOf id.now (rows_of (found_of found.now))) }
 {
@@ -263,7 +263,7 @@ fn limit_of(alloc: Global, found: &ArgMatches<'_>, id: &str) -> Result<Option<By
     }
 }
 
-/// The names of the tracefile and the patterns.
+/// The name of the tracefile, and the patterns.
 fn filter_of(alloc: Global, found: &ArgMatches<'_>) -> Result<Names, Memory>
     requires { HasFilter (rows_of (found_of found.now)) }
     ensures names { IfOk result (λ n. n ≡ tracefile_and_patterns (rows_of (found_of found.now))) }
@@ -275,7 +275,7 @@ fn filter_of(alloc: Global, found: &ArgMatches<'_>) -> Result<Names, Memory>
     Ok(names)
 }
 
-/// The name that clap found for `--test`.
+/// The argument of `--test`.
 fn test_of(alloc: Global, found: &ArgMatches<'_>) -> Result<Bytes, Memory>
     requires { HasTest (rows_of (found_of found.now)) }
     ensures { IfOk result (λ test. first_of (codes "test") (rows_of (found_of found.now)) ≡ Some test) }
@@ -284,7 +284,7 @@ fn test_of(alloc: Global, found: &ArgMatches<'_>) -> Result<Bytes, Memory>
     Bytes::of(alloc, name.as_bytes())
 }
 
-/// Which tracefiles are read: those of LCOV 2 as well if clap found the flag `--lcov2`.
+/// The versions of tracefiles: also LCOV 2 if clap found the flag `--lcov2`.
 fn version_of(found: &ArgMatches<'_>) -> LcovVersion
     requires { HasFlag (codes "lcov2") (rows_of (found_of found.now)) }
     ensures { IsVersionOf (rows_of (found_of found.now)) result }
@@ -296,8 +296,8 @@ fn version_of(found: &ArgMatches<'_>) -> LcovVersion
     }
 }
 
-/// How the files are read: as gcov's if clap found the flag `--gcov`, else as tracefiles. With `--gcov` the flag `--lcov2` says
-/// nothing: it may be there, since what clap takes is exactly defined only for arguments that exclude no others.
+/// The format of the files: gcov's if clap found the flag `--gcov`, else tracefiles. `--gcov` makes `--lcov2` meaningless. Both are
+/// accepted together, since clap's result is exactly defined only for arguments that exclude no others.
 fn format_of(found: &ArgMatches<'_>) -> TextFormat
     requires gcov { HasFlag (codes "gcov") (rows_of (found_of found.now)) }
     requires lcov2 { HasFlag (codes "lcov2") (rows_of (found_of found.now)) }
@@ -310,7 +310,7 @@ fn format_of(found: &ArgMatches<'_>) -> TextFormat
     }
 }
 
-/// Appends the words that clap found for the argument, in their order.
+/// Appends the arguments that clap found, in their order.
 fn push_values(
     names: &mut Names,
     alloc: Global,

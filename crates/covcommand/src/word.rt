@@ -1,4 +1,4 @@
-//! A word of a call, which has to be UTF-8.
+//! Arguments of the command line, which must be UTF-8.
 
 ghost use Rattle.std.specs.Prelude.{◌≡◌, ◌++◌, ◌∷◌, [], IfOk, IfErr, OnOk, codes, encode_utf8, map};
 ghost use Rattle.std.specs.Str.{IsUtf8};
@@ -11,10 +11,10 @@ use covline::Memory;
 use itoa::Buffer;
 use std::alloc::Global;
 
-/// The word of a call at this place, as a `String`. The program's name is at place 1.
+/// Makes a `String` of the argument at index `place`. The program's name has the index 1.
 ///
-/// Faults: `Line` if the word isn't UTF-8: its text has the word's place and shows the word, with `?` for each byte that isn't
-/// printable ASCII. And `Memory`.
+/// Errors: `Line` if the argument isn't UTF-8, with its index and the argument in its text, `?` for each byte that isn't printable
+/// ASCII; and `Memory`.
 pub fn word_at(alloc: Global, place: usize, word: &[u8]) -> Result<String, CommandFault>
     ensures text { IfOk result (λ text. string_bytes text ≡ word.now) }
     ensures takes { IsUtf8 word.now → IfErr result (λ fault. fault ≡ faults.Memory) }
@@ -26,7 +26,7 @@ pub fn word_at(alloc: Global, place: usize, word: &[u8]) -> Result<String, Comma
     }
 }
 
-/// The line that complains about a word that isn't UTF-8.
+/// The line about an argument that isn't UTF-8.
 fn not_text(alloc: Global, place: usize, word: &[u8]) -> Result<String, Memory>
     ensures { IfOk result (λ text. string_bytes text ≡ not_text place word.now) }
 {
@@ -38,7 +38,7 @@ fn not_text(alloc: Global, place: usize, word: &[u8]) -> Result<String, Memory>
     Ok(text)
 }
 
-/// Appends the bytes as they are shown.
+/// Appends the bytes in printed form.
 fn push_shown(text: &mut String, bytes: &[u8]) -> Result<(), Memory>
     ensures { OnOk result (string_bytes text.new ≡ string_bytes text.old ++ map shown bytes.now) }
 {
@@ -48,7 +48,7 @@ fn push_shown(text: &mut String, bytes: &[u8]) -> Result<(), Memory>
     Ok(())
 }
 
-/// The byte as it is shown: printable ASCII, with the space, as it is, and any other byte as a question mark.
+/// The printed form of a byte: printable ASCII, also the space, is unchanged; any other byte is a question mark.
 fn shown(byte: u8) -> char
     ensures { encode_utf8 result ≡ shown byte ∷ [] }
 {

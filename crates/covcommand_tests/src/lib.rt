@@ -1,5 +1,5 @@
-//! Tests of the command line: what calls ask for, what is refused, and what help says. This crate has nothing but its tests,
-//! so that the command line is proved once, and its edits are tried while the tests are proved.
+//! Tests of the command line: parsed commands, errors, and the texts of help. This is a crate of its own, so that the command line
+//! is proved once, and its mutants are tried while the tests are proved.
 #![tactic(auto)]
 
 #[cfg(test)]

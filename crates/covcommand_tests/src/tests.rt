@@ -1,7 +1,6 @@
-//! Calls of the program, given as their words. What is wanted was worked out by hand from what a call means. The words of a
-//! refusal are clap's.
+//! Command lines and their parsed commands. Expected values were worked out by hand. The texts of errors are clap's.
 //!
-//! Examples are text, so that they cost the proof of these tests nothing: a line has a call and, after ` => `, its answer.
+//! Examples are text, so that they cost the proof of these tests nothing: a line has a command line and, after ` => `, its result.
 
 use covcommand::{
     Asked, Command, CommandFault, LcovVersion, Limits, Names, SourceFilter, Strictness, TextFormat,
@@ -15,13 +14,12 @@ mod command_lines;
 mod help;
 mod words;
 
-/// What the words ask for. This function has no contract: a test looks at what `command` returns, and is proved more quickly
-/// this way.
+/// Parses the arguments. This function has no contract: a test looks only at the result, and its proof is faster this way.
 fn asked(alloc: Global, words: &[String]) -> Result<Asked, CommandFault> {
     command(alloc, words)
 }
 
-/// The words of a call: what comes between spaces, and patterns without their quotes.
+/// Splits a command line at spaces into arguments, and removes the quotes of patterns.
 fn words_of(alloc: Global, call: &str) -> Result<Vec<String>, Fail> {
     let mut words = Vec::new(alloc);
     for word in call.split_whitespace() {
@@ -30,7 +28,7 @@ fn words_of(alloc: Global, call: &str) -> Result<Vec<String>, Fail> {
     Ok(words)
 }
 
-/// What a call asks for, or its refusal, in words.
+/// Prints the parsed command line, or the error, in words.
 fn answer(alloc: Global, call: &str) -> Result<String, Fail> {
     let words = words_of(alloc, call)?;
     match asked(alloc, words.as_slice()) {
@@ -39,22 +37,22 @@ fn answer(alloc: Global, call: &str) -> Result<String, Fail> {
     }
 }
 
-/// The refusal in words: its number and exit status, and the first line of its text.
+/// Prints the error in words: its number and exit status, and the first line of its text.
 fn refused(alloc: Global, fault: &CommandFault) -> Result<String, Fail> {
     let text = format!(in alloc; "{fault}")?;
     let first = text.as_str().lines().next().unwrap_or("");
     Ok(format!(in alloc; "{} {} {first}", fault.number(), fault.status())?)
 }
 
-/// What is asked for in words: the command, how strict it is, how long its tracefiles may be, and the file for its text.
+/// Prints the parsed command line in words: the command, its strictness, its size limit, and the output file.
 fn told(alloc: Global, whole: &Asked) -> Result<String, Fail> {
     let command = command_in_words(alloc, &whole.command)?;
     let command = with_strictness(command, &whole.strictness)?;
     with_output(with_size(command, &whole.size)?, &whole.output)
 }
 
-/// The command in words: its subcommand, its version of LCOV, its number of jobs, its test or its format, then its filter, its
-/// form, its limits and its names.
+/// Prints the command in words: its subcommand, its version of LCOV, its number of jobs, its test or its format, then its filter,
+/// its form, its thresholds and its names.
 fn command_in_words(alloc: Global, command: &Command) -> Result<String, Fail> {
     match command {
         Command::Session => Ok(String::from_str(alloc, "session")?),
@@ -125,13 +123,13 @@ fn number_of(version: &LcovVersion) -> u8 {
     }
 }
 
-/// The text with the patterns after it: `+` stands before those to include, and `-` before those to exclude.
+/// Appends the patterns: `+` before those to include, and `-` before those to exclude.
 fn with_filter(text: String, filter: &SourceFilter) -> Result<String, Fail> {
     let text = with_marked(text, " +[", &filter.includes)?;
     with_marked(text, " -[", &filter.excludes)
 }
 
-/// The text with `json` after it if totals are printed as JSON.
+/// Appends `json` if totals are printed as JSON.
 fn with_form(mut text: String, form: &TotalsForm) -> Result<String, Fail> {
     if let TotalsForm::Json = form {
         text.push_str(" json")?;
@@ -139,7 +137,7 @@ fn with_form(mut text: String, form: &TotalsForm) -> Result<String, Fail> {
     Ok(text)
 }
 
-/// The text with each limit after it, and what it is of before the limit.
+/// Appends each threshold after the name of its kind.
 fn with_limits(alloc: Global, mut text: String, limits: &Limits) -> Result<String, Fail> {
     if let Some(lines) = &limits.lines {
         text = with_limit(alloc, text, "lines", lines.get())?;
@@ -153,13 +151,13 @@ fn with_limits(alloc: Global, mut text: String, limits: &Limits) -> Result<Strin
     Ok(text)
 }
 
-/// The text with this limit after it, in parentheses.
+/// Appends a threshold in parentheses.
 fn with_limit(alloc: Global, text: String, of: &str, limit: &[u8]) -> Result<String, Fail> {
     let limit: String = String::from_utf8_lossy(alloc, limit)?;
     Ok(format!(in alloc; "{text} {of}({limit})")?)
 }
 
-/// The text with `strict` after it if the call is strict.
+/// Appends `strict` for a strict run.
 fn with_strictness(mut text: String, strictness: &Strictness) -> Result<String, Fail> {
     if let Strictness::Strict = strictness {
         text.push_str(" strict")?;
@@ -167,7 +165,7 @@ fn with_strictness(mut text: String, strictness: &Strictness) -> Result<String, 
     Ok(text)
 }
 
-/// The text with `large` after it if the call reads tracefiles above the limit.
+/// Appends `large` for a run with `--large`.
 fn with_size(mut text: String, size: &TextSize) -> Result<String, Fail> {
     if let TextSize::Large = size {
         text.push_str(" large")?;
@@ -175,7 +173,7 @@ fn with_size(mut text: String, size: &TextSize) -> Result<String, Fail> {
     Ok(text)
 }
 
-/// The text with the path of the file for a command's text after it, if there is one: in brackets, with `>` before them.
+/// Appends the path of the output file, if there is one: in brackets, with `>` before them.
 fn with_output(mut text: String, output: &Option<String>) -> Result<String, Fail> {
     if let Some(path) = output {
         text.push_str(" >[")?;
@@ -185,12 +183,12 @@ fn with_output(mut text: String, output: &Option<String>) -> Result<String, Fail
     Ok(text)
 }
 
-/// The text with each name after it, in brackets.
+/// Appends each name in brackets.
 fn with_names(text: String, names: &Names) -> Result<String, Fail> {
     with_marked(text, " [", names)
 }
 
-/// The text with each name after it, in brackets that open with the mark.
+/// Appends each name in brackets, with the mark before them.
 fn with_marked(mut text: String, mark: &str, names: &Names) -> Result<String, Fail> {
     for name in names.get() {
         text.push_str(mark)?;
@@ -200,7 +198,7 @@ fn with_marked(mut text: String, mark: &str, names: &Names) -> Result<String, Fa
     Ok(text)
 }
 
-/// Checks that each line's call has the line's answer.
+/// Checks that each line's command line has the line's result.
 fn check_all(rt: &(impl Abort + AllocGlobal), examples: &str) -> Result<(), Fail> {
     for line in examples.lines() {
         if let Some((call, wanted)) = line.split_once(" => ") {
@@ -210,7 +208,7 @@ fn check_all(rt: &(impl Abort + AllocGlobal), examples: &str) -> Result<(), Fail
     Ok(())
 }
 
-/// Checks that the call has this answer.
+/// Checks that the command line has this result.
 fn check(rt: &(impl Abort + AllocGlobal), call: &str, wanted: &str) -> Result<(), Fail> {
     let given = answer(rt.alloc(), call)?;
     assert!(rt; given.as_str() == wanted, "{call} => {given}");

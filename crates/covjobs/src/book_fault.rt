@@ -1,4 +1,4 @@
-//! Why inputs aren't collected in a book.
+//! Why inputs couldn't be collected in a book.
 
 use crate::collect_fault::CollectFault;
 use crate::stop::Stop;
@@ -7,16 +7,16 @@ use covline::Memory;
 use covlock::OpenFault;
 use thiserror::Error;
 
-/// Why inputs aren't collected in a book. All jobs run to their end. A job that was refused a call, or memory for a list, submits
-/// nothing more but still reads its other inputs. So in most cases the first input that can't be read is known, and then `Unread`
-/// is returned before `Full` and `Memory`. It isn't known if memory is refused while an earlier input is read, or if a job can't
-/// be started.
+/// Why inputs couldn't be collected in a book. All jobs run to their end. After a failed call, or a failed allocation of one of its
+/// lists, a job submits nothing more but still reads its other inputs. So in most cases the first unreadable input is known, and
+/// `Unread` takes precedence over `Full` and `Memory`. It isn't known if memory runs out while an earlier input is read, or if a
+/// job can't be started.
 #[derive(Clone, Copy, Debug, PartialEq, Eq, Error)]
 pub enum IntoBookFault {
-    /// Faults 1 to 5: those of `collect`. `Full` and `Memory` are those of the lowest-numbered job that was refused something.
+    /// Faults 1 to 5: those of `collect`. `Full` and `Memory` are those of the lowest-numbered job that got such an error.
     #[error("{0}")]
     Collect(CollectFault),
-    /// Fault 6: the input at this place, counted from 0, can't be read. All inputs before it were read.
+    /// Fault 6: the input with this index, counted from 0, can't be read. All inputs before it were read.
     #[error("input {index} can't be read")]
     Unread { index: usize },
 }
@@ -25,7 +25,7 @@ impl IntoBookFault {
     ghost use Rattle.std.specs.Prelude.{◌≡◌};
     ghost use Rattle.covjobs.specs.Late.{into_book_number};
 
-    /// The number of the fault, from 1.
+    /// The number of the error, from 1.
     pub fn number(self) -> u32
         ensures { result ≡ into_book_number self }
     {
@@ -98,7 +98,7 @@ impl From<GatherFault> for IntoBookFault {
 ghost use Rattle.std.specs.Prelude.{◌≡◌};
 ghost use Rattle.covjobs.specs.Stops.{of_refused, of_stop};
 
-/// The fault that is returned for a stop. The inputs have this number of parts at most.
+/// Turns a job's stop into the error to return. `most_parts` is the greatest number of parts of all inputs.
 pub(crate) fn fault_of(most_parts: u64, stop: Stop) -> IntoBookFault
     ensures { result ≡ of_stop most_parts stop }
 {
@@ -108,8 +108,8 @@ pub(crate) fn fault_of(most_parts: u64, stop: Stop) -> IntoBookFault
     }
 }
 
-/// The fault of collecting that is returned for a fault of the book. The inputs have this number of parts at most. A full history
-/// needs at least as many parts as it has entries. `NotLast` stands for a full history with fewer parts, which never happens.
+/// Turns an error of the book into one of collecting. `most_parts` is the greatest number of parts of all inputs. A history is full
+/// only if they have at least as many parts as it has entries. Otherwise the result is `NotLast`, which never happens.
 pub(crate) fn refused_by(most_parts: u64, fault: BookFault) -> CollectFault
     ensures { result ≡ of_refused most_parts fault }
 {

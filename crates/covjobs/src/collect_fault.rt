@@ -1,28 +1,28 @@
-//! Why inputs aren't collected.
+//! Why inputs couldn't be collected.
 
 use covbook::{BookFault, GatherFault};
 use covline::Memory;
 use covlock::OpenFault;
 use thiserror::Error;
 
-/// Why inputs aren't collected. After its first `Full` or `Memory`, a job submits nothing more. All jobs run to their end. Then
-/// the fault of the lowest-numbered job that has one is returned, or `Memory` if memory ran out for the list of the workers.
+/// Why inputs couldn't be collected. After its first `Full` or `Memory`, a job submits nothing more. All jobs run to their end.
+/// Then the error of the lowest-numbered job with an error is returned, or `Memory` if the list of workers couldn't be allocated.
 #[derive(Clone, Copy, Debug, PartialEq, Eq, Error)]
 pub enum CollectFault {
-    /// Fault 1: there are no jobs, or more than 64. This is tested first.
+    /// Fault 1: the number of jobs is 0 or more than 64. This is checked first.
     #[error("BadJobs")]
     BadJobs,
     /// Fault 2: the history is full. It has 1,048,576 entries.
     #[error("book full")]
     Full,
-    /// Fault 3: memory was refused, or a worker couldn't be started.
+    /// Fault 3: an allocation failed, or a worker couldn't be started.
     #[error("out of memory")]
     Memory,
-    /// Fault 4: the history can't be gathered from the jobs' logs: it isn't a merge of them, or a reading is wrong.
+    /// Fault 4: the history doesn't match the jobs' logs: it isn't a merge of them, or a reading is wrong.
     #[error("gather: {0}")]
     Gather(GatherFault),
-    /// Fault 5: there is an entry after that of the last operation. This is tested last. It also stands for a full history of
-    /// inputs with fewer parts than a full history has entries, which never happens.
+    /// Fault 5: another entry follows that of the last operation. This is checked last. Also returned for a full history of inputs
+    /// with fewer parts than it has entries, which never happens.
     #[error("NotLast")]
     NotLast,
 }
@@ -31,7 +31,7 @@ impl CollectFault {
     ghost use Rattle.std.specs.Prelude.{◌≡◌};
     ghost use Rattle.covjobs.specs.CollectFault.{collect_number};
 
-    /// The number of the fault, from 1.
+    /// The number of the error, from 1.
     pub fn number(self) -> u32
         ensures { result ≡ collect_number self }
     {

@@ -1,4 +1,4 @@
-//! Collecting: many texts into one history, by jobs that work at once.
+//! Collects many inputs into one history, by jobs that work at once.
 
 use crate::book_fault::IntoBookFault;
 use crate::collect_fault::CollectFault;
@@ -19,14 +19,14 @@ use std::marker::Brand;
 use std::sync::Wait;
 use std::thread::Threads;
 
-/// What `collect` returns.
+/// The result of `collect`.
 #[derive(Drop)]
 pub struct Collected {
     /// The history. Its last entry is that of the last operation.
     pub entries: Entries,
-    /// What each job was answered, from job 0 on, and what it read of the totals.
+    /// A log of each job, from job 0 on: its receipts, and its readings of the totals.
     pub logs: Logs,
-    /// The inputs that aren't in the history, in their order.
+    /// The rejected inputs, in their order. They aren't in the history.
     pub refused: Refused,
 }
 
@@ -38,13 +38,13 @@ ghost use Rattle.covjobs.specs.InputView.{input_data};
 ghost use Rattle.covlock.specs.Start.{AreJobs};
 
 /// Collects inputs by jobs that work at once, each in a thread of its own. A single job works on the calling thread. Job j of n
-/// takes the inputs j, j + n, j + 2n and so on, in order: it reads the text, outside the book's lock, and submits what was read.
-/// A text that isn't read is refused, and the job goes on. After each submit the job reads the totals once, without the lock. If
-/// there is no place for its reader, it has no readings. When all have ended, job 0 performs the last operation. Waits for the
+/// processes the inputs j, j + n, j + 2n and so on, in order: it parses each input outside the book's lock, and submits the result.
+/// An invalid input is noted as rejected, and the job goes on. After each submit the job reads the totals once, without the lock;
+/// without a place for its reader, it has no readings. After all jobs have ended, job 0 performs the last operation. Waits for the
 /// workers.
 ///
-/// Counts add up as with lcov(1), --add-tracefile. Faults: `BadJobs` exactly if `jobs` isn't 1 to 64; `Full`; `Memory`, also
-/// if a worker can't be started; `Gather` and `NotLast` if history and logs don't fit, which no run meets.
+/// Counts add up as with lcov(1), --add-tracefile. Errors: `BadJobs` if and only if `jobs` isn't 1 to 64; `Full`; `Memory`, also if
+/// a worker can't be started; `Gather` and `NotLast` if the history doesn't match the logs, which never happens.
 pub fn collect<R: Threads + Wait + Sync, G: Gate + Sync>(
     rt: &R,
     alloc: Global,
@@ -61,12 +61,12 @@ pub fn collect<R: Threads + Wait + Sync, G: Gate + Sync>(
     match collect_named::<R, G, Brand, &Input>(rt, alloc, inputs, last, jobs, gate, start) {
         Ok(collected) => Ok(collected),
         Err(IntoBookFault::Collect(fault)) => Err(fault),
-        // An input in memory can be read.
+        // An input in memory can always be read.
         Err(IntoBookFault::Unread { index: _ }) => unreachable!(),
     }
 }
 
-/// Like `collect`, but consumes the inputs: each text is freed once it is read, before what was read is submitted.
+/// Like `collect`, but consumes the inputs: frees each one after parsing, before its submission is submitted.
 pub fn collect_owned<R: Threads + Wait + Sync, G: Gate + Sync>(
     rt: &R,
     alloc: Global,
@@ -82,12 +82,12 @@ pub fn collect_owned<R: Threads + Wait + Sync, G: Gate + Sync>(
     match collect_named::<R, G, Brand, Input>(rt, alloc, inputs, last, jobs, gate, start) {
         Ok(collected) => Ok(collected),
         Err(IntoBookFault::Collect(fault)) => Err(fault),
-        // An input in memory can be read.
+        // An input in memory can always be read.
         Err(IntoBookFault::Unread { index: _ }) => unreachable!(),
     }
 }
 
-/// A reference to each input, in order.
+/// Borrows each input, in order.
 fn lent(alloc: Global, inputs: &[Input]) -> Result<Vec<&Input>, Memory>
     ensures { IfOk result (λ lent. map (λ input. input_data input.now) lent.items ≡ map input_data inputs.now) }
 {
@@ -101,7 +101,7 @@ fn lent(alloc: Global, inputs: &[Input]) -> Result<Vec<&Input>, Memory>
 ghost use Rattle.covjobs.specs.declared.book_fault.IntoBookFault.TheVariants as into_book;
 ghost use Rattle.covjobs.specs.Late.{IsUnreadFault};
 
-/// Like `collect_owned`, for inputs that are read late. The book is the one that `start` is made for.
+/// Like `collect_owned`, for inputs that are read when their turn comes, and with the book of `start`.
 fn collect_named<
     R: Threads + Wait + Sync,
     G: Gate + Sync,
@@ -140,7 +140,7 @@ fn collect_named<
     let (seats, logs, refused) = hand_in(alloc, workers)?;
     let entries = match book.close(rt, seats) {
         Ok((entries, _news)) => entries,
-        // No seat is missing: each worker hands its own in.
+        // No seat is missing: each worker returns its own.
         Err(_back) => unreachable!(),
     };
     gather(entries.get(), logs.get())?;
@@ -160,7 +160,7 @@ ghost use Rattle.covjobs.specs.Work.{seats_in, logs_in, refused_in};
 ghost use Rattle.std.specs.List.Sorted.{IsPermutation, IsNonDecreasingBy};
 ghost use Rattle.covjobs.specs.declared.refused.RefusedInput.{RefusedInput};
 
-/// The seats, the logs, and the refused inputs in their order.
+/// Splits the workers into their seats, their logs, and the rejected inputs in the inputs' order.
 fn hand_in<L: Name>(
     alloc: Global,
     workers: Vec<Worker<L>>,

@@ -1,4 +1,4 @@
-//! The work of all jobs: dealt out, done, and handed over if all ended well.
+//! Does the work of all jobs: distributes the inputs, and returns the workers if all ended well.
 
 ghost use Rattle.std.specs.Prelude.{◌≡◌, ◌⊎◌, ◌<◌, Ok, Err, IfOk, IfErr, length, map};
 ghost use Rattle.covbook.specs.View.{op_data};
@@ -24,7 +24,7 @@ use std::alloc::Global;
 use std::sync::Wait;
 use std::thread::Threads;
 
-/// Deals the inputs out to a worker for each seat, and returns the workers if all have done their work.
+/// Distributes the inputs to one worker per seat, and returns the workers after all have done their work.
 pub(crate) fn all_done<
     R: Threads + Wait + Sync,
     G: Gate + Sync,
@@ -58,9 +58,9 @@ pub(crate) fn all_done<
     }
 }
 
-/// Returns the workers, if all of them ended well. Otherwise returns the first input that can't be read, if each job has read its
-/// own inputs before that input. Else returns the fault of the lowest-numbered job that was refused something. Returns `Memory`
-/// if there is no room for the list of workers.
+/// Returns the workers if all of them ended well. Otherwise returns the first unreadable input, if every job read its own inputs
+/// before it; else the error of the lowest-numbered job whose call or allocation failed. Returns `Memory` if the list of workers
+/// can't be allocated.
 fn all_well<L: Name, P: Keep<Of = Receipt>, F: Drop>(
     alloc: Global,
     ended: Vec<Result<Worker<L, Global, P, F>, Stop>>,
@@ -84,7 +84,7 @@ fn all_well<L: Name, P: Keep<Of = Receipt>, F: Drop>(
     }
 }
 
-/// Lets job 0 perform the last operation. Returns the number of entries up to and including the operation's entry.
+/// Lets job 0 perform the last operation. Returns the number of entries up to and including this operation's entry.
 pub(crate) fn ask_last<R: Wait, L: Name>(
     rt: &R,
     alloc: Global,

@@ -1,18 +1,18 @@
-//! What a worker calls around each of its submits.
+//! Hooks that a worker calls around each of its submits.
 
 use std::sync::Wait;
 
-/// Two calls that a worker makes right before and right after each submit, outside the book's lock. A test uses them to see that
-/// workers run at the same time. `call` counts the job's submits from 0. `after` is also called if the submit was refused.
+/// Hooks right before and right after each submit, outside the book's lock. A test uses them to observe that workers run at the
+/// same time. `call` counts the job's submits from 0. `after` is also called if the submit failed.
 pub trait Gate {
-    /// The job is about to submit.
+    /// Called before the job submits.
     fn before<R: Wait>(&self, rt: &R, job: u32, call: u64);
 
-    /// The job's submit is over.
+    /// Called after the job has submitted.
     fn after<R: Wait>(&self, rt: &R, job: u32, call: u64);
 }
 
-/// The gate that does nothing.
+/// A gate that does nothing.
 #[derive(Clone, Copy, Debug)]
 pub struct NoGate;
 

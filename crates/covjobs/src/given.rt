@@ -1,10 +1,10 @@
-//! What a worker submits.
+//! Submissions of workers, packed or not.
 
 use covbook::{Op, PackedRef, SubRef};
 use std::alloc::{Allocator, Global};
 use std::marker::Model;
 
-/// A submission that a worker submits, packed or not. Contracts see the submission.
+/// A submission, packed or not. Contracts see the submission.
 #[derive(Drop)]
 pub struct Given<A: Allocator = Global> {
     form: Form<A>,
@@ -49,7 +49,7 @@ impl<A: Allocator> Given<A> {
         }
     }
 
-    /// The operation that submits it.
+    /// Makes the operation that submits it.
     pub fn into_op(self) -> Op<A>
         ensures { op_data result ≡ SubmitOp self }
     {

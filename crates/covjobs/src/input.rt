@@ -1,4 +1,4 @@
-//! Texts that are to be collected.
+//! Inputs that are in memory.
 
 use covbook::{PackedRef, SubRef};
 use covlcov2::{read_lcov2, read_lcov2_packed};
@@ -7,14 +7,14 @@ use covpacked::PackedSubmission;
 use covread::{ReadFault, read_gcov, read_gcov_packed, read_trace, read_trace_packed};
 use std::alloc::{Allocator, Global};
 
-/// A text that is to be collected.
+/// An input in memory: the bytes of one file, and their format.
 #[derive(Drop)]
 pub enum Input<A: Allocator = Global> {
     /// A tracefile (geninfo(1), FILES).
     Trace(Bytes<A>),
     /// A tracefile of LCOV 2 (geninfo(1) of LCOV 2.x, TRACEFILE FORMAT).
     Lcov2(Bytes<A>),
-    /// gcov's annotated source (gcov(1)), whose counts are this test's.
+    /// gcov's annotated source (gcov(1)). Its counts get the name `test`.
     Gcov { test: Bytes<A>, text: Bytes<A> },
 }
 
@@ -22,8 +22,8 @@ impl<A: Allocator + Copy> Input<A> {
     ghost use Rattle.covjobs.specs.Collect.{IsOutcomeOf};
     ghost use Rattle.covjobs.specs.InputView.{input_data};
 
-    /// Reads the text. Returns what it holds, ready to be submitted, or why it is refused. The fault is also `Memory` if there is
-    /// no memory to share the submission.
+    /// Parses the input. Returns its submission, or why the input is rejected. Fails with `Memory` also if the submission can't be
+    /// made shareable.
     #[tactic(auto, using(crate::proofs::Outcomes::late_outcome))]
     pub fn read(&self, alloc: A) -> Result<SubRef<A>, ReadFault>
         ensures { IsOutcomeOf (input_data self.now) result }
@@ -31,7 +31,7 @@ impl<A: Allocator + Copy> Input<A> {
         Ok(SubRef::of(alloc, self.submission(alloc)?)?)
     }
 
-    /// The same, packed.
+    /// Like `read`, but returns a packed submission.
     #[tactic(auto, using(crate::proofs::Outcomes::late_outcome))]
     pub fn read_packed(&self, alloc: A) -> Result<PackedRef<A>, ReadFault>
         ensures { IsOutcomeOf (input_data self.now) result }
@@ -39,7 +39,7 @@ impl<A: Allocator + Copy> Input<A> {
         Ok(PackedRef::of(alloc, self.packed_submission(alloc)?)?)
     }
 
-    /// The submission that the text is read as.
+    /// Parses the input.
     #[tactic(auto, using(crate::proofs::Outcomes::trace_outcome, crate::proofs::Outcomes::lcov2_outcome, crate::proofs::Outcomes::gcov_outcome))]
     fn submission(&self, alloc: A) -> Result<Submission<A>, ReadFault>
         ensures { IsOutcomeOf (input_data self.now) result }
@@ -51,7 +51,7 @@ impl<A: Allocator + Copy> Input<A> {
         }
     }
 
-    /// The same, packed.
+    /// Like `submission`, but returns a packed submission.
     #[tactic(auto, using(crate::proofs::Outcomes::trace_outcome, crate::proofs::Outcomes::lcov2_outcome, crate::proofs::Outcomes::gcov_outcome))]
     fn packed_submission(&self, alloc: A) -> Result<PackedSubmission<A>, ReadFault>
         ensures { IsOutcomeOf (input_data self.now) result }

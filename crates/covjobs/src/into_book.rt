@@ -1,4 +1,4 @@
-//! Collecting into a book that keeps only the answers of its history.
+//! Collects into a book that stores only the answers of its history.
 
 use crate::book_fault::{IntoBookFault, refused_by};
 use crate::collect_fault::CollectFault;
@@ -19,13 +19,13 @@ use std::snapshot::Snapshot;
 use std::sync::Wait;
 use std::thread::Threads;
 
-/// What `collect_into_book` returns.
+/// The result of `collect_into_book`.
 #[derive(Drop)]
 pub struct CollectedBook<F: Drop = ReadFault> {
-    /// The book. Its table has the counts of all inputs that were accepted. Of its history it keeps the answers: the rest exists
-    /// only in proofs.
+    /// The book. Its table has the counts of all accepted inputs. It stores only the answers of its history; the rest exists only
+    /// in proofs.
     pub book: Book<Global, Answered>,
-    /// The inputs that aren't in the history, in their order.
+    /// The rejected inputs, in their order. They aren't in the history.
     pub refused: Refused<Global, F>,
 }
 
@@ -42,18 +42,18 @@ ghost use Rattle.covjobs.specs.Latest.{history_of};
 ghost use Rattle.covjobs.specs.Work.{kept_of, seats_in, refused_in};
 ghost use Rattle.covlock.specs.Start.{AreJobs};
 
-/// Collects inputs as `collect` does, but keeps no history and no logs in memory, and no job reads the totals. Each worker reads
-/// an input when its turn comes, part by part: it submits each part before it reads the next one, and frees the input before it
-/// submits the last part. A fault refuses the input, and the parts before the fault stay submitted.
+/// Collects inputs as `collect` does, but stores no history and no logs, and no job reads the totals. Each worker reads an input
+/// when its turn comes, part by part: it submits each part before it reads the next one, and frees the input before it submits the
+/// last part. An error rejects the rest of the input; the parts before the error stay submitted.
 ///
-/// What `collect` promises holds of the book's history once a text is asked for. Whichever text job 0 asks for next, there are
-/// logs of the jobs that make the history with this last entry a result of `collect`. There is room for that entry.
+/// The promises of `collect` hold for the book's history extended by the next text that job 0 asks for, whatever it is: there are
+/// logs of the jobs with which this history is a result of `collect`. The history always has capacity for that entry.
 /// `Book::text_of` returns the text.
 ///
-/// Faults: those of `collect` except `Gather`, and `Unread` with the first input that can't be read. If that input is known,
-/// `Unread` is returned before `Full` and `Memory`. `Full` is returned only if the inputs can have at least 1,048,576 parts. `NotLast`
-/// is returned if a worker knows of more entries than the closed book has, or if the book is full although there are fewer parts.
-/// Neither happens. No contract says that `Memory` is returned only if memory was refused.
+/// Errors: those of `collect` except `Gather`, and `Unread` with the first unreadable input. If that input is known, `Unread` takes
+/// precedence over `Full` and `Memory`. `Full` is returned only if the inputs can have at least 1,048,576 parts. `NotLast` is
+/// returned if a worker knows of more entries than the closed book has, or if the book is full although there are fewer parts.
+/// Neither happens. No contract says that `Memory` is returned only after a failed allocation.
 pub fn collect_into_book<
     R: Threads + Wait + Sync,
     G: Gate + Sync,
@@ -74,7 +74,7 @@ pub fn collect_into_book<
     collect_named::<R, G, Brand, T>(rt, alloc, inputs, jobs, gate, start)
 }
 
-/// As `collect_into_book`, in the book that the start is made for.
+/// Like `collect_into_book`, with the book of `start`.
 fn collect_named<
     R: Threads + Wait + Sync,
     G: Gate + Sync,
@@ -113,7 +113,7 @@ fn collect_named<
     let (seats, latest, refused) = hand_in_news(alloc, workers)?;
     let (book, news) = match book.close_book(rt, seats) {
         Ok((book, news)) => (book, news),
-        // No seat is missing: each worker hands its own in.
+        // No seat is missing: each worker returns its own.
         Err(_back) => unreachable!(),
     };
     if !are_before(latest.as_slice(), &news) {
@@ -128,7 +128,7 @@ fn collect_named<
     Ok(CollectedBook { book, refused })
 }
 
-/// The seats, the latest news of each job, and the refused inputs in their order.
+/// Splits the workers into their seats, each job's latest news, and the rejected inputs in the inputs' order.
 fn hand_in_news<L: Name, F: Drop>(
     alloc: Global,
     workers: Vec<Worker<L, Global, Snapshot<Receipt>, F>>,
@@ -152,7 +152,7 @@ fn hand_in_news<L: Name, F: Drop>(
     Ok((seats, latest, refused))
 }
 
-/// Whether each history of the latest news is a beginning of the history of `news`.
+/// Whether the history of each latest news is a prefix of the history of `news`.
 fn are_before<L: Name>(latest: &[Option<News<L>>], news: &News<L>) -> bool
     ensures { IsTrue result ↔ AllByRecursion (λ own. IsPrefix (history_of own) news.now) latest.now }
 {
@@ -164,13 +164,13 @@ fn are_before<L: Name>(latest: &[Option<News<L>>], news: &News<L>) -> bool
     true
 }
 
-/// Whether the history of the latest news is a beginning of the history of `news`.
+/// Whether the history of the latest news is a prefix of the history of `news`.
 fn is_before<L: Name>(latest: &Option<News<L>>, news: &News<L>) -> bool
     ensures { IsTrue result ↔ IsPrefix (history_of latest.now) news.now }
 {
     match latest {
         Some(latest) => {
-            // Proof only: one of the two histories is a beginning of the other.
+            // Proof only: one of the two histories is a prefix of the other.
             let _longer = latest.longer(news);
             latest.reading().upto <= news.reading().upto
         }

@@ -7,37 +7,36 @@ use crate::part::Part;
 use covread::ReadFault;
 use std::alloc::Allocator;
 
-/// An input that a worker reads when its turn comes, such as a file. It is read in one part or in several, each of which is a
-/// submission of its own. Reading consumes the input: what it holds is freed, or goes back to its owner, before its last part is
-/// submitted.
+/// An input that a worker reads when its turn comes, such as a file. It has one part or several, and each part is a submission of
+/// its own. Reading consumes the input: before its last part is submitted, its memory is freed or returned to the owner.
 pub trait LateInput<A: Allocator>: Drop {
     ghost use Rattle.std.specs.Prelude.{◌≡◌, ℕ};
     ghost use Rattle.covjobs.specs.Collect.{OutcomeData};
     ghost use Rattle.covjobs.specs.Late.{IsNextPart};
 
-    // Which outcomes the input may have: what may be read of it, and why the rest of it may be refused.
+    // Which outcomes the input may have: the submissions read of it, and why the rest of it may be rejected.
     ghost may_give: { Self → OutcomeData Self.Fault → Type 0 };
 
     // Whether the input may turn out to be unreadable.
     ghost may_fail: { Self → Type 0 };
 
-    // The most parts that the input can have.
+    // The greatest number of parts that the input can have.
     ghost most: { Self → ℕ };
 
-    /// Why the input's text is refused.
+    /// Why an input is rejected.
     type Fault: Drop;
 
-    /// Reads the next part of the input. Returns what it holds, ready to be submitted, and the rest of the input if this isn't the
-    /// last part. A fault ends the input: what was submitted of it before stays submitted.
+    /// Reads the next part of the input. Returns it ready to be submitted, with the rest of the input unless this part is the last
+    /// one. An error ends the input; parts that were submitted before stay submitted.
     fn read_part(self, alloc: A) -> Result<Part<Self, A>, LateFault<Self::Fault>>
         ensures { IsNextPart may_give may_fail most self result };
 
-    /// The most parts that the input can have.
+    /// The greatest number of parts that the input can have.
     fn most_parts(&self) -> u64
         ensures { result ≡ most self.now };
 }
 
-/// An input that is already in memory. It has one part, and is freed once it is read.
+/// An input in memory. It has one part, and is freed after it is read.
 impl<A: Allocator + Copy> LateInput<A> for Input<A> {
     ghost use Rattle.covjobs.specs.Collect.{IsOutcomeOf, IsReadWhole};
     ghost use Rattle.covjobs.specs.InputView.{input_data};
@@ -62,7 +61,7 @@ impl<A: Allocator + Copy> LateInput<A> for Input<A> {
     }
 }
 
-/// A borrowed input that is already in memory. It has one part, and its owner keeps it.
+/// A borrowed input in memory. It has one part, and its owner keeps it.
 impl<'a, A: Allocator + Copy> LateInput<A> for &'a Input<A> {
     ghost use Rattle.covjobs.specs.Collect.{IsOutcomeOf, IsReadWhole};
     ghost use Rattle.covjobs.specs.InputView.{input_data};
@@ -90,7 +89,7 @@ impl<'a, A: Allocator + Copy> LateInput<A> for &'a Input<A> {
 ghost use Rattle.std.specs.Prelude.{◌≡◌};
 ghost use Rattle.covjobs.specs.Stops.{most_parts_in};
 
-/// The most parts that all inputs together can have. The sum stops at the largest number of 64 bits.
+/// The greatest number of parts that all inputs together can have. Saturates at 2^64 - 1.
 pub(crate) fn most_parts_of<A: Allocator, T: LateInput<A>>(inputs: &[T]) -> u64
     ensures { result ≡ most_parts_in T.most inputs.now }
 {

@@ -1,20 +1,20 @@
-//! Why an input that is read late gives no more submissions.
+//! Why an input has no more parts.
 
 use covread::ReadFault;
 use std::fmt::Display;
 use thiserror::Error;
 
-/// Why an input gives no more submissions. `F` is the fault of a refused text.
+/// Why an input has no more parts. `F` is the error of a rejected input.
 #[derive(Clone, Copy, Debug, PartialEq, Eq, Error)]
 #[error_bound(F: Display)]
 pub enum LateFault<F = ReadFault> {
-    /// The input's text was refused. A `ReadFault` has the number of the line.
+    /// The input is invalid. A `ReadFault` has the line number.
     #[error("{0}")]
     Refused(F),
-    /// The input itself can't be read.
+    /// The input can't be read.
     #[error("can't be read")]
     Unreadable,
-    /// Memory was refused.
+    /// An allocation failed.
     #[error("out of memory")]
     Memory,
 }

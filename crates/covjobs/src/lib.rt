@@ -1,20 +1,20 @@
-//! A book for many jobs: threads share the book, and workers collect inputs into it.
+//! A book that many jobs share, and workers that collect inputs into it.
 //!
-//! The shared book is `covlock`'s. This crate re-exports it:
+//! The shared book is covlock's. This crate re-exports it:
 //!
-//! - `open_book` makes a book out of a `Start`, and a `Seat` for each job.
-//! - `Shared::perform` takes one step of the book with a seat, while it holds the book's lock.
-//! - `Shared::reader` makes a reader of the totals (`Live`), which takes no lock.
+//! - `open_book` makes a book and one `Seat` per job out of a `Start`.
+//! - `Shared::perform` performs one step of the book with a seat, under the book's lock.
+//! - `Shared::reader` makes a reader of the totals (`Live`), which works without the lock.
 //! - `Shared::close` takes all seats back and returns the history.
 //!
-//! `collect` does all of this for texts that are already in memory. It opens a book. Each job reads its share of the inputs and
-//! submits them: one job on the calling thread, several in a thread each. Then `collect` performs a last operation, closes the
-//! book, and gathers the history from the jobs' logs. `collect_owned` does the same, and frees each text once it is read.
-//! `collect_into_book` keeps no history and no logs: it returns the book. Its inputs are read when their turn comes, each in one part
-//! or in several (`LateInput`).
+//! `collect` does all of this for inputs that are in memory. It opens a book. Each job parses its share of the inputs and submits
+//! them: a single job on the calling thread, several in one thread each. Then `collect` performs a last operation, closes the book,
+//! and gathers: it checks the history against the jobs' logs. `collect_owned` also frees each input after parsing.
+//! `collect_into_book` stores no history and no logs, and returns the book. Its inputs are read when their turn comes, in one part
+//! or several (`LateInput`).
 //!
-//! This crate also re-exports what a thread asks (`Op`) and what it keeps (`Receipt` and `Reading`, in a `JobLog`), and `gather`,
-//! which checks that the logs fit the closed history (`Entries`). All of this is covbook's. So a user needs only this crate.
+//! This crate also re-exports covbook's operations (`Op`), logs (`JobLog`, with `Receipt`s and `Reading`s), and `gather`, which
+//! checks that the logs match the closed history (`Entries`). So a user needs only this crate.
 //!
 //! A sketch, which no test runs:
 //!
@@ -57,8 +57,7 @@ mod workers;
 pub use book_fault::IntoBookFault;
 pub use collect_fault::CollectFault;
 pub use collected::{Collected, collect, collect_owned};
-// `gather` can also check the readings of a reader that isn't a job. They are given as a log without receipts, with a job number
-// that no seat has.
+// `gather` can also check the readings of a reader that isn't a job: as a log without receipts, with a job number that no seat has.
 pub use covbook::{Answered, Book, BookFault, Entries, JobLog, Keep, Op, Reading, Receipt, gather};
 pub use covlock::{
     CloseFault, Done, Live, MAX_JOBS, MAX_READERS, Name, News, OpenFault, ReaderFault, Seat, Seats,

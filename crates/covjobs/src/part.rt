@@ -1,12 +1,12 @@
-//! The next part of an input that is read late.
+//! Parts of inputs that are read when their turn comes.
 
 use crate::given::Given;
 use std::alloc::{Allocator, Global};
 
-/// What was read of an input, ready to be submitted, and what is left of the input.
+/// A part of an input, ready to be submitted, and the rest of the input.
 #[derive(Drop)]
 pub enum Part<T, A: Allocator = Global> {
-    /// The last part. Nothing is left.
+    /// The last part.
     Last(Given<A>),
     /// A part, and the rest of the input.
     More(Given<A>, T),

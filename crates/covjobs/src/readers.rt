@@ -3,7 +3,7 @@
 /// Whether jobs read the totals after each submit.
 #[derive(Clone, Copy)]
 pub(crate) enum Readers {
-    /// Each job has a reader, if there is a place for it.
+    /// Each job has a reader, as long as the book has places for readers.
     ForEachJob,
     /// No job has a reader.
     None,

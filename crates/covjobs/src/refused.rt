@@ -1,18 +1,18 @@
-//! Inputs that were refused.
+//! Rejected inputs.
 
 use covline::Memory;
 use covread::ReadFault;
 use std::alloc::{Allocator, Global};
 use std::marker::Model;
 
-/// An input that was refused: its place among the inputs, counted from 0, and why.
+/// A rejected input: its index among the inputs, counted from 0, and why it was rejected.
 #[derive(Clone, Copy, Debug, PartialEq, Eq)]
 pub struct RefusedInput<F = ReadFault> {
     pub index: usize,
     pub fault: F,
 }
 
-/// A list of refused inputs. Contracts see these inputs in order.
+/// A list of rejected inputs. Contracts see these inputs in order.
 #[derive(Drop)]
 pub struct Refused<A: Allocator = Global, F: Drop = ReadFault> {
     inputs: Vec<RefusedInput<F>, A>,
@@ -32,7 +32,7 @@ impl<A: Allocator, F: Drop> Refused<A, F> {
     ghost use Rattle.std.specs.List.Sorted.{IsPermutation, IsNonDecreasingBy};
     ghost use Rattle.covjobs.specs.declared.refused.RefusedInput.{RefusedInput};
 
-    /// The empty list. Takes no memory.
+    /// The empty list. Never allocates.
     pub fn new(alloc: A) -> Refused<A, F>
         ensures { result ≡ [] }
     {
@@ -41,7 +41,7 @@ impl<A: Allocator, F: Drop> Refused<A, F> {
         }
     }
 
-    /// Appends an input. On `Memory` the input is dropped and the list stays as it was.
+    /// Appends an input. On `Memory`, drops the input and leaves the list unchanged.
     pub fn push(&mut self, input: RefusedInput<F>) -> Result<(), Memory>
         ensures ok { OnOk result (self.new ≡ self.old ++ input ∷ []) }
         ensures err { OnErr result (self.new ≡ self.old) }
@@ -57,7 +57,7 @@ impl<A: Allocator, F: Drop> Refused<A, F> {
         self.inputs.as_slice()
     }
 
-    /// Appends all inputs of another list. On `Memory` those that aren't appended yet are dropped.
+    /// Appends all inputs of another list. On `Memory`, drops those that aren't appended yet.
     pub(crate) fn append(&mut self, others: Refused<A, F>) -> Result<(), Memory>
         ensures { OnOk result (self.new ≡ self.old ++ others) }
     {
@@ -67,7 +67,7 @@ impl<A: Allocator, F: Drop> Refused<A, F> {
         Ok(())
     }
 
-    /// Sorts the inputs by their places.
+    /// Sorts the inputs by their indices.
     pub(crate) fn sort(&mut self)
         ensures same { IsPermutation self.old self.new }
         ensures ascending { IsNonDecreasingBy (λ (r : RefusedInput F). r.index) self.new }

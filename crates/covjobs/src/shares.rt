@@ -1,4 +1,4 @@
-//! Inputs, dealt out to jobs.
+//! Distributes inputs to jobs.
 
 ghost use Rattle.std.specs.Prelude.{◌≡◌, ◌++◌, [], ◌∷◌, ◌<◌, map, replicate, vec_len, slice_set, slice_index_or, IfOk, OnOk};
 ghost use Rattle.covjobs.specs.Shares.{shares_of};
@@ -7,23 +7,23 @@ use covline::Memory;
 use std::alloc::Global;
 use std::snapshot::Snapshot;
 
-/// An input and its place among all of them, counted from 0.
+/// An input and its index among all inputs, counted from 0.
 #[derive(Drop)]
 pub(crate) struct Placed<T> {
     pub(crate) index: usize,
     pub(crate) input: T,
 }
 
-/// A share of the inputs for each job. `inputs` is the list that the shares were dealt from. Only contracts see it, and it takes
-/// no memory.
+/// The inputs, distributed into one share per job. `inputs` is the list before it was distributed; it exists only for contracts and
+/// uses no memory.
 #[derive(Drop)]
 pub(crate) struct Dealt<T> {
     pub(crate) inputs: Snapshot<Vec<T>>,
     pub(crate) shares: Vec<Vec<Placed<T>>>,
 }
 
-/// Deals the inputs out: job j of n gets those at the places j, j + n, j + 2n and so on, in order. On `Memory` all inputs are
-/// dropped.
+/// Distributes the inputs: job j of n gets those with the indices j, j + n, j + 2n and so on, in order. On `Memory`, drops all
+/// inputs.
 pub(crate) fn deal<T: Drop>(alloc: Global, inputs: Vec<T>, jobs: u32) -> Result<Dealt<T>, Memory>
     requires { 0 < jobs }
     ensures inputs { IfOk result (λ dealt. dealt.inputs.value ≡ inputs) }
@@ -40,7 +40,7 @@ pub(crate) fn deal<T: Drop>(alloc: Global, inputs: Vec<T>, jobs: u32) -> Result<
     })
 }
 
-/// A share for each job, with nothing in it.
+/// An empty share for each job.
 fn empty_shares<T: Drop>(alloc: Global, jobs: u32) -> Result<Vec<Vec<Placed<T>>>, Memory>
     ensures { IfOk result (λ shares. map (λ share. share.items) shares.items ≡ replicate jobs []) }
 {
@@ -51,7 +51,7 @@ fn empty_shares<T: Drop>(alloc: Global, jobs: u32) -> Result<Vec<Vec<Placed<T>>>
     Ok(shares)
 }
 
-/// Puts the input at the end of the share of this job.
+/// Appends the input to the share of this job.
 fn give<T: Drop>(
     shares: &mut Vec<Vec<Placed<T>>>,
     job: usize,

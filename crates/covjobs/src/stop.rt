@@ -1,22 +1,22 @@
-//! Where a worker stops before its end.
+//! Why and where a worker stops early.
 
 use covbook::BookFault;
 use covline::Memory;
 
-/// Why a worker hands in nothing.
+/// Why a worker has no result.
 #[derive(Clone, Copy)]
 pub(crate) enum Stop {
-    /// The input at this place can't be read. The job has read all its inputs before this place.
+    /// The input with this index can't be read. The job has read all its inputs before this one.
     Unread(usize),
-    /// The book refused a call, or memory was refused.
+    /// A call of the book failed, or an allocation.
     Refused(Refusal),
 }
 
-/// The first fault that the book or memory gave a job, and how far the job still read its inputs.
+/// A job's first failed call or allocation, and how far the job still read its inputs.
 #[derive(Clone, Copy)]
 pub(crate) struct Refusal {
     pub(crate) fault: BookFault,
-    /// The job has read its inputs before this place: 0 if it has read nothing, `usize::MAX` if it has read all of them.
+    /// The job has read its inputs before this index: 0 if it has read none, `usize::MAX` if it has read all.
     pub(crate) upto: usize,
 }
 
@@ -26,7 +26,7 @@ impl From<Memory> for Stop {
 
     ghost from_gives = { λ _ stop. stop ≡ no_memory };
 
-    /// Memory was refused before the job has read anything.
+    /// An allocation failed before the job read anything.
     fn from(_refused: Memory) -> Stop {
         Stop::Refused(Refusal {
             fault: BookFault::Memory,
@@ -38,7 +38,7 @@ impl From<Memory> for Stop {
 ghost use Rattle.std.specs.Prelude.{◌≡◌};
 ghost use Rattle.covjobs.specs.Stops.{both_of, lesser_of, worst_of};
 
-/// The lesser of the two places, or `index` if there is no other.
+/// The lesser of two indices. Returns `index` if the other is `None`.
 pub(crate) fn lesser(least: Option<usize>, index: usize) -> usize
     ensures { result ≡ lesser_of least index }
 {
@@ -48,7 +48,7 @@ pub(crate) fn lesser(least: Option<usize>, index: usize) -> usize
     }
 }
 
-/// The first of the two faults, with the lesser of the two places.
+/// Combines two refusals: the first one's error, and the lesser of the two indices.
 pub(crate) fn both(first: Option<Refusal>, next: Refusal) -> Refusal
     ensures { result ≡ both_of first next }
 {
@@ -61,8 +61,8 @@ pub(crate) fn both(first: Option<Refusal>, next: Refusal) -> Refusal
     }
 }
 
-/// The stop at the input that can't be read, if all inputs before that input were read. Else the stop of the refusal. `None` if
-/// there is neither.
+/// Chooses the stop to report. This is the unreadable input `least` if no job with a refusal stopped reading before it, and
+/// otherwise the refusal. Returns `None` if there is no stop.
 pub(crate) fn worst(least: Option<usize>, refused: Option<Refusal>) -> Option<Stop>
     ensures { result ≡ worst_of least refused }
 {

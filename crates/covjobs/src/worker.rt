@@ -1,4 +1,4 @@
-//! One job's worker.
+//! The worker of one job.
 
 use crate::gate::Gate;
 use crate::given::Given;
@@ -18,9 +18,9 @@ use std::marker::Model;
 use std::snapshot::Snapshot;
 use std::sync::Wait;
 
-/// A job at work: its seat, what it keeps of its receipts (`P`), the latest news of its calls, what it read of the totals, and which
-/// of its inputs are refused. Contracts see whole receipts, whatever is kept of them, the history of the latest news, and whether
-/// the job has a reader. The receipts are a log of that history.
+/// A job at work: its seat, what is stored of its receipts (`P`), the latest news of its calls, its readings of the totals, and its
+/// rejected inputs. Contracts see whole receipts even if less is stored, the history of the latest news, and whether the job has a
+/// reader. The receipts are a log of that history.
 #[derive(Drop)]
 pub(crate) struct Worker<
     L: Name,
@@ -60,7 +60,7 @@ impl<L: Name, A: Allocator + Copy, P: Keep<Of = Receipt<A>>, F: Drop> Worker<L, 
     ghost use Rattle.covjobs.specs.Work.{Asks, HasOutcome, IsReading, ReadsOn, Takes};
     ghost use Rattle.covlock.specs.Seat.{fresh_seat};
 
-    /// The job's worker, which has done nothing yet.
+    /// A worker that has done nothing yet.
     fn new(alloc: A, seat: Seat<L>, live: Option<Live<L, A>>) -> Worker<L, A, P, F>
         requires { seat ≡ fresh_seat seat.job }
         ensures seat { result.seat ≡ seat }
@@ -79,9 +79,9 @@ impl<L: Name, A: Allocator + Copy, P: Keep<Of = Receipt<A>>, F: Drop> Worker<L, 
         }
     }
 
-    /// Reads the input, part by part. `first` is the first fault of a refused call or list so far. As long as there is none, submits
-    /// each part before it reads the next one, and notes if the text is refused. Returns the first fault after this input. The
-    /// input is consumed before its last part is submitted.
+    /// Reads the input, part by part. `first` is the job's first failed call or list allocation so far. While it is `None`, submits
+    /// each part before reading the next one, or notes that the input is rejected. Returns the first failure up to the end of this
+    /// input. The input is consumed before its last part is submitted.
     fn go_on<R: Wait, G: Gate, T: LateInput<A, Fault = F>, K: Keep<Of = Entry<A>>>(
         &mut self,
         rt: &R,
@@ -111,8 +111,9 @@ impl<L: Name, A: Allocator + Copy, P: Keep<Of = Receipt<A>>, F: Drop> Worker<L, 
         Ok(fault)
     }
 
-    /// Reads the next part of the input. `first` is the first fault of a refused call or list so far. If it is `None`, submits the
-    /// part, or notes that the text is refused. Returns the rest of the input, and the first fault after this part.
+    /// Reads the next part of the input. `first` is the job's first failed call or list allocation so far. If it is `None`, submits
+    /// the part, or notes that the input is rejected. Returns the rest of the input, and the first failure up to the end of this
+    /// part.
     fn take_part<R: Wait, G: Gate, T: LateInput<A, Fault = F>, K: Keep<Of = Entry<A>>>(
         &mut self,
         rt: &R,
@@ -136,7 +137,7 @@ impl<L: Name, A: Allocator + Copy, P: Keep<Of = Receipt<A>>, F: Drop> Worker<L, 
         }
     }
 
-    /// Takes a part of an input: submits what was read, or notes that the text is refused.
+    /// Submits a part of an input, or notes that the input is rejected.
     fn take<R: Wait, G: Gate, K: Keep<Of = Entry<A>>>(
         &mut self,
         rt: &R,
@@ -158,7 +159,7 @@ impl<L: Name, A: Allocator + Copy, P: Keep<Of = Receipt<A>>, F: Drop> Worker<L, 
         }
     }
 
-    /// Notes that this input is refused.
+    /// Notes that an input is rejected.
     fn refuse(&mut self, input: RefusedInput<F>) -> Result<(), Memory>
         ensures seat { self.new.seat ≡ self.old.seat }
         ensures receipts { self.new.receipts ≡ self.old.receipts }
@@ -170,7 +171,7 @@ impl<L: Name, A: Allocator + Copy, P: Keep<Of = Receipt<A>>, F: Drop> Worker<L, 
         Ok(())
     }
 
-    /// Submits, between the two calls of the gate, and keeps the receipt. Then keeps a reading, if the job has a reader.
+    /// Submits between the two calls of the gate, and stores the receipt. Then stores a reading, if the job has a reader.
     fn submit<R: Wait, G: Gate, K: Keep<Of = Entry<A>>>(
         &mut self,
         rt: &R,
@@ -193,8 +194,8 @@ impl<L: Name, A: Allocator + Copy, P: Keep<Of = Receipt<A>>, F: Drop> Worker<L, 
         Ok(())
     }
 
-    /// Performs the operation, and keeps the receipt. The job has then seen the history up to and including the receipt's entry.
-    /// Returns news of this history. Makes room for the receipt first, so the receipt of each call that succeeds is kept.
+    /// Performs the operation and stores the receipt. Then the job has seen the history up to and including the receipt's entry,
+    /// and gets news of it. Reserves memory for the receipt first, so the receipt of each successful call is stored.
     pub(crate) fn ask<R: Wait, K: Keep<Of = Entry<A>>>(
         &mut self,
         rt: &R,
@@ -216,7 +217,7 @@ impl<L: Name, A: Allocator + Copy, P: Keep<Of = Receipt<A>>, F: Drop> Worker<L, 
         Ok(news)
     }
 
-    /// If the job has a reader, keeps one reading. The reading counts at least as many entries as the news.
+    /// Stores one reading if the job has a reader. The reading covers at least as many entries as the news.
     fn read(&mut self, news: &News<L>) -> Result<(), Memory>
         ensures read { IfOk result (λ _. ReadsOn self.old.has_reader (length news.now) self.old.readings self.new.readings) }
         ensures reader { self.new.has_reader ≡ self.old.has_reader }
@@ -236,7 +237,7 @@ ghost use Rattle.std.specs.Prelude.{◌≡◌, ◌<◌, IfOk, length};
 ghost use Rattle.covbook.specs.Kept.{IsPrefix};
 ghost use Rattle.covjobs.specs.Latest.{history_of};
 
-/// Returns the news. Their history is longer than that of `latest`, and begins with it.
+/// Returns `news`, whose history extends that of `latest`.
 fn later<L: Name>(latest: &Option<News<L>>, news: &News<L>) -> News<L>
     requires { length (history_of latest.now) < length news.now }
     ensures same { result ≡ news.now }
@@ -254,14 +255,14 @@ impl<L: Name, A: Allocator, P: Keep<Of = Receipt<A>>, F: Drop> Worker<L, A, P, F
     ghost use Rattle.covjobs.specs.Latest.{history_of};
     ghost use Rattle.covjobs.specs.Work.{kept_of};
 
-    /// The place after that of the job's last call.
+    /// How many entries of the history the job has seen: all up to and including that of its last call.
     pub(crate) fn seen(&self) -> u64
         ensures { result ≡ self.now.seat.seen }
     {
         self.seat.seen()
     }
 
-    /// The job's seat, the latest news of its calls, and which of its inputs are refused.
+    /// The job's seat, the latest news of its calls, and its rejected inputs.
     pub(crate) fn into_news(self) -> (Seat<L>, Option<News<L>>, Refused<A, F>)
         ensures seat { result.0 ≡ self.seat }
         ensures latest { history_of result.1 ≡ self.latest }
@@ -283,7 +284,7 @@ impl<L: Name, A: Allocator, P: Keep<Of = Receipt<A>>, F: Drop> Worker<L, A, P, F
 impl<L: Name, A: Allocator> Worker<L, A> {
     ghost use Rattle.std.specs.Prelude.{◌≡◌};
 
-    /// The job's seat, its log, and which of its inputs are refused.
+    /// The job's seat, its log, and its rejected inputs.
     pub(crate) fn into_parts(self) -> (Seat<L>, JobLog<A>, Refused<A>)
         ensures seat { result.0 ≡ self.seat }
         ensures job { result.1.job ≡ self.seat.job }
@@ -315,9 +316,9 @@ ghost use Rattle.covjobs.specs.Shares.{share_of};
 ghost use Rattle.covjobs.specs.Work.{HasEnded, IsPartOf, MayHaveReader, work_of};
 ghost use Rattle.covlock.specs.Seat.{fresh_seat};
 
-/// Does the work of one of `jobs` jobs: takes the job's share of the inputs, in order. After the first call or list that is
-/// refused, only reads the inputs that are left. Ends at an input that can't be read, or for which memory is refused while it is
-/// read. If there is no place for one more reader, the job has no readings.
+/// Does the work of one of `jobs` jobs: processes the job's share of the inputs, in order. After a failed call or list allocation,
+/// only reads the inputs that are left. Stops at an input that can't be read, or if memory runs out while one is read. Without a
+/// place for one more reader, the job has no readings.
 pub(crate) fn work<
     R: Wait,
     G: Gate,
@@ -359,8 +360,8 @@ pub(crate) fn work<
 ghost use Rattle.std.specs.Prelude.{IfErr, IfSome};
 ghost use Rattle.covjobs.specs.Stops.{IsStopAt, of_late};
 
-/// What the next part of the input is read as, and the rest of the input; or where the job stops. `first` is the first fault of a
-/// refused call or list.
+/// Reads the next part of the input. Returns the part and the rest of the input. The error says where the job stops. `first` is the
+/// job's first failed call or list allocation.
 fn next_part<A: Allocator, T: LateInput<A>>(
     alloc: A,
     index: usize,
@@ -379,7 +380,7 @@ fn next_part<A: Allocator, T: LateInput<A>>(
     }
 }
 
-/// The fault of a refused text. If the input is not read at all, the job stops.
+/// Returns the error of a rejected input. The job stops if the input can't be read, or if memory runs out.
 fn refused_text<F: Drop>(
     index: usize,
     first: Option<BookFault>,
@@ -397,7 +398,7 @@ fn refused_text<F: Drop>(
     }
 }
 
-/// A reader of the book, if jobs have readers and there is a place for one.
+/// Makes a reader of the book, if jobs have readers and the book has a place for one.
 fn reader_of<R: Wait, L: Name, A: Allocator, K: Keep<Of = Entry<A>>>(
     rt: &R,
     book: &Shared<L, A, K>,
@@ -407,7 +408,7 @@ fn reader_of<R: Wait, L: Name, A: Allocator, K: Keep<Of = Entry<A>>>(
 {
     match readers {
         Readers::None => None,
-        // The only fault is that no place is left: a reader takes no memory.
+        // The only error is that no place is left: a reader never allocates.
         Readers::ForEachJob => book.reader(rt).ok(),
     }
 }

@@ -1,4 +1,4 @@
-//! The workers of all jobs: one on the calling thread, or several, each in a thread of its own.
+//! Runs the workers of all jobs: one on the calling thread, or several in one thread each.
 
 ghost use Rattle.std.specs.Prelude.{◌≡◌, Err, IfOk, IsTrue, false, map, Contains};
 ghost use Rattle.std.specs.List.{AllByRecursion};
@@ -24,7 +24,7 @@ use std::sync::Wait;
 use std::thread;
 use std::thread::{Promise, PromisedHandle, Threads};
 
-/// What a worker's thread promises about the worker's end.
+/// The promise of a worker's thread about the worker's end.
 #[derive(Drop)]
 struct WorkPromise<T: LateInput<Global>> {
     job: u32,
@@ -47,8 +47,8 @@ impl<L: Name, T: LateInput<Global>, P: Keep<Of = Receipt>> Promise<
     ghost kept_by = { λ p r. HasEnded (chances_of T.may_give T.may_fail) p r };
 }
 
-/// Does the work of all seats, each with its share of the inputs, and returns how each worker ended, in the order of the seats. One
-/// job works on the calling thread. Several work at once, each in a thread of its own.
+/// Does the work of all seats, each with its share of the inputs. Returns how each worker ended, in the order of the seats. A
+/// single job works on the calling thread; several work at once, in one thread each.
 pub(crate) fn do_all_work<
     R: Threads + Wait + Sync,
     G: Gate + Sync,
@@ -78,8 +78,8 @@ pub(crate) fn do_all_work<
 }
 
 /// Does the work of each seat on the calling thread, one seat after another, with its share of the inputs. Returns how each worker
-/// ended, in the order of the seats. One job needs no thread of its own: a thread's memory comes from an arena that grows in small
-/// steps, each of which is a call of the system.
+/// ended, in the order of the seats. A single job gets no thread of its own, because a thread's memory comes from an arena that
+/// grows by many small system calls.
 fn work_in_turn<
     R: Wait,
     G: Gate,
@@ -108,7 +108,7 @@ fn work_in_turn<
     for seat in seats {
         let share = match shares.next() {
             Some(share) => share,
-            // There is a share for each seat.
+            // Each seat has a share.
             None => unreachable!(),
         };
         ended.push(work(rt, alloc, book, gate, seat, jobs, readers, inputs, share))?;
@@ -117,8 +117,8 @@ fn work_in_turn<
 }
 
 /// Starts a worker in a thread for each seat, with its share of the inputs. Waits until all workers have ended, and returns how
-/// each ended, in the order of the seats. A worker that can't be started counts as refused memory, and no further worker is
-/// started.
+/// each ended, in the order of the seats. If a worker can't be started, starts no further one and treats this as a failed
+/// allocation.
 fn work_at_once<
     R: Threads + Wait + Sync,
     G: Gate + Sync,
@@ -156,7 +156,7 @@ fn work_at_once<
             for seat in seats {
                 let share = match shares.next() {
                     Some(share) => share,
-                    // There is a share for each seat.
+                    // Each seat has a share.
                     None => unreachable!(),
                 };
                 let promise = WorkPromise {
@@ -184,8 +184,7 @@ fn work_at_once<
     )
 }
 
-/// Waits until all workers have ended, and returns how each ended. If not all workers were started, the list also has a refusal
-/// of memory.
+/// Waits until all workers have ended, and returns how each ended. Adds a failed allocation to the list unless all were started.
 fn end_all<R: Threads, L: Name, T: LateInput<Global>, P: Keep<Of = Receipt>>(
     rt: &R,
     alloc: Global,

@@ -1,5 +1,4 @@
-//! The book that threads share, and the inputs that workers collect. What is wanted was worked out by hand from the formats, and
-//! never taken from an output.
+//! The book that threads share, and the inputs that workers collect. Expected values were worked out by hand from the formats.
 
 use std::process::Abort;
 use std::test::*;
@@ -19,7 +18,7 @@ mod threads;
 mod turns;
 mod wrappers;
 
-/// Checks that the bytes are as wanted. The tests call this, since a comparison in a test's own body would be a part of that
+/// Checks that the bytes are as expected. The tests call this, since a comparison in a test's own body would be a part of that
 /// test's proof.
 fn check_bytes(rt: &impl Abort, given: &[u8], wanted: &[u8]) {
     assert_eq!(rt; given, wanted);

@@ -1,4 +1,4 @@
-//! Bytes that are read from a source, block by block.
+//! Reads the bytes of a source, block by block.
 
 ghost use Rattle.std.specs.Prelude.{◌≡◌, ◌<◌, ◌≤◌, ◌+◌, ◌^◌, length, IfOk, IfErr};
 ghost use Rattle.covlarge.specs.Blocks.{HasReadBlock, HasReadOn, IsReadFault};
@@ -6,12 +6,11 @@ ghost use Rattle.covlarge.specs.Blocks.{HasReadBlock, HasReadOn, IsReadFault};
 use covline::Bytes;
 use covsession::{SessionFault, Source};
 
-/// How many bytes one read asks for.
+/// The number of bytes that one read requests.
 pub const BLOCK_BYTES: usize = 65_536;
 
-/// Reads the bytes that are left in the source, at most `most`, and appends them to the text. Each read fills a part of `block`.
-/// `most` is a parameter so that no proof has to count up to the limit of a text. The fault is `Read` if a read failed, and
-/// otherwise `Memory`.
+/// Reads the rest of the source, at most `most` bytes, and appends it to the text. Each read fills a part of `block`. `most` is a
+/// parameter so that no proof has to count up to the size limit. Fails with `Read` if a read failed, and otherwise with `Memory`.
 pub fn read_at_most<S: Source>(
     text: Bytes,
     source: &mut S,
@@ -40,7 +39,7 @@ pub fn read_at_most<S: Source>(
     Ok(all)
 }
 
-/// Reads once into the block, at most `room` bytes, appends the bytes to the text, and returns their number.
+/// Reads at most `room` bytes into the block in one read, appends them to the text, and returns their number.
 fn read_some<S: Source>(
     source: &mut S,
     block: &mut [u8],
@@ -60,7 +59,7 @@ fn read_some<S: Source>(
     Ok(got)
 }
 
-/// Reads once into the block, appends the bytes to the text, and returns their number.
+/// Fills the block by one read, appends the bytes to the text, and returns their number.
 fn read_block<S: Source>(
     source: &mut S,
     block: &mut [u8],

@@ -1,4 +1,4 @@
-//! Checking a whole tracefile.
+//! Checks a whole tracefile.
 
 ghost use Rattle.std.specs.Prelude.{◌≡◌, Some, IsSome};
 ghost use Rattle.covlarge.specs.State.{IsChecked};
@@ -10,7 +10,7 @@ use covcommand::LcovVersion;
 use covsession::Source;
 use std::alloc::Global;
 
-/// Reads the whole tracefile of the bytes that are left in the source, and keeps nothing of it but what it holds.
+/// Reads the rest of the source as a tracefile and returns its summary. Stores one chunk at a time.
 pub fn check_large<S: Source + Drop>(
     alloc: Global,
     version: LcovVersion,
@@ -29,7 +29,7 @@ pub fn check_large<S: Source + Drop>(
     }
 }
 
-/// What is held, which is told.
+/// Unwraps the summary, which `requires` guarantees.
 fn told(held: Option<Held>) -> Held
     requires { IsSome held }
     ensures { Some result ≡ held }

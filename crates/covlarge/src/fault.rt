@@ -1,18 +1,18 @@
-//! Why no more pieces of a tracefile are read.
+//! Why reading of a tracefile stopped.
 
 use covline::Memory;
 use covread::ReadFault;
 use covsession::SessionFault;
 use std::alloc::AllocError;
 
-/// Why no more pieces of a tracefile are read.
+/// Why reading of a tracefile stopped.
 #[derive(Clone, Copy)]
 pub enum PieceFault {
-    /// The tracefile is refused. The fault has the number of the line in the whole tracefile.
+    /// The tracefile is invalid. The line number in the error counts from the start of the whole tracefile.
     Refused(ReadFault),
     /// A read of the source failed.
     Unreadable,
-    /// Memory was refused.
+    /// An allocation failed.
     Memory,
 }
 

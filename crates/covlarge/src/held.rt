@@ -1,4 +1,4 @@
-//! What the pieces of a tracefile hold together.
+//! The summary of all chunks of a tracefile.
 
 ghost use Rattle.std.specs.Prelude.{◌≡◌, IfOk, OnOk, OnErr};
 ghost use Rattle.covlarge.specs.HeldView.{first_data, format_of, moved_line, with_first, with_numbers};
@@ -12,15 +12,15 @@ use covpacked::PackedSubmission;
 use std::alloc::Global;
 use std::marker::Model;
 
-/// The first line that isn't read: its number in the whole text, and its beginning.
+/// The first skipped line: its number in the whole tracefile, and its beginning.
 #[derive(Drop)]
 struct FirstSkipped {
     at: u64,
     start: Bytes,
 }
 
-/// What the pieces of a tracefile hold together: how many sections, items, odd lines and lines that aren't read, and the first line
-/// that isn't read. A number of 2^64 or more is kept as 2^64 - 1. Contracts see these numbers and this line.
+/// The summary of all chunks of a tracefile: how many sections, items, inconsistent lines (`odd`) and skipped lines they have, and
+/// the first skipped line. Numbers saturate at 2^64 - 1. Contracts see these numbers and this line.
 #[derive(Drop)]
 pub struct Held {
     sections: u64,
@@ -40,7 +40,7 @@ impl Model for Held {
 }
 
 impl Held {
-    /// What no pieces hold.
+    /// The summary before the first chunk.
     pub(crate) fn new() -> Held
         ensures { result ≡ nothing_held }
     {
@@ -53,8 +53,8 @@ impl Held {
         }
     }
 
-    /// Adds what the next piece holds, which was read as this submission. The pieces before it have `lines` lines. Nothing is added
-    /// if memory runs out.
+    /// Adds the summary of the next chunk, which was read as `submission`. The chunks before it have `lines` lines. Changes nothing
+    /// if an allocation fails.
     pub(crate) fn add(
         &mut self,
         alloc: Global,
@@ -72,7 +72,7 @@ impl Held {
         Ok(())
     }
 
-    /// Keeps the line of the next piece if no line was kept before. The pieces before it have `lines` lines.
+    /// Stores the next chunk's first skipped line, unless an earlier chunk has one. The chunks before it have `lines` lines.
     fn keep_first(
         &mut self,
         alloc: Global,
@@ -88,7 +88,7 @@ impl Held {
         Ok(())
     }
 
-    /// Adds the numbers of the next piece.
+    /// Adds the numbers of the next chunk's summary.
     fn add_numbers(&mut self, summary: &TextSummary<'_>)
         ensures { self.new ≡ with_numbers self.old summary.now }
     {
@@ -98,7 +98,7 @@ impl Held {
         self.skipped = self.skipped.saturating_add(summary.skipped);
     }
 
-    /// The summary in the form of covcheck, as of a text that is read as a whole.
+    /// Returns the summary as covcheck's type, as if the tracefile were read as a whole.
     pub fn summary(&self) -> TextSummary<'_>
         ensures { summary_data result ≡ self.now }
     {
@@ -112,7 +112,7 @@ impl Held {
     }
 }
 
-/// A copy of a piece's line, with its number in the whole text. The pieces before it have `lines` lines.
+/// Copies a chunk's skipped line and gives it its number in the whole tracefile. The chunks before it have `lines` lines.
 fn first_skipped(
     alloc: Global,
     lines: u64,
@@ -129,7 +129,7 @@ fn first_skipped(
     }
 }
 
-/// The line as covcheck has it.
+/// Borrows the line as covcheck's type.
 fn skipped_line(first: &Option<FirstSkipped>) -> Option<SkippedLine<'_>>
     ensures { skipped_data result ≡ first_data first.now }
 {
@@ -142,7 +142,7 @@ fn skipped_line(first: &Option<FirstSkipped>) -> Option<SkippedLine<'_>>
     }
 }
 
-/// How covcheck names tracefiles of this version.
+/// The format of covcheck for tracefiles of this version.
 fn format_of(version: LcovVersion) -> Format
     ensures { result ≡ format_of version }
 {

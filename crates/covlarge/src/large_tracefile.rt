@@ -1,4 +1,4 @@
-//! A tracefile that is read piece by piece.
+//! A tracefile that is read in chunks.
 
 ghost use Rattle.std.specs.Prelude.{◌≡◌, ℕ, List, [], ◌∷◌, None, Some, Option, Result, Ok as Fine, IfOk, IsSome};
 ghost use Rattle.covlarge.specs.Large.{MayBeReadAs, max_pieces};
@@ -22,12 +22,12 @@ use covsession::Source;
 use std::alloc::Global;
 use std::marker::Model;
 
-/// The most pieces that a tracefile may have. Two pieces after each other have together at least 4 MiB, unless a test's name is nearly
-/// as long as a text may be. So a tracefile of less than 2 TiB has fewer.
+/// The greatest number of chunks of a tracefile. Two successive chunks have together at least 4 MiB, unless a test's name is nearly
+/// as long as the size limit. So a tracefile of less than 2 TiB has fewer chunks.
 pub const MAX_PIECES: u64 = 1_048_575;
 
-/// A tracefile that is read piece by piece, from a source of its bytes. Contracts see its version, what goes over to the next piece,
-/// what the pieces so far hold, how many pieces may be left, and the bytes to come.
+/// A tracefile that is read from a source in chunks. Contracts see its version, the state carried over to the next chunk, the
+/// summary of the chunks so far, how many chunks may follow, and the bytes to come.
 #[derive(Drop)]
 pub struct LargeTracefile<S: Source> {
     so_far: SoFar,
@@ -53,17 +53,17 @@ impl<S: Source> Model for LargeTracefile<S> {
     ghost invariant = { λ a. IsWithin a.left a.so_far.carried.lines (S.reads a.source) (S.failed_reads a.source) };
 }
 
-/// The next piece of a tracefile.
+/// The result of reading the next chunk.
 #[derive(Drop)]
 pub enum NextPiece<S: Source> {
-    /// The last piece, and what the whole tracefile holds, if that was asked for.
+    /// The last chunk, and the summary of the whole tracefile if one was collected.
     Last(PackedRef, Option<Held>),
-    /// A piece, and the rest of the tracefile.
+    /// A chunk, and the rest of the tracefile.
     More(PackedRef, LargeTracefile<S>),
 }
 
 impl<S: Source + Drop> LargeTracefile<S> {
-    /// The tracefile of the bytes that are left in the source. Whatever is read of it, piece by piece, is what the whole is read as.
+    /// Opens the rest of the source as a tracefile. Reading all its chunks gives the same as reading the tracefile as a whole.
     pub fn new(alloc: Global, version: LcovVersion, source: S) -> LargeTracefile<S>
         requires reads { S.reads source ≡ 0 }
         requires failed_reads { S.failed_reads source ≡ 0 }
@@ -76,7 +76,7 @@ impl<S: Source + Drop> LargeTracefile<S> {
         LargeTracefile::begun(alloc, version, None, source)
     }
 
-    /// Like `new`, but the last piece also comes with a summary of the whole tracefile.
+    /// Like `new`, but the last chunk also returns a summary of the whole tracefile.
     pub fn summed(alloc: Global, version: LcovVersion, source: S) -> LargeTracefile<S>
         requires reads { S.reads source ≡ 0 }
         requires failed_reads { S.failed_reads source ≡ 0 }
@@ -90,7 +90,7 @@ impl<S: Source + Drop> LargeTracefile<S> {
         LargeTracefile::begun(alloc, version, Some(Held::new()), source)
     }
 
-    /// The tracefile before its first piece.
+    /// The tracefile before its first chunk.
     fn begun(
         alloc: Global,
         version: LcovVersion,
@@ -113,21 +113,21 @@ impl<S: Source + Drop> LargeTracefile<S> {
         }
     }
 
-    /// How many pieces may still be read.
+    /// How many more chunks may be read.
     pub fn most_pieces(&self) -> u64
         ensures { result ≡ self.now.left }
     {
         self.left
     }
 
-    /// Reads the next piece: whole sections, or the end of the tracefile. Whatever the rest gives, the tracefile gives with this
-    /// piece's submission in front.
+    /// Reads the next chunk: whole sections, or the rest of the tracefile. This submission, followed by those of the returned rest,
+    /// are the submissions of this tracefile.
     ///
     /// # Errors
     ///
-    /// `Refused` with the first fault of the whole tracefile, and with its line's number there, at most 2^64 - 1. Or with
-    /// `TooLong`, if no section ends in the next 67,108,864 bytes (those of the piece's front count too), or if 1,048,575 pieces
-    /// were read. `Unreadable` only if a read failed. `Memory` at any time.
+    /// `Refused` with the first error of the whole tracefile, whose line number there saturates at 2^64 - 1. `Refused` with
+    /// `TooLong` if no section ends in the next 67,108,864 bytes, including the chunk's prefix, or after 1,048,575 chunks.
+    /// `Unreadable` only if a read failed. `Memory` at any time.
     pub fn next_piece(self, alloc: Global) -> Result<NextPiece<S>, PieceFault>
         ensures { IsNextPiece S.left S.failed_reads self result }
     {
@@ -164,7 +164,7 @@ impl<S: Source + Drop> LargeTracefile<S> {
     }
 }
 
-/// The front of the next piece, and behind it the bytes that are in no piece yet.
+/// The prefix of the next chunk, followed by the bytes that no chunk contains yet.
 fn begun_text(alloc: Global, carried: &Carried, rest: Bytes) -> Result<PieceText, Memory>
     ensures front { IfOk result (λ t. t.front ≡ front_text carried.now) }
     ensures bytes { IfOk result (λ t. t.bytes ≡ rest) }

@@ -1,10 +1,10 @@
-//! Tracefiles of any length, read in pieces from a source of their bytes.
+//! Reads tracefiles of any length in chunks (pieces).
 //!
-//! A piece is some whole sections, as in covpieces, and each piece is a submission of its own. The sections of the submissions, in
-//! order, are those of the whole tracefile, and their odd lines add up. The first fault is that of the whole tracefile, with its
-//! line's number. A section that has more bytes than a text may have (64 MiB), with the front of its piece, is refused.
+//! A chunk is a run of whole sections, as in covpieces, and becomes one submission. The submissions' sections, in order, are those
+//! of the whole tracefile, and their numbers of inconsistent lines add up to its number. An error is the first error of the whole
+//! tracefile, with its line number there. A section is rejected if it has, with the prefix of its chunk, more than 64 MiB.
 //!
-//! An example: the submissions of a tracefile, one after another.
+//! An example that submits each chunk of a tracefile:
 //!
 //! ```text
 //! let mut left = LargeTracefile::new(alloc, version, source);

@@ -1,4 +1,4 @@
-//! The text of a piece: its front, and behind it bytes of the tracefile.
+//! The input of the reader for one chunk: its prefix (`front`), then bytes of the tracefile.
 
 ghost use Rattle.std.specs.Prelude.{◌≡◌, ◌<◌, ◌≤◌, ◌+◌, ◌-◌, ◌^◌, ◌++◌, length, take, drop, None, IfOk, IfErr, IfSome};
 ghost use Rattle.covlarge.specs.Blocks.{IsReadFault};
@@ -14,22 +14,21 @@ use covsession::{SessionFault, Source};
 use std::alloc::Global;
 use std::marker::Model;
 
-/// How many bytes behind the front whole sections are looked for in, at least: 4 MiB, unless the source is at its end before or the text
-/// is as long as it may be.
+/// The smallest chunk: 4 MiB after the prefix, or less at the end of the file or at the size limit.
 const PIECE_BYTES: usize = 4_194_304;
 
-/// What is found in a text behind its front.
+/// What follows the prefix of a text.
 #[derive(Clone, Copy)]
 pub(crate) enum Found {
     /// The end of the tracefile.
     Last,
-    /// Whole sections, with this number of bytes.
+    /// Whole sections, in the first bytes after the prefix. The value is the number of these bytes.
     Sections(usize),
-    /// Bytes that are too long up to the end of a section.
+    /// A section that doesn't end within the size limit.
     TooLong,
 }
 
-/// The text of a piece: its front, and behind it bytes of the tracefile. Contracts see these two.
+/// The input of the reader for one chunk: its prefix (`front`), then bytes of the tracefile. Contracts see these two.
 #[derive(Drop)]
 pub(crate) struct PieceText {
     text: Bytes,
@@ -48,7 +47,7 @@ impl Model for PieceText {
 }
 
 impl PieceText {
-    /// The front of the next piece, and behind it these bytes of the tracefile.
+    /// The prefix of the next chunk, followed by these bytes of the tracefile.
     pub(crate) fn begun(alloc: Global, carried: &Carried, bytes: &[u8]) -> Result<PieceText, Memory>
         ensures front { IfOk result (λ t. t.front ≡ front_text carried.now) }
         ensures bytes { IfOk result (λ t. t.bytes ≡ bytes.now) }
@@ -59,7 +58,7 @@ impl PieceText {
         Ok(PieceText { text, front })
     }
 
-    /// Reads on until whole sections are found, or the end of the tracefile, or bytes that are too long without the end of a section.
+    /// Reads until the buffer holds a complete section, the file ends, or the size limit is reached without a section end.
     pub(crate) fn read_on<S: Source>(
         self,
         source: &mut S,
@@ -87,14 +86,14 @@ impl PieceText {
         self.text.get()
     }
 
-    /// The bytes behind the front.
+    /// The bytes after the prefix.
     pub(crate) fn bytes(&self) -> &[u8]
         ensures { result.now ≡ self.now.bytes }
     {
         &self.text.get()[self.front..]
     }
 
-    /// The front, and this number of bytes behind it.
+    /// The prefix and the first `len` bytes after it.
     pub(crate) fn with_front(&self, len: usize) -> &[u8]
         requires { len ≤ length self.now.bytes }
         ensures { result.now ≡ self.now.front ++ take len self.now.bytes }
@@ -103,9 +102,9 @@ impl PieceText {
     }
 }
 
-/// Reads on until whole sections are found within `most` bytes, or the end of the source, or more than `most` bytes. They are looked
-/// for in `least` bytes, then in twice as many, and so on. `most` and `least` are parameters so that no
-/// proof has to count up to them.
+/// Reads until the first `most` bytes hold a complete section, the source ends, or the text is longer than `most` bytes. Looks for
+/// sections first in `least` bytes, then in twice as many, and so on. `most` and `least` are parameters so that no proof has to
+/// count up to them.
 fn read_on<S: Source>(
     text: Bytes,
     front: usize,
@@ -138,7 +137,8 @@ fn read_on<S: Source>(
     }
 }
 
-/// What is found in a text that has `wanted` bytes, or ends at the end of the source. `None` if more bytes have to be read.
+/// Decides what follows the prefix of a text of at least `wanted` bytes; a shorter text ends at the end of the source. Returns
+/// `None` if more bytes have to be read.
 fn found_in(text: &[u8], front: usize, wanted: usize, most: usize) -> Option<Found>
     requires front { front ≤ length text.now }
     requires wanted { wanted ≤ most + 1 }
@@ -159,7 +159,7 @@ fn found_in(text: &[u8], front: usize, wanted: usize, most: usize) -> Option<Fou
     None
 }
 
-/// The bytes behind the front, up to the place `most` of the text.
+/// The bytes after the prefix, up to the index `most` of the text.
 fn behind_front(text: &[u8], front: usize, most: usize) -> &[u8]
     requires { front ≤ length text.now }
     ensures { result.now ≡ take (most - front) (drop front text.now) }
@@ -169,7 +169,7 @@ fn behind_front(text: &[u8], front: usize, most: usize) -> &[u8]
     &bytes[..len]
 }
 
-/// Twice as much, but at most one byte more than `most`.
+/// Doubles `wanted`, up to `most + 1`.
 fn longer(wanted: usize, most: usize) -> usize
     requires some { 0 < wanted }
     requires few { wanted ≤ most }

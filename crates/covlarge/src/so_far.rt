@@ -1,4 +1,4 @@
-//! How one piece is read after others.
+//! Reads one chunk after others.
 
 ghost use Rattle.std.specs.Prelude.{◌≡◌, ◌<◌, ◌≤◌, ◌+◌, ◌^◌, ◌++◌, length, take, IfOk, OnOk};
 ghost use Rattle.covlarge.specs.Piece.{AnswersOf, IsFaultOf, IsLastPiece, IsPieceRead, IsReadAs};
@@ -19,8 +19,8 @@ use covpieces::Carried;
 use covread::{ReadFault, read_trace_packed};
 use std::alloc::Global;
 
-/// What is kept of the pieces so far: the tracefile's version, what goes over to the next piece, and what they hold, if that is
-/// asked for.
+/// The state between two chunks: the tracefile's version, the state carried over to the next chunk, and the summary of the chunks
+/// so far, if one is collected.
 #[derive(Drop)]
 pub(crate) struct SoFar {
     pub(crate) version: LcovVersion,
@@ -29,7 +29,7 @@ pub(crate) struct SoFar {
 }
 
 impl SoFar {
-    /// Reads the last piece, which is all of the text behind its front. Returns its submission, and what all pieces hold.
+    /// Reads the last chunk: all of the text after its prefix. Returns its submission and the summary of all chunks.
     pub(crate) fn last_piece(
         self,
         alloc: Global,
@@ -55,7 +55,7 @@ impl SoFar {
         Ok((PackedRef::of(alloc, submission)?, held))
     }
 
-    /// Reads a piece, which is the first `len` bytes of the text behind its front, and goes on to the next one.
+    /// Reads the first `len` bytes after the prefix as a chunk, and goes on to the next chunk.
     pub(crate) fn next_piece(
         &mut self,
         alloc: Global,
@@ -85,7 +85,7 @@ impl SoFar {
     }
 }
 
-/// What the text of a piece is read as, behind its front. The fault is that of the whole tracefile.
+/// Reads a chunk with its prefix. The line number in an error counts from the start of the whole tracefile.
 fn read_piece(
     alloc: Global,
     version: LcovVersion,
@@ -101,7 +101,7 @@ fn read_piece(
     }
 }
 
-/// What the text is read as.
+/// Reads the text with the reader of this version.
 fn read_text(
     alloc: Global,
     version: LcovVersion,
@@ -115,7 +115,7 @@ fn read_text(
     }
 }
 
-/// The fault of a piece as that of the whole tracefile.
+/// Turns a chunk's error into that of the whole tracefile.
 fn piece_fault(carried: &Carried, fault: ReadFault) -> PieceFault
     ensures { IsFaultOf carried.now fault result }
 {
@@ -125,7 +125,7 @@ fn piece_fault(carried: &Carried, fault: ReadFault) -> PieceFault
     }
 }
 
-/// Adds what the next piece holds, if that is asked for.
+/// Adds the next chunk to the summary, if one is collected.
 fn hold(
     held: &mut Option<Held>,
     alloc: Global,
@@ -143,7 +143,7 @@ fn hold(
     Ok(())
 }
 
-/// Goes on to the next piece.
+/// Updates the state that is carried over to the next chunk.
 fn pass(
     carried: &mut Carried,
     alloc: Global,

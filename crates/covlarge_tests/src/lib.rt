@@ -1,5 +1,5 @@
-//! Tests of tracefiles of any length (covlarge): their pieces, what goes over from piece to piece, what the whole holds, and how
-//! reading ends. This crate has nothing but its tests, so that a crate with functions is proved once.
+//! Tests of tracefiles of any length (covlarge): their chunks, the state carried over between chunks, the summary of the whole, and
+//! how reading ends. This is a crate of its own, so that covlarge is proved once.
 #![tactic(auto)]
 
 #[cfg(test)]

@@ -1,4 +1,4 @@
-//! What is wanted was worked out by hand from geninfo(1), section FILES, never taken from an output.
+//! Expected values were worked out by hand from geninfo(1), section FILES.
 
 ghost use Rattle.std.specs.Prelude.{None};
 
@@ -17,7 +17,7 @@ mod longer;
 mod pieces;
 mod texts;
 
-/// A source of bytes. A read gives at most `most` of them. From the read with the number `fails` on, counted from 1, each read fails.
+/// A source of bytes. A read gives at most `most` of them. Every read from number `fails` on, counted from 1, fails.
 #[derive(Drop)]
 struct Given<'a> {
     bytes: &'a [u8],
@@ -47,20 +47,20 @@ impl<'a> Source for Given<'a> {
     }
 }
 
-/// How a source gives its bytes: how many in a read, and the number of the first read that fails.
+/// How a source gives its bytes: how many per read, and the number of the first read that fails.
 #[derive(Clone, Copy)]
 struct Way {
     most: usize,
     fails: u64,
 }
 
-/// As files do.
+/// Reads as files do.
 const WELL: Way = Way {
     most: 1_000_000,
     fails: 1_000_000_000,
 };
 
-/// The words of a fault.
+/// Prints an error in words.
 fn fault_words(alloc: Global, fault: PieceFault) -> Result<String, Fail> {
     match fault {
         PieceFault::Refused(fault) => Ok(format!(in alloc; "refused {fault}")?),
@@ -69,13 +69,14 @@ fn fault_words(alloc: Global, fault: PieceFault) -> Result<String, Fail> {
     }
 }
 
-/// What the whole holds, in covcheck's words, with a line feed.
+/// Prints the summary of the whole, in covcheck's words, with a line feed.
 fn held_words(alloc: Global, held: &Held) -> Result<String, Fail> {
     let line = summary_line(alloc, &held.summary())?;
     Ok(String::from_utf8_lossy(alloc, line.as_slice())?)
 }
 
-/// Appends what a piece holds: the test of its first section, or `-` if it has none, and how many sections, items and odd lines.
+/// Appends a summary of a chunk: the test of its first section, or `-` if it has none, and its numbers of sections, items and
+/// inconsistent lines.
 fn push_piece(alloc: Global, told: &mut String, piece: &PackedSubmission) -> Result<(), Fail> {
     let test: String = match piece.sects().next() {
         Some(first) => String::from_utf8_lossy(alloc, first.test)?,
@@ -91,7 +92,8 @@ fn push_piece(alloc: Global, told: &mut String, piece: &PackedSubmission) -> Res
     Ok(())
 }
 
-/// A line for each piece of the tracefile, and one for its end: what the whole holds, `end` if that isn't told, or the fault.
+/// Prints a line for each chunk of the tracefile, and one for its end: the summary of the whole, `end` if none was collected, or
+/// the error.
 fn pieces_of<S: Source + Drop>(alloc: Global, large: LargeTracefile<S>) -> Result<String, Fail> {
     let mut told = String::new(alloc);
     let mut left = large;
@@ -121,7 +123,7 @@ fn pieces_of<S: Source + Drop>(alloc: Global, large: LargeTracefile<S>) -> Resul
     Ok(told)
 }
 
-/// The pieces of a tracefile whose source gives its bytes in this way.
+/// Reads a tracefile in chunks, from a source that gives its bytes in this way, and prints the chunks.
 fn read_pieces(alloc: Global, version: LcovVersion, text: &[u8], way: Way) -> Result<String, Fail> {
     let source = Given {
         bytes: text,
@@ -133,7 +135,7 @@ fn read_pieces(alloc: Global, version: LcovVersion, text: &[u8], way: Way) -> Re
     pieces_of(alloc, LargeTracefile::new(alloc, version, source))
 }
 
-/// The same, and what the whole holds.
+/// Like `read_pieces`, followed by the summary of the whole tracefile.
 fn read_summed(alloc: Global, version: LcovVersion, text: &[u8], way: Way) -> Result<String, Fail> {
     let source = Given {
         bytes: text,
@@ -145,7 +147,7 @@ fn read_summed(alloc: Global, version: LcovVersion, text: &[u8], way: Way) -> Re
     pieces_of(alloc, LargeTracefile::summed(alloc, version, source))
 }
 
-/// What a check of the whole tracefile says.
+/// Checks the whole tracefile and prints the result.
 fn check_whole(alloc: Global, version: LcovVersion, text: &[u8], way: Way) -> Result<String, Fail> {
     let source = Given {
         bytes: text,
@@ -163,7 +165,7 @@ fn check_whole(alloc: Global, version: LcovVersion, text: &[u8], way: Way) -> Re
     }
 }
 
-/// Checks that these words are told.
+/// Checks the printed words.
 fn check_words(rt: &impl Abort, told: &String, wanted: &str) {
     assert!(rt; told.as_str() == wanted, "{told}");
 }

@@ -1,18 +1,18 @@
-//! Laws of reading, adding up and printing together. The functions do nothing: the contract is the law.
+//! Laws of reading, adding up and printing together. Each law is the contract of a function that does nothing.
 //!
-//! A tracefile that a run prints reads back: if it is read and submitted to an empty book, the book's report is the same
-//! tracefile, byte for byte. This holds for at most 67,108,864 bytes, and only if a line of a tracefile can hold each new name of
-//! a rename (`covline::good_test`). A book itself accepts any new name.
+//! A printed tracefile reads back: if it is read and submitted to an empty book, the book's report is the same tracefile, byte for
+//! byte. This holds for at most 67,108,864 bytes, and only if a line of a tracefile can hold each new name of a rename
+//! (`covline::good_test`). A book itself accepts any new name.
 //!
-//! So merges can be merged. Let several machines each print a report. If a book is given these reports, it prints the same texts
-//! as a book that is given all submissions of all machines. This holds if
+//! So merges can be merged. Several machines each print a report. A book with these reports prints the same texts as a book with
+//! all submissions of all machines, provided that
 //!
 //! - the checksums of all these submissions agree,
 //! - no machine drops or renames a test before its report,
 //! - each report has at most 67,108,864 bytes.
 //!
-//! The laws are about definitions in `specs/`. The contracts of `covread::read_trace` and `covbook::Book` connect them to the
-//! code: `read_trace` returns what the text is read as, and a book's answers are those of a run over lawful operations.
+//! The laws are about definitions in `specs/`. The contracts of `covread::read_trace` and `covbook::Book` connect them to the code:
+//! `read_trace` returns what its input is read as, and a book's answers are those of a run of lawful operations.
 #![tactic(auto)]
 
 ghost use Rattle.std.specs.Prelude.{◌≡◌, ◌≤◌, ◌++◌, ◌∷◌, ℕ, List, length, map, filter};
@@ -40,9 +40,9 @@ use covline::lines_are_the_text;
 use covread::each_text_has_one_outcome;
 use covstore::laws::{order_of_rows_does_not_matter, the_first_clash_is_told};
 
-/// Each text with which a run over lawful operations answers a report, an extract or a remove reads back: it is read as a lawful
-/// submission without odd lines, and an empty book accepts this submission and then reports the same text. This holds if a line
-/// can hold each new name of a rename, and the text has at most 67,108,864 bytes.
+/// The text of each report, extract and remove of a run of lawful operations reads back: it is read as a lawful submission without
+/// inconsistent lines, and an empty book accepts this submission and then reports the same text. This holds if a line can hold each
+/// new name of a rename, and the text has at most 67,108,864 bytes.
 pub fn reports_read_back()
     ensures { (ops : List OpData) → AreLawfulOps ops → HaveGoodNames ops → (op : OpData) → IsReport op → (text : List ℕ) → answer_of (table_of ops) op ≡ TextAnswer text → length text ≤ max_bytes → ReadsBack text }
 {
@@ -62,14 +62,14 @@ pub fn each_report_of_a_history_reads_back()
 }
 
 /// A merge of merges is the merge of all. Lawful submissions are divided into parts, one for each machine. The merge of a part is
-/// the submission that the part's report is read as. A book may be given other submissions too, after the merges. Suppose that
+/// the submission that the part's report is read as. Other submissions may follow the merges. The law requires that
 ///
 /// - the checksums of all submissions agree,
-/// - nothing is dropped or renamed before a report, so that it is the report of a run over the part's submissions alone,
+/// - nothing is dropped or renamed before a report, so that it is the report of a run of only the part's submissions,
 /// - each report has at most 67,108,864 bytes.
 ///
 /// Then the merges are lawful, so they can be merged again. The checksums of the merges and the other submissions agree. A book
-/// that is given the merges and the others prints the same texts as a book that is given the parts' submissions and the others.
+/// with the merges and the others prints the same texts as a book with the parts' submissions and the others.
 pub fn a_merge_of_merges_is_the_merge_of_all()
     ensures lawful { (parts : List (List SubmissionData)) (merges : List SubmissionData) → AllByRecursion IsLawful (flat_map (λ part. part) parts) → AreAgreeing (flat_map (λ part. part) parts) → AreMergesOf parts merges → AllByRecursion IsLawful merges }
     ensures agree { (parts : List (List SubmissionData)) (merges others : List SubmissionData) → AllByRecursion IsLawful (flat_map (λ part. part) parts) → AreAgreeing (flat_map (λ part. part) parts ++ others) → AreMergesOf parts merges → AreAgreeing (merges ++ others) }
@@ -93,15 +93,15 @@ pub fn printed_sections_read_back()
     lines_are_the_text();
 }
 
-/// The content of lawful rows is printable if their checksums agree. The sections of chosen files are the content of the rows of
-/// these files. All rows that a run over lawful operations with good new names leaves are lawful.
+/// The content of lawful rows is printable if their checksums agree. The sections of chosen files are the content of these files'
+/// rows. All rows after a run of lawful operations with good new names are lawful.
 pub fn lawful_rows_are_printable()
     ensures printable { (rows : List Row) → AllByRecursion IsLawfulRow rows → Agree (checksums_in rows) → IsPrintable (content_of rows) }
     ensures chosen { (choice : ChoiceData) (rows : List Row) → filter (λ s. is_chosen choice s.key.file) (content_of rows) ≡ content_of (filter (λ row. is_chosen choice row.file) rows) }
     ensures run { (ops : List OpData) → AreLawfulOps ops → HaveGoodNames ops → AllByRecursion IsLawfulRow (all_rows (table_of ops)) }
 {}
 
-/// A report stands for its rows. The rows that it is read as have the same content as these, also together with any other rows.
+/// A report represents its rows: the rows that it is read as have the same content, also together with any other rows.
 pub fn a_report_stands_for_its_rows()
     ensures { (rows others : List Row) → content_of (rows_of (submission_shown (content_of rows)) ++ others) ≡ content_of (rows ++ others) }
 {}

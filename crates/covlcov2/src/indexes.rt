@@ -1,4 +1,4 @@
-//! What later lines of a section need of earlier ones: the start lines of indexes, and how branches are numbered.
+//! The state that later lines of a section need of earlier ones: start lines by index, and the numbering of branches.
 
 ghost use Rattle.std.specs.Prelude.{◌≡◌, ◌∷◌, ℕ, List, [], Option, Bool, OnOk, IfOk};
 ghost use Rattle.covlcov2.specs.Spells.{Lcov2Data, Leader, Edge};
@@ -10,17 +10,17 @@ use covline::Memory;
 use std::alloc::Allocator;
 use std::collections::BTreeMap;
 
-/// What is kept of the lines of an open section.
+/// The state of an open section's lines.
 #[derive(Drop)]
 pub struct Indexes<A: Allocator> {
-    /// The start line of each index that has one.
+    /// The start line of each index with an `FNL:` line.
     pub leaders: BTreeMap<u64, u64, A>,
-    /// How branches are numbered.
+    /// The numbering of branches.
     pub numbers: Numbers<A>,
 }
 
 impl<A: Allocator + Copy> Indexes<A> {
-    /// Nothing is kept.
+    /// The state before the first line.
     pub fn new(alloc: A) -> Indexes<A>
         ensures { AreIndexes result [] }
     {
@@ -30,7 +30,7 @@ impl<A: Allocator + Copy> Indexes<A> {
         }
     }
 
-    /// Forgets what is kept.
+    /// Returns to the state before the first line.
     pub fn clear(&mut self, alloc: A)
         ensures { AreIndexes self.new [] }
     {
@@ -38,14 +38,14 @@ impl<A: Allocator + Copy> Indexes<A> {
         self.numbers.clear(alloc);
     }
 
-    /// The start line of the index, if it has one.
+    /// The start line of the index.
     pub fn start_of(&self, index: u64) -> Option<u64>
         ensures { (above : List Lcov2Data) → AreIndexes self.now above → result ≡ leader index above }
     {
         self.leaders.get(&index).copied()
     }
 
-    /// Keeps the start line of an index. It takes the place of an earlier one.
+    /// Stores the start line of an index, in place of an earlier one.
     pub fn lead(&mut self, index: u64, line: u64) -> Result<(), Memory>
         ensures { OnOk result ((above : List Lcov2Data) → AreIndexes self.old above → AreIndexes self.new (Leader index line ∷ above)) }
     {
@@ -53,8 +53,7 @@ impl<A: Allocator + Copy> Indexes<A> {
         Ok(())
     }
 
-    /// Counts one more branch of the block, and returns its number. `given` is the number that its line has, or `None` for an
-    /// expression.
+    /// Counts one more branch of the block, and returns its number. `given` is the number in its line, or `None` for an expression.
     #[inline]
     pub fn number(&mut self, alloc: A, block: Block, given: Option<u64>) -> Result<u64, Memory>
         ensures number { IfOk result (λ n. (above : List Lcov2Data) → AreIndexes self.old above → n ≡ branch_number above block.line block.block given) }

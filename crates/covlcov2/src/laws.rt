@@ -1,4 +1,4 @@
-//! Laws of the definitions that the contracts cite. Each law is a function that does nothing.
+//! Laws of the definitions that the contracts cite. Each law is the contract of a function that does nothing.
 
 ghost use Rattle.std.specs.Prelude.{◌≡◌, ◌⊎◌, ℕ, List, Result, Ok};
 ghost use Rattle.covline.specs.declared.trace_line.LineFault.{LineFault};
@@ -11,7 +11,7 @@ ghost use Rattle.covlcov2.specs.Outcome.{IsOutcome};
 use covline::laws::printed_records_spell;
 use covline::{each_line_has_one_meaning, lines_are_the_text};
 
-/// Each line of a tracefile of LCOV 2 says exactly one thing, or has exactly one fault.
+/// Each line of a tracefile of LCOV 2 has exactly one meaning, or exactly one error.
 pub fn each_lcov2_line_has_one_meaning()
     ensures one_meaning { (line : List ℕ) (x y : Lcov2Data) → Lcov2Spells line x → Lcov2Spells line y → x ≡ y }
     ensures no_fault_beside { (line : List ℕ) (says : Lcov2Data) (fault : LineFault) → Lcov2Spells line says → ¬ HasLcov2Fault line fault }
@@ -19,7 +19,7 @@ pub fn each_lcov2_line_has_one_meaning()
     ensures some { (line : List ℕ) → ((says : Lcov2Data) × Lcov2Spells line says) ⊎ ((fault : LineFault) × HasLcov2Fault line fault) }
 {}
 
-/// Each tracefile of LCOV 2 has exactly one outcome: a submission or a fault.
+/// Each tracefile of LCOV 2 has exactly one outcome: a submission or an error.
 pub fn each_lcov2_text_has_one_outcome()
     ensures some { (text : List ℕ) → (outcome : Result SubmissionData Fault) × IsOutcome text outcome }
     ensures one { (text : List ℕ) (x y : Result SubmissionData Fault) → IsOutcome text x → IsOutcome text y → x ≡ y }
@@ -30,8 +30,8 @@ pub fn each_lcov2_text_has_one_outcome()
     printed_records_spell();
 }
 
-/// If a tracefile of LCOV 2 is read as a submission, the submission is lawful: its names and checksums fit into lines, its counts
-/// into 128 bits and its other numbers into 64, and its items aren't too many.
+/// A submission that is read from a tracefile of LCOV 2 is lawful: its names and checksums fit into lines, its counts into 128 bits
+/// and its other numbers into 64, and it hasn't too many items.
 pub fn what_is_read_as_lcov2_is_lawful()
     ensures { (text : List ℕ) (submission : SubmissionData) → IsOutcome text (Ok submission) → IsLawful submission }
 {

@@ -1,9 +1,10 @@
-//! Reads tracefiles of LCOV 2 (geninfo(1) of LCOV 2.x, TRACEFILE FORMAT): what a text says, as a submission, or its first fault.
+//! Reads tracefiles of LCOV 2 (geninfo(1) of LCOV 2.x, TRACEFILE FORMAT): turns an input into a submission, or returns its first
+//! error.
 //!
-//! Each line is read by itself first. Then it stands for records of version 1, which covread's reader takes: an `FNA:` line for
-//! the start line and the count of its function, a branch with an expression for a branch with a number.
+//! Each line is first parsed by itself, and then translated into records of version 1 for covread's reader: an `FNA:` line into the
+//! start line and the count of its function, a branch with an expression into a branch with a number.
 //!
-//! An example, proved and run in `covuses`: how many items a tracefile of LCOV 2 has.
+//! An example, proved and run in `covuses`: the number of items of a tracefile of LCOV 2.
 //!
 //! ```text
 //! pub fn items_of_lcov2(alloc: Global, text: &[u8]) -> Result<u64, ReadFault> {

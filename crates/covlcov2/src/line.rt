@@ -2,10 +2,10 @@
 
 use covline::TraceLine;
 
-/// What one line says. Names are slices of the line.
+/// The meaning of one line. Names are slices of the line.
 #[derive(Clone, Copy)]
 pub enum Lcov2Line<'a> {
-    /// A record of version 1, but no branch. `FN:<line>,<end>,<name>` is one too: a start line and the name.
+    /// A record of version 1 that isn't a branch. `FN:<line>,<end>,<name>` is one too: a start line and the name.
     Plain(TraceLine<'a>),
     /// `FNL:<index>,<line>` or `FNL:<index>,<line>,<end>`, the line that the functions with this index start at.
     Leader {
@@ -18,9 +18,9 @@ pub enum Lcov2Line<'a> {
         count: u128,
         name: &'a [u8],
     },
-    /// `BRDA:<line>,<marks><block>,<branch>,<taken>`, how often a branch was taken: `None` for `-`, which says that its block was
-    /// never executed. `number` is `None` if the branch has an expression. The branch is excluded from coverage if `U` is
-    /// among the marks.
+    /// `BRDA:<line>,<marks><block>,<branch>,<taken>`, how often a branch was taken: `None` for `-`, which means that its block was
+    /// never executed. `number` is `None` if the branch has an expression. The branch is excluded from coverage if `U` is among the
+    /// marks.
     Edge {
         is_excluded: bool,
         line: u64,

@@ -1,4 +1,4 @@
-//! How the branches of an open section are numbered.
+//! Numbers the branches of an open section.
 
 ghost use Rattle.std.specs.Prelude.{◌≡◌, ◌∷◌, ◌<◌, ◌^◌, ◌||◌, ◌&&◌, ◌==◌, ℕ, List, [], Option, Some, Bool, max, not, OnOk, IfOk};
 ghost use Rattle.std.specs.BTreeMap.{get, Updates};
@@ -18,8 +18,7 @@ pub struct Block {
     pub block: u64,
 }
 
-/// Branches of one block, with no branch of another block between them. `next` is one more than the greatest of their numbers,
-/// but at most the largest number.
+/// Successive branches of one block. `next` is one more than the greatest of their numbers, but at most the largest number.
 #[derive(Clone, Copy, Drop)]
 pub struct Run {
     pub block: Block,
@@ -29,26 +28,26 @@ pub struct Run {
 /// The runs of a section in which no branch has an expression.
 #[derive(Drop)]
 pub struct Runs<A: Allocator> {
-    /// The runs that ended.
+    /// The runs before the last one.
     pub ended: Vec<Run, A>,
-    /// The run of the last branch. Before the first branch its next number is 0.
+    /// The run of the last branch. Its next number is 0 before the first branch.
     pub current: Run,
 }
 
-/// The next number of a block, and whether one of its branches has an expression.
+/// The next number of a block, and whether a branch of the block has an expression.
 #[derive(Clone, Copy, Drop)]
 pub struct Numbering {
     pub next: u64,
     pub has_expression: bool,
 }
 
-/// How the branches of an open section are numbered.
+/// Numbers the branches of an open section.
 #[derive(Drop)]
 pub enum Numbers<A: Allocator> {
-    /// No branch has an expression, so each keeps its number. The runs are kept to number the branches from the first expression
+    /// No branch has an expression yet, so each keeps its number. The runs are stored to number branches from the first expression
     /// on.
     Given(Runs<A>),
-    /// A branch has an expression. A block that is missing has no branches.
+    /// A branch has an expression. A block that isn't in the map has no branches.
     Assigned(BTreeMap<Block, Numbering, A>),
 }
 
@@ -60,7 +59,7 @@ impl<A: Allocator + Copy> Numbers<A> {
         Numbers::Given(Runs::new(alloc))
     }
 
-    /// Forgets all branches. Keeps the room for runs, if there is any.
+    /// Discards all branches. Keeps the capacity for runs.
     pub fn clear(&mut self, alloc: A)
         ensures { HasNumbers self.new [] }
     {
@@ -70,8 +69,7 @@ impl<A: Allocator + Copy> Numbers<A> {
         }
     }
 
-    /// Counts one more branch of the block, and returns its number. `given` is the number that its line has, or `None` for an
-    /// expression.
+    /// Counts one more branch of the block, and returns its number. `given` is the number in its line, or `None` for an expression.
     #[inline]
     pub fn number(&mut self, alloc: A, block: Block, given: Option<u64>) -> Result<u64, Memory>
         ensures number { IfOk result (λ n. (above : List Lcov2Data) → HasNumbers self.old above → n ≡ branch_number above block.line block.block given) }
@@ -106,7 +104,7 @@ impl<A: Allocator> Runs<A> {
         }
     }
 
-    /// Forgets all runs. Keeps the room for them.
+    /// Discards all runs. Keeps their capacity.
     fn clear(&mut self)
         ensures { (q : Block) → next_in_runs q self.new ≡ 0 }
     {
@@ -192,7 +190,7 @@ fn put_run<A: Allocator + Clone>(
     Ok(())
 }
 
-/// The numbering of the block. Without branches its next number is 0.
+/// The numbering of the block. The next number of a block without branches is 0.
 fn numbering_in<A: Allocator>(numberings: &BTreeMap<Block, Numbering, A>, block: Block) -> Numbering
     ensures { result ≡ numbering_of (get block_cmp numberings.now block) }
 {
@@ -226,8 +224,7 @@ fn number_in<A: Allocator + Clone>(
     Ok(number)
 }
 
-/// The number of the next branch of a block with this numbering. `given` is the number that its line has, or `None` for an
-/// expression.
+/// The number of the next branch of a block with this numbering. `given` is the number in its line, or `None` for an expression.
 fn number_below(numbering: Numbering, given: Option<u64>) -> u64
     ensures { result ≡ number_from numbering.has_expression numbering.next given }
 {

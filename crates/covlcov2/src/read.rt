@@ -1,4 +1,4 @@
-//! Reads a tracefile of LCOV 2: one pass over its text, forward.
+//! Reads a tracefile of LCOV 2 in one pass.
 
 ghost use Rattle.std.specs.Prelude.{◌≡◌, ◌≤◌, ◌<◌, ◌∷◌, ℕ, IfOk, length, List, Option, Some, false, Result, option_map};
 ghost use Rattle.covline.specs.Row.{SubmissionData};
@@ -25,32 +25,31 @@ use covpacked::{PackedSubmission, unpack};
 use covread::{MAX_BYTES, ReadFault, take_branch, take_line_count};
 use std::alloc::Allocator;
 
-/// Reads a tracefile of LCOV 2 (geninfo(1) of LCOV 2.x, TRACEFILE FORMAT). Returns the submission that its lines make, or the
-/// text's first fault. An `FNA:` line is `Misplaced` if it isn't in a section, or has no `FNL:` line of its index above it there.
-/// [`read_lcov2_packed`] does the same, and takes less memory and time.
+/// Reads a tracefile of LCOV 2 (geninfo(1) of LCOV 2.x, TRACEFILE FORMAT). Returns its submission, or the input's first error. An
+/// `FNA:` line is `Misplaced` outside of sections, or without an `FNL:` line of its index above it in its section.
+/// [`read_lcov2_packed`] does the same with less memory and time.
 pub fn read_lcov2<A: Allocator + Copy>(alloc: A, text: &[u8]) -> Result<Submission<A>, ReadFault>
-    // The answer is what the text is read as, or memory ran out.
+    // The result is what the input is read as, or memory ran out.
     ensures answers { Answers text.now result }
-    // No other answer is possible, unless memory ran out.
+    // No other result is possible, unless memory ran out.
     ensures only { (outcome : Result SubmissionData Fault) → IsOutcome text.now outcome → IsOrMemory result outcome }
-    // Nothing is kept before the first path, so memory can run out only at this path or after it.
+    // Nothing is stored before the first path, so memory can't run out before this line.
     ensures memory { GrowsLate text.now result }
 {
     let packed = read_lcov2_packed(alloc, text)?;
     Ok(unpack(alloc, &packed)?)
 }
 
-/// Reads a tracefile of LCOV 2 (geninfo(1) of LCOV 2.x, TRACEFILE FORMAT). Returns the submission that its lines make, packed, or
-/// the text's first fault, as [`read_lcov2`].
+/// Like [`read_lcov2`], but returns a packed submission.
 pub fn read_lcov2_packed<A: Allocator + Copy>(
     alloc: A,
     text: &[u8],
 ) -> Result<PackedSubmission<A>, ReadFault>
-    // The answer is what the text is read as, or memory ran out.
+    // The result is what the input is read as, or memory ran out.
     ensures answers { Answers text.now result }
-    // No other answer is possible, unless memory ran out.
+    // No other result is possible, unless memory ran out.
     ensures only { (outcome : Result SubmissionData Fault) → IsOutcome text.now outcome → IsOrMemory result outcome }
-    // Nothing is kept before the first path, so memory can run out only at this path or after it.
+    // Nothing is stored before the first path, so memory can't run out before this line.
     ensures memory { GrowsLate text.now result }
 {
     // The proof cites this law.
@@ -61,7 +60,7 @@ pub fn read_lcov2_packed<A: Allocator + Copy>(
     read_lines(alloc, text)?.plain.finish()
 }
 
-/// Takes all lines of the text.
+/// Processes all lines of the input.
 fn read_lines<'a, A: Allocator + Copy>(
     alloc: A,
     text: &'a [u8],
@@ -84,8 +83,8 @@ fn read_lines<'a, A: Allocator + Copy>(
     Ok(reader)
 }
 
-/// Takes the first line of `text`, which is the rest of a text, and returns what follows the line. `at` is the line's number.
-/// Most lines are counts of a source line or of a branch. These are tried first, before the line is cut from the text.
+/// Processes the first line of `text`, which is the rest of an input, and returns what follows it. `at` is the line's number. Most
+/// lines are counts of a source line or of a branch, so these are tried first, before the line is cut from the text.
 #[inline]
 fn take_first<'a, A: Allocator + Copy>(
     reader: &mut Lcov2Reader<'a, A>,
@@ -115,7 +114,7 @@ fn take_first<'a, A: Allocator + Copy>(
     Ok(rest)
 }
 
-/// Takes the count of a source line. `at` is the number of the tracefile's line that says it.
+/// Processes the count of a source line. `at` is the number of its line in the tracefile.
 #[inline]
 fn take_count<A: Allocator + Copy>(
     reader: &mut Lcov2Reader<'_, A>,
@@ -130,8 +129,8 @@ fn take_count<A: Allocator + Copy>(
     take_line_count(&mut reader.plain, at, line, count, checksum)
 }
 
-/// Takes how often a branch was taken. The branch isn't excluded, and its line has a number, not an expression. `at` is the
-/// number of the tracefile's line that says it.
+/// Processes how often a branch was taken. The branch isn't excluded and has a number, not an expression. `at` is the number of its
+/// line in the tracefile.
 #[inline]
 fn take_numbered<A: Allocator + Copy>(
     reader: &mut Lcov2Reader<'_, A>,
@@ -162,7 +161,7 @@ fn take_numbered<A: Allocator + Copy>(
     )
 }
 
-/// Takes the line with this number.
+/// Processes line number `at`.
 fn take_line<'a, A: Allocator + Copy>(
     reader: &mut Lcov2Reader<'a, A>,
     alloc: A,

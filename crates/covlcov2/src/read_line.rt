@@ -1,5 +1,4 @@
-//! Reading one line of a tracefile of LCOV 2. Lines with a key whose form LCOV 2 changed or added are read here, all others as
-//! covline reads them.
+//! Parses one line of a tracefile of LCOV 2. Keys whose form LCOV 2 changed or added are parsed here, all others by covline.
 
 ghost use Rattle.std.specs.Prelude.{◌≡◌, ℕ, List, Option, false, codes, option_map, Err, MatchResult, IfOk, IfErr};
 ghost use Rattle.covline.specs.declared.trace_line.LineFault.{LineFault};
@@ -14,7 +13,7 @@ use covline::fields::{
 use covline::{LineFault, TraceLine, strip_key};
 use memchr::memrchr;
 
-/// The name in the text after a start line: what follows an end line, if there is one and a name follows it.
+/// The name in the text after a start line. Skips an end line that a name follows.
 fn name_in(text: &[u8]) -> &[u8]
     ensures { result.now ≡ name_in text.now }
 {
@@ -24,7 +23,7 @@ fn name_in(text: &[u8]) -> &[u8]
     }
 }
 
-/// Reads the fields after `FN:`.
+/// Parses the fields after `FN:`.
 fn start_record(fields: &[u8]) -> Result<Lcov2Line<'_>, LineFault>
     ensures { GivesLcov2 result (start_fields fields.now) }
 {
@@ -39,7 +38,7 @@ fn start_record(fields: &[u8]) -> Result<Lcov2Line<'_>, LineFault>
     Ok(Lcov2Line::Plain(TraceLine::FuncStart { line, name }))
 }
 
-/// The end line in the text after a start line. `Some(None)` if the text is empty.
+/// Parses the end line in the text after a start line. Returns `Some(None)` if the text is empty.
 fn read_end(text: &[u8]) -> Option<Option<Number>>
     ensures { result ≡ end_of text.now }
 {
@@ -50,7 +49,7 @@ fn read_end(text: &[u8]) -> Option<Option<Number>>
     }
 }
 
-/// The start line of an index, if both numbers fit.
+/// The start line of an index, if both numbers fit into 64 bits.
 fn fit_leader<'a>(index: Number, line: Number) -> Result<Lcov2Line<'a>, LineFault>
     ensures { GivesLcov2 result (leader_of index line) }
 {
@@ -100,7 +99,7 @@ fn alias_record(fields: &[u8]) -> Result<Lcov2Line<'_>, LineFault>
     fit_alias(index, count, name)
 }
 
-/// Whether `U` is among the marks at the front of the text, and what follows the marks.
+/// Skips the marks at the front of the text. Returns whether `U` is among them, and what follows them.
 fn skip_marks(text: &[u8]) -> (bool, &[u8])
     ensures excluded { result.0 ≡ (marks_from false text.now).0 }
     ensures rest { result.1.now ≡ (marks_from false text.now).1 }
@@ -117,14 +116,14 @@ fn skip_marks(text: &[u8]) -> (bool, &[u8])
     (is_excluded, rest)
 }
 
-/// Whether the byte is a mark: of an exception, of falling through, or of exclusion.
+/// Whether the byte is a mark: of an exception, of a fallthrough, or of exclusion.
 fn is_mark(byte: u8) -> bool
     ensures { result ≡ is_mark byte }
 {
     byte == b'e' || byte == b'f' || byte == b'U'
 }
 
-/// The text before its last comma, and the text after it. `None` if there is no comma.
+/// Splits the text at its last comma. Returns `None` if there is no comma.
 fn cut_last(text: &[u8]) -> Option<(&[u8], &[u8])>
     ensures { option_map (λ cut. (cut.0.now, cut.1.now)) result ≡ last_cut text.now }
 {
@@ -134,7 +133,7 @@ fn cut_last(text: &[u8]) -> Option<(&[u8], &[u8])>
     }
 }
 
-/// The number of a branch, or `Some(None)` if it has an expression. `None` if the text is empty.
+/// Parses a branch's name: its number, or `Some(None)` for an expression. Returns `None` if the text is empty.
 fn read_branch_name(text: &[u8]) -> Option<Option<Number>>
     ensures { result ≡ branch_name text.now }
 {
@@ -144,7 +143,7 @@ fn read_branch_name(text: &[u8]) -> Option<Option<Number>>
     Some(read_whole(text))
 }
 
-/// The number, if there is one, if it fits 64 bits.
+/// An optional number, if it fits into 64 bits.
 fn fit_any(number: Option<Number>) -> Result<Option<u64>, LineFault>
     ensures { result ≡ fit_any number }
 {
@@ -154,7 +153,7 @@ fn fit_any(number: Option<Number>) -> Result<Option<u64>, LineFault>
     }
 }
 
-/// The count, if there is one, if it fits 128 bits.
+/// An optional count, if it fits into 128 bits.
 fn fit_any_count(count: Option<Number>) -> Result<Option<u128>, LineFault>
     ensures { result ≡ fit_any_count count }
 {
@@ -187,7 +186,7 @@ fn fit_edge<'a>(
     })
 }
 
-/// Reads a branch, of which everything before its name is read: its name, and how often it was taken.
+/// Parses the last two fields of a branch: its name, and how often it was taken.
 fn read_edge_end<'a>(
     is_excluded: bool,
     line: Number,
@@ -206,7 +205,7 @@ fn read_edge_end<'a>(
     }
 }
 
-/// Reads a branch, of which the source line and the marks are read.
+/// Parses a branch from what follows its source line and marks.
 fn read_edge_rest<'a>(
     is_excluded: bool,
     line: Number,
@@ -234,7 +233,7 @@ fn edge_record(fields: &[u8]) -> Result<Lcov2Line<'_>, LineFault>
     read_edge_rest(is_excluded, line, rest)
 }
 
-/// Reads a line, first by the keys that LCOV 2 changed or added.
+/// Parses a line. Tries the keys that LCOV 2 changed or added first.
 #[tactic(auto, unfolding(crate::specs::Reading::read_of_lcov2))]
 fn read_any_lcov2(line: &[u8]) -> Result<Lcov2Line<'_>, LineFault>
     ensures { GivesLcov2 result (read_of_lcov2 line.now) }
@@ -257,7 +256,7 @@ fn read_any_lcov2(line: &[u8]) -> Result<Lcov2Line<'_>, LineFault>
     }
 }
 
-/// Reads one line of a tracefile of LCOV 2, given without its line feed and the carriage returns before it. Faults are those of
+/// Parses one line of a tracefile of LCOV 2, given without its line feed and the carriage returns before it. Errors are those of
 /// covline's `read_line`.
 pub fn read_lcov2_line(line: &[u8]) -> Result<Lcov2Line<'_>, LineFault>
     ensures ok { IfOk result (λ t. Lcov2Spells line.now (lcov2_data t)) }

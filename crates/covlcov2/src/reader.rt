@@ -1,5 +1,5 @@
-//! What the reader of a tracefile of LCOV 2 holds between two lines: what the reader of version 1 holds after the records that
-//! the lines so far stand for, and what later lines need of the lines since the last path.
+//! The state of the LCOV 2 reader between two lines: the state of the version 1 reader after the translated records, and what later
+//! lines need of the lines since the last path.
 
 ghost use Rattle.std.specs.Prelude.{◌≡◌, ℕ, List, [], ◌∷◌, Option, Some, None, Ok, Err, cond};
 ghost use Rattle.covline.specs.Spells.{LineData, Path, Total, Branch, line_data};
@@ -16,12 +16,12 @@ use covline::{TotalKind, TraceLine};
 use covread::Reader;
 use std::alloc::Allocator;
 
-/// What a reader holds between two lines.
+/// The state of the reader between two lines.
 #[derive(Drop)]
 pub struct Lcov2Reader<'a, A: Allocator> {
-    /// What the reader of version 1 holds.
+    /// The state of the version 1 reader.
     pub plain: Reader<'a, A>,
-    /// What later lines of the open section need. It isn't used while no section is open.
+    /// The state that later lines of the open section need. It isn't used outside of sections.
     pub indexes: Indexes<A>,
     /// Whether an `FNL:` line came since the last path.
     pub is_grouped: bool,
@@ -40,7 +40,7 @@ impl<'a, A: Allocator + Copy> Lcov2Reader<'a, A> {
         }
     }
 
-    /// Takes what one line says.
+    /// Processes the record of one line.
     pub fn take(&mut self, alloc: A, line: Lcov2Line<'a>) -> Result<(), TakeFault>
         requires { (above : List Lcov2Data) × (inside : List LineData) × HasLineRoom self.old above inside }
         ensures { (above : List Lcov2Data) (inside : List LineData) → IsHeld self.old above inside → Lcov2Steps result above (held_data self.old.plain inside) self.new (lcov2_data line.entry) }
@@ -59,7 +59,7 @@ impl<'a, A: Allocator + Copy> Lcov2Reader<'a, A> {
         }
     }
 
-    /// Takes a record of version 1.
+    /// Processes a record of version 1.
     fn take_plain(&mut self, alloc: A, says: TraceLine<'a>) -> Result<(), TakeFault>
         requires { (above : List Lcov2Data) × (inside : List LineData) × HasLineRoom self.old above inside }
         ensures { (above : List Lcov2Data) (inside : List LineData) → IsHeld self.old above inside → Lcov2Steps result above (held_data self.old.plain inside) self.new (Plain (line_data says.entry)) }
@@ -77,7 +77,7 @@ impl<'a, A: Allocator + Copy> Lcov2Reader<'a, A> {
         }
     }
 
-    /// Takes a record of version 1. Its line stands for this record alone, and later lines need nothing of the line.
+    /// Passes a record of version 1 on unchanged. Later lines need nothing of it.
     fn pass(&mut self, alloc: A, says: TraceLine<'a>) -> Result<(), TakeFault>
         requires { (above : List Lcov2Data) × (inside : List LineData) × HasLineRoom self.old above inside }
         ensures { (above : List Lcov2Data) (inside : List LineData) (line : Lcov2Data) → IsHeld self.old above inside → StandsFor above line (line_data says.entry) → IsQuiet above line → Lcov2Steps result above (held_data self.old.plain inside) self.new line }
@@ -85,7 +85,7 @@ impl<'a, A: Allocator + Copy> Lcov2Reader<'a, A> {
         give(&mut self.plain, alloc, says)
     }
 
-    /// Begins a section. What was kept for later lines of the section before is forgotten.
+    /// Begins a section. Discards what later lines of the section before would have needed.
     fn take_path(&mut self, alloc: A, path: &'a [u8]) -> Result<(), TakeFault>
         requires { (above : List Lcov2Data) × (inside : List LineData) × HasLineRoom self.old above inside }
         ensures { (above : List Lcov2Data) (inside : List LineData) → IsHeld self.old above inside → Lcov2Steps result above (held_data self.old.plain inside) self.new (Plain (Path path.now)) }
@@ -100,7 +100,7 @@ impl<'a, A: Allocator + Copy> Lcov2Reader<'a, A> {
         }
     }
 
-    /// Takes a total. Totals of functions are left out below an `FNL:` line.
+    /// Processes a total. Ignores totals of functions below an `FNL:` line.
     fn take_total(&mut self, alloc: A, kind: TotalKind, value: u64) -> Result<(), TakeFault>
         requires { (above : List Lcov2Data) × (inside : List LineData) × HasLineRoom self.old above inside }
         ensures { (above : List Lcov2Data) (inside : List LineData) → IsHeld self.old above inside → Lcov2Steps result above (held_data self.old.plain inside) self.new (Plain (Total kind value)) }
@@ -111,7 +111,7 @@ impl<'a, A: Allocator + Copy> Lcov2Reader<'a, A> {
         self.pass(alloc, TraceLine::Total { kind, value })
     }
 
-    /// Takes the start line of an index. Outside of sections it is not kept.
+    /// Stores the start line of an index. Ignores it outside of sections.
     fn take_leader(&mut self, index: u64, line: u64) -> Result<(), TakeFault>
         ensures { (above : List Lcov2Data) (inside : List LineData) → IsHeld self.old above inside → Lcov2Steps result above (held_data self.old.plain inside) self.new (Leader index line) }
     {
@@ -125,8 +125,8 @@ impl<'a, A: Allocator + Copy> Lcov2Reader<'a, A> {
         Ok(())
     }
 
-    /// Takes the count of a function. The line stands for two records: the function's start line, which is that of its index, and
-    /// its count. The line is `Misplaced` outside of sections, or if the index has no start line.
+    /// Processes the count of a function. Its line stands for two records: the function's start line, which is that of its index,
+    /// and its count. It is `Misplaced` outside of sections, or if the index has no start line.
     fn take_alias(
         &mut self,
         alloc: A,
@@ -150,8 +150,7 @@ impl<'a, A: Allocator + Copy> Lcov2Reader<'a, A> {
         }
     }
 
-    /// Takes a branch. `given` is the number that its line has, or `None` for an expression. An excluded branch takes a number
-    /// too.
+    /// Processes a branch. `given` is the number in its line, or `None` for an expression. An excluded branch is numbered too.
     fn take_edge(
         &mut self,
         alloc: A,
@@ -197,7 +196,7 @@ fn counts_functions(kind: TotalKind) -> bool
     }
 }
 
-/// A branch outside of sections: only an excluded one may be there.
+/// Checks a branch outside of sections: only an excluded one is allowed there.
 fn outside_edge(is_excluded: bool) -> Result<(), TakeFault>
     ensures { result ≡ cond is_excluded (Ok tt) (Err outside.Outside) }
 {
@@ -207,7 +206,7 @@ fn outside_edge(is_excluded: bool) -> Result<(), TakeFault>
     Err(TakeFault::Outside)
 }
 
-/// Gives a record to the reader of version 1.
+/// Passes a record to the version 1 reader.
 #[inline]
 fn give<'a, A: Allocator + Copy>(
     reader: &mut Reader<'a, A>,

@@ -1,4 +1,4 @@
-//! Why a line isn't taken.
+//! Why a line is rejected.
 
 ghost use Rattle.std.specs.Prelude.{◌≡◌};
 ghost use Rattle.covlcov2.specs.declared.take_fault.TakeFault.TheVariants.{Memory as NoMemory};
@@ -8,12 +8,12 @@ use covline::Memory;
 use covread::{PlacementFault, ReadFault};
 use std::alloc::AllocFailed;
 
-/// Why a reader doesn't take a line: it is misplaced, or an allocation failed.
+/// Why a reader rejects a line: it is misplaced, or an allocation failed.
 #[derive(Clone, Copy)]
 pub enum TakeFault {
-    /// No section is open, but the line has to be in one.
+    /// The line must be in a section, but none is open.
     Outside,
-    /// A section is open, but the line can't be in one.
+    /// The line must not be in a section, but one is open.
     Inside,
     /// An `FNA:` line without an `FNL:` line of its index above it in its section, or outside of sections.
     Misplaced,
@@ -22,7 +22,7 @@ pub enum TakeFault {
 }
 
 impl TakeFault {
-    /// The text's fault if the line with this number isn't taken for this reason.
+    /// The error of an input whose line number `at` is rejected for this reason.
     pub fn at(self, at: u64) -> ReadFault
         ensures { result ≡ lcov2_fault_at self at }
     {
@@ -35,7 +35,7 @@ impl TakeFault {
     }
 }
 
-/// The same reason as the reader of version 1 has.
+/// Turns a placement error of the version 1 reader into a `TakeFault`.
 pub fn placed(why: PlacementFault) -> TakeFault
     ensures { result ≡ placed why }
 {

@@ -1,5 +1,5 @@
-//! Tests of the reader of tracefiles of LCOV 2 (covlcov2): a row for each form and each fault, and hostile texts.
-//! This crate has nothing but its tests, so that a crate with functions is proved once.
+//! Tests of the reader of tracefiles of LCOV 2 (covlcov2): a row for each form and each error, and hostile inputs. This is a crate
+//! of its own, so that covlcov2 is proved once.
 #![tactic(auto)]
 
 #[cfg(test)]

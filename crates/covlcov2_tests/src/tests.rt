@@ -1,5 +1,5 @@
-//! What is wanted was worked out by hand from geninfo(1) of LCOV 2.3.1, section TRACEFILE FORMAT, never taken from an output. It is
-//! written as a tracefile of version 1.
+//! Expected values were worked out by hand from geninfo(1) of LCOV 2.3.1, section TRACEFILE FORMAT. They are written as a tracefile of
+//! version 1.
 
 use covlcov2::{read_lcov2, read_lcov2_packed};
 use covline::Submission;
@@ -22,7 +22,7 @@ fn read_plain(alloc: Global, text: &[u8]) -> Result<Submission, ReadFault> {
     read_trace(alloc, text)
 }
 
-/// Whether the text of LCOV 2 is read as the other text is in version 1, packed and not.
+/// Whether reading `text` as LCOV 2 gives the same as reading `wanted` as version 1, packed and not.
 fn reads_as(alloc: Global, text: &[u8], wanted: &[u8]) -> Result<bool, ReadFault> {
     let given = read(alloc, text)?;
     let wanted = read_plain(alloc, wanted)?;
@@ -30,7 +30,7 @@ fn reads_as(alloc: Global, text: &[u8], wanted: &[u8]) -> Result<bool, ReadFault
     Ok(given.is_same(&wanted) && packed.is_same_as(&wanted))
 }
 
-/// The words of the text's fault, or `none`.
+/// Prints the error of the input, or `none`.
 fn fault_of(alloc: Global, text: &[u8]) -> Result<String, Fail> {
     Ok(match read(alloc, text) {
         Ok(_) => format!(in alloc; "none")?,
@@ -38,7 +38,7 @@ fn fault_of(alloc: Global, text: &[u8]) -> Result<String, Fail> {
     })
 }
 
-/// Checks the words of the text's fault.
+/// Checks the printed error of the input.
 fn check_fault(
     rt: &(impl Abort + AllocGlobal),
     name: &[u8],

@@ -1,4 +1,4 @@
-//! Reading a decimal number of percent.
+//! Parses a decimal number of percent.
 
 ghost use Rattle.std.specs.Prelude.{◌≡◌, ◌↔◌, ◌+◌, ◌-◌, ◌*◌, ◌^◌, ◌≤◌, ◌<◌, ◌++◌, IsTrue, IfSome, IsSome, length};
 ghost use Rattle.std.specs.Char.{digit_value, is_ascii_digit};
@@ -7,16 +7,16 @@ ghost use Rattle.std.specs.Str.Parse.{digits_value, digits_value_after};
 ghost use Rattle.covlimit.specs.Rates.{whole_of, part_of, millionths, IsRate};
 ghost use Rattle.covlimit.specs.Cuts.{from_point, are_lengths, is_well_formed, HasRoom};
 
-/// The most digits that a rate may have before its point.
+/// The greatest number of digits before the point of a rate.
 const MOST_WHOLE_DIGITS: usize = 3;
 
-/// The most digits that a rate may have after its point.
+/// The greatest number of digits after the point of a rate.
 const MOST_PLACES: usize = 6;
 
 /// A hundred percent in millionths of a percent.
 pub(crate) const HUNDRED_PERCENT: u64 = 100_000_000;
 
-/// The rate in millionths of a percent that the word says. `None` if the word isn't a rate.
+/// Parses a rate in millionths of a percent. Returns `None` if `word` isn't a rate.
 pub(crate) fn read_millionths(word: &[u8]) -> Option<u64>
     ensures rate { IsSome result ↔ IsRate word.now }
     ensures value { IfSome result (λ number. number ≡ millionths word.now) }
@@ -33,7 +33,7 @@ pub(crate) fn read_millionths(word: &[u8]) -> Option<u64>
     }
 }
 
-/// The bytes before the first point, and those after it. All bytes and none if there is no point.
+/// The bytes before the first point, and those after it. Without a point, all bytes and none.
 fn cut_at_point(word: &[u8]) -> (&[u8], &[u8])
     ensures whole { result.0.now ≡ whole_of word.now }
     ensures part { result.1.now ≡ part_of word.now }
@@ -46,7 +46,7 @@ fn cut_at_point(word: &[u8]) -> (&[u8], &[u8])
     }
 }
 
-/// The word from its first point on. It is empty if the word has none.
+/// The text from its first point on; empty if it has none.
 fn from_point(word: &[u8]) -> &[u8]
     ensures { result.now ≡ from_point word.now }
 {
@@ -89,7 +89,7 @@ fn millionths(whole: &[u8], part: &[u8]) -> u64
     with_digits(with_digits(0, whole), part) * millionths_at(part.len())
 }
 
-/// The number that is written as the digits of `number` and then these digits.
+/// Appends these digits to the number.
 fn with_digits(number: u64, digits: &[u8]) -> u64
     requires { HasRoom number digits.now }
     ensures value { result ≡ digits_value_after 10 number digits.now }
@@ -104,7 +104,7 @@ fn with_digits(number: u64, digits: &[u8]) -> u64
     value
 }
 
-/// The number with one more digit.
+/// Appends one digit to the number.
 fn with_digit(number: u64, digit: u8) -> u64
     requires digit { digit_value digit < 10 }
     requires few { number < 10 ^ 8 }
@@ -113,7 +113,7 @@ fn with_digit(number: u64, digit: u8) -> u64
     number * 10 + u64::from(digit - b'0')
 }
 
-/// How many millionths of a percent the last digit counts for if a rate has this many digits after its point.
+/// The value in millionths of a percent of the last of `places` digits after the point.
 fn millionths_at(places: usize) -> u64
     requires { places ≤ 6 }
     ensures { result ≡ 10 ^ (6 - places) }

@@ -1,10 +1,9 @@
-//! The least rates of points hit that a call asks for, and which of them given totals fall short of.
+//! Thresholds for rates of points hit, and the totals below them.
 //!
 //! A rate is a decimal number of percent. It is compared with whole numbers of points, so nothing is rounded: 3999 of 5000 lines
 //! are below 79.980001 percent, and not below 79.98 percent.
 //!
-//! An example: the line that says that the totals have too few lines hit. It is empty if they have enough. `LimitFault` is the
-//! caller's own.
+//! An example: the line about totals with too few lines hit, which is empty if they have enough. `LimitFault` is the caller's own.
 //!
 //! ```text
 //! pub fn missed_lines(alloc: Global, word: Bytes, totals: &Totals) -> Result<Bytes, LimitFault> {

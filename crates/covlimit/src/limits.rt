@@ -1,4 +1,4 @@
-//! The least rates that a call asks for, and which of them totals fall short of.
+//! The thresholds of a run, and the totals below them.
 
 ghost use Rattle.std.specs.Prelude.{◌≡◌, [], IfOk, IsOk};
 ghost use Rattle.covlimit.specs.Limits.{has_limit, shortfalls};
@@ -10,19 +10,19 @@ use covline::{Bytes, Memory};
 use covstore::Totals;
 use std::alloc::{Allocator, Global};
 
-/// The least rates of points hit that a call asks for. `None` stands for a kind of points for which it asks for no rate.
+/// The thresholds of a run for rates of points hit. `None` is no threshold for a kind of points.
 #[derive(Drop)]
 pub struct Limits<A: Allocator = Global> {
-    /// The least rate of lines (gcovr(1), `--fail-under-line`).
+    /// The threshold for lines (gcovr(1), `--fail-under-line`).
     pub lines: Option<Rate<A>>,
-    /// The least rate of functions (gcovr(1), `--fail-under-function`).
+    /// The threshold for functions (gcovr(1), `--fail-under-function`).
     pub functions: Option<Rate<A>>,
-    /// The least rate of branches (gcovr(1), `--fail-under-branch`).
+    /// The threshold for branches (gcovr(1), `--fail-under-branch`).
     pub branches: Option<Rate<A>>,
 }
 
 impl<A: Allocator> Limits<A> {
-    /// Whether a rate is asked for.
+    /// Whether there is a threshold.
     pub fn has_limit(&self) -> bool
         ensures { result ≡ has_limit (limits_data self.now) }
     {
@@ -30,9 +30,9 @@ impl<A: Allocator> Limits<A> {
     }
 }
 
-/// A line for each kind of points that are below the rate that is asked for, in the order lines, functions, branches: `lines:
-/// 3996 of 5000 is below 80%`. The rate is written as the call gave it. If no point of a kind is found, its points are below any
-/// rate. The text is empty if no rate is missed, and then nothing is refused. The fault is that memory was refused.
+/// Prints a line for each kind of points below its threshold, in the order lines, functions, branches. An example is `lines: 3996
+/// of 5000 is below 80%`. The threshold is printed as it was given. If no points of a kind are found, they are below any threshold.
+/// The result is empty if no kind is below its threshold; then nothing is allocated. Fails only if an allocation fails.
 pub fn shortfall_lines<A: Allocator>(
     alloc: A,
     limits: &Limits<A>,

@@ -1,4 +1,4 @@
-//! The lines that say which rates aren't reached.
+//! Prints the lines about rates below their thresholds.
 
 ghost use Rattle.std.specs.Prelude.{◌≡◌, ◌++◌, [], OnOk, IsOk, decimal};
 ghost use Rattle.covlimit.specs.Shortfalls.{numbers_text, shortfall, shortfall_line};
@@ -8,8 +8,8 @@ use covline::{Bytes, Memory};
 use itoa::Buffer;
 use std::alloc::Allocator;
 
-/// Appends the line of a kind of points, if a rate is asked for and these points are below it. Otherwise appends nothing, and
-/// isn't refused memory.
+/// Appends a line about these points if they are below their threshold. Otherwise, or without a threshold, appends nothing and
+/// never fails.
 pub(crate) fn put_shortfall<A: Allocator>(
     kind: &[u8],
     limit: &Option<Rate<A>>,
@@ -29,7 +29,7 @@ pub(crate) fn put_shortfall<A: Allocator>(
     put_line(kind, rate.word(), hit, found, text)
 }
 
-/// Appends the line that says that the points of a kind are below the rate of this word.
+/// Appends the line about points of a kind that are below the threshold `word`.
 fn put_line<A: Allocator>(
     kind: &[u8],
     word: &[u8],

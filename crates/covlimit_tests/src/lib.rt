@@ -1,5 +1,5 @@
-//! Tests of least rates: which words are rates, and what is told of totals that fall short of them. This crate has nothing but
-//! its tests, so that covlimit is proved once, and its edits are tried while the tests are proved.
+//! Tests of thresholds: which arguments are rates, and the lines about totals below them. This is a crate of its own, so that
+//! covlimit is proved once, and its mutants are tried while the tests are proved.
 #![tactic(auto)]
 
 #[cfg(test)]

@@ -9,7 +9,7 @@ use std::alloc::Global;
 use std::process::Abort;
 use std::test::*;
 
-/// Words that are rates. One zero or more before the number change nothing.
+/// Arguments that are rates. Leading zeros change nothing.
 #[test]
 fn rates(rt: HostRuntime) -> Result<(), Fail> {
     check_words(
@@ -31,7 +31,7 @@ fn rates(rt: HostRuntime) -> Result<(), Fail> {
     )
 }
 
-/// Words that aren't rates, the first of them empty.
+/// Arguments that aren't rates, the first of them empty.
 #[test]
 fn other_words(rt: HostRuntime) -> Result<(), Fail> {
     check_words(
@@ -66,8 +66,8 @@ fn other_words(rt: HostRuntime) -> Result<(), Fail> {
     )
 }
 
-/// The lines of one kind: the rate, how many are hit and how many are found, and after ` => ` whether they are below. The
-/// comparison is exact.
+/// Each example has a rate, the numbers of lines hit and found, and after ` => ` whether they are below the rate. The comparison is
+/// exact.
 #[test]
 fn comparisons(rt: HostRuntime) -> Result<(), Fail> {
     check_lines(
@@ -101,7 +101,7 @@ fn comparisons(rt: HostRuntime) -> Result<(), Fail> {
     )
 }
 
-/// What is told of all three kinds, and of those alone for which a rate is asked for.
+/// The lines about all three kinds, and about only those with a threshold.
 #[test]
 fn all_kinds(rt: HostRuntime) -> Result<(), Fail> {
     let none = shortfall(rt.alloc(), "", "", "")?;
@@ -125,7 +125,7 @@ branches: 0 of 0 is below 0%
     Ok(())
 }
 
-/// Checks that all words are rates, or that none is.
+/// Checks that all arguments are rates, or that none is.
 fn check_words(rt: &(impl Abort + AllocGlobal), wanted: bool, words: &str) -> Result<(), Fail> {
     for word in words.lines() {
         let is_rate = rate(rt.alloc(), word)?.is_some();
@@ -172,7 +172,7 @@ fn number(word: &str) -> u64 {
     word.parse().unwrap_or(7)
 }
 
-/// What is told if this rate of lines is asked for.
+/// The line about `hit` of `found` lines for this threshold.
 fn told_of_lines(
     alloc: Global,
     lines: Option<Rate>,
@@ -195,8 +195,7 @@ fn told_of_lines(
     shortfall_lines(alloc, &limits, &totals)
 }
 
-/// What is told if these rates are asked for, where the empty word asks for none: 3996 of 5000 lines are hit, 2 of 3 functions,
-/// and there are no branches.
+/// The lines about 3996 of 5000 lines, 2 of 3 functions, and no branches, for these thresholds. An empty argument is no threshold.
 fn shortfall(alloc: Global, lines: &str, functions: &str, branches: &str) -> Result<Bytes, Memory> {
     let limits = Limits {
         lines: rate(alloc, lines)?,

@@ -28,8 +28,7 @@ impl<A: Allocator> Bytes<A> {
         }
     }
 
-    /// The empty text, with room for `bytes` bytes. Appending allocates nothing until the text is longer than that. Room for 0
-    /// bytes is never refused.
+    /// The empty text, with capacity for `bytes` bytes. Appending up to that length never allocates. A capacity of 0 never fails.
     pub fn with_room(alloc: A, bytes: usize) -> Result<Bytes<A>, Memory>
         ensures empty { IfOk result (λ b. b ≡ []) }
         ensures nothing { bytes ≡ 0 → IsOk result }
@@ -62,7 +61,7 @@ impl<A: Allocator> Bytes<A> {
         self.text.len()
     }
 
-    /// Appends the bytes. On `Memory` the text stays as it was. An empty slice is never refused.
+    /// Appends the bytes. On `Memory`, the text is unchanged. Appending an empty slice never fails.
     pub fn append(&mut self, more: &[u8]) -> Result<(), Memory>
         ensures ok { OnOk result (self.new ≡ self.old ++ more.now) }
         ensures err { OnErr result (self.new ≡ self.old) }
@@ -72,21 +71,21 @@ impl<A: Allocator> Bytes<A> {
         Ok(())
     }
 
-    /// Keeps at most the first `len` bytes.
+    /// Shortens the text to at most `len` bytes.
     pub(crate) fn truncate(&mut self, len: usize)
         ensures { self.new ≡ take len self.old }
     {
         self.text.truncate(len);
     }
 
-    /// Whether the other text has the same bytes. Takes no memory.
+    /// Whether the other text has the same bytes. Never allocates.
     pub fn is_same(&self, other: &Bytes<A>) -> bool
         ensures { IsTrue result ↔ (self.now ≡ other.now) }
     {
         self.get() == other.get()
     }
 
-    /// An equal text, in memory of its own.
+    /// Copies the text.
     pub fn copy(&self, alloc: A) -> Result<Bytes<A>, Memory>
         ensures { IfOk result (λ b. b ≡ self.now) }
     {

@@ -11,10 +11,10 @@ use crate::names::{good_checksum, good_name, good_test};
 use crate::sect::Sect;
 use std::alloc::Allocator;
 
-/// The most items that a submission can have.
+/// The greatest number of items of a submission.
 const MAX_ITEMS: u64 = 67_108_864;
 
-/// The number of items in the sections, or `None` if there are too many.
+/// The number of items in the sections. Returns `None` if there are too many.
 pub fn count_items<A: Allocator>(sects: &[Sect<A>]) -> Option<u64>
     ensures count { let all = map sect_data sects.now in
         MatchOption result (max_items < items_in all) (λ n. (n ≡ items_in all) × (n ≤ max_items)) }
@@ -31,7 +31,7 @@ pub fn count_items<A: Allocator>(sects: &[Sect<A>]) -> Option<u64>
     Some(items)
 }
 
-/// The index of the first section with an unlawful text, or `None` if all texts are lawful.
+/// The index of the first section with an unlawful name or checksum. Returns `None` if all are lawful.
 pub fn first_unlawful<A: Allocator>(sects: &[Sect<A>]) -> Option<usize>
     ensures { let all = map sect_data sects.now in
         MatchOption result (All IsLawfulSect all) (IsFirstUnlawful all) }
@@ -44,14 +44,14 @@ pub fn first_unlawful<A: Allocator>(sects: &[Sect<A>]) -> Option<usize>
     None
 }
 
-/// Whether the texts of the section are lawful.
+/// Whether the names and checksums of the section are lawful.
 fn is_lawful<A: Allocator>(sect: &Sect<A>) -> bool
     ensures { IsTrue result ↔ IsLawfulSect (sect_data sect.now) }
 {
     good_test(sect.test.get()) && good_name(sect.file.get()) && are_lawful(sect.items.get())
 }
 
-/// Whether the texts of the items are lawful.
+/// Whether the names and checksums of the items are lawful.
 fn are_lawful<A: Allocator>(items: &[Item<A>]) -> bool
     ensures { IsTrue result ↔ All (λ item. IsLawfulItem (item_data item)) items.now }
 {

@@ -1,5 +1,4 @@
-//! The fields of a line, for the reader of a format that has some of this one's lines: numbers at the front of a text, and what
-//! follows them.
+//! Parses the fields of a line, for readers of similar formats: numbers at the front of a text, and what follows them.
 
 pub use crate::reader::{
     Number, after_feed, front_taken, read_any, read_count, read_field, read_number, read_taken,

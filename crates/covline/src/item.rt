@@ -40,7 +40,7 @@ impl<A: Allocator> Item<A> {
     ghost use Rattle.covline.specs.Points.{line_point, branch_point, is_hit};
     ghost use Rattle.covline.specs.PointView.{branch_point_data};
 
-    /// The line that the item counts; `None` for an item of another kind.
+    /// The line of the item. Returns `None` for an item of another kind.
     pub fn line_point(&self) -> Option<u64>
         ensures { option_to_list result ≡ line_point (item_data self.now) }
     {
@@ -50,7 +50,7 @@ impl<A: Allocator> Item<A> {
         }
     }
 
-    /// The branch that the item counts; `None` for an item of another kind.
+    /// The branch of the item. Returns `None` for an item of another kind.
     pub fn branch_point(&self) -> Option<BranchPoint>
         ensures { option_to_list (option_map branch_point_data result) ≡ branch_point (item_data self.now) }
     {
@@ -84,7 +84,7 @@ impl<A: Allocator> Item<A> {
     ghost use Rattle.std.specs.Prelude.{◌≡◌, ◌↔◌, IsTrue};
     ghost use Rattle.covline.specs.Row.{LineItem, FuncItem, BranchItem, item_data};
 
-    /// Whether the other item says the same. Takes no memory.
+    /// Whether the items are equal. Never allocates.
     pub fn is_same(&self, other: &Item<A>) -> bool
         ensures { IsTrue result ↔ (item_data self.now ≡ item_data other.now) }
     {
@@ -169,7 +169,7 @@ impl<A: Allocator + Copy> Item<A> {
     ghost use Rattle.std.specs.Prelude.{◌≡◌, IfOk};
     ghost use Rattle.covline.specs.Row.{item_data};
 
-    /// An equal item, in memory of its own.
+    /// Copies the item.
     pub(crate) fn copy(&self, alloc: A) -> Result<Item<A>, Memory>
         ensures { IfOk result (λ i. item_data i ≡ item_data self.now) }
     {
@@ -202,7 +202,7 @@ impl<A: Allocator + Copy> Item<A> {
         }
     }
 
-    /// A copy of the checksum, in memory of its own, or `None` if there is no checksum.
+    /// Copies an optional checksum.
     fn copy_checksum(checksum: &Option<Bytes<A>>, alloc: A) -> Result<Option<Bytes<A>>, Memory>
         ensures { IfOk result (λ c. c ≡ checksum.now) }
     {
@@ -235,7 +235,7 @@ impl<A: Allocator + Copy> Items<A> {
     ghost use Rattle.std.specs.Prelude.{◌≡◌, ◌++◌, [], ◌∷◌, IfOk, OnOk};
     ghost use Rattle.covline.specs.Row.{item_data};
 
-    /// An equal list, in memory of its own.
+    /// Copies the list.
     pub fn copy(&self, alloc: A) -> Result<Items<A>, Memory>
         ensures { IfOk result (λ s. s ≡ self.now) }
     {
@@ -248,7 +248,7 @@ impl<A: Allocator + Copy> Items<A> {
         Ok(copy)
     }
 
-    /// Appends an equal item, in memory of its own.
+    /// Appends a copy of the item.
     fn push_copy(&mut self, item: &Item<A>, alloc: A) -> Result<(), Memory>
         ensures { OnOk result (self.new ≡ self.old ++ item_data item.now ∷ []) }
     {
@@ -270,7 +270,7 @@ impl<A: Allocator> Items<A> {
         }
     }
 
-    /// Appends an item. On `Memory` the item is dropped and the list stays as it was.
+    /// Appends an item. On `Memory`, drops the item and leaves the list unchanged.
     pub fn push(&mut self, item: Item<A>) -> Result<(), Memory>
         ensures ok { OnOk result (self.new ≡ self.old ++ item_data item ∷ []) }
         ensures err { OnErr result (self.new ≡ self.old) }
@@ -279,7 +279,7 @@ impl<A: Allocator> Items<A> {
         Ok(())
     }
 
-    /// Replaces the start line of the function's item at this place. An item of another kind stays as it is.
+    /// Replaces the start line of the function's item at this index. Doesn't change an item of another kind.
     pub fn set_start(&mut self, at: usize, line: u64)
         requires { at < length self.old }
         ensures { (before after : List ItemData) (item : ItemData) → self.old ≡ before ++ item ∷ after → at ≡ length before → self.new ≡ before ++ with_start line item ∷ after }
@@ -296,7 +296,7 @@ impl<A: Allocator> Items<A> {
         self.items.len()
     }
 
-    /// Whether the other list has equal items in the same order. Takes no memory.
+    /// Whether the lists have equal items in the same order. Never allocates.
     pub fn is_same(&self, other: &Items<A>) -> bool
         ensures { IsTrue result ↔ (self.now ≡ other.now) }
     {
@@ -313,7 +313,7 @@ impl<A: Allocator> Items<A> {
         true
     }
 
-    /// Frees the list's unused room. It is called when no more items are to be appended.
+    /// Frees the list's unused capacity. Called after the last item is appended.
     pub fn shrink(&mut self)
         ensures { self.new ≡ self.old }
     {

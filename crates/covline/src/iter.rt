@@ -1,5 +1,5 @@
-//! The iterator over the lines of a text. It has a module of its own, because names in one module may not differ only in case,
-//! as `Lines` and the function `lines` do.
+//! The iterator over the lines of a text. It has its own module, because names in one module may not differ only in case, as
+//! `Lines` and the function `lines` do.
 
 use crate::text_lines::first_line;
 use std::marker::Model;

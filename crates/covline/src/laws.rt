@@ -1,16 +1,15 @@
-//! Laws of the definitions that the contracts cite. Each law is a function that does nothing.
+//! Laws of the definitions that the contracts cite. Each law is the contract of a function that does nothing.
 
 ghost use Rattle.std.specs.Prelude.{◌≡◌, ◌⊎◌, ℕ, List};
 ghost use Rattle.covline.specs.declared.trace_line.LineFault.{LineFault};
 ghost use Rattle.covline.specs.Spells.{LineData, Spells, HasFault};
 ghost use Rattle.covline.specs.LineLaws.{JoinedAgain, GoodLines, GoodRest, FewLines, FewBytes, OnlyReturnsOff, OneAfterOther, MadeOfLines, PrintedSpells};
 
-/// The lines of a text make up the text. The text is cut after each line feed, and the pieces, joined again, are the text. A
-/// line is a piece without its line feed and the carriage returns before that. Neither a line nor any end of a line (such as
-/// the name after a key) has a line feed or ends in a carriage return. There are at most as many lines as bytes, and together
-/// the lines have at most as many bytes as the text. If a text follows one that ends in a line feed, the lines of both together
-/// are those of the first and then those of the second. If lines have no line feed and don't end in a carriage return, the text
-/// that has each of them with a line feed after it has exactly these lines.
+/// The lines of a text make up the text. The text is cut after each line feed; joining the pieces gives the text. A line is a piece
+/// without its line feed and the carriage returns before that. No line, nor any end of a line (such as the name after a key), has a
+/// line feed or ends in a carriage return. There are at most as many lines as bytes, and together they have at most as many bytes
+/// as the text. A text that follows one with a final line feed adds its lines after those of the first. And lines without line
+/// feeds and final carriage returns are exactly the lines of the text that has each of them with a line feed after it.
 pub fn lines_are_the_text()
     ensures joined { JoinedAgain }
     ensures good_lines { GoodLines }
@@ -22,7 +21,7 @@ pub fn lines_are_the_text()
     ensures made_of_lines { MadeOfLines }
 {}
 
-/// Each line says exactly one thing, or has exactly one fault.
+/// Each line has exactly one meaning, or exactly one error.
 pub fn each_line_has_one_meaning()
     ensures one_meaning { (line : List ℕ) (x y : LineData) → Spells line x → Spells line y → x ≡ y }
     ensures no_fault_beside { (line : List ℕ) (says : LineData) (fault : LineFault) → Spells line says → ¬ HasFault line fault }
@@ -30,7 +29,7 @@ pub fn each_line_has_one_meaning()
     ensures some { (line : List ℕ) → ((says : LineData) × Spells line says) ⊎ ((fault : LineFault) × HasFault line fault) }
 {}
 
-/// A printed record reads back: if its texts are lawful and its numbers small, it is printed as one line that says it.
+/// A printed record reads back: a record with lawful names and small enough numbers is printed as one line with this meaning.
 pub fn printed_records_spell()
     ensures { PrintedSpells }
 {}

@@ -1,12 +1,11 @@
-//! Lines of lcov tracefiles (geninfo(1) of LCOV 1.x, section FILES), and what they say: records, items, sections and
-//! submissions.
+//! Lines of lcov tracefiles (geninfo(1) of LCOV 1.x, section FILES), and their meaning: records, items, sections and submissions.
 //!
-//! A text is cut into lines, each line is read by itself, and a line is printed so that it reads back. A section (of a
-//! test and a source file) has items (the counts of lines, functions and branches); sections with lawful texts make a
+//! A text is cut into lines, and each line is parsed by itself. A line is printed so that it reads back. A section (of a test and a
+//! source file) has items (the counts of lines, functions and branches). Sections with lawful names and checksums make a
 //! submission.
 //!
-//! An example, proved and run in `covuses`: the counted lines of a tracefile, printed again. `PrintFault` is the
-//! caller's own, made of a line's fault or of `Memory`.
+//! An example, proved and run in `covuses`: prints the counted lines of a tracefile again. `PrintFault` is the caller's own, made
+//! of a line's error or of `Memory`.
 //!
 //! ```text
 //! pub fn counted_lines(alloc: Global, text: &[u8]) -> Result<Bytes, PrintFault> {

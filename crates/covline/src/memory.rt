@@ -1,9 +1,9 @@
-//! The fault of functions that can fail only by running out of memory.
+//! The error of functions that can fail only by running out of memory.
 
 use std::alloc::{AllocError, AllocFailed};
 use thiserror::Error;
 
-/// An allocation was refused: out of memory.
+/// An allocation failed: out of memory.
 #[derive(Clone, Copy, Debug, PartialEq, Eq, Error)]
 #[error("out of memory")]
 pub struct Memory;

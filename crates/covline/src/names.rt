@@ -1,4 +1,4 @@
-//! Which names and checksums a line can hold.
+//! The names and checksums that a line can hold.
 
 ghost use Rattle.std.specs.Prelude.{◌↔◌, IsTrue};
 ghost use Rattle.covline.specs.Lawful.{IsChecksum, IsChecksumByte, IsGoodName, IsGoodTest};

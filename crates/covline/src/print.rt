@@ -1,4 +1,4 @@
-//! Printing one line of a tracefile.
+//! Prints one line of a tracefile.
 
 ghost use Rattle.std.specs.Prelude.{◌≡◌, ◌++◌, ◌∷◌, [], OnOk, OnErr, IsOk, ◌≤◌, ◌+◌, ℕ, List, codes, decimal, length, option_map};
 ghost use Rattle.covline.specs.Lines.{line_feed, lines_of};
@@ -12,8 +12,7 @@ use crate::tail::Tail;
 use crate::trace_line::{TotalKind, TraceLine};
 use std::alloc::Allocator;
 
-/// Appends the record as a line, and a line feed. For `Skip` it appends nothing and is never refused. On `Memory` the text stays
-/// as it was.
+/// Appends the record as a line with a line feed. For `Skip`, appends nothing and never fails. On `Memory`, the text is unchanged.
 pub fn put_line<A: Allocator>(line: &TraceLine<'_>, text: &mut Bytes<A>) -> Result<(), Memory>
     ensures ok { OnOk result (text.new ≡ text.old ++ printed (line_data line.now)) }
     ensures err { OnErr result (text.new ≡ text.old) }
@@ -30,8 +29,8 @@ pub fn put_line<A: Allocator>(line: &TraceLine<'_>, text: &mut Bytes<A>) -> Resu
     put
 }
 
-/// Appends the line and a line feed. On `Memory` a part of it may be left at the end of the text. The same holds of
-/// `append_text`, `append_named` and `append_line_count`.
+/// Appends the record as a line with a line feed. On `Memory`, the text may end with a part of it, as also after `append_text`,
+/// `append_named` and `append_line_count`.
 fn append_record<A: Allocator>(line: &TraceLine<'_>, text: &mut Bytes<A>) -> Result<(), Memory>
     ensures ok { OnOk result (text.new ≡ text.old ++ printed (line_data line.now)) }
     ensures err { OnErr result ((more : List ℕ) × (text.new ≡ text.old ++ more)) }
@@ -115,7 +114,7 @@ fn append_branch<A: Allocator>(
     text.append(line.get())
 }
 
-/// Puts the field that says how often a branch was taken before the bytes that the line has so far.
+/// Prepends how often a branch was taken to the rest of its line.
 #[inline]
 fn put_taken(taken: Option<u128>, line: &mut Tail)
     requires { length line.old + 39 ≤ 168 }

@@ -1,5 +1,5 @@
-//! Reading one line of a tracefile. The first bytes say which key the line has. Then the key's fields are read from left to
-//! right, by a function for this key. Nothing is copied.
+//! Parses one line of a tracefile. The first bytes decide the line's key. Then a function for this key parses its fields from left
+//! to right. Copies nothing.
 
 ghost use Rattle.std.specs.Prelude.{◌≡◌, ◌≤◌, ◌+◌, ◌*◌, ◌-◌, ◌++◌, ◌∷◌, ℕ, All, List, Option, [], None, Some, Ok, codes, option_map, Err, MatchOption, MatchResult, IfOk, IfErr, IfSome};
 ghost use Rattle.covline.specs.declared.trace_line.LineFault.{LineFault};
@@ -14,7 +14,7 @@ use crate::names::{good_checksum, is_checksum_byte};
 use crate::point::BranchPoint;
 use crate::trace_line::{LineFault, TotalKind, TraceLine};
 
-/// The number that digits say. The variant shows how large it is.
+/// A parsed number. The variant shows how large it is.
 #[derive(Clone, Copy)]
 pub enum Number {
     /// A number below 2^64. Most numbers are.
@@ -36,7 +36,7 @@ impl Number {
         }
     }
 
-    /// The number if it fits 64 bits, else `NumberTooLarge`.
+    /// The number if it fits into 64 bits, else `NumberTooLarge`.
     pub fn fit(self) -> Result<u64, LineFault>
         ensures { result ≡ fit self }
     {
@@ -46,7 +46,7 @@ impl Number {
         }
     }
 
-    /// The number if it fits the 128 bits of a count, else `NumberTooLarge`.
+    /// The number if it fits into the 128 bits of a count, else `NumberTooLarge`.
     pub fn fit_count(self) -> Result<u128, LineFault>
         ensures { result ≡ fit_count self }
     {
@@ -57,7 +57,7 @@ impl Number {
         }
     }
 
-    /// The number if it fits 64 bits, else `None`: for callers that leave larger numbers to `read_line`.
+    /// The number if it fits into 64 bits, else `None`: for callers that leave larger numbers to `read_line`.
     fn small(self) -> Option<u64>
         ensures { result ≡ small_of self }
     {
@@ -92,11 +92,11 @@ fn push_wide(value: u128, digit: u8) -> Number
     }
 }
 
-/// The largest number that stays below 2^64 whatever digit is appended. All numbers of 18 digits are below it, so a number of
-/// up to 19 digits is read without overflow checks.
+/// The largest number that stays below 2^64 with any further digit. Numbers of 18 digits are below it, so up to 19 digits are read
+/// without overflow checks.
 const LARGEST_EXTENDABLE: u64 = 1_844_674_407_370_955_160;
 
-/// The number that the digits at the front of the text say, and what follows them. It is 0 if there are none.
+/// The number made of the digits at the front of the text, and what follows them. The number is 0 if there are none.
 fn read_digits(text: &[u8]) -> (Number, &[u8])
     ensures value { result.0 ≡ (digits_from (Number.Value 0) text.now).0 }
     ensures rest { result.1.now ≡ (digits_from (Number.Value 0) text.now).1 }
@@ -116,7 +116,7 @@ fn read_digits(text: &[u8]) -> (Number, &[u8])
     (Number::Value(value), rest)
 }
 
-/// The number followed by the digits at the front of the text, each appended with an overflow check, and what follows them.
+/// The number with the digits at the front of the text appended, each with an overflow check, and what follows them.
 #[cold]
 fn read_more_digits(front: Number, text: &[u8]) -> (Number, &[u8])
     ensures value { result.0 ≡ (digits_from front text.now).0 }
@@ -134,7 +134,7 @@ fn read_more_digits(front: Number, text: &[u8]) -> (Number, &[u8])
     (number, rest)
 }
 
-/// The number at the front of the text, and what follows it. `None` if the text doesn't begin with a digit.
+/// The number at the front of the text, and what follows it. Returns `None` if the text doesn't begin with a digit.
 pub fn read_number(text: &[u8]) -> Option<(Number, &[u8])>
     ensures { option_map (λ front. (front.0, front.1.now)) result ≡ number_at text.now }
 {
@@ -144,7 +144,7 @@ pub fn read_number(text: &[u8]) -> Option<(Number, &[u8])>
     }
 }
 
-/// The number that the text is, or `None` if the text isn't one or more digits.
+/// Parses the whole text as a number. Returns `None` if it isn't one or more digits.
 pub fn read_whole(text: &[u8]) -> Option<Number>
     ensures { result ≡ number_of text.now }
 {
@@ -166,7 +166,7 @@ pub fn read_count(text: &[u8]) -> Option<(Number, &[u8])>
     Some((Number::Value(0), rest))
 }
 
-/// The number, and what follows the comma at the front of `rest`. `None` if `rest` doesn't begin with a comma.
+/// The number, and what follows the comma at the front of `rest`. Returns `None` if `rest` doesn't begin with a comma.
 pub fn split_comma(number: Number, rest: &[u8]) -> Option<(Number, &[u8])>
     ensures { option_map (λ front. (front.0, front.1.now)) result ≡ before_comma number rest.now }
 {
@@ -184,7 +184,7 @@ pub fn read_field(text: &[u8]) -> Option<(Number, &[u8])>
     split_comma(number, rest)
 }
 
-/// How often a branch was taken: `Some(None)` for `-`, and `None` if the text is neither `-` nor a number.
+/// Parses how often a branch was taken. Returns `Some(None)` for `-`, and `None` if the text is neither `-` nor a number.
 pub fn read_taken(text: &[u8]) -> Option<Option<Number>>
     ensures { result ≡ taken_of text.now }
 {
@@ -194,15 +194,15 @@ pub fn read_taken(text: &[u8]) -> Option<Option<Number>>
     }
 }
 
-/// The text if it is a checksum.
+/// Returns the text if it is a checksum.
 fn whole_checksum(text: &[u8]) -> Option<&[u8]>
     ensures { option_map (λ c. c.now) result ≡ only_checksum text.now }
 {
     good_checksum(text).then_some(text)
 }
 
-/// The checksum in the text that follows a line's count. `Some(None)` if the text is empty, and `None` if it is anything else
-/// than a comma and a checksum.
+/// Parses the checksum after a line's count. Returns `Some(None)` if the text is empty, and `None` if it is anything but a comma
+/// and a checksum.
 fn read_checksum(text: &[u8]) -> Option<Option<&[u8]>>
     ensures { option_map (option_map (λ c. c.now)) result ≡ checksum_of text.now }
 {
@@ -213,7 +213,7 @@ fn read_checksum(text: &[u8]) -> Option<Option<&[u8]>>
     }
 }
 
-/// Reads the fields after `FN:`.
+/// Parses the fields after `FN:`.
 fn start_record(fields: &[u8]) -> Result<TraceLine<'_>, LineFault>
     ensures { Gives result (start_fields fields.now) }
 {
@@ -224,7 +224,7 @@ fn start_record(fields: &[u8]) -> Result<TraceLine<'_>, LineFault>
     Ok(TraceLine::FuncStart { line, name })
 }
 
-/// Reads the fields after `FNDA:`.
+/// Parses the fields after `FNDA:`.
 fn func_count_record(fields: &[u8]) -> Result<TraceLine<'_>, LineFault>
     ensures { Gives result (func_count_fields fields.now) }
 {
@@ -238,7 +238,7 @@ fn func_count_record(fields: &[u8]) -> Result<TraceLine<'_>, LineFault>
     Ok(TraceLine::FuncCount { count, name })
 }
 
-/// Reads the fields after `BRDA:`.
+/// Parses the fields after `BRDA:`.
 fn branch_record(fields: &[u8]) -> Result<TraceLine<'_>, LineFault>
     ensures { Gives result (branch_fields fields.now) }
 {
@@ -281,7 +281,7 @@ fn fit_branch<'a>(
     })
 }
 
-/// Reads the fields after `DA:`.
+/// Parses the fields after `DA:`.
 fn line_record(fields: &[u8]) -> Result<TraceLine<'_>, LineFault>
     ensures { Gives result (line_fields fields.now) }
 {
@@ -303,7 +303,7 @@ fn line_record(fields: &[u8]) -> Result<TraceLine<'_>, LineFault>
     })
 }
 
-/// Reads the field after the key of a total.
+/// Parses the field after the key of a total.
 fn total_record(kind: TotalKind, field: &[u8]) -> Result<TraceLine<'_>, LineFault>
     ensures { Gives result (total_fields kind field.now) }
 {
@@ -314,7 +314,7 @@ fn total_record(kind: TotalKind, field: &[u8]) -> Result<TraceLine<'_>, LineFaul
     Ok(TraceLine::Total { kind, value })
 }
 
-/// Reads the field after `SF:`, which may not be empty.
+/// Parses the field after `SF:`, which may not be empty.
 fn path_record(path: &[u8]) -> Result<TraceLine<'_>, LineFault>
     ensures { Gives result (path_fields path.now) }
 {
@@ -324,7 +324,7 @@ fn path_record(path: &[u8]) -> Result<TraceLine<'_>, LineFault>
     Ok(TraceLine::Path(path))
 }
 
-/// Reads what follows the first byte `B` of a line: a key of branches, or no key.
+/// Parses a line after its first byte `B`: a key of branches, or an unknown key.
 #[tactic(auto, unfolding(crate::specs::Reading::read_of))]
 fn branch_key(rest: &[u8]) -> Result<TraceLine<'_>, LineFault>
     ensures { Gives result (read_of (codes "B" ++ rest.now)) }
@@ -341,7 +341,7 @@ fn branch_key(rest: &[u8]) -> Result<TraceLine<'_>, LineFault>
     Ok(TraceLine::Skip)
 }
 
-/// Reads what follows the first byte `F` of a line: a key of functions, or no key.
+/// Parses a line after its first byte `F`: a key of functions, or an unknown key.
 #[tactic(auto, unfolding(crate::specs::Reading::read_of))]
 fn function_key(rest: &[u8]) -> Result<TraceLine<'_>, LineFault>
     ensures { Gives result (read_of (codes "F" ++ rest.now)) }
@@ -361,7 +361,7 @@ fn function_key(rest: &[u8]) -> Result<TraceLine<'_>, LineFault>
     Ok(TraceLine::Skip)
 }
 
-/// Reads what follows the first byte `L` of a line: a total of lines, or no key.
+/// Parses a line after its first byte `L`: a total of lines, or an unknown key.
 #[tactic(auto, unfolding(crate::specs::Reading::read_of))]
 fn line_total(rest: &[u8]) -> Result<TraceLine<'_>, LineFault>
     ensures { Gives result (read_of (codes "L" ++ rest.now)) }
@@ -375,7 +375,7 @@ fn line_total(rest: &[u8]) -> Result<TraceLine<'_>, LineFault>
     Ok(TraceLine::Skip)
 }
 
-/// What follows the key, if the text begins with it.
+/// The text after this key. Returns `None` if the text doesn't begin with the key.
 pub fn strip_key<'a>(text: &'a [u8], key: &[u8]) -> Option<&'a [u8]>
     ensures { option_map (λ rest. rest.now) result ≡ after_key key.now text.now }
 {
@@ -391,7 +391,7 @@ pub fn strip_key<'a>(text: &'a [u8], key: &[u8]) -> Option<&'a [u8]>
     Some(rest)
 }
 
-/// Reads what follows the first byte `e` of a line: the end of a section, or nothing.
+/// Parses a line after its first byte `e`: the end of a section, or an unknown key.
 #[tactic(auto, unfolding(crate::specs::Reading::read_of))]
 fn end_key(rest: &[u8]) -> TraceLine<'_>
     ensures { read_of (codes "e" ++ rest.now) ≡ Ok (line_data result) }
@@ -402,7 +402,7 @@ fn end_key(rest: &[u8]) -> TraceLine<'_>
     }
 }
 
-/// Reads what follows the first byte `D` of a line: the key of a counted line, or no key.
+/// Parses a line after its first byte `D`: the key of a counted line, or an unknown key.
 #[tactic(auto, unfolding(crate::specs::Reading::read_of))]
 fn line_key(rest: &[u8]) -> Result<TraceLine<'_>, LineFault>
     ensures { Gives result (read_of (codes "D" ++ rest.now)) }
@@ -413,7 +413,7 @@ fn line_key(rest: &[u8]) -> Result<TraceLine<'_>, LineFault>
     Ok(TraceLine::Skip)
 }
 
-/// Reads what follows the first byte `S` of a line: the key of a path, or no key.
+/// Parses a line after its first byte `S`: the key of a path, or an unknown key.
 #[tactic(auto, unfolding(crate::specs::Reading::read_of))]
 fn path_key(rest: &[u8]) -> Result<TraceLine<'_>, LineFault>
     ensures { Gives result (read_of (codes "S" ++ rest.now)) }
@@ -424,7 +424,7 @@ fn path_key(rest: &[u8]) -> Result<TraceLine<'_>, LineFault>
     Ok(TraceLine::Skip)
 }
 
-/// Reads what follows the first byte `T` of a line: the key of a test, or no key.
+/// Parses a line after its first byte `T`: the key of a test, or an unknown key.
 #[tactic(auto, unfolding(crate::specs::Reading::read_of))]
 fn test_key(rest: &[u8]) -> TraceLine<'_>
     ensures { read_of (codes "T" ++ rest.now) ≡ Ok (line_data result) }
@@ -435,7 +435,7 @@ fn test_key(rest: &[u8]) -> TraceLine<'_>
     }
 }
 
-/// Reads a line that is given as its first byte and the rest.
+/// Parses a line, given as its first byte and the rest.
 #[tactic(auto, unfolding(crate::specs::Reading::read_of))]
 fn read_after(first: u8, rest: &[u8]) -> Result<TraceLine<'_>, LineFault>
     ensures { Gives result (read_of (first ∷ rest.now)) }
@@ -452,7 +452,7 @@ fn read_after(first: u8, rest: &[u8]) -> Result<TraceLine<'_>, LineFault>
     }
 }
 
-/// Reads a line. An empty line says nothing.
+/// Parses a line. An empty line is `Skip`.
 #[tactic(auto, unfolding(crate::specs::Reading::read_of))]
 pub fn read_any(line: &[u8]) -> Result<TraceLine<'_>, LineFault>
     ensures { Gives result (read_of line.now) }
@@ -463,9 +463,9 @@ pub fn read_any(line: &[u8]) -> Result<TraceLine<'_>, LineFault>
     }
 }
 
-/// Reads one line of a tracefile (geninfo(1), section FILES), given without its line feed and the carriage returns before it.
-/// Texts are slices of the line. Faults of a line with a known key: `BadLine` if it doesn't have the key's form, which is
-/// tested first; `NumberTooLarge` if a count is 2^128 or more, or another number 2^64 or more; `EmptyPath` for `SF:` alone.
+/// Parses one line of a tracefile (geninfo(1), section FILES), given without its line feed and the carriage returns before it.
+/// Names are slices of the line. Errors of a line with a known key: `BadLine` if it doesn't have the key's form, which is checked
+/// first; `NumberTooLarge` if a count is 2^128 or more, or another number 2^64 or more; `EmptyPath` for `SF:` alone.
 pub fn read_line(line: &[u8]) -> Result<TraceLine<'_>, LineFault>
     ensures ok { IfOk result (λ t. Spells line.now (line_data t)) }
     ensures err { IfErr result (λ f. HasFault line.now f) }
@@ -475,7 +475,7 @@ pub fn read_line(line: &[u8]) -> Result<TraceLine<'_>, LineFault>
     read_any(line)
 }
 
-/// What follows `DA:`, if the text begins with it.
+/// The text after `DA:`. Returns `None` if the text doesn't begin with `DA:`.
 fn after_count_key(text: &[u8]) -> Option<&[u8]>
     ensures { option_map (λ rest. rest.now) result ≡ after_key (codes "DA:") text.now }
 {
@@ -485,7 +485,7 @@ fn after_count_key(text: &[u8]) -> Option<&[u8]>
     }
 }
 
-/// What follows a line feed, if the text begins with one.
+/// The text after its first byte, a line feed. Returns `None` if the text doesn't begin with one.
 pub fn after_feed(text: &[u8]) -> Option<&[u8]>
     ensures { option_map (λ rest. rest.now) result ≡ after_key (line_feed ∷ []) text.now }
 {
@@ -495,7 +495,7 @@ pub fn after_feed(text: &[u8]) -> Option<&[u8]>
     }
 }
 
-/// What the first line of a text says if it is a `DA:` line, and the rest of the text.
+/// The meaning of a text's first line, a `DA:` line, and the rest of the text.
 #[derive(Clone, Copy)]
 pub struct LineCount<'a> {
     /// The line of the source file.
@@ -508,7 +508,7 @@ pub struct LineCount<'a> {
     pub rest: &'a [u8],
 }
 
-/// Skips the bytes at the front of the text that a checksum may have, and returns what follows them.
+/// The text without the bytes at its front that a checksum may have.
 fn after_checksum(text: &[u8]) -> &[u8]
     ensures { result.now ≡ after_checksum text.now }
 {
@@ -522,7 +522,7 @@ fn after_checksum(text: &[u8]) -> &[u8]
     rest
 }
 
-/// The checksum at the front of the text, and what follows it. `None` if there is no checksum.
+/// The checksum at the front of the text, and what follows it. Returns `None` if there is no checksum.
 fn front_checksum(text: &[u8]) -> Option<(&[u8], &[u8])>
     ensures { option_map (λ front. (front.0.now, front.1.now)) result ≡ checksum_front text.now }
 {
@@ -534,8 +534,8 @@ fn front_checksum(text: &[u8]) -> Option<(&[u8], &[u8])>
     Some((checksum, rest))
 }
 
-/// The checksum after a line's count, if there is one, and what follows the line feed. `None` unless the count is followed by
-/// a line feed, or by a comma, a checksum and a line feed.
+/// The optional checksum after a line's count, and what follows the line feed. Returns `None` unless the count is followed by a
+/// line feed, or by a comma, a checksum and a line feed.
 fn split_count_end(text: &[u8]) -> Option<(Option<&[u8]>, &[u8])>
     ensures { option_map (λ end. (option_map (λ c. c.now) end.0, end.1.now)) result ≡ count_end text.now }
 {
@@ -546,9 +546,9 @@ fn split_count_end(text: &[u8]) -> Option<(Option<&[u8]>, &[u8])>
     Some((None, after_feed(text)?))
 }
 
-/// Reads the first line of the text in one pass, if it is `DA:<line>,<count>` or `DA:<line>,<count>,<checksum>` and ends in a
-/// line feed, and if both numbers are digits alone and below 2^64. Most lines of a tracefile are such lines. For any other first
-/// line it returns `None`. Then the caller cuts the line and reads it.
+/// Parses the first line of the text in one pass if it is `DA:<line>,<count>` or `DA:<line>,<count>,<checksum>`, ends in a line
+/// feed, and has only digits below 2^64 as numbers. Most lines of a tracefile are such lines. Returns `None` for any other first
+/// line, which the caller then cuts off and parses.
 #[inline(always)]
 pub fn try_line_count(text: &[u8]) -> Option<LineCount<'_>>
     ensures says { IfSome result (λ f. BeginsWithLine text.now (Line f.line f.count (option_map (λ c. c.now) f.checksum)) f.rest.now) }
@@ -558,7 +558,7 @@ pub fn try_line_count(text: &[u8]) -> Option<LineCount<'_>>
     front_counted(text)
 }
 
-/// Reads the first line for `try_line_count`, from left to right.
+/// Parses the first line for `try_line_count`, from left to right.
 #[inline(always)]
 fn front_counted(text: &[u8]) -> Option<LineCount<'_>>
     ensures { option_map (λ f. ((f.line, f.count), (option_map (λ c. c.now) f.checksum, f.rest.now))) result ≡ counted_front text.now }
@@ -574,7 +574,7 @@ fn front_counted(text: &[u8]) -> Option<LineCount<'_>>
     })
 }
 
-/// What the first line of a text says if it is a `BRDA:` line, and the rest of the text.
+/// The meaning of a text's first line, a `BRDA:` line, and the rest of the text.
 #[derive(Clone, Copy)]
 pub struct BranchLine<'a> {
     /// The branch.
@@ -585,7 +585,7 @@ pub struct BranchLine<'a> {
     pub rest: &'a [u8],
 }
 
-/// The number at the front of the text, if it is below 2^64, and what follows the comma after it.
+/// The number at the front of the text, and what follows the comma after it. Returns `None` if the number isn't below 2^64.
 pub fn small_field(text: &[u8]) -> Option<(u64, &[u8])>
     ensures { option_map (λ front. (front.0, front.1.now)) result ≡ small_front (field_at text.now) }
 {
@@ -593,7 +593,7 @@ pub fn small_field(text: &[u8]) -> Option<(u64, &[u8])>
     Some((number.small()?, rest))
 }
 
-/// The number at the front of the text, if it is below 2^64, and what follows it.
+/// The number at the front of the text, and what follows it. Returns `None` if the number isn't below 2^64.
 pub fn small_number(text: &[u8]) -> Option<(u64, &[u8])>
     ensures { option_map (λ front. (front.0, front.1.now)) result ≡ small_front (number_at text.now) }
 {
@@ -601,8 +601,8 @@ pub fn small_number(text: &[u8]) -> Option<(u64, &[u8])>
     Some((number.small()?, rest))
 }
 
-/// The field at the front of the text that says how often a branch was taken, and what follows it. The field is `-`, which
-/// gives `None`, or a number below 2^64.
+/// Parses the field at the front of the text, which says how often a branch was taken. The field is `-`, which gives `None`, or a
+/// number below 2^64. Returns it with what follows it.
 #[inline(always)]
 pub fn front_taken(text: &[u8]) -> Option<(Option<u64>, &[u8])>
     ensures { option_map (λ front. (front.0, front.1.now)) result ≡ taken_front text.now }
@@ -614,9 +614,9 @@ pub fn front_taken(text: &[u8]) -> Option<(Option<u64>, &[u8])>
     Some((Some(taken), rest))
 }
 
-/// Reads the first line of the text in one pass, as `try_line_count` does, if it is `BRDA:<line>,<block>,<branch>,<taken>` and
-/// ends in a line feed. All four fields have to be digits, with numbers below 2^64; the last one may also be `-`. For any other
-/// first line it returns `None`. Then the caller cuts the line and reads it.
+/// Parses the first line of the text in one pass if it is `BRDA:<line>,<block>,<branch>,<taken>`, ends in a line feed, and has only
+/// digits below 2^64 as numbers; the last may also be `-`. Returns `None` for any other first line, which the caller then cuts off
+/// and parses.
 #[inline(always)]
 pub fn try_branch_line(text: &[u8]) -> Option<BranchLine<'_>>
     ensures says { IfSome result (λ f. BeginsWithLine text.now (Branch f.point.line f.point.block f.point.branch f.taken) f.rest.now) }
@@ -626,7 +626,7 @@ pub fn try_branch_line(text: &[u8]) -> Option<BranchLine<'_>>
     front_branch(text)
 }
 
-/// Reads the first line for `try_branch_line`, from left to right.
+/// Parses the first line for `try_branch_line`, from left to right.
 #[inline(always)]
 fn front_branch(text: &[u8]) -> Option<BranchLine<'_>>
     ensures { option_map (λ f. ((branch_point_data f.point, f.taken), f.rest.now)) result ≡ branch_front text.now }

@@ -6,14 +6,14 @@ use crate::memory::Memory;
 use std::alloc::{Allocator, Global};
 use std::marker::Model;
 
-/// What one test says about one source file.
+/// The counts of one test for one source file.
 #[derive(Drop)]
 pub struct Sect<A: Allocator = Global> {
     /// The test's name, which may be empty (`TN:`).
     pub test: Bytes<A>,
     /// The source file's path (`SF:`).
     pub file: Bytes<A>,
-    /// The items, in the order in which the text says them.
+    /// The items, in the order of the input.
     pub items: Items<A>,
 }
 
@@ -21,7 +21,7 @@ impl<A: Allocator + Copy> Sect<A> {
     ghost use Rattle.std.specs.Prelude.{◌≡◌, IfOk};
     ghost use Rattle.covline.specs.SectView.{sect_data};
 
-    /// An equal section, in memory of its own.
+    /// Copies the section.
     pub(crate) fn copy(&self, alloc: A) -> Result<Sect<A>, Memory>
         ensures { IfOk result (λ s. sect_data s ≡ sect_data self.now) }
     {
@@ -37,7 +37,7 @@ impl<A: Allocator> Sect<A> {
     ghost use Rattle.std.specs.Prelude.{◌≡◌, ◌↔◌, IsTrue};
     ghost use Rattle.covline.specs.SectView.{sect_data};
 
-    /// Whether the other section says the same of the same test and file. Takes no memory.
+    /// Whether the sections are equal. Never allocates.
     pub fn is_same(&self, other: &Sect<A>) -> bool
         ensures { IsTrue result ↔ (sect_data self.now ≡ sect_data other.now) }
     {
@@ -47,7 +47,7 @@ impl<A: Allocator> Sect<A> {
     }
 }
 
-/// A list of sections. Contracts see what the sections say.
+/// A list of sections. Contracts see the sections as plain data.
 #[derive(Drop)]
 pub struct Sects<A: Allocator = Global> {
     sects: Vec<Sect<A>, A>,
@@ -67,7 +67,7 @@ impl<A: Allocator + Copy> Sects<A> {
     ghost use Rattle.std.specs.Prelude.{◌≡◌, ◌++◌, [], ◌∷◌, IfOk, OnOk};
     ghost use Rattle.covline.specs.SectView.{sect_data};
 
-    /// An equal list, in memory of its own.
+    /// Copies the list.
     pub fn copy(&self, alloc: A) -> Result<Sects<A>, Memory>
         ensures { IfOk result (λ s. s ≡ self.now) }
     {
@@ -80,7 +80,7 @@ impl<A: Allocator + Copy> Sects<A> {
         Ok(copy)
     }
 
-    /// Appends an equal section, in memory of its own.
+    /// Appends a copy of the section.
     fn push_copy(&mut self, sect: &Sect<A>, alloc: A) -> Result<(), Memory>
         ensures { OnOk result (self.new ≡ self.old ++ sect_data sect.now ∷ []) }
     {
@@ -101,7 +101,7 @@ impl<A: Allocator> Sects<A> {
         }
     }
 
-    /// Appends a section. On `Memory` the section is dropped and the list stays as it was.
+    /// Appends a section. On `Memory`, drops the section and leaves the list unchanged.
     pub fn push(&mut self, sect: Sect<A>) -> Result<(), Memory>
         ensures ok { OnOk result (self.new ≡ self.old ++ sect_data sect ∷ []) }
         ensures err { OnErr result (self.new ≡ self.old) }
@@ -110,7 +110,7 @@ impl<A: Allocator> Sects<A> {
         Ok(())
     }
 
-    /// Whether the other list has equal sections in the same order. Takes no memory.
+    /// Whether the lists have equal sections in the same order. Never allocates.
     pub fn is_same(&self, other: &Sects<A>) -> bool
         ensures { IsTrue result ↔ (self.now ≡ other.now) }
     {
@@ -127,7 +127,7 @@ impl<A: Allocator> Sects<A> {
         true
     }
 
-    /// Frees the list's unused room, but none inside its sections. It is called when no more sections are to be appended.
+    /// Frees the list's own unused capacity, not that inside its sections. Called after the last section is appended.
     pub fn shrink(&mut self)
         ensures { self.new ≡ self.old }
     {

@@ -1,4 +1,4 @@
-//! Submissions: what one text says.
+//! Submissions: the content of one input.
 
 use crate::checks::{count_items, first_unlawful};
 use crate::memory::Memory;
@@ -7,13 +7,13 @@ use std::alloc::{Allocator, Global};
 use std::marker::Model;
 use thiserror::Error;
 
-/// Why sections make no submission.
+/// Why sections don't make a submission.
 #[derive(Clone, Copy, Debug, PartialEq, Eq, Error)]
 pub enum BadSubmission {
     /// Fault 1: there are more than 67,108,864 items.
     #[error("TooMany")]
     TooMany,
-    /// Fault 2: the section with this number, counted from 0, is the first with an unlawful text.
+    /// Fault 2: the section with this number, counted from 0, is the first with an unlawful name or checksum.
     #[error("BadText")]
     BadText { sect: usize },
 }
@@ -22,7 +22,7 @@ impl BadSubmission {
     ghost use Rattle.std.specs.Prelude.{◌≡◌};
     ghost use Rattle.covline.specs.Lawful.{refusal_number};
 
-    /// The number of the fault, 1 or 2.
+    /// The number of the error, 1 or 2.
     pub fn number(self) -> u32
         ensures { result ≡ refusal_number self }
     {
@@ -33,8 +33,8 @@ impl BadSubmission {
     }
 }
 
-/// What one text says: its sections and its number of odd lines. The sections have at most 67,108,864 items in all, and their
-/// texts are lawful. A line is odd if it doesn't fit its section. Contracts see the sections and the number.
+/// The content of one input: its sections and its number of inconsistent lines (`odd`), which don't fit their section. The sections
+/// have at most 67,108,864 items in all, and lawful names and checksums. Contracts see the sections and the number.
 #[derive(Drop)]
 pub struct Submission<A: Allocator = Global> {
     sects: Sects<A>,
@@ -57,7 +57,7 @@ impl<A: Allocator> Model for Submission<A> {
 impl<A: Allocator + Copy> Submission<A> {
     ghost use Rattle.std.specs.Prelude.{◌≡◌, IfOk};
 
-    /// An equal submission, in memory of its own.
+    /// Copies the submission.
     pub fn copy(&self, alloc: A) -> Result<Submission<A>, Memory>
         ensures { IfOk result (λ s. s ≡ self.now) }
     {
@@ -75,8 +75,8 @@ impl<A: Allocator> Submission<A> {
     ghost use Rattle.covline.specs.SectView.{sect_data};
     ghost use Rattle.covline.specs.Lawful.{IsLawful, IsRefusedAs};
 
-    /// The submission of these sections, with the number of odd lines of their text. If it is refused, the sections are given
-    /// back: they have too many items, or else one of their texts is unlawful.
+    /// Makes a submission of these sections, with the number of inconsistent lines of their input. Returns the sections with the
+    /// error if they have too many items, or an unlawful name or checksum.
     pub fn of(sects: Sects<A>, odd: u64) -> Result<Submission<A>, (Sects<A>, BadSubmission)>
         ensures ok { IfOk result (λ s. s ≡ record { sects = sects; odd = odd }) }
         ensures lawful { IsOk result ↔ IsLawful (record { sects = sects; odd = odd }) }
@@ -92,8 +92,8 @@ impl<A: Allocator> Submission<A> {
         Ok(Submission { sects, items, odd })
     }
 
-    /// The submission of sections that are known to be lawful, with the number of odd lines of their text. The names and
-    /// checksums of the sections aren't tested again.
+    /// Makes a submission of sections that are known to be lawful, with the number of inconsistent lines of their input. Doesn't
+    /// check the names and checksums again.
     pub fn of_lawful(sects: Sects<A>, odd: u64) -> Submission<A>
         requires { IsLawful (record { sects = sects; odd = odd }) }
         ensures { result ≡ record { sects = sects; odd = odd } }
@@ -102,14 +102,14 @@ impl<A: Allocator> Submission<A> {
         Submission { sects, items, odd }
     }
 
-    /// Whether the other submission says the same, with as many odd lines. Takes no memory.
+    /// Whether the submissions are equal. Never allocates.
     pub fn is_same(&self, other: &Submission<A>) -> bool
         ensures { IsTrue result ↔ (self.now ≡ other.now) }
     {
         self.odd == other.odd && self.sects.is_same(&other.sects)
     }
 
-    /// The sections, in the order of the text.
+    /// The sections, in the order of the input.
     pub fn sects(&self) -> &[Sect<A>]
         ensures sects { map sect_data result.now ≡ self.now.sects }
         ensures lawful { IsLawful self.now }
@@ -125,8 +125,8 @@ impl<A: Allocator> Submission<A> {
         self.items
     }
 
-    /// The number of odd lines in the text. A line is odd if it counts a function that has no start line, or if it states a
-    /// total that isn't the section's own.
+    /// The number of inconsistent lines of the input. Such a line counts a function without a start line, or states a total that
+    /// isn't the section's own.
     pub fn odd(&self) -> u64
         ensures { result ≡ self.now.odd }
     {

@@ -1,4 +1,4 @@
-//! The end of a line, put together from its last byte to its first.
+//! Builds the end of a line, from its last byte to its first.
 
 ghost use Rattle.std.specs.Prelude.{◌≡◌, ◌+◌, ◌<◌, ◌≤◌, ◌++◌, [], ◌∷◌, decimal, length};
 ghost use Rattle.covline.specs.Spells.{comma};
@@ -6,11 +6,11 @@ ghost use Rattle.covline.specs.Spells.{comma};
 use itoa::{Buffer, write_digits};
 use std::marker::Model;
 
-/// How many bytes there is room for. A line has at most a key of 5 bytes, four numbers of up to 39 digits, a comma after each,
-/// and a line feed.
+/// The capacity in bytes. A line has at most a key of 5 bytes, four numbers of up to 39 digits, a comma after each, and a line
+/// feed.
 const ROOM: usize = 168;
 
-/// The end of a line of numbers, put together from its last byte to its first. Contracts see its bytes.
+/// The end of a line of numbers, which is built from its last byte to its first. Contracts see its bytes.
 #[derive(Drop)]
 pub(crate) struct Tail {
     bytes: [u8; ROOM],
@@ -27,7 +27,7 @@ impl Model for Tail {
 }
 
 impl Tail {
-    /// The end of a line, without bytes yet.
+    /// An empty end of a line.
     #[inline]
     pub(crate) fn new() -> Tail
         ensures { result ≡ [] }
@@ -46,7 +46,7 @@ impl Tail {
         &self.bytes[self.start..]
     }
 
-    /// Puts a byte before the others.
+    /// Prepends a byte.
     #[inline]
     pub(crate) fn put(&mut self, byte: u8)
         requires { length self.old < 168 }
@@ -56,7 +56,7 @@ impl Tail {
         self.bytes[self.start] = byte;
     }
 
-    /// Puts a text before the others.
+    /// Prepends a text.
     #[inline]
     pub(crate) fn put_text(&mut self, text: &[u8])
         requires { length text.now + length self.old ≤ 168 }
@@ -67,7 +67,7 @@ impl Tail {
         self.bytes[self.start..end].copy_from_slice(text);
     }
 
-    /// Puts a number in decimal before the others.
+    /// Prepends a number in decimal.
     #[inline]
     pub(crate) fn put_number(&mut self, number: u128)
         requires { length self.old + 39 ≤ 168 }
@@ -80,7 +80,7 @@ impl Tail {
         }
     }
 
-    /// Puts a number of 64 bits in decimal before the others.
+    /// Prepends a number of 64 bits in decimal.
     #[inline]
     fn put_small(&mut self, number: u64)
         requires { length self.old + 20 ≤ 168 }
@@ -90,7 +90,7 @@ impl Tail {
         self.start = write_digits(number, &mut self.bytes, self.start);
     }
 
-    /// Puts a number and a comma before the others.
+    /// Prepends a number and a comma.
     #[inline]
     pub(crate) fn put_field(&mut self, number: u128)
         requires { length self.old + 40 ≤ 168 }

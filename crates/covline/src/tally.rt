@@ -1,14 +1,13 @@
-//! How many points there are.
+//! Tallies of points.
 
 ghost use Rattle.std.specs.Prelude.{◌≡◌, ◌+◌, ◌<◌, ◌≤◌, ◌^◌, if◌then◌else◌};
 
-/// How many points of a kind (functions, branches or lines) there are, and how many of them have an execution count
-/// above 0.
+/// How many points of a kind (functions, branches or lines) there are, and how many have an execution count above 0.
 #[derive(Clone, Copy, Debug, PartialEq, Eq)]
 pub struct Tally {
-    /// How many there are.
+    /// The number of points.
     pub found: u64,
-    /// How many of them have an execution count above 0.
+    /// The number of points with an execution count above 0.
     pub hit: u64,
     ghost fewer: { hit ≤ found },
 }
@@ -17,7 +16,7 @@ impl Tally {
     /// The tally of no points.
     pub const NONE: Tally = Tally { found: 0, hit: 0 };
 
-    /// The tally with one more point, which is hit or not.
+    /// The tally with one more point, hit or not.
     pub fn and(self, is_hit: bool) -> Tally
         requires { self.found + 1 < 2 ^ 64 }
         ensures found { result.found ≡ self.found + 1 }

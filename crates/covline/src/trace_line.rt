@@ -5,7 +5,7 @@ ghost use Rattle.covline.specs.Spells.{fault_number};
 
 use thiserror::Error;
 
-/// Which total of a section a line states.
+/// The totals that a line can state about a section.
 #[derive(Clone, Copy, Debug, PartialEq, Eq)]
 pub enum TotalKind {
     /// `FNF:`, the functions with a start line.
@@ -22,12 +22,12 @@ pub enum TotalKind {
     LineHit,
 }
 
-/// What one line says. Names, paths and checksums are slices of the line.
+/// The meaning of one line (a record). Names, paths and checksums are slices of the line.
 #[derive(Clone, Copy)]
 pub enum TraceLine<'a> {
     /// `TN:<name>`, the test name of the sections that follow. It may be empty.
     Test(&'a [u8]),
-    /// `SF:<path>`, a source file's section begins.
+    /// `SF:<path>`, the beginning of a source file's section.
     Path(&'a [u8]),
     /// `FN:<line>,<name>`, the line that a function starts at. The name isn't empty.
     FuncStart {
@@ -39,8 +39,8 @@ pub enum TraceLine<'a> {
         count: u128,
         name: &'a [u8],
     },
-    /// `BRDA:<line>,<block>,<branch>,<taken>`, how often a branch was taken: `None` for `-`, which says that its block
-    /// was never executed.
+    /// `BRDA:<line>,<block>,<branch>,<taken>`, how often a branch was taken: `None` for `-`, which means that its block was never
+    /// executed.
     Branch {
         line: u64,
         block: u64,
@@ -59,13 +59,13 @@ pub enum TraceLine<'a> {
         kind: TotalKind,
         value: u64,
     },
-    /// `end_of_record`, the section ends.
+    /// `end_of_record`, the end of a section.
     End,
-    /// Any other line, which says nothing.
+    /// Any other line, which has no meaning here.
     Skip,
 }
 
-/// Why a line can't be read.
+/// Why a line can't be parsed.
 #[derive(Clone, Copy, Debug, PartialEq, Eq, Error)]
 pub enum LineFault {
     /// The line has a known key, but not the key's form.
@@ -80,7 +80,7 @@ pub enum LineFault {
 }
 
 impl LineFault {
-    /// The number of the fault, 1 to 3.
+    /// The number of the error, 1 to 3.
     pub fn number(self) -> u32
         ensures { result ≡ fault_number self }
     {

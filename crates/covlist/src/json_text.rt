@@ -1,4 +1,4 @@
-//! The files with their totals, and totals alone, as JSON.
+//! Prints files with their totals, or only totals, as JSON.
 
 ghost use Rattle.std.specs.Prelude.{◌≡◌, ◌++◌, IfOk, OnOk, codes, if◌then◌else◌};
 ghost use Rattle.hex.specs.Hex.{encode_lower};
@@ -15,14 +15,14 @@ use covstore::{FileTotals, Store, Totals};
 use json::Writer;
 use std::alloc::Allocator;
 
-/// The chosen files with their totals, as one JSON object (RFC 8259): `{"files":[..],"total":{..}}`. `files` has an object for each
-/// chosen file, ascending by path, each on a line of its own. `total` has the totals of the chosen files. Totals are those of
-/// lines, functions and branches, each `{"found":7,"hit":6}`. A file has its path under `file`, or under `file_hex` in lower-case
-/// hexadecimal if the path isn't UTF-8.
+/// Prints the chosen files with their totals as one JSON object (RFC 8259). It is `{"files":[..],"total":{..}}`. `files` has an
+/// object for each chosen file, ascending by path, each on a line of its own. `total` has the totals of the chosen files. Totals
+/// are those of lines, functions and branches, each `{"found":7,"hit":6}`. A file has its path under `file`, or under `file_hex` in
+/// lower-case hexadecimal if the path isn't UTF-8.
 ///
 /// # Errors
 ///
-/// `Memory` if memory was refused.
+/// `Memory` if an allocation failed.
 pub fn list_json<A: Allocator + Copy>(
     alloc: A,
     store: &Store<A>,
@@ -39,11 +39,11 @@ pub fn list_json<A: Allocator + Copy>(
     Ok(text)
 }
 
-/// The totals as one line of JSON (RFC 8259): how many lines, functions and branches are found, and how many of them are hit.
+/// Prints totals as one line of JSON (RFC 8259): how many lines, functions and branches are found, and how many of them are hit.
 ///
 /// # Errors
 ///
-/// `Memory` if memory was refused.
+/// `Memory` if an allocation failed.
 pub fn summary_json<A: Allocator>(alloc: A, totals: &Totals) -> Result<Bytes<A>, Memory>
     ensures { IfOk result (λ t. t ≡ summary_json_of totals.now) }
 {
@@ -138,7 +138,7 @@ fn put_hexadecimal<A: Allocator>(alloc: A, bytes: &[u8], text: &mut Bytes<A>) ->
     text.append(digits.as_bytes())
 }
 
-/// Appends the members that say the totals.
+/// Appends the members with the totals.
 fn put_members<A: Allocator>(totals: &Totals, text: &mut Bytes<A>) -> Result<(), Memory>
     ensures { OnOk result (text.new ≡ text.old ++ members totals.now) }
 {

@@ -1,9 +1,9 @@
-//! Lists the source files of a store with their totals: as a table (lcov(1), `--list`) and as JSON (RFC 8259). Gives totals alone as
-//! JSON, too.
+//! Lists the source files of a store with their totals: as a table (lcov(1), `--list`) and as JSON (RFC 8259). Also prints only
+//! totals as JSON.
 //!
-//! `list_table` is for people. A control byte in a file's name is shown as `\x` and two digits, so each file has one line.
-//! `list_json` is for programs. A name that is UTF-8 is a string under `file`. Any other name stands under `file_hex`, in
-//! hexadecimal.
+//! `list_table` is for people. It prints a control byte in a file's name as `\x` and two digits, so each file has one line.
+//! `list_json` is for programs. It prints a name as a string under `file` if the name is UTF-8, and otherwise in hexadecimal under
+//! `file_hex`.
 //!
 //! An example: the table of all files, and the totals as JSON.
 //!

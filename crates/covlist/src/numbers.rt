@@ -1,4 +1,4 @@
-//! Numbers in decimal, and the spaces in front of them.
+//! Appends numbers in decimal, and spaces in front of them.
 
 ghost use Rattle.std.specs.Prelude.{◌≡◌, ◌≤◌, ◌++◌, OnOk, decimal, length, replicate};
 

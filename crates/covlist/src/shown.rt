@@ -1,4 +1,4 @@
-//! The name of a file, as it is shown in a line of text.
+//! Prints names of files in lines of text.
 
 ghost use Rattle.std.specs.Prelude.{◌≡◌, ◌++◌, ◌∷◌, [], OnOk};
 ghost use Rattle.hex.specs.Hex.{encode_lower};
@@ -7,12 +7,12 @@ ghost use Rattle.covlist.specs.Shown.{is_control as is_control_byte, shown_byte,
 use covline::{Bytes, Memory};
 use std::alloc::Allocator;
 
-/// Appends a file's name. A control byte (below 32, or 127) is shown as `\x` and two lower-case hexadecimal digits, any other byte
-/// as it is. So what is appended has no line feed and no escape byte.
+/// Appends a file's name. A control byte (below 32, or 127) is printed as `\x` and two lower-case hexadecimal digits. Any other
+/// byte is unchanged. So the appended text has no line feed and no escape byte.
 ///
 /// # Errors
 ///
-/// `Memory` if memory was refused. The text may then end in a part of the name.
+/// `Memory` if an allocation failed. The text may then end with a part of the name.
 pub fn put_shown_name<A: Allocator>(name: &[u8], text: &mut Bytes<A>) -> Result<(), Memory>
     ensures { OnOk result (text.new ≡ text.old ++ shown_name name.now) }
 {
@@ -22,7 +22,7 @@ pub fn put_shown_name<A: Allocator>(name: &[u8], text: &mut Bytes<A>) -> Result<
     Ok(())
 }
 
-/// Appends a byte as it is shown.
+/// Appends a byte in printed form.
 fn put_shown_byte<A: Allocator>(byte: u8, text: &mut Bytes<A>) -> Result<(), Memory>
     ensures { OnOk result (text.new ≡ text.old ++ shown_byte byte) }
 {

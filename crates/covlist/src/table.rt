@@ -1,4 +1,4 @@
-//! The table of files with their totals.
+//! Prints the table of files with their totals.
 
 ghost use Rattle.std.specs.Prelude.{◌≡◌, ◌≤◌, ◌++◌, ◌∷◌, [], IfOk, OnOk, flat_map};
 ghost use Rattle.covstore.specs.FilesView.{file_totals_data};
@@ -15,14 +15,14 @@ use covreport::{Choice, chosen_totals, tenths};
 use covstore::{FileTotals, Store, Totals};
 use std::alloc::Allocator;
 
-/// The table of the chosen files (lcov(1), `--list`): a line of headings, a row for each file, ascending by path, and a row `Total`
-/// with the totals of the chosen files. A row has for lines, functions and branches the rate of points hit, and how many are hit
-/// of how many that are found; the rate is `-` if none is found. The name of a file stands last, as `put_shown_name` shows it. If no
-/// file is chosen, the row `Total` is the only one.
+/// Prints the table of the chosen files (lcov(1), `--list`): a line of headings, a row for each file, ascending by path, and a row
+/// `Total` with the totals of the chosen files. A row has the rate of points hit and the numbers hit and found, each for lines,
+/// functions and branches; the rate is `-` if none is found. The name of the file comes last, as `put_shown_name` prints it. If no
+/// file is chosen, `Total` is the only row.
 ///
 /// # Errors
 ///
-/// `Memory` if memory was refused.
+/// `Memory` if an allocation failed.
 pub fn list_table<A: Allocator + Copy>(
     alloc: A,
     store: &Store<A>,
@@ -81,7 +81,7 @@ fn put_headings<A: Allocator>(all: &Totals, text: &mut Bytes<A>) -> Result<(), M
     text.append(b"  File\n")
 }
 
-/// Appends the heading of a column in whose files `most` points are found.
+/// Appends the heading of a column. `most` is the greatest number in it.
 fn put_heading<A: Allocator>(most: u64, label: &[u8], text: &mut Bytes<A>) -> Result<(), Memory>
     ensures { OnOk result (text.new ≡ text.old ++ heading most label.now) }
 {
@@ -90,7 +90,7 @@ fn put_heading<A: Allocator>(most: u64, label: &[u8], text: &mut Bytes<A>) -> Re
     text.append(label)
 }
 
-/// The width of the numbers in a column in whose files `most` points are found.
+/// The width of a column's numbers, hit and found with the text between them. `most` is the greatest number.
 fn numbers_width(most: u64) -> usize
     ensures value { result ≡ width_of_numbers most }
     ensures narrow { result ≤ 41 }
@@ -98,7 +98,7 @@ fn numbers_width(most: u64) -> usize
     2 * digits(most) + 1
 }
 
-/// Appends the row of a name with its own totals, in columns for the totals of all.
+/// Appends the row of a name with its own totals. `all` decides the widths of the columns.
 fn put_row<A: Allocator>(
     all: &Totals,
     name: &[u8],
@@ -133,7 +133,7 @@ fn put_cell<A: Allocator>(
     put_numbers(numbers_width(most), hit, found, text)
 }
 
-/// Appends the rate of points hit, in 6 places.
+/// Appends the rate of points hit, padded to 6 characters.
 fn put_rate<A: Allocator>(hit: u64, found: u64, text: &mut Bytes<A>) -> Result<(), Memory>
     requires { hit ≤ found }
     ensures { OnOk result (text.new ≡ text.old ++ right_aligned 6 (rate hit found)) }
@@ -144,7 +144,7 @@ fn put_rate<A: Allocator>(hit: u64, found: u64, text: &mut Bytes<A>) -> Result<(
     put_percentage(tenths(hit, found), text)
 }
 
-/// Appends a rate in tenths of a percent as a percentage, in 6 places.
+/// Appends a rate in tenths of a percent as a percentage, padded to 6 characters.
 fn put_percentage<A: Allocator>(tenths: u32, text: &mut Bytes<A>) -> Result<(), Memory>
     ensures { OnOk result (text.new ≡ text.old ++ right_aligned 6 (percentage tenths)) }
 {
@@ -158,7 +158,7 @@ fn put_percentage<A: Allocator>(tenths: u32, text: &mut Bytes<A>) -> Result<(), 
     text.append(b"%")
 }
 
-/// Appends the numbers of points hit and found, in `width` places.
+/// Appends the numbers of points hit and found as one text, padded to `width` characters.
 fn put_numbers<A: Allocator>(
     width: usize,
     hit: u64,

@@ -1,11 +1,11 @@
-//! The seat of a job, with which it performs its steps.
+//! The handle of a job at a shared book.
 
 use covnews::Name;
 use std::marker::Model;
 use std::sync::ledger::{Book, Share};
 
-/// The seat of one job at a shared book. Contracts see the job, how many of its calls succeeded, and the place right after the
-/// entry of the last of these calls, or 0 if there is none.
+/// The seat (handle) of one job at a shared book. Contracts see the job, the number of its successful calls, and how many entries
+/// of the history it has seen: all up to that of its last successful call.
 #[derive(Drop)]
 pub struct Seat<L: Name> {
     job: u32,
@@ -30,7 +30,7 @@ impl<L: Name> Seat<L> {
     ghost use Rattle.covbook.specs.Step.{max_entries};
     ghost use Rattle.covlock.specs.Seat.{fresh_seat, after_call};
 
-    /// The seat of a job that has made no call, with a share of the count.
+    /// The seat of a job without calls, with a share of the count.
     pub(crate) fn new(job: u32, share: Share<L>) -> Seat<L>
         requires part { share.parts ≡ 1 }
         requires none { share.amount ≡ 0 }
@@ -44,28 +44,28 @@ impl<L: Name> Seat<L> {
         }
     }
 
-    /// The number of the job. Takes no memory, nor do `calls` and `seen`.
+    /// The number of the job. Neither this nor `calls` and `seen` allocate.
     pub fn job(&self) -> u32
         ensures { result ≡ self.now.job }
     {
         self.job
     }
 
-    /// How many of the job's calls succeeded.
+    /// The number of the job's successful calls.
     pub fn calls(&self) -> u64
         ensures { result ≡ self.now.calls }
     {
         self.calls
     }
 
-    /// The place after that of the last call that succeeded, or 0 before the first.
+    /// How many entries the job has seen: all up to that of its last successful call, or 0 before the first call.
     pub fn seen(&self) -> u64
         ensures { result ≡ self.now.seen }
     {
         self.seen
     }
 
-    /// Counts a call in the seat and in the book's count. The call's entry is at `place`.
+    /// Counts a call in the seat and in the book's count. `place` is the index of the call's entry.
     pub(crate) fn count_call(&mut self, count: &mut Book<L>, place: u64)
         requires few { count.old.total < max_entries }
         requires place { place < max_entries }
@@ -78,7 +78,7 @@ impl<L: Name> Seat<L> {
         self.seen = place + 1;
     }
 
-    /// Consumes the seat, and returns its share of the count.
+    /// Consumes the seat and returns its share of the count.
     pub(crate) fn into_share(self) -> Share<L>
         ensures part { result.parts ≡ 1 }
         ensures calls { result.amount ≡ self.calls }

@@ -1,4 +1,4 @@
-//! Lists of seats, as they are handed out to jobs and handed in again.
+//! Lists of seats.
 
 use crate::seat::Seat;
 use covline::Memory;
@@ -27,7 +27,7 @@ impl<L: Name, A: Allocator> Seats<L, A> {
     ghost use Rattle.covlock.specs.Seat.{calls_in, first_seats};
     ghost use Rattle.covlock.specs.Handed.{is_seated, AllAreSeated, IsLeastMissing};
 
-    /// The empty list. Takes no memory.
+    /// The empty list. Never allocates.
     pub fn new(alloc: A) -> Seats<L, A>
         ensures { result ≡ [] }
     {
@@ -36,21 +36,21 @@ impl<L: Name, A: Allocator> Seats<L, A> {
         }
     }
 
-    /// The list of these seats. Takes no memory.
+    /// The list of these seats. Never allocates.
     pub fn of(seats: Vec<Seat<L>, A>) -> Seats<L, A>
         ensures { result ≡ seats.items }
     {
         Seats { seats }
     }
 
-    /// Consumes the list, and returns its seats in order. Takes no memory.
+    /// Consumes the list, and returns its seats in order. Never allocates.
     pub fn into_vec(self) -> Vec<Seat<L>, A>
         ensures { result.items ≡ self }
     {
         self.seats
     }
 
-    /// Appends a seat. On `Memory` the seat is dropped and the list stays as it was.
+    /// Appends a seat. On `Memory`, drops the seat and leaves the list unchanged.
     pub fn push(&mut self, seat: Seat<L>) -> Result<(), Memory>
         ensures ok { OnOk result (self.new ≡ self.old ++ seat ∷ []) }
         ensures err { OnErr result (self.new ≡ self.old) }
@@ -73,7 +73,7 @@ impl<L: Name, A: Allocator> Seats<L, A> {
         self.get().iter().any(|seat| job == seat.job())
     }
 
-    /// The least job below `jobs` whose seat isn't in the list. `None` if the list has the seats of all these jobs.
+    /// The least job below `jobs` without a seat in the list. Returns `None` if all these jobs have one.
     pub(crate) fn missing(&self, jobs: u32) -> Option<u32>
         ensures { MatchOption result (AllAreSeated jobs self.now) (λ job. IsLeastMissing jobs self.now job) }
     {
@@ -85,7 +85,7 @@ impl<L: Name, A: Allocator> Seats<L, A> {
         None
     }
 
-    /// Consumes the seats, and adds their shares to the share `to`.
+    /// Consumes the seats and adds their shares to the share `to`.
     pub(crate) fn give_shares(self, to: &mut Share<L>)
         requires few { to.old.parts ≤ L.parts }
         ensures parts { to.new.parts ≡ to.old.parts + length self }
@@ -101,7 +101,7 @@ impl<L: Name, A: Allocator> Seats<L, A> {
 ghost use Rattle.std.specs.Prelude.{◌≡◌, IfOk};
 ghost use Rattle.covlock.specs.Seat.{first_seats};
 
-/// A seat for each job from 0 to `jobs - 1`. No job has made a call yet. Each seat takes one part of the share `all`.
+/// Makes a seat for each job from 0 to `jobs - 1`, none of which has made a call. Each seat gets one part of the share `all`.
 pub(crate) fn seats_for<L: Name, A: Allocator>(
     alloc: A,
     jobs: u32,

@@ -1,4 +1,4 @@
-//! The book that threads share.
+//! A book that threads share.
 
 use crate::seat::Seat;
 use crate::seat_list::{Seats, seats_for};
@@ -12,11 +12,12 @@ use std::marker::Model;
 use std::sync::{Mutex, Wait};
 use thiserror::Error;
 
-/// The most readers that can be made of one book.
+/// The greatest number of readers of one book.
 pub const MAX_READERS: u32 = 64;
 
-/// A book with a lock. Threads share it by reference. Contracts see how many jobs it is for. A book that is dropped without being
-/// closed never frees the memory that it shares with its readers (some 17 KB). `K` is what the book keeps of each entry.
+/// A book with a lock. Threads share it by reference. `K` is the part of each entry that the book stores. Contracts see for how
+/// many jobs the book is. A book that is dropped without being closed leaks the memory that it shares with its readers (some 17
+/// KB).
 #[derive(Drop)]
 pub struct Shared<L: Name, A: Allocator = Global, K: Keep<Of = Entry<A>> = Entry<A>> {
     jobs: u32,
@@ -34,17 +35,17 @@ impl<L: Name, A: Allocator, K: Keep<Of = Entry<A>>> Model for Shared<L, A, K> {
     ghost invariant = { λ a. a.jobs ≡ L.parts };
 }
 
-/// What a successful call returns: its receipt, and news of the history that ends with its entry.
+/// The result of a successful call: its receipt, and news of the history up to its entry.
 #[derive(Drop)]
 pub struct Done<L: Name, A: Allocator = Global> {
     pub receipt: Receipt<A>,
     pub news: News<L>,
 }
 
-/// Why a book isn't closed.
+/// Why a book couldn't be closed.
 #[derive(Clone, Copy, Debug, PartialEq, Eq, Error)]
 pub enum CloseFault {
-    /// Fault 1: the seat of this job isn't handed in. The seats of all lower jobs are.
+    /// Fault 1: this job's seat is missing. No lower job's seat is.
     #[error("Missing {job}")]
     Missing { job: u32 },
 }
@@ -53,7 +54,7 @@ impl CloseFault {
     ghost use Rattle.std.specs.Prelude.{◌≡◌};
     ghost use Rattle.covlock.specs.CloseFault.{close_number};
 
-    /// The number of the fault, from 1.
+    /// The number of the error, from 1.
     pub fn number(self) -> u32
         ensures { result ≡ close_number self }
     {
@@ -66,7 +67,7 @@ impl CloseFault {
 ghost use Rattle.std.specs.Prelude.{◌≡◌, IfOk};
 ghost use Rattle.covlock.specs.Seat.{first_seats};
 
-/// Opens an empty book, with a seat for each job from 0 on. On `Memory` the start is dropped.
+/// Opens an empty book, with a seat for each job from 0 on. On `Memory`, drops the start.
 pub fn open_book<L: Name, A: Allocator + Copy>(
     alloc: A,
     start: Start<A>,
@@ -80,7 +81,7 @@ pub fn open_book<L: Name, A: Allocator + Copy>(
     open_book_keeping(alloc, start)
 }
 
-/// Like `open_book`, but opens a book that keeps of each entry what `K` keeps. Contracts see whole entries, whatever is kept.
+/// Like `open_book`, but the book stores only the `K` part of each entry. Contracts see whole entries in any case.
 pub fn open_book_keeping<L: Name, A: Allocator + Copy, K: Keep<Of = Entry<A>>>(
     alloc: A,
     start: Start<A>,
@@ -106,12 +107,11 @@ impl<L: Name, A: Allocator + Copy, K: Keep<Of = Entry<A>>> Shared<L, A, K> {
     ghost use Rattle.covlock.specs.Call.{IsReceiptFor, IsNewsOf};
     ghost use Rattle.covlock.specs.Seat.{after_call};
 
-    /// Takes one step of the book for the seat's job. The answer is the one that follows from the table after the steps before
-    /// this one, which form a legal history. The news are of the history up to this step's entry, and readers are shown this
-    /// entry from then on. Waits for the lock, and holds it only for the step. Also waits for readers that still read what was
-    /// shown two steps ago. Returns `Full` if the history is full. It would also return `Full` if the history had fewer entries
-    /// than the seat has seen, but this doesn't happen to a seat of this book. After a refusal, the book's history and content,
-    /// what readers are shown, and the seat are unchanged.
+    /// Performs one step of the book for the seat's job. The answer follows from the table after the earlier steps, which form a
+    /// legal history. The news are of the history up to this step's entry, which readers see from then on. Waits for the lock,
+    /// which it holds only for the step, and for readers that still read what was shown two steps ago. Returns `Full` if the
+    /// history is full, or if the history had fewer entries than the seat has seen, which never happens to a seat of this book. A
+    /// failed call changes neither the book, nor what readers see, nor the seat.
     pub fn perform<R: Wait>(
         &self,
         rt: &R,
@@ -139,9 +139,9 @@ impl<L: Name, A: Allocator, K: Keep<Of = Entry<A>>> Shared<L, A, K> {
     ghost use Rattle.covlock.specs.Handed.{AllAreSeated, IsLeastMissing};
     ghost use Rattle.covlock.specs.CloseFault.{told_job};
 
-    /// Makes a reader of the totals. The reader itself waits for nobody, but this call waits for the lock. `NoPlace` if 64
-    /// readers were made, including those that were dropped, or earlier if no free place is found. Takes no memory, so `Memory`
-    /// isn't returned.
+    /// Makes a reader of the totals. The reader itself never waits, but this call waits for the lock. Returns `NoPlace` if 64
+    /// readers were made, including dropped ones, or earlier if no free place is found. Never allocates, so it doesn't return
+    /// `Memory`.
     pub fn reader<R: Wait>(&self, rt: &R) -> Result<Live<L, A>, ReaderFault>
         ensures legal { IfOk result (λ live. IsLegal live) }
         ensures fault { IfErr result (λ fault. fault ≡ reader_faults.NoPlace) }
@@ -149,8 +149,8 @@ impl<L: Name, A: Allocator, K: Keep<Of = Entry<A>>> Shared<L, A, K> {
         self.shared_state.lock(rt).reader()
     }
 
-    /// Like `close`, but returns the book itself. Contracts see its whole history, whatever the book keeps of it. The book also
-    /// has the table of its counts.
+    /// Like `close`, but returns the book itself, with the table of its counts. Contracts see its whole history, whatever the book
+    /// stores.
     pub fn close_book<R: Wait>(
         self,
         rt: &R,
@@ -178,9 +178,9 @@ impl<L: Name, A: Allocator> Shared<L, A> {
     ghost use Rattle.covlock.specs.Handed.{AllAreSeated, IsLeastMissing};
     ghost use Rattle.covlock.specs.CloseFault.{told_job};
 
-    /// Closes the book if the seat of each job is handed in. Returns the book's history, whose submissions are lawful, and news
-    /// of it. If a seat is missing, returns the book and the seats, and the least job whose seat is missing. Takes no memory. May
-    /// wait for readers that are inside a read. After the close, each reader reports the longest history that it saw or learned.
+    /// Closes the book if all jobs' seats are given. Returns the book's history, whose submissions are lawful, and news of it.
+    /// Otherwise returns the book, the seats, and the least job whose seat is missing. Never allocates. May wait for readers that
+    /// are inside a read. After the close, each reader reports the longest history that it saw or learned.
     pub fn close<R: Wait>(
         self,
         rt: &R,

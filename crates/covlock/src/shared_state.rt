@@ -1,4 +1,4 @@
-//! What the lock of a shared book guards, and the step that is taken while it is held.
+//! The state behind the lock of a shared book, and the steps under the lock.
 
 use crate::seat::Seat;
 use crate::seat_list::Seats;
@@ -9,13 +9,13 @@ use std::marker::Model;
 use std::sync::Wait;
 use std::sync::ledger::{Book as Count, Share};
 
-/// What the lock of a shared book guards: the book, the count of its calls, and the publisher of its history. The seats have the
-/// shares of the count. Contracts see the history.
+/// The state behind the lock of a shared book: the book, the count of its calls, and the publisher of its history. The seats have
+/// the shares of the count. Contracts see the history.
 #[derive(Drop)]
 pub(crate) struct SharedState<L: Name, A: Allocator, K: Keep<Of = Entry<A>>> {
     book: Book<A, K>,
     count: Count<L>,
-    /// A share that has no part of the count. `close` adds the shares of the seats to it.
+    /// A share without a part of the count, to which `close` adds the shares of the seats.
     rest: Share<L>,
     publisher: Publisher<L, A>,
 }
@@ -41,7 +41,7 @@ impl<L: Name, A: Allocator + Copy, K: Keep<Of = Entry<A>>> SharedState<L, A, K> 
     ghost use Rattle.covlock.specs.Call.{IsReceiptAfter, IsNewsOf};
     ghost use Rattle.covlock.specs.Seat.{after_call};
 
-    /// The state of an empty book: no call is counted yet, and the history without entries is noted and published.
+    /// The state of an empty book: no call is counted, and the empty history is noted and published.
     pub(crate) fn new(
         book: Book<A, K>,
         count: Count<L>,
@@ -64,9 +64,9 @@ impl<L: Name, A: Allocator + Copy, K: Keep<Of = Entry<A>>> SharedState<L, A, K> 
         }
     }
 
-    /// Takes one step of the book for the seat's job, and publishes the history with the step's entry. All that can be refused is
-    /// done first, so a refusal leaves the history, what is published of it, and the seat unchanged. Waits for readers that still
-    /// read what was published two steps ago.
+    /// Performs one step of the book for the seat's job, and publishes the history with the step's entry. Does everything that can
+    /// fail first, so a failure changes neither the history, nor what is published, nor the seat. Waits for readers that still read
+    /// what was published two steps ago.
     pub(crate) fn step<R: Wait>(
         &mut self,
         rt: &R,
@@ -87,8 +87,8 @@ impl<L: Name, A: Allocator + Copy, K: Keep<Of = Entry<A>>> SharedState<L, A, K> 
             return Err(BookFault::Full);
         }
         let ready = self.book.ready(alloc, seat.job(), op)?;
-        // `None` doesn't happen, since no other publisher has this history; no contract says so. Nothing is changed yet, so the
-        // step is refused. It isn't refused as `Full`, which has a cause that callers can see.
+        // `None` never happens, since no other publisher has this history; no contract says so. The error is `Memory` and not
+        // `Full`, since `Full` has a cause that callers can see. Nothing has changed yet.
         let Some(_noted) = self.publisher.note(ready.entry()) else {
             return Err(BookFault::Memory);
         };
@@ -106,7 +106,7 @@ impl<L: Name, A: Allocator, K: Keep<Of = Entry<A>>> SharedState<L, A, K> {
     ghost use Rattle.covlock.specs.Seat.{calls_in};
     ghost use Rattle.covnews.specs.declared.fault.ReaderFault.TheVariants as reader_faults;
 
-    /// Makes one more reader. It begins with the whole history, since all of it is published.
+    /// Makes one more reader. It begins with the whole history, all of which is published.
     pub(crate) fn reader(&mut self) -> Result<Live<L, A>, ReaderFault>
         ensures live { IfOk result (λ live. live ≡ self.old) }
         ensures fault { IfErr result (λ fault. fault ≡ reader_faults.NoPlace) }

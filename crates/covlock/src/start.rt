@@ -1,4 +1,4 @@
-//! What a shared book is made of.
+//! The values that a shared book is made of.
 
 use covline::Memory;
 use covnews::HistorySeed;
@@ -7,16 +7,16 @@ use std::marker::{Model, PhantomData};
 use std::sync::ledger::Blank;
 use thiserror::Error;
 
-/// The most jobs that can share one book.
+/// The greatest number of jobs of one book.
 pub const MAX_JOBS: u32 = 64;
 
-/// Why no book is opened.
+/// Why no book could be opened.
 #[derive(Clone, Copy, Debug, PartialEq, Eq, Error)]
 pub enum OpenFault {
-    /// There are no jobs, or more than 64. This is tested first.
+    /// The number of jobs is 0 or more than 64. This is checked first.
     #[error("BadJobs")]
     BadJobs = 1,
-    /// Memory was refused.
+    /// An allocation failed.
     #[error("out of memory")]
     Memory = 2,
 }
@@ -25,7 +25,7 @@ impl OpenFault {
     ghost use Rattle.std.specs.Prelude.{◌≡◌};
     ghost use Rattle.covlock.specs.OpenFault.{open_number};
 
-    /// The number of the fault, from 1.
+    /// The number of the error, from 1.
     pub fn number(self) -> u32
         ensures { result ≡ open_number self }
     {
@@ -44,8 +44,8 @@ impl From<Memory> for OpenFault {
     }
 }
 
-/// What a shared book is made of: the count of its calls, and the seed of its published history. Contracts see the name of the
-/// count, how many jobs share the book, and the name of the book.
+/// The values that a shared book is made of: the count of its calls, and the seed of its published history. Contracts see the name
+/// of the count, the number of jobs, and the name of the book.
 #[derive(Drop)]
 pub struct Start<A: Allocator = Global> {
     jobs: u32,
@@ -69,8 +69,8 @@ impl<A: Allocator + Copy> Start<A> {
     ghost use Rattle.covlock.specs.declared.start.OpenFault.TheVariants as faults;
     ghost use Rattle.covlock.specs.Start.{AreJobs};
 
-    /// The start of a book for `jobs` jobs. `_alloc` only sets the type of the book's allocator. Returns `BadJobs` if `jobs`
-    /// isn't from 1 to 64. Takes no memory, so `Memory` isn't returned.
+    /// Makes the start of a book for `jobs` jobs. `_alloc` only sets the type of the book's allocator. Returns `BadJobs` if `jobs`
+    /// isn't from 1 to 64. Never allocates, so it doesn't return `Memory`.
     pub fn new(_alloc: A, jobs: u32) -> Result<Start<A>, OpenFault>
         ensures jobs { IfOk result (λ s. s.jobs ≡ jobs) }
         ensures bad { (result ≡ Err faults.BadJobs) ↔ (AreJobs jobs → ⊥) }

@@ -1,4 +1,4 @@
-//! The map.
+//! The map with committed and staged values.
 
 mod images;
 mod run;
@@ -36,7 +36,7 @@ impl<K: Key, V, A: Allocator> Model for StagedMap<K, V, A> {
     ghost invariant = { λ map. AreColumnsOf map.slots map.staged };
 }
 
-/// What an addend did to the value of a key.
+/// The effect of an addend on the value of a key.
 #[derive(Drop)]
 pub struct Sum<V> {
     /// The staged value before the addend was added; `None` if the key had no value.
@@ -50,7 +50,7 @@ pub struct Sum<V> {
 impl<K: Key, V, A: Allocator + Copy> StagedMap<K, V, A> {
     ghost use Rattle.std.specs.Prelude.{◌≡◌, []};
 
-    /// A map without entries. Takes no memory.
+    /// A map without entries. Never allocates.
     pub fn new(alloc: A) -> StagedMap<K, V, A>
         ensures committed { result.committed ≡ [] }
         ensures staged { result.staged ≡ [] }
@@ -74,7 +74,7 @@ impl<K: Key, V, A: Allocator> StagedMap<K, V, A> {
         self.slots.entries()
     }
 
-    /// States, for proofs only, that the keys of the committed entries ascend.
+    /// Proof only: the keys of the committed entries ascend.
     pub fn ascends(&self)
         ensures { ArePairs K.cmp self.now.committed }
     {
@@ -98,7 +98,7 @@ impl<K: Key, V, A: Allocator> StagedMap<K, V, A> {
 impl<K: Key, V: Drop, A: Allocator> StagedMap<K, V, A> {
     ghost use Rattle.std.specs.Prelude.{◌≡◌};
 
-    /// Forgets the staged values. Takes no memory.
+    /// Discards the staged values. Never allocates.
     pub fn rollback(&mut self)
         ensures committed { self.new.committed ≡ self.old.committed }
         ensures staged { self.new.staged ≡ self.old.committed }
@@ -131,7 +131,7 @@ impl<K: Key, V: Value, A: Allocator> StagedMap<K, V, A> {
         }
     }
 
-    /// The committed value of a key, and a place: the guess to give when the next key is looked up.
+    /// The committed value of a key, and the guess for the next look-up.
     pub fn lookup_at<Q: Query<K, A>>(&self, query: Q, guess: SlotIndex) -> (Option<V>, SlotIndex)
         ensures value { result.0 ≡ value_of K.cmp (Q.named query) self.now.committed }
         ensures whole { ArePairs K.cmp self.now.committed }
@@ -142,7 +142,7 @@ impl<K: Key, V: Value, A: Allocator> StagedMap<K, V, A> {
         }
     }
 
-    /// The staged value of a key, and a place: the guess to give when the next key is looked up.
+    /// The staged value of a key, and the guess for the next look-up.
     pub fn staged_at<Q: Query<K, A>>(&self, query: Q, guess: SlotIndex) -> (Option<V>, SlotIndex)
         ensures value { result.0 ≡ value_of K.cmp (Q.named query) self.now.staged }
         ensures whole { ArePairs K.cmp self.now.staged }
@@ -164,7 +164,7 @@ impl<K: Key, V: Value, A: Allocator> StagedMap<K, V, A> {
         value
     }
 
-    /// Replaces or removes the committed value of a key that has one. Rolls back what is staged. Takes no memory.
+    /// Replaces the committed value of a key that has one. `None` removes it. Rolls back what is staged. Never allocates.
     pub fn replace<Q: Query<K, A>>(&mut self, query: Q, value: Option<V>)
         requires { is_some (value_of K.cmp (Q.named query) self.old.committed) ≡ true }
         ensures committed { self.new.committed ≡ assigned K.cmp (Q.named query) value self.old.committed }
@@ -177,7 +177,7 @@ impl<K: Key, V: Value, A: Allocator> StagedMap<K, V, A> {
         }
     }
 
-    /// Commits the staged values. Takes no memory.
+    /// Commits the staged values. Never allocates.
     pub fn commit(&mut self)
         ensures committed { self.new.committed ≡ self.old.staged }
         ensures staged { self.new.staged ≡ self.old.staged }
@@ -196,7 +196,7 @@ impl<K: Key + Drop, V: Value, A: Allocator + Copy> StagedMap<K, V, A> {
     ///
     /// # Errors
     ///
-    /// `AllocError` if memory was refused. Anything may be staged then, so roll it back.
+    /// `AllocError` if an allocation failed. Anything may be staged then, so roll it back.
     pub fn stage<Q: Query<K, A>>(&mut self, alloc: A, query: Q, value: V) -> Result<(), AllocError>
         ensures committed { self.new.committed ≡ self.old.committed }
         ensures ok { OnOk result (self.new.staged ≡ put K.cmp (Q.named query) value self.old.staged) }
@@ -212,7 +212,7 @@ impl<K: Key + Drop, V: Value, A: Allocator + Copy> StagedMap<K, V, A> {
     ///
     /// # Errors
     ///
-    /// `AllocError` if memory was refused. Anything may be staged then, so roll it back.
+    /// `AllocError` if an allocation failed. Anything may be staged then, so roll it back.
     pub fn stage_sum<Q: Query<K, A>, M: Addend<V>>(
         &mut self,
         alloc: A,

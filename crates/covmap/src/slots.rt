@@ -92,8 +92,7 @@ impl<K: Key, V, A: Allocator> Slots<K, V, A> {
 }
 
 impl<K: Key, V, A: Allocator> Slots<K, V, A> {
-    /// The place where the queried key would be. The keys before this place come before the queried key, and those from this
-    /// place on don't.
+    /// The place where the queried key would be. All keys before this place, and no others, come before the queried key.
     fn cut<Q: Query<K, A>>(&self, query: Q) -> SlotIndex
         ensures cut { IsCut (λ key. K.cmp key (Q.named query)) self.now (at result) }
         ensures whole { AreSlots K.cmp self.now }
@@ -125,8 +124,8 @@ impl<K: Key, V, A: Allocator> Slots<K, V, A> {
         }
     }
 
-    /// The same as `find`. Looks right after the slot before the guess first. Costs a search if the key isn't there and
-    /// wouldn't be inserted there, or if the guess is the first slot of its page.
+    /// Like `find`, for a key before the guess. First looks right after the slot before the guess. Searches all slots only if the
+    /// key is neither there nor would be inserted there, or if the guess is the first slot of its page.
     fn find_before<Q: Query<K, A>>(
         &self,
         query: Q,
@@ -147,7 +146,7 @@ impl<K: Key, V, A: Allocator> Slots<K, V, A> {
         self.search(query)
     }
 
-    /// The same as `find`. The key at `place` must come before the queried key.
+    /// Like `find`, for a key after the one at `place`.
     fn find_after<Q: Query<K, A>>(&self, query: Q, place: SlotIndex) -> Result<SlotIndex, SlotIndex>
         requires { order_at (λ key. K.cmp key (Q.named query)) (slot_at self.now (at place)) ≡ Less }
         ensures found { IfOk result (λ place. IsPlace (λ key. K.cmp key (Q.named query)) self.now (at place)) }
@@ -161,7 +160,7 @@ impl<K: Key, V, A: Allocator> Slots<K, V, A> {
         }
     }
 
-    /// The same as `find`, by a search among all slots.
+    /// Like `find`, by a binary search among all slots.
     fn search<Q: Query<K, A>>(&self, query: Q) -> Result<SlotIndex, SlotIndex>
         ensures found { IfOk result (λ place. IsPlace (λ key. K.cmp key (Q.named query)) self.now (at place)) }
         ensures absent { IfErr result (λ place. IsGap (λ key. K.cmp key (Q.named query)) self.now (at place)) }
@@ -173,7 +172,7 @@ impl<K: Key, V, A: Allocator> Slots<K, V, A> {
         Err(place)
     }
 
-    /// Compares the key at a place with the queried key. If there is no slot, the result is `Greater`.
+    /// Compares the key at a place with the queried key. Returns `Greater` if there is no slot.
     fn compare_at<Q: Query<K, A>>(&self, place: SlotIndex, query: Q) -> Ordering
         ensures order { result ≡ order_at (λ key. K.cmp key (Q.named query)) (slot_at self.now (at place)) }
         ensures whole { AreSlots K.cmp self.now }
@@ -215,7 +214,7 @@ impl<K: Key, V, A: Allocator> Slots<K, V, A> {
         }
     }
 
-    /// States, for proofs only, that each page has from 1 to 256 slots, and that all keys ascend.
+    /// Proof only: each page has from 1 to 256 slots, and all keys ascend.
     pub(crate) fn are_whole(&self)
         ensures { AreSlots K.cmp self.now }
     {
@@ -229,7 +228,7 @@ impl<K: Key, V, A: Allocator> Slots<K, V, A> {
         self.pages.len()
     }
 
-    /// How many slots the page of this number has: 0 if there is no such page.
+    /// How many slots the page of this number has; 0 if it doesn't exist.
     pub(crate) fn len_of(&self, number: usize) -> usize
         ensures long { result ≡ length (page_at self.now number) }
         ensures whole { AreSlots K.cmp self.now }
@@ -241,7 +240,7 @@ impl<K: Key, V, A: Allocator> Slots<K, V, A> {
         }
     }
 
-    /// The page of this number, if there is one.
+    /// The page of this number.
     fn page(&self, number: usize) -> Option<&Page<K, V, A>>
         ensures some { IfSome result (λ page. page_at self.now number ≡ page.now) }
         ensures none { IfNone result (page_at self.now number ≡ []) }
@@ -303,7 +302,7 @@ impl<K: Key, V: Value, A: Allocator> Slots<K, V, A> {
 }
 
 impl<K: Key + Drop, V: Value, A: Allocator + Copy> Slots<K, V, A> {
-    /// Inserts an empty slot on a page that has room for it.
+    /// Inserts an empty slot on a page that isn't full.
     fn insert(&mut self, place: SlotIndex, key: K) -> Result<(), AllocError>
         requires there { place.page < length self.old }
         requires room { length (page_at self.old place.page) < 256 }
@@ -325,7 +324,7 @@ impl<K: Key + Drop, V: Value, A: Allocator + Copy> Slots<K, V, A> {
         Ok(())
     }
 
-    /// Moves the second half of a full page to a page of its own.
+    /// Splits a full page: moves its second half to a new page after it.
     fn split(&mut self, alloc: A, number: usize) -> Result<(), AllocError>
         requires there { number < length self.old }
         requires full { length (page_at self.old number) ≡ 256 }
@@ -340,7 +339,7 @@ impl<K: Key + Drop, V: Value, A: Allocator + Copy> Slots<K, V, A> {
     }
 }
 
-/// Appends an item. The first item reserves room for itself only, since most lists of pages have one item.
+/// Appends an item. The first item reserves capacity for itself only, since most lists of pages have one item.
 fn push<T: Drop, A: Allocator>(list: &mut Vec<T, A>, item: T) -> Result<(), AllocError>
     ensures ok { OnOk result (list.new.items ≡ list.old.items ++ item ∷ []) }
     ensures err { OnErr result (list.new.items ≡ list.old.items) }

@@ -1,17 +1,16 @@
-//! What a shared book publishes to readers that wait for nobody.
+//! Publishes a shared book's totals to readers that never wait.
 //!
-//! Whoever holds the book's lock has its `Publisher`. For each new entry, the publisher first notes it (`Publisher::note`). Then
-//! it shows readers how many entries there are and the totals after them (`Publisher::publish`). A reader (`Live`) asks for these
-//! totals at any time, without a lock or a wait: `left_right` keeps two copies of what is shown.
+//! The holder of the book's lock has its `Publisher`. For each new entry, the publisher first notes it (`Publisher::note`). Then it
+//! shows readers how many entries there are and the totals after them (`Publisher::publish`). A reader (`Live`) gets these totals
+//! at any time, without a lock or a wait: `left_right` has two copies of what is shown.
 //!
-//! `News` have the length of a published history and the totals after it. `publish` returns them. A reader that learns news
-//! never again reports fewer entries than the news have. This is so even if the reader wasn't shown these entries, and even
-//! after the book is closed.
+//! `News`, which `publish` returns, have the length of a published history and the totals after it. A reader that learns news never
+//! again reports fewer entries than these, even if it wasn't shown them, and even after the book is closed.
 //!
-//! What is published is a legal history (covbook's `IsLegal`) that only grows at its end. So of any two histories that were
-//! published, one is a prefix of the other. The memory holds only the history's length, its last totals and a token without
-//! bytes; the entries themselves stay in the book. The contracts of `Publisher`, `News` and `Live` see the list of the entries.
-//! The types say which book a publisher, a reader or news belong to, by the book's name `L: Name`.
+//! The published history is legal (covbook's `IsLegal`) and only grows at its end. So of any two published histories, one is a
+//! prefix of the other. Memory holds only the history's length, its last totals and a token without bytes; the entries themselves
+//! stay in the book. The contracts of `Publisher`, `News` and `Live` see the list of the entries. The book's name `L: Name` in
+//! their types says which book they belong to.
 //!
 //! A sketch, which no test runs:
 //!

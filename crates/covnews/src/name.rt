@@ -1,4 +1,4 @@
-//! The name of a shared book, and the beginning of its noted history.
+//! The name of a shared book, and the seed of its noted history.
 
 use crate::ghost_history::{Legality, Length, SeenHistory};
 use crate::noted::NotedEntry;
@@ -6,7 +6,7 @@ use logbook::{Seen, Start, Word};
 use std::marker::{Brand, Model};
 use std::sync::ledger::Ledger;
 
-/// The name of a shared book. It names the count of the book's calls (`Ledger`) and the book's noted history. It has no
+/// The name (brand) of a shared book. It names the count of the book's calls (`Ledger`) and the book's noted history. It has no
 /// functions. Values whose types have the same name belong to the same book.
 pub trait Name: Ledger {
     ghost use Rattle.logbook.specs.Pages.{Book};
@@ -19,7 +19,7 @@ impl Name for Brand {
     ghost book = { record { number = 0; log_name = 0; cells_name = 0 } };
 }
 
-/// The beginning of a noted history: it has no entry yet. Contracts see which history this is.
+/// The seed of a noted history without entries. Contracts see which history this is.
 #[derive(Drop)]
 pub struct HistorySeed {
     length: Length,
@@ -42,7 +42,7 @@ impl HistorySeed {
     ghost use Rattle.std.specs.Prelude.{◌≡◌, []};
     ghost use Rattle.covnews.specs.History.{length_of};
 
-    /// The seed of a new book's history. Takes no memory.
+    /// The seed of a new book's history. Never allocates.
     pub fn new() -> HistorySeed {
         let (seen, mut first, _second) = Seen::open(Start::alone(), 0, 0);
         HistorySeed {
@@ -51,7 +51,7 @@ impl HistorySeed {
         }
     }
 
-    /// The word with the history's length, and the token of the history without entries.
+    /// The history's length, and the token of the empty history.
     pub(crate) fn into_parts(self) -> (Length, SeenHistory)
         ensures length { result.0 ≡ length_of self.book }
         ensures book { result.1.book ≡ self.book }

@@ -10,8 +10,8 @@ use logbook::Offer;
 use std::alloc::Allocator;
 use std::marker::{Model, PhantomData};
 
-/// How many entries the noted history had at one time, and the totals after the last of them. Contracts see these entries, which
-/// are a legal history. Callers get news only of a history that is published: from `Publisher::publish` and `close`, and copies.
+/// The length of the noted history at one time, and the totals after its last entry. Contracts see the entries, which are a legal
+/// history. Callers get news only of a published history: from `Publisher::publish` and `close`, and as copies.
 #[derive(Drop)]
 pub struct News<L: Name> {
     snapshot: Snapshot,
@@ -36,7 +36,7 @@ impl<L: Name> News<L> {
     ghost use Rattle.covbook.specs.Step.{ComesNext, IsLegal, last_totals, max_entries};
     ghost use Rattle.covnews.specs.History.{IsPrefix, length_of};
 
-    /// How many entries the history has, and the totals after the last of them. Takes no memory.
+    /// How many entries the history has, and the totals after the last of them. Never allocates.
     pub fn reading(&self) -> Reading
         ensures upto { result.upto ≡ length self.now }
         ensures totals { result.totals ≡ last_totals self.now }
@@ -48,7 +48,7 @@ impl<L: Name> News<L> {
         }
     }
 
-    /// A copy of the news. Takes no memory.
+    /// A copy of the news. Never allocates.
     pub fn copy(&self) -> News<L>
         ensures { result ≡ self.now }
     {
@@ -95,8 +95,8 @@ impl<L: Name> News<L> {
         &self.snapshot
     }
 
-    /// The news with the longer history, or `self` if both are as long. Since both are of one book, each history is a prefix of
-    /// the longer one.
+    /// The news with the longer history, or `self` if both are equally long. Both are of one book, so the shorter history is a
+    /// prefix of the longer one.
     pub fn longer(&self, other: &News<L>) -> News<L>
         ensures one { (result ≡ self.now) ⊎ (result ≡ other.now) }
         ensures this { IsPrefix self.now result }
@@ -111,9 +111,8 @@ impl<L: Name> News<L> {
         }
     }
 
-    /// Appends the next entry to the noted history, and returns news of the history with this entry. If the noted history has
-    /// more entries than these news, appends nothing and returns `None`. This doesn't happen if nobody else has the history's
-    /// word.
+    /// Appends the next entry to the noted history, and returns news of the history with this entry. If the noted history has more
+    /// entries than these news, appends nothing and returns `None`. That never happens if nobody else has the history's word.
     pub(crate) fn appended<A: Allocator>(
         &self,
         history: &Length,

@@ -12,11 +12,11 @@ use std::alloc::{Allocator, Global};
 use std::marker::Model;
 use std::sync::Wait;
 
-/// The publisher of a book's history. Contracts see the noted history, the published history, and for how many more readers there
-/// are places.
+/// The publisher of a book's history. Contracts see the noted history, the published history, and how many more readers can be
+/// made.
 ///
-/// A publisher that is dropped without being closed never frees the memory that it shares with its readers (some 17 KB for 64
-/// readers). The readers go on with what was published last.
+/// A publisher that is dropped without being closed leaks the memory that it shares with its readers (some 17 KB for 64 readers).
+/// The readers still see what was published last.
 #[derive(Drop)]
 pub struct Publisher<L: Name, A: Allocator = Global> {
     history: Length,
@@ -40,8 +40,7 @@ impl<L: Name, A: Allocator> Model for Publisher<L, A> {
 impl<L: Name, A: Allocator + Copy> Publisher<L, A> {
     ghost use Rattle.std.specs.Prelude.{◌≡◌, ◌<◌, [], IfOk};
 
-    /// A publisher that publishes the history without entries, with places for `readers` readers. Allocates all the memory that
-    /// it will need, so nothing is refused later for lack of memory.
+    /// Makes a publisher of the empty history, with places for `readers` readers. Allocates all the memory that it will ever need.
     pub fn new(alloc: A, seed: HistorySeed, readers: u32) -> Result<Publisher<L, A>, Memory>
         requires book { seed.book ≡ L.book }
         requires readers { 0 < readers }
@@ -67,8 +66,8 @@ impl<L: Name, A: Allocator> Publisher<L, A> {
     ghost use Rattle.covbook.specs.Step.{ComesNext, max_entries};
     ghost use Rattle.covnews.specs.declared.fault.ReaderFault.TheVariants as faults;
 
-    /// Notes the next entry of the history, which `publish` then publishes and gives news of. On `None` nothing has changed. `None`
-    /// isn't returned if no other publisher has this history; the types ensure this, but no contract says so. Takes no memory.
+    /// Notes the next entry of the history, for `publish`. Changes nothing if it returns `None`, which never happens if no other
+    /// publisher has this history; the types ensure this, but no contract says so. Never allocates.
     pub fn note(&mut self, entry: &Entry<A>) -> Option<()>
         requires few { length self.old.noted < max_entries }
         requires next { ComesNext self.old.noted (entry_data entry.now) }
@@ -79,8 +78,8 @@ impl<L: Name, A: Allocator> Publisher<L, A> {
         Some(())
     }
 
-    /// Publishes the noted history, and returns news of it. So there are no news of an entry that readers aren't shown. Nothing is
-    /// refused. Waits for readers that are still inside a read of what was shown before the last `publish`.
+    /// Publishes the noted history, and returns news of it. Never fails. So readers are shown each entry of which there are news.
+    /// Waits for readers that are still inside a read of what was shown before the last `publish`.
     pub fn publish<R: Wait>(&mut self, rt: &R) -> News<L>
         ensures published { self.new ≡ record self.old { published = self.old.noted } }
         ensures news { result ≡ self.old.noted }
@@ -89,9 +88,8 @@ impl<L: Name, A: Allocator> Publisher<L, A> {
         self.noted.copy()
     }
 
-    /// Makes one more reader, which begins with the published history. `NoPlace` if no place is left: each reader takes one, and
-    /// doesn't give it back when it is dropped. It may also be returned if no free place is found. Takes no memory, so `Memory`
-    /// isn't returned.
+    /// Makes one more reader, which begins with the published history. Returns `NoPlace` if no place is left, or if no free place
+    /// is found. Each reader takes one place, even after it is dropped. Never allocates, so it doesn't return `Memory`.
     pub fn reader(&mut self) -> Result<Live<L, A>, ReaderFault>
         ensures live { IfOk result (λ live. live ≡ self.old.published) }
         ensures place { OnOk result (self.new ≡ record self.old { places = self.old.places - 1 }) }
@@ -109,8 +107,8 @@ impl<L: Name, A: Allocator> Publisher<L, A> {
         Ok(Live::new(self.snapshot_cell.news(), reader))
     }
 
-    /// Ends the publishing, and returns news of the published history. From then on, each reader reports the longest history that
-    /// it saw or learned. Waits for readers that are inside a read.
+    /// Ends publishing, and returns news of the published history. From then on, each reader reports the longest history that it
+    /// saw or learned. Waits for readers that are inside a read.
     pub fn close<R: Wait>(self, rt: &R) -> News<L>
         ensures { result ≡ self.published }
     {

@@ -12,8 +12,8 @@ use left_right::writer::Writer;
 use std::alloc::AllocError;
 use std::marker::PhantomData;
 
-/// How many entries a noted history has, and the totals after the last of them. The token `seen` says which history this is:
-/// contracts see the history's entries as `seen.log`.
+/// The length of a noted history, and the totals after its last entry. The token `seen` says which history this is: contracts see
+/// its entries as `seen.log`.
 #[derive(Drop)]
 pub struct Snapshot {
     pub upto: u64,

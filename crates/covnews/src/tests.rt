@@ -37,7 +37,7 @@ fn reader<L: Name, A: Allocator>(rt: &impl Abort, publisher: &mut Publisher<L, A
     }
 }
 
-/// Takes one step of the book, notes its entry and publishes it.
+/// Performs one step of the book, notes its entry and publishes it.
 fn step<L: Name, R: Wait + Abort>(
     rt: &R,
     alloc: Global,
@@ -62,7 +62,7 @@ fn check_upto<L: Name, A: Allocator>(rt: &impl Abort, live: &mut Live<L, A>, upt
     assert_eq!(rt; live.totals().upto, upto);
 }
 
-/// Checks that one more reader is refused with `NoPlace`.
+/// Checks that making one more reader fails with `NoPlace`.
 fn check_no_place<L: Name, A: Allocator>(rt: &impl Abort, publisher: &mut Publisher<L, A>)
     ensures { publisher.new.noted ≡ publisher.old.noted }
 {
@@ -141,7 +141,7 @@ fn publishing_takes_no_memory(rt: HostRuntime) -> Result<(), Fail> {
     Ok(())
 }
 
-/// Takes a hundred steps of a new book, publishes each, and closes the publisher.
+/// Performs a hundred steps of a new book, publishes each, and closes the publisher.
 fn step_often<L: Name, R: Wait + Abort>(
     rt: &R,
     alloc: Global,

@@ -1,4 +1,4 @@
-//! Packs submissions, and unpacks them.
+//! Packs and unpacks submissions.
 
 ghost use Rattle.std.specs.Prelude.{◌≡◌, ◌≢◌, ◌++◌, [], ◌∷◌, IfOk, OnErr, OnOk, map, option_map};
 ghost use Rattle.covline.specs.Row.{item_data};
@@ -14,7 +14,7 @@ use crate::sect_iter::PackedSect;
 use covline::{Bytes, Item, Items, Memory, Sect, Sects, Submission};
 use std::alloc::Allocator;
 
-/// The same submission, packed.
+/// Packs a submission.
 pub fn pack<A: Allocator + Copy>(
     alloc: A,
     submission: &Submission<A>,
@@ -52,7 +52,7 @@ fn pack_items<A: Allocator + Copy>(
     Ok(())
 }
 
-/// The item, borrowed.
+/// Borrows the item.
 pub(crate) fn borrowed<A: Allocator>(item: &Item<A>) -> ItemRef<'_>
     ensures { item_ref_data result ≡ item_data item.now }
 {
@@ -94,7 +94,7 @@ pub(crate) fn borrowed<A: Allocator>(item: &Item<A>) -> ItemRef<'_>
     }
 }
 
-/// The same submission, unpacked. Takes no memory if there is no section.
+/// Unpacks a submission. Never allocates if it has no section.
 pub fn unpack<A: Allocator + Copy>(
     alloc: A,
     packed: &PackedSubmission<A>,
@@ -110,7 +110,7 @@ pub fn unpack<A: Allocator + Copy>(
     Ok(Submission::of_lawful(sects, packed.odd()))
 }
 
-/// The section, in memory of its own.
+/// Copies the section into an unpacked one.
 fn unpacked_sect<A: Allocator + Copy>(alloc: A, sect: PackedSect<'_>) -> Result<Sect<A>, Memory>
     ensures { IfOk result (λ own. sect_data own ≡ packed_sect_data sect.entry) }
 {
@@ -121,7 +121,7 @@ fn unpacked_sect<A: Allocator + Copy>(alloc: A, sect: PackedSect<'_>) -> Result<
     })
 }
 
-/// The items, in memory of their own.
+/// Copies the items into an unpacked list.
 fn unpacked_items<A: Allocator + Copy>(
     alloc: A,
     packed: PackedItems<'_>,
@@ -136,7 +136,7 @@ fn unpacked_items<A: Allocator + Copy>(
     Ok(items)
 }
 
-/// The item, in memory of its own.
+/// Copies the item into an unpacked one.
 fn owned<A: Allocator + Copy>(alloc: A, item: ItemRef<'_>) -> Result<Item<A>, Memory>
     ensures { IfOk result (λ own. item_data own ≡ item_ref_data item.entry) }
 {
@@ -169,7 +169,7 @@ fn owned<A: Allocator + Copy>(alloc: A, item: ItemRef<'_>) -> Result<Item<A>, Me
     }
 }
 
-/// The checksum, in memory of its own, or `None` if there is no checksum.
+/// Copies an optional checksum.
 fn owned_text<A: Allocator + Copy>(
     alloc: A,
     checksum: Option<&[u8]>,

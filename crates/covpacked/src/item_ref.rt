@@ -1,4 +1,4 @@
-//! An item that is read from a packed list.
+//! Items of a packed list.
 
 ghost use Rattle.std.specs.Prelude.{◌≡◌, option_map, option_to_list};
 ghost use Rattle.covline.specs.PointView.{branch_point_data};
@@ -7,7 +7,7 @@ ghost use Rattle.covpacked.specs.ItemRefs.{item_ref_data};
 
 use covline::BranchPoint;
 
-/// One count of a source file, as `covline`'s `Item`, with its name or checksum borrowed (geninfo(1), section FILES).
+/// One count of a source file, like covline's `Item`, but with a borrowed name or checksum (geninfo(1), section FILES).
 #[derive(Clone, Copy)]
 pub enum ItemRef<'a> {
     /// The execution count of an instrumented line, with the checksum of its text if there is one (`DA:`).
@@ -32,7 +32,7 @@ pub enum ItemRef<'a> {
 }
 
 impl<'a> ItemRef<'a> {
-    /// The line that the item counts; `None` for an item of another kind.
+    /// The line of the item. Returns `None` for an item of another kind.
     pub fn line_point(&self) -> Option<u64>
         ensures { option_to_list result ≡ line_point (item_ref_data self.now) }
     {
@@ -42,7 +42,7 @@ impl<'a> ItemRef<'a> {
         }
     }
 
-    /// The branch that the item counts; `None` for an item of another kind.
+    /// The branch of the item. Returns `None` for an item of another kind.
     pub fn branch_point(&self) -> Option<BranchPoint>
         ensures { option_to_list (option_map branch_point_data result) ≡ branch_point (item_ref_data self.now) }
     {

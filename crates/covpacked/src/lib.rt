@@ -1,9 +1,9 @@
-//! What one text says, packed: eight bytes for a line, sixteen for a branch, and more where a number is large.
+//! Submissions in packed form: eight bytes for a line, sixteen for a branch, and more where a number is large.
 //!
-//! [`PackedSects`] takes items one after another, and closes sections. [`PackedSubmission`] is what a text says, as `covline`'s
-//! `Submission`, in four lists, whatever the number of its sections: words, further numbers, bytes of texts, and a place for each
-//! section. Its items are read by index or by an iterator, as [`ItemRef`]s, whose names and checksums are borrowed. Contracts see
-//! the same sections and items as of a `Submission`.
+//! [`PackedSects`] collects items and closes sections. [`PackedSubmission`] is the content of an input, like covline's
+//! `Submission`, in four lists, however many sections it has: words, further numbers, bytes of texts, and the names' locations of
+//! each section. Its items are read by index or by an iterator, as [`ItemRef`]s, whose names and checksums are borrowed. Contracts
+//! see the same sections and items as of a `Submission`.
 #![tactic(auto)]
 
 mod convert;

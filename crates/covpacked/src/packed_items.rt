@@ -9,8 +9,7 @@ use crate::item_ref::ItemRef;
 use crate::parts::{Kind, Parts, parts_of};
 use std::marker::Model;
 
-/// The items of a section, in order. They are borrowed from packed sections. Contracts see the items; as an iterator, those that
-/// are left.
+/// The items of a section, in order, borrowed from packed sections. Contracts see the items; those that are left, for an iterator.
 #[derive(Drop)]
 pub struct PackedItems<'a> {
     words: &'a [u64],
@@ -45,7 +44,7 @@ impl<'a> PackedItems<'a> {
         }
     }
 
-    /// The same items. Takes no memory.
+    /// Copies the borrowed list, not the items. Never allocates.
     pub fn copy(&self) -> PackedItems<'a>
         ensures { result ≡ self.now }
     {
@@ -70,7 +69,7 @@ impl<'a> PackedItems<'a> {
         self.words.is_empty()
     }
 
-    /// The item at this index, or `None` if there are no more than `index` items.
+    /// The item at this index. Returns `None` if the index is too large.
     #[inline(always)]
     pub fn get(&self, index: usize) -> Option<ItemRef<'a>>
         ensures { option_map item_ref_data result ≡ slice_get self.now index }
@@ -159,7 +158,7 @@ fn branch_of<'a>(line: u64, block: u64, branch: u64, taken: Option<u128>) -> Ite
     }
 }
 
-/// So many bytes of the texts, from an index on.
+/// The `bytes` bytes of the texts from the index `begin` on.
 pub(crate) fn text_at(texts: &[u8], begin: u64, bytes: u64) -> &[u8]
     ensures { result.now ≡ text_at texts.now begin bytes }
 {

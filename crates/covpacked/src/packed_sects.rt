@@ -1,4 +1,4 @@
-//! Sections, packed, with the items of an open one.
+//! Packed sections, with the items of an open one.
 
 ghost use Rattle.std.specs.Prelude.{◌≡◌, ◌↔◌, ◌∷◌, ◌≤◌, ◌++◌, false, drop, length, take, IfOk, IfSome, IsTrue, MatchOption};
 ghost use Rattle.std.specs.List.{AllByRecursion};
@@ -15,7 +15,7 @@ use covline::{BranchPoint, Memory};
 use std::alloc::{Allocator, Global};
 use std::marker::Model;
 
-/// Where a text lies in the list of texts.
+/// The location of a text in the list of texts.
 #[derive(Clone, Copy, Drop)]
 pub(crate) struct TextPlace {
     /// The index of its first byte.
@@ -24,7 +24,7 @@ pub(crate) struct TextPlace {
     pub bytes: u64,
 }
 
-/// A section that is closed.
+/// A finished section: where its names lie, and how many items it has.
 #[derive(Clone, Copy, Drop)]
 pub(crate) struct ClosedSect {
     /// Where the test's name lies.
@@ -35,7 +35,7 @@ pub(crate) struct ClosedSect {
     pub items: usize,
 }
 
-/// What a text says so far, packed: its closed sections, and the items of the open one. Contracts see these.
+/// The packed content of an input so far: its closed sections, and the items of the open one. Contracts see these.
 #[derive(Drop)]
 pub struct PackedSects<A: Allocator = Global> {
     words: Vec<u64, A>,
@@ -58,7 +58,7 @@ impl<A: Allocator> Model for PackedSects<A> {
 impl<A: Allocator + Copy> PackedSects<A> {
     ghost use Rattle.std.specs.Prelude.{◌≡◌, []};
 
-    /// No sections, and no items of an open one. Takes no memory.
+    /// No sections, and no items in the open one. Never allocates.
     pub fn new(alloc: A) -> PackedSects<A>
         ensures sects { result.sects ≡ [] }
         ensures items { result.items ≡ [] }
@@ -81,7 +81,7 @@ impl<A: Allocator> PackedSects<A> {
     ghost use Rattle.covpacked.specs.OpenItems.{left, start_set};
     ghost use Rattle.covpacked.specs.Words.{HasItsText, HasNoText, item_of_parts, item_with_text};
 
-    /// Appends the count of a line to the open section. On `Memory` all stays as it was.
+    /// Appends the count of a line to the open section. On `Memory`, nothing changes.
     #[inline(always)]
     pub fn push_line(
         &mut self,
@@ -105,7 +105,7 @@ impl<A: Allocator> PackedSects<A> {
         }
     }
 
-    /// Appends the count of a function to the open section. On `Memory` all stays as it was.
+    /// Appends the count of a function to the open section. On `Memory`, nothing changes.
     pub fn push_function(&mut self, name: &[u8], line: u64, count: u128) -> Result<(), Memory>
         ensures sects { self.new.sects ≡ self.old.sects }
         ensures ok { OnOk result (self.new.items ≡ self.old.items ++ FuncItem name.now line count ∷ []) }
@@ -114,7 +114,7 @@ impl<A: Allocator> PackedSects<A> {
         self.push_with_text(Kind::Function, line, count, name)
     }
 
-    /// Appends how often a branch was taken to the open section. On `Memory` all stays as it was.
+    /// Appends how often a branch was taken to the open section. On `Memory`, nothing changes.
     #[inline(always)]
     pub fn push_branch(&mut self, point: BranchPoint, taken: Option<u128>) -> Result<(), Memory>
         ensures sects { self.new.sects ≡ self.old.sects }
@@ -144,7 +144,7 @@ impl<A: Allocator> PackedSects<A> {
         }
     }
 
-    /// Appends an item to the open section. On `Memory` all stays as it was.
+    /// Appends an item to the open section. On `Memory`, nothing changes.
     pub fn push_item(&mut self, item: ItemRef<'_>) -> Result<(), Memory>
         ensures sects { self.new.sects ≡ self.old.sects }
         ensures ok { OnOk result (self.new.items ≡ self.old.items ++ item_ref_data item.entry ∷ []) }
@@ -227,7 +227,7 @@ impl<A: Allocator> PackedSects<A> {
         self.words.len() - self.closed
     }
 
-    /// Replaces the start line of the function's item at this place in the open section. An item of another kind stays as it is.
+    /// Replaces the start line of the function's item at this index in the open section. Doesn't change an item of another kind.
     pub fn set_start(&mut self, at: usize, line: u64)
         requires { at < length self.old.items }
         ensures sects { self.new.sects ≡ self.old.sects }
@@ -237,7 +237,7 @@ impl<A: Allocator> PackedSects<A> {
         set_line(&mut self.numbers, word, line);
     }
 
-    /// Removes the open section's items at these places, which have to ascend. Takes no memory.
+    /// Removes the open section's items at these indices, which must ascend. Never allocates.
     pub fn remove(&mut self, places: &[usize])
         ensures sects { self.new.sects ≡ self.old.sects }
         ensures items { self.new.items ≡ left 0 places.now self.old.items }
@@ -245,7 +245,7 @@ impl<A: Allocator> PackedSects<A> {
         remove_words(&mut self.words, self.closed, places);
     }
 
-    /// Removes all items of the open section. Takes no memory.
+    /// Removes all items of the open section. Never allocates.
     pub fn forget(&mut self)
         ensures sects { self.new.sects ≡ self.old.sects }
         ensures items { self.new.items ≡ [] }
@@ -253,7 +253,7 @@ impl<A: Allocator> PackedSects<A> {
         self.words.truncate(self.closed);
     }
 
-    /// Closes the open section: it is the section of this test and source file. On `Memory` all stays as it was.
+    /// Closes the open section, as a section of this test and source file. On `Memory`, nothing changes.
     pub fn close(&mut self, test: &[u8], file: &[u8]) -> Result<(), Memory>
         ensures sects { OnOk result (self.new.sects ≡ self.old.sects ++ record { test = test.now; file = file.now; items = self.old.items } ∷ []) }
         ensures items { OnOk result (self.new.items ≡ []) }
@@ -281,7 +281,7 @@ impl<A: Allocator> PackedSects<A> {
         self.sects.len()
     }
 
-    /// The name of the last closed section's test, or `None` if no section is closed.
+    /// The test name of the last closed section. Returns `None` if no section is closed.
     pub fn last_test(&self) -> Option<&[u8]>
         ensures { MatchOption result (self.now.sects ≡ []) (λ test. IsLastTest self.now.sects test.now) }
     {
@@ -302,7 +302,7 @@ impl<A: Allocator> PackedSects<A> {
     }
 }
 
-/// Removes the words at these places, counted from the index `from` on. The places ascend.
+/// Removes the words at these indices, which are relative to `from` and ascend.
 fn remove_words<A: Allocator>(words: &mut Vec<u64, A>, from: usize, places: &[usize])
     requires { from ≤ length words.old.items }
     ensures { words.new.items ≡ take from words.old.items ++ left 0 places.now (drop from words.old.items) }
@@ -321,7 +321,7 @@ fn remove_words<A: Allocator>(words: &mut Vec<u64, A>, from: usize, places: &[us
     words.truncate(kept);
 }
 
-/// The places after this one, if it is the first of them.
+/// The places without the first, if that is this one. Returns `None` otherwise.
 fn skip_place(places: &[usize], at: usize) -> Option<&[usize]>
     ensures { MatchOption result (starts_with at places.entry.now ≡ false) (λ rest. places.entry.now ≡ at ∷ rest.now) }
 {
@@ -331,7 +331,7 @@ fn skip_place(places: &[usize], at: usize) -> Option<&[usize]>
     }
 }
 
-/// Where the names of a section lie.
+/// The locations of a section's names.
 #[derive(Clone, Copy, Drop)]
 struct NamePlaces {
     /// Where the test's name lies.
@@ -340,8 +340,8 @@ struct NamePlaces {
     file: TextPlace,
 }
 
-/// Appends the names of a section to the texts, and returns where they lie. The name of the last section's test isn't appended
-/// again, so the sections of one test have its name once.
+/// Appends the names of a section to the texts, and returns their locations. Reuses the name of the last section's test if it is
+/// the same, so the sections of one test share its name.
 fn place_names<A: Allocator>(
     sects: &Vec<ClosedSect, A>,
     texts: &mut Vec<u8, A>,
@@ -361,7 +361,7 @@ fn place_names<A: Allocator>(
     Ok(NamePlaces { test, file })
 }
 
-/// Where the name of the last section's test lies, if it is this one. So the sections of one test have its name once.
+/// The location of the last section's test name, if it is the same name. So the sections of one test share its name.
 fn last_test<A: Allocator>(
     sects: &Vec<ClosedSect, A>,
     texts: &Vec<u8, A>,
@@ -378,14 +378,14 @@ fn last_test<A: Allocator>(
     None
 }
 
-/// Whether this text lies at the place.
+/// Whether the bytes at this location are the text.
 fn is_text_at(texts: &[u8], place: TextPlace, text: &[u8]) -> bool
     ensures { IsTrue result ↔ (text_at texts.now place.begin place.bytes ≡ text.now) }
 {
     text_at(texts, place.begin, place.bytes) == text
 }
 
-/// Appends a text to the texts, and returns where it lies. On `Memory` the texts stay as they were.
+/// Appends a text to the texts, and returns its location. On `Memory`, the texts are unchanged.
 fn append_text<A: Allocator>(texts: &mut Vec<u8, A>, text: &[u8]) -> Result<TextPlace, Memory>
     ensures ok { IfOk result (λ place. IsTextAt texts.new.items text.now place) }
     ensures grows { BeginWith texts.new.items texts.old.items }

@@ -1,4 +1,4 @@
-//! What one text says, packed.
+//! Packed submissions.
 
 use crate::packed_sects::PackedSects;
 use crate::same::{same_sects, same_sects_as};
@@ -7,8 +7,8 @@ use covline::Submission;
 use std::alloc::{Allocator, Global};
 use std::marker::Model;
 
-/// What one text says, packed: its sections and its number of odd lines, as of `covline`'s `Submission`. The sections have at most
-/// 67,108,864 items in all, and their texts are lawful. Contracts see the sections and the number.
+/// The packed content of one input: its sections and its number of inconsistent lines (`odd`), like covline's `Submission`. The
+/// sections have at most 67,108,864 items in all, and lawful names and checksums. Contracts see the sections and the number.
 #[derive(Drop)]
 pub struct PackedSubmission<A: Allocator = Global> {
     sects: PackedSects<A>,
@@ -32,8 +32,8 @@ impl<A: Allocator> PackedSubmission<A> {
     ghost use Rattle.covpacked.specs.ReadTexts.{IsLastTest};
     ghost use Rattle.covline.specs.Lawful.{IsLawful};
 
-    /// The submission of closed sections that are known to be lawful, with the number of odd lines of their text. Items of an open
-    /// section don't count.
+    /// Makes a submission of closed sections that are known to be lawful, with the number of inconsistent lines of their input.
+    /// Drops the items of an open section.
     pub fn of_lawful(sects: PackedSects<A>, odd: u64) -> PackedSubmission<A>
         requires lawful { IsLawful (record { sects = sects.sects; odd = odd }) }
         ensures { result ≡ record { sects = sects.sects; odd = odd } }
@@ -41,21 +41,21 @@ impl<A: Allocator> PackedSubmission<A> {
         PackedSubmission { sects, odd }
     }
 
-    /// Whether the submissions are equal. Takes no memory.
+    /// Whether the submissions are equal. Never allocates.
     pub fn is_same(&self, other: &PackedSubmission<A>) -> bool
         ensures { IsTrue result ↔ (self.now ≡ other.now) }
     {
         self.odd == other.odd && same_sects(self.sects(), other.sects())
     }
 
-    /// Whether this is the same submission as one that isn't packed. Takes no memory.
+    /// Whether this equals a submission that isn't packed. Never allocates.
     pub fn is_same_as(&self, other: &Submission<A>) -> bool
         ensures { IsTrue result ↔ (self.now ≡ other.now) }
     {
         self.odd == other.odd() && same_sects_as(self.sects(), other.sects())
     }
 
-    /// The sections, in the order of the text.
+    /// The sections, in the order of the input.
     pub fn sects(&self) -> PackedSectsIter<'_>
         ensures sects { result ≡ self.now.sects }
         ensures lawful { IsLawful self.now }
@@ -70,7 +70,7 @@ impl<A: Allocator> PackedSubmission<A> {
         self.sects.closed_sects() as u64
     }
 
-    /// The name of the last section's test, or `None` if there is no section.
+    /// The test name of the last section. Returns `None` if there is no section.
     pub fn last_test(&self) -> Option<&[u8]>
         ensures { MatchOption result (self.now.sects ≡ []) (λ test. IsLastTest self.now.sects test.now) }
     {
@@ -85,8 +85,8 @@ impl<A: Allocator> PackedSubmission<A> {
         self.sects.closed_len() as u64
     }
 
-    /// The number of odd lines in the text. A line is odd if it counts a function that has no start line, or if it states a
-    /// total that isn't the section's own.
+    /// The number of inconsistent lines of the input. Such a line counts a function without a start line, or states a total that
+    /// isn't the section's own.
     pub fn odd(&self) -> u64
         ensures { result ≡ self.now.odd }
     {

@@ -1,4 +1,4 @@
-//! The parts of an item, and how they are packed into a word and a list of numbers.
+//! Packs the parts of an item into a word and a list of numbers.
 
 ghost use Rattle.std.specs.Prelude.{◌≡◌, ◌+◌, ◌<◌, ◌≤◌, ◌%◌, length, true, nat_lt, IfOk, OnErr, OnOk};
 ghost use Rattle.covpacked.specs.Layout.{BeginWith, IsAppended, IsBranch, IsPackedAs, begin_of, room_of, with_line};
@@ -8,7 +8,7 @@ ghost use Rattle.covpacked.specs.Words.{kind_number, kind_of, line_in, long_part
 use covline::Memory;
 use std::alloc::Allocator;
 
-/// What an item counts, and what else it says.
+/// The kind of an item.
 #[derive(Clone, Copy, PartialEq, Eq)]
 pub(crate) enum Kind {
     /// A line without a checksum.
@@ -27,7 +27,7 @@ pub(crate) enum Kind {
 #[derive(Clone, Copy)]
 pub(crate) struct Parts {
     pub kind: Kind,
-    /// The line. Of a function it is the line that the function starts at.
+    /// The line, or the start line of a function.
     pub line: u64,
     /// The execution count, or how often the branch was taken.
     pub count: u128,
@@ -37,22 +37,22 @@ pub(crate) struct Parts {
     pub second: u64,
 }
 
-/// The least word that isn't short.
+/// The least word that isn't a short word.
 const LONG_WORD: u64 = 9_223_372_036_854_775_808;
 
-/// Below it are the lines that fit into a short word.
+/// The lines below this one fit into a short word.
 const LINES: u64 = 1_073_741_824;
 
-/// Below it is the upper half of a short word.
+/// The upper half of a short word is below this number.
 const UPPER: u64 = 2_147_483_648;
 
-/// Below it are numbers of 16 bits.
+/// Numbers of 16 bits are below this one.
 const QUARTER: u64 = 65_536;
 
-/// Below it are numbers of 32 bits.
+/// Numbers of 32 bits are below this one.
 const HALF: u64 = 4_294_967_296;
 
-/// Below it are numbers of 64 bits.
+/// Numbers of 64 bits are below this one.
 const WHOLE: u128 = 18_446_744_073_709_551_616;
 
 impl Kind {
@@ -88,7 +88,7 @@ impl Kind {
     }
 }
 
-/// The number at an index; 0 where there is none.
+/// The number at an index; 0 past the end.
 #[inline(always)]
 fn number_at(numbers: &[u64], index: u64) -> u64
     ensures { result ≡ number_at numbers.now index }
@@ -141,7 +141,7 @@ fn short_parts(numbers: &[u64], line: u64, upper: u64, kind: Kind) -> Parts
     }
 }
 
-/// The parts that are the six numbers from an index on.
+/// The parts stored as six numbers from an index on.
 fn long_parts(numbers: &[u64], begin: u64) -> Parts
     requires { begin < long_word }
     ensures { result ≡ long_parts numbers.now begin }
@@ -171,8 +171,8 @@ pub(crate) fn set_line<A: Allocator>(numbers: &mut Vec<u64, A>, word: u64, line:
     }
 }
 
-/// Packs the parts: what doesn't fit into their word is appended to the numbers. Returns the word. On `Memory` the numbers stay as
-/// they were.
+/// Packs the parts into a word, which is returned, and appends to the numbers what doesn't fit into it. On `Memory`, the numbers
+/// are unchanged.
 #[inline(always)]
 pub(crate) fn pack<A: Allocator>(numbers: &mut Vec<u64, A>, parts: Parts) -> Result<u64, Memory>
     ensures ok { IfOk result (λ word. IsPackedAs parts word numbers.old.items numbers.new.items) }
@@ -187,7 +187,7 @@ pub(crate) fn pack<A: Allocator>(numbers: &mut Vec<u64, A>, parts: Parts) -> Res
     }
 }
 
-/// Appends the word of an item with these parts to the words. On `Memory` the words stay as they were.
+/// Packs the parts of an item, and appends their word to the words. On `Memory`, the words are unchanged.
 #[inline(always)]
 pub(crate) fn append<A: Allocator>(
     words: &mut Vec<u64, A>,

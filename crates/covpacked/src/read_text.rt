@@ -1,10 +1,10 @@
-//! What a text was read as, packed or not.
+//! The trait of submissions, packed or not.
 
 use crate::packed_submission::PackedSubmission;
 use covline::Submission;
 use std::alloc::Allocator;
 
-/// What a text was read as: a submission, packed or not. Contracts see the submission.
+/// A submission that was read from an input, packed or not. Contracts see the submission.
 pub trait ReadText {
     ghost use Rattle.std.specs.Prelude.{◌≡◌, [], MatchOption, length};
     ghost use Rattle.covline.specs.Row.{SubmissionData, items_in};
@@ -21,11 +21,11 @@ pub trait ReadText {
     fn count_items(&self) -> u64
         ensures { result ≡ items_in (says self.now).sects };
 
-    /// How many lines of the text are odd.
+    /// How many inconsistent lines its input has.
     fn count_odd(&self) -> u64
         ensures { result ≡ (says self.now).odd };
 
-    /// The name of the last section's test, or `None` if there is no section.
+    /// The test name of the last section. Returns `None` if there is no section.
     fn last_test(&self) -> Option<&[u8]>
         ensures { MatchOption result ((says self.now).sects ≡ []) (λ test. IsLastTest (says self.now).sects test.now) };
 }

@@ -1,4 +1,4 @@
-//! Whether items and sections say the same. Nothing here takes memory.
+//! Compares items and sections. Nothing here allocates.
 
 ghost use Rattle.std.specs.Prelude.{◌≡◌, ◌↔◌, ◌∷◌, IsTrue, drop, map, option_map};
 ghost use Rattle.covline.specs.Row.{BranchItem, FuncItem, LineItem};
@@ -94,7 +94,7 @@ fn same_items_as<A: Allocator>(first: PackedItems<'_>, second: &Items<A>) -> boo
     true
 }
 
-/// Takes the next item, and tells whether it is this one.
+/// Consumes the next item, and returns whether it equals `wanted`.
 fn next_item_is(items: &mut PackedItems<'_>, wanted: &ItemRef<'_>) -> bool
     ensures rest { items.new ≡ drop 1 items.old }
     ensures same { IsTrue result ↔ (items.old ≡ item_ref_data wanted.now ∷ items.new) }

@@ -1,17 +1,17 @@
-//! The sections of a packed submission, one after another.
+//! An iterator over the sections of a packed submission.
 
 use crate::packed_items::{PackedItems, text_at};
 use crate::packed_sects::ClosedSect;
 use std::marker::Model;
 
-/// What one test says about one source file, borrowed from packed sections.
+/// The counts of one test for one source file, borrowed from packed sections.
 #[derive(Drop)]
 pub struct PackedSect<'a> {
     /// The test's name, which may be empty (`TN:`).
     pub test: &'a [u8],
     /// The source file's path (`SF:`).
     pub file: &'a [u8],
-    /// The items, in the order in which the text says them.
+    /// The items, in the order of the input.
     pub items: PackedItems<'a>,
 }
 
@@ -38,7 +38,7 @@ impl<'a> PackedSectsIter<'a> {
     ghost use Rattle.std.specs.Prelude.{◌≡◌};
     ghost use Rattle.covpacked.specs.PackedView.{items_of, sects_of};
 
-    /// The sections that these lists hold.
+    /// The sections in these lists.
     pub(crate) fn of(
         words: &'a [u64],
         numbers: &'a [u64],

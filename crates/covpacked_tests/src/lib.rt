@@ -1,5 +1,5 @@
-//! Tests of what a text says in its packed form (covpacked): items, sections and submissions, and the room that they take. This
-//! crate has nothing but its tests, so that a crate with functions is proved once.
+//! Tests of packed items, sections and submissions (covpacked), and of the memory that they use. This is a crate of its own, so
+//! that covpacked is proved once.
 #![tactic(auto)]
 
 #[cfg(test)]

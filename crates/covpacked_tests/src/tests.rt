@@ -1,4 +1,4 @@
-//! Packed items, sections and submissions. What is wanted was written out by hand, never taken from an output.
+//! Packed items, sections and submissions. Expected values were written by hand.
 
 use std::process::Abort;
 use std::test::*;
@@ -20,7 +20,7 @@ mod sections;
 mod starts;
 mod wrappers;
 
-/// The value that a call with ample memory returned. Panics if the call was refused.
+/// The result of a call with ample memory. Panics if the call failed.
 fn made<T, E: Drop>(rt: &impl Abort, given: Result<T, E>) -> T {
     match given {
         Ok(value) => value,

@@ -1,4 +1,4 @@
-//! What goes over from a piece of a tracefile into the next one.
+//! The state that is carried over from one chunk of a tracefile to the next.
 
 use crate::cut::{count_lines, grouped_after};
 use covline::{Bytes, Memory};
@@ -7,7 +7,7 @@ use covread::ReadFault;
 use std::alloc::{Allocator, Global};
 use std::marker::Model;
 
-/// What a piece of a tracefile takes over from the pieces before it: the test's name, how many lines these pieces have, and in
+/// The state that is carried over from the chunks of a tracefile so far: the test's name, how many lines these chunks have, and in
 /// LCOV 2 whether the last `FNL:` line is still valid. Contracts see these three.
 #[derive(Drop)]
 pub struct Carried<A: Allocator = Global> {
@@ -29,7 +29,7 @@ impl<A: Allocator> Carried<A> {
     ghost use Rattle.covpieces.specs.Sections.{EndsSection};
     ghost use Rattle.covpieces.specs.Pieces.{carried_after, front_lines, front_text, lcov2_carried_after, moved_number, nothing_carried, last_test, told};
 
-    /// Before the first piece.
+    /// The state before the first chunk.
     pub fn new(alloc: A) -> Carried<A>
         ensures { result ≡ nothing_carried }
     {
@@ -40,15 +40,15 @@ impl<A: Allocator> Carried<A> {
         }
     }
 
-    /// How many lines the pieces have that were read.
+    /// How many lines were read so far.
     pub fn lines(&self) -> u64
         ensures { result ≡ self.now.lines }
     {
         self.lines
     }
 
-    /// The front of the next piece: the lines that are put before its bytes. Behind them it is read as it is behind the pieces before
-    /// it. An empty name needs no line.
+    /// Returns the prefix of the next chunk: the lines to put before its bytes. The chunk is read after them as it would be after
+    /// the chunks before it. An empty test name has no line.
     pub fn front(&self, alloc: A) -> Result<Bytes<A>, Memory>
         ensures { IfOk result (λ text. text ≡ front_text self.now) }
     {
@@ -65,8 +65,7 @@ impl<A: Allocator> Carried<A> {
         Ok(text)
     }
 
-    /// The fault of the piece behind its front, with the line's number in the whole tracefile. A number of 2^64 or more is told as
-    /// 2^64 - 1.
+    /// Turns an error of the chunk, read after its prefix, into that of the whole tracefile. A line number saturates at 2^64 - 1.
     pub fn moved(&self, fault: ReadFault) -> ReadFault
         ensures { result ≡ told self.now fault }
     {
@@ -104,7 +103,7 @@ impl<A: Allocator> Carried<A> {
         }
     }
 
-    /// The number in the whole tracefile of a line that has this number in the piece behind its front.
+    /// Turns a line number in the chunk with its prefix into that in the whole tracefile.
     fn moved_number(&self, at: u64) -> u64
         ensures { result ≡ min (moved_number self.now at) (2 ^ 64 - 1) }
     {
@@ -112,7 +111,7 @@ impl<A: Allocator> Carried<A> {
             .saturating_add(at.saturating_sub(self.front_lines()))
     }
 
-    /// How many lines the front has.
+    /// How many lines the prefix has.
     fn front_lines(&self) -> u64
         ensures { result ≡ length (front_lines self.now) }
     {
@@ -121,8 +120,8 @@ impl<A: Allocator> Carried<A> {
         names + groups
     }
 
-    /// Goes on to the next piece of a tracefile of version 1. This piece, without its front, ends with a section, and behind its
-    /// front it was read as this submission.
+    /// Goes on to the next chunk of a tracefile of version 1. `piece` is the chunk without its prefix, which ends with a section;
+    /// `submission` is what it was read as after its prefix.
     pub fn pass<S: ReadText>(
         &mut self,
         alloc: A,
@@ -141,7 +140,7 @@ impl<A: Allocator> Carried<A> {
         Ok(())
     }
 
-    /// Goes on to the next piece of a tracefile of LCOV 2, as `pass` does.
+    /// Like `pass`, for a tracefile of LCOV 2.
     pub fn pass_lcov2<S: ReadText>(
         &mut self,
         alloc: A,
@@ -161,7 +160,7 @@ impl<A: Allocator> Carried<A> {
         Ok(())
     }
 
-    /// Takes over the test of the last section, if there is one.
+    /// Stores the test name of the submission's last section. Changes nothing if the submission has no section.
     fn take_test<S: ReadText>(&mut self, alloc: A, submission: &S) -> Result<(), Memory>
         ensures ok { OnOk result (self.new ≡ record { test = last_test self.old.test (S.says submission.now).sects; is_grouped = self.old.is_grouped; lines = self.old.lines }) }
         ensures err { OnErr result (self.new ≡ self.old) }

@@ -1,4 +1,4 @@
-//! Where a block of bytes of a tracefile can be cut: after its last whole section.
+//! Cuts a block of bytes of a tracefile after its last whole section.
 
 ghost use Rattle.std.specs.Prelude.{◌≡◌, ◌≤◌, ◌↔◌, length, take, drop, codes, count_by, option_map, IsTrue};
 ghost use Rattle.covline.specs.Lines.{lines_of, strip};
@@ -9,8 +9,8 @@ ghost use Rattle.covpieces.specs.LastLines.{EndsInFeed, HasNoFeed, HasWholeLines
 use covline::{strip_key, without_returns};
 use memchr::memrchr;
 
-/// How many bytes of the text make whole sections: the length of its longest beginning that ends with a line that begins with
-/// `end_of_record`, with its line feed. 0 if there is no such line. The lines are looked at from the end.
+/// The length of the whole sections at the front of the text: up to and including the last line that begins with `end_of_record`
+/// and has a line feed. Returns 0 if the text has no such line. Searches from the end.
 pub fn whole_sections(text: &[u8]) -> usize
     ensures { AreWholeSections text.now result }
 {
@@ -21,7 +21,7 @@ pub fn whole_sections(text: &[u8]) -> usize
     rest.len()
 }
 
-/// How many bytes the text has up to its last line feed, with it. 0 if it has no line feed.
+/// The length of the text up to and including its last line feed. Returns 0 if the text has no line feed.
 fn after_last_feed(text: &[u8]) -> usize
     ensures within { result ≤ length text.now }
     ensures whole { HasWholeLines (take result text.now) }
@@ -33,7 +33,7 @@ fn after_last_feed(text: &[u8]) -> usize
     }
 }
 
-/// The text without its last line. `None` if that line ends a section, or if there is no line.
+/// The text without its last line. Returns `None` if that line ends a section, or if the text is empty.
 fn without_last_line(text: &[u8]) -> Option<&[u8]>
     requires { HasWholeLines text.now }
     ensures { IsShorter text.now (option_map (λ front. front.now) result) }
@@ -65,8 +65,8 @@ fn ends_section(line: &[u8]) -> bool
     strip_key(without_returns(line), b"end_of_record").is_some()
 }
 
-/// Whether functions are grouped after these lines, if they are grouped before them or not. Only the last lines are looked at, up to
-/// the last path.
+/// Whether functions are grouped (`FNL:`) after these lines. `is_grouped` says whether they are grouped before. Looks at the lines
+/// from the end, up to the first one that decides.
 pub(crate) fn grouped_after(is_grouped: bool, text: &[u8]) -> bool
     requires { HasWholeLines text.now }
     ensures { result ≡ grouped_after is_grouped (lines_of text.now) }
@@ -82,7 +82,8 @@ pub(crate) fn grouped_after(is_grouped: bool, text: &[u8]) -> bool
     is_grouped
 }
 
-/// Whether functions are grouped after this line: not after a path, and after an `FNL:` line. `None` if the line doesn't decide it.
+/// Whether functions are grouped after this line: `true` after an `FNL:` line, `false` after a path. Returns `None` for any other
+/// line.
 fn grouping_of(line: &[u8]) -> Option<bool>
     ensures { result ≡ grouping_of line.now }
 {
@@ -95,7 +96,7 @@ fn grouping_of(line: &[u8]) -> Option<bool>
     None
 }
 
-/// How many lines these are.
+/// How many lines the text has.
 pub(crate) fn count_lines(text: &[u8]) -> u64
     requires { HasWholeLines text.now }
     ensures value { result ≡ length (lines_of text.now) }

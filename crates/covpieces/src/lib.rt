@@ -1,11 +1,12 @@
-//! Tracefiles that are longer than a text can be (64 MiB), read in pieces.
+//! Reads tracefiles above the size limit (64 MiB) in chunks (pieces).
 //!
-//! A piece is some whole sections: it ends with a line that begins with `end_of_record`, or it is the end of the file. Each piece is
-//! read by itself, behind a front of up to two lines: the line of the current test's name unless it is empty, and in LCOV 2 an `FNL:`
-//! line if the last one is still valid. What the pieces say together is what the whole file says, and faults get their line's number
-//! in the file.
+//! A chunk is a run of whole sections: it ends with a line that begins with `end_of_record`, or at the end of the file. Each chunk
+//! is read by itself, after a prefix (`front`) of up to two lines: the line of the current test's name unless that name is empty,
+//! and in LCOV 2 an `FNL:` line if the last one is still valid. The chunks together are read as the whole file would be, and errors
+//! get their line number in the file.
 //!
-//! An example: the submission of a piece, or its fault in the whole file. After it, `carried.pass(..)` goes on to the next piece.
+//! An example: reads a chunk, or returns its error with the line number in the whole file. Afterwards, `carried.pass(..)` goes on
+//! to the next chunk.
 //!
 //! ```text
 //! pub fn read_piece(alloc: Global, carried: &Carried, piece: &[u8]) -> Result<Submission, ReadFault> {

@@ -1,5 +1,5 @@
-//! Tests of tracefiles that are read in pieces (covpieces): where a block is cut, and what goes over from piece to piece.
-//! This crate has nothing but its tests, so that a crate with functions is proved once.
+//! Tests of tracefiles that are read in chunks (covpieces): where a block is cut, and the state carried over between chunks. This
+//! is a crate of its own, so that covpieces is proved once.
 #![tactic(auto)]
 
 #[cfg(test)]

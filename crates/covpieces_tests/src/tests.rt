@@ -1,5 +1,4 @@
-//! What is wanted was worked out by hand from geninfo(1), section FILES, never taken from an output. Sections are written as
-//! a tracefile of version 1.
+//! Expected values were worked out by hand from geninfo(1), section FILES. Sections are written as a tracefile of version 1.
 
 use covlcov2::read_lcov2;
 use covline::{Bytes, Memory, Submission};
@@ -29,14 +28,14 @@ fn read(alloc: Global, text: &[u8], version: Version) -> Result<Submission, Read
     }
 }
 
-/// The text of a piece behind its front.
+/// Makes the input of the reader for a chunk: its prefix, followed by the chunk.
 fn behind_front(alloc: Global, carried: &Carried, piece: &[u8]) -> Result<Bytes, Memory> {
     let mut text = carried.front(alloc)?;
     text.append(piece)?;
     Ok(text)
 }
 
-/// The submission of a piece behind its front, or its fault in the whole text.
+/// Reads a chunk after its prefix. The line number in an error is that in the whole text.
 fn read_piece(
     alloc: Global,
     carried: &Carried,
@@ -50,7 +49,7 @@ fn read_piece(
     }
 }
 
-/// Goes on behind a piece of whole sections. False if the piece has other lines, or too many bytes for a test.
+/// Goes on after a chunk of whole sections. Returns `false` if the chunk has other lines, or too many bytes for a test.
 fn pass(
     alloc: Global,
     carried: &mut Carried,

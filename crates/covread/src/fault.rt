@@ -1,4 +1,4 @@
-//! Why a text is refused.
+//! Why an input is rejected.
 
 ghost use Rattle.std.specs.Prelude.{◌≡◌};
 ghost use Rattle.covread.specs.declared.fault.ReadFault.TheVariants.{Memory as NoMemory};
@@ -7,46 +7,46 @@ use covline::{LineFault, Memory};
 use std::alloc::AllocFailed;
 use thiserror::Error;
 
-/// The most bytes that a text can have: 64 MiB.
+/// The size limit of an input: 64 MiB.
 pub const MAX_BYTES: usize = 67_108_864;
 
-/// Why a text isn't read: its first fault. If a line is faulty, `at` is the line's number, counted from 1.
+/// The first error of an input. `at` is the number of the invalid line, counted from 1.
 #[derive(Clone, Copy, Debug, PartialEq, Eq, Error)]
 pub enum ReadFault {
-    /// Fault 1: the text has more than 67,108,864 bytes. This is tested first.
+    /// Fault 1: the input has more than 67,108,864 bytes. This is checked first.
     #[error("TooLong")]
     TooLong,
-    /// Fault 2: the line itself is faulty. In gcov's text a number is 2^64 or more.
+    /// Fault 2: the line by itself is invalid. In gcov's output, a number is 2^64 or more.
     #[error("{fault} at {at}")]
     Line { at: u64, fault: LineFault },
-    /// Fault 3: a start line, a count, a total or `end_of_record` where no section is open.
+    /// Fault 3: a start line, a count, a total or `end_of_record` outside of sections.
     #[error("Outside at {at}")]
     Outside { at: u64 },
-    /// Fault 4: a test name or a path in an open section.
+    /// Fault 4: a test name or a path inside a section.
     #[error("Inside at {at}")]
     Inside { at: u64 },
-    /// Fault 5: the text ends in an open section.
+    /// Fault 5: the input ends inside a section.
     #[error("OpenEnd")]
     OpenEnd,
-    /// Fault 6: the mark of a source line, or the count of a branch, is of no known form.
+    /// Fault 6: the mark of a source line, or the count of a branch, has no known form.
     #[error("BadMark at {at}")]
     BadMark { at: u64 },
     /// Fault 7: a source line before any `Source:`, or a `Source:` without a path.
     #[error("NoSource at {at}")]
     NoSource { at: u64 },
-    /// Fault 8: a branch has a percentage in place of a count.
+    /// Fault 8: a branch has a percentage instead of a count.
     #[error("Percent at {at}")]
     Percent { at: u64 },
-    /// Fault 9: a line that begins `-----`: the counts of template instances follow.
+    /// Fault 9: a line that begins with `-----`: the counts of template instances follow.
     #[error("Instances at {at}")]
     Instances { at: u64 },
     /// Fault 10: a branch before the first source line of its source file.
     #[error("Misplaced at {at}")]
     Misplaced { at: u64 },
-    /// Fault 11: the next source file, or the text's end, comes while function lines wait for a source line.
+    /// Fault 11: a function has no source line: the next source file or the end of the input follows it.
     #[error("LostFunction")]
     LostFunction,
-    /// Fault 12: a tracefile can't hold the test's name. This is tested after the text's length.
+    /// Fault 12: a tracefile can't hold the test's name. This is checked after the size.
     #[error("BadTest")]
     BadTest,
     /// Fault 13: an allocation failed.
@@ -58,7 +58,7 @@ impl ReadFault {
     ghost use Rattle.std.specs.Prelude.{◌≡◌};
     ghost use Rattle.covread.specs.Fault.{fault_number, is_memory};
 
-    /// The number of the fault.
+    /// The number of the error.
     pub fn number(self) -> u32
         ensures { result ≡ fault_number self }
     {
@@ -79,7 +79,7 @@ impl ReadFault {
         }
     }
 
-    /// Whether memory ran out, which is no fault of the text.
+    /// Whether memory ran out, which is no error of the input.
     pub fn is_memory(self) -> bool
         ensures { result ≡ is_memory self }
     {

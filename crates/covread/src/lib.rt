@@ -1,11 +1,10 @@
-//! Readers of coverage data: what a text says, as a submission, or its first fault.
+//! Reads coverage data: turns an input into a submission, or returns its first error.
 //!
-//! A text is a tracefile (geninfo(1) of LCOV 1.x, section FILES) or gcov's annotated source (gcov(1), and the GCC
-//! manual's chapter on gcov). It is read forward once. Items are copied out of it, so the text can be freed once it is
-//! read.
+//! An input is a tracefile (geninfo(1) of LCOV 1.x, section FILES) or gcov's annotated source (gcov(1), and the GCC manual's
+//! chapter on gcov). It is read in one pass. Items are copied, so the input can be freed after reading.
 //!
-//! An example, proved and run in `covuses`, reads a text of either format. It relies on this: if gcov's output is read as a
-//! tracefile, the submission has no items.
+//! An example, proved and run in `covuses`, reads an input of either format. It relies on the fact that gcov's output has no items
+//! if it is read as a tracefile.
 //!
 //! ```text
 //! pub fn read_either(alloc: Global, test: &[u8], text: &[u8]) -> Result<Submission, ReadFault> {

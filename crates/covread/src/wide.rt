@@ -2,7 +2,7 @@
 
 ghost use Rattle.std.specs.Prelude.{◌≡◌};
 
-/// How often a branch was taken, if that is known, as a count.
+/// Widens how often a branch was taken to 128 bits. `None` stays `None`.
 #[inline]
 pub(crate) fn wide(taken: Option<u64>) -> Option<u128>
     ensures { result ≡ taken }

@@ -1,5 +1,4 @@
-//! Public calls with ample memory. What is wanted was worked out by hand from the formats (geninfo(1), section FILES; gcov(1)),
-//! never taken from an output.
+//! Public calls with ample memory. Expected values were worked out by hand from the formats (geninfo(1), section FILES; gcov(1)).
 
 use std::process::Abort;
 use std::test::*;
@@ -11,7 +10,7 @@ mod limits;
 mod records;
 mod wrappers;
 
-/// Checks that the bytes are as wanted. The tests call this, since a comparison in a test's own body would be a part of that
+/// Checks that the bytes are as expected. The tests call this, since a comparison in a test's own body would be a part of that
 /// test's proof.
 fn check_bytes(rt: &impl Abort, given: &[u8], wanted: &[u8]) {
     assert_eq!(rt; given, wanted);

@@ -12,8 +12,8 @@ pub enum Choice<A: Allocator = Global> {
     Extract(Patterns<A>),
     /// The files that match none of the patterns; every file if there are no patterns.
     Remove(Patterns<A>),
-    /// The files that match at least one of the includes and none of the excludes. Without includes, all files that match none
-    /// of the excludes (lcov(1) of LCOV 2.x, `--include` and `--exclude`).
+    /// The files that match at least one of the includes (any file if there are none) and none of the excludes (lcov(1) of LCOV
+    /// 2.x, `--include` and `--exclude`).
     Filter {
         includes: Patterns<A>,
         excludes: Patterns<A>,
@@ -25,7 +25,7 @@ impl<A: Allocator> Choice<A> {
     ghost use Rattle.covreport.specs.Choice.{is_chosen};
     ghost use Rattle.covreport.specs.ChoiceView.{choice_data};
 
-    /// Whether the file is chosen. Takes no memory.
+    /// Whether the file is chosen. Never allocates.
     pub fn takes(&self, file: &[u8]) -> bool
         ensures { result ≡ is_chosen (choice_data self.now) file.now }
     {

@@ -1,10 +1,10 @@
-//! Prints what a store holds: the merged tracefile (geninfo(1), FILES), of all files or of those that patterns choose
-//! (lcov(1), `--extract` and `--remove`), and the summary of totals (lcov(1), `--summary`).
+//! Prints the content of a store: the merged tracefile (geninfo(1), FILES), of all files or of those that patterns choose (lcov(1),
+//! `--extract` and `--remove`), and the summary of totals (lcov(1), `--summary`).
 //!
-//! `trace_text` makes the whole text of a tracefile. A `Printing` of a store doesn't: it prints the text piece by piece to a
-//! `Printer` of the caller's own. Once the `Printing` is made, printing takes no more memory.
+//! `trace_text` makes the whole text of a tracefile. A `Printing` prints it piece by piece to the caller's `Printer`, and never
+//! allocates once it is made.
 //!
-//! `chosen_totals` gives the totals of chosen files, for a summary of these alone.
+//! `chosen_totals` returns the totals of chosen files, for a summary of only these.
 //!
 //! An example, proved and run in `covuses`: the merged tracefile of the files that match a pattern, and the summary of all files.
 //!

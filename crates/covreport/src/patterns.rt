@@ -12,16 +12,16 @@ pub const MAX_PATTERNS: usize = 64;
 /// The most bytes in one pattern.
 pub const MAX_PATTERN_BYTES: usize = 1_024;
 
-/// Why a pattern isn't added to a list.
+/// Why a pattern couldn't be added to a list.
 #[derive(Clone, Copy, Debug, PartialEq, Eq, Error)]
 pub enum PatternFault {
-    /// The list has 64 patterns. This is tested first.
+    /// The list has 64 patterns. This is checked first.
     #[error("TooMany")]
     TooMany = 1,
     /// The pattern has more than 1,024 bytes.
     #[error("TooLong")]
     TooLong = 2,
-    /// Memory was refused.
+    /// An allocation failed.
     #[error("out of memory")]
     Memory = 3,
 }
@@ -30,7 +30,7 @@ impl PatternFault {
     ghost use Rattle.std.specs.Prelude.{◌≡◌};
     ghost use Rattle.covreport.specs.PatternFault.{fault_number};
 
-    /// The number of the fault, from 1.
+    /// The number of the error, from 1.
     pub fn number(self) -> u32
         ensures { result ≡ fault_number self }
     {
@@ -72,7 +72,7 @@ impl<A: Allocator + Copy> Patterns<A> {
     ghost use Rattle.covreport.specs.declared.patterns.PatternFault.TheVariants as faults;
     ghost use Rattle.covreport.specs.Choice.{any_matches, max_patterns, max_pattern_bytes};
 
-    /// The empty list. Takes no memory.
+    /// The empty list. Never allocates.
     pub fn new(alloc: A) -> Patterns<A>
         ensures { result ≡ [] }
     {
@@ -81,7 +81,7 @@ impl<A: Allocator + Copy> Patterns<A> {
         }
     }
 
-    /// Appends a pattern. If it is refused, the list stays as it was.
+    /// Appends a pattern. An error leaves the list unchanged.
     pub fn add(&mut self, alloc: A, pattern: &[u8]) -> Result<(), PatternFault>
         ensures ok { OnOk result (self.new ≡ self.old ++ pattern.now ∷ []) }
         ensures err { OnErr result (self.new ≡ self.old) }
@@ -109,7 +109,7 @@ impl<A: Allocator + Copy> Patterns<A> {
         Ok(())
     }
 
-    /// An equal list, in memory of its own.
+    /// Copies the list.
     pub fn copy(&self, alloc: A) -> Result<Patterns<A>, Memory>
         ensures { IfOk result (λ p. p ≡ self.now) }
     {
@@ -125,14 +125,14 @@ impl<A: Allocator> Patterns<A> {
     ghost use Rattle.std.specs.Prelude.{◌≡◌, ◌↔◌, IsTrue};
     ghost use Rattle.covreport.specs.Choice.{any_matches};
 
-    /// The patterns in order. Takes no memory.
+    /// The patterns in order. Never allocates.
     pub fn get(&self) -> &[Bytes<A>]
         ensures { result.now ≡ self.now }
     {
         self.patterns.as_slice()
     }
 
-    /// Whether the other list has equal patterns in the same order. Takes no memory.
+    /// Whether the other list has equal patterns in the same order. Never allocates.
     pub fn is_same(&self, other: &Patterns<A>) -> bool
         ensures { IsTrue result ↔ (self.now ≡ other.now) }
     {
@@ -149,7 +149,7 @@ impl<A: Allocator> Patterns<A> {
         true
     }
 
-    /// Whether at least one of the patterns matches the whole path. Takes no memory.
+    /// Whether at least one of the patterns matches the whole path. Never allocates.
     pub fn any_matches(&self, path: &[u8]) -> bool
         ensures { result ≡ any_matches self.now path.now }
     {

@@ -8,17 +8,17 @@ use covstore::Store;
 use std::alloc::{Allocator, Global};
 use std::marker::Model;
 
-/// What a text is printed from.
+/// The source of a text.
 #[derive(Drop)]
 enum PrintedFrom<'s, A: Allocator> {
     /// The sections of a store.
     Sections(Tracefile<'s, A>),
-    /// The text itself.
+    /// The text in memory.
     Text(Bytes<A>),
 }
 
-/// A text that is ready to be printed: all memory that printing takes is there. Contracts see the text. The text of a store's
-/// sections is made only when it is printed, piece by piece.
+/// A text that is ready to be printed: all memory for printing is reserved. Contracts see the text. A tracefile's text is made
+/// piece by piece while it is printed.
 #[derive(Drop)]
 pub struct Printing<'s, A: Allocator = Global> {
     from: PrintedFrom<'s, A>,
@@ -38,8 +38,8 @@ impl<'s, A: Allocator + Copy> Printing<'s, A> {
     ghost use Rattle.covreport.specs.ChoiceView.{choice_data};
     ghost use Rattle.covreport.specs.Report.{report_text};
 
-    /// The text of the sections of all chosen files, in order. It allocates room for the functions of one section, if a chosen
-    /// section has functions.
+    /// The tracefile of all chosen files, in order. Reserves memory for the functions of one section, if a chosen section has
+    /// functions.
     pub fn of_store(
         alloc: A,
         store: &'s Store<A>,
@@ -53,7 +53,7 @@ impl<'s, A: Allocator + Copy> Printing<'s, A> {
         })
     }
 
-    /// A text that is there already. Takes no memory.
+    /// A text in memory. Never allocates.
     pub fn of_text(text: Bytes<A>) -> Printing<'s, A>
         ensures { result ≡ text }
     {
@@ -62,7 +62,7 @@ impl<'s, A: Allocator + Copy> Printing<'s, A> {
         }
     }
 
-    /// Prints the text. Between sections, printing stops if the printer wants no more. Takes no memory.
+    /// Prints the text. Stops after a section if the printer wants no more. Never allocates.
     pub fn print<P: Printer>(self, printer: &mut P)
         ensures begun { (rest : List ℕ) × (P.text printer.new ++ rest ≡ P.text printer.old ++ self.entry) }
         ensures whole { P.is_open printer.new ≡ true → P.text printer.new ≡ P.text printer.old ++ self.entry }

@@ -13,7 +13,7 @@ use covstore::{Store, Totals};
 use itoa::Buffer;
 use std::alloc::Allocator;
 
-/// The totals of the chosen files, over all tests. Takes no memory.
+/// The totals of the chosen files, over all tests. Never allocates.
 pub fn chosen_totals<A: Allocator + Copy>(store: &Store<A>, choice: &Choice<A>) -> Totals
     ensures value { result ≡ totals_of (filter (λ s. is_chosen (choice_data choice.now) s.key.file) store.now.sections) }
     ensures bounds { AreTotals result }
@@ -27,7 +27,7 @@ pub fn chosen_totals<A: Allocator + Copy>(store: &Store<A>, choice: &Choice<A>) 
     totals
 }
 
-/// The totals of the whole less those of a part.
+/// Subtracts the totals of a part from those of the whole.
 fn without(whole: Totals, part: Totals) -> Totals
     requires { IsAmong part whole }
     ensures { together result part ≡ whole }
@@ -42,8 +42,8 @@ fn without(whole: Totals, part: Totals) -> Totals
     }
 }
 
-/// The rate of points hit, in tenths of a percent from 0 to 1000: rounded to the nearest, halves up, but at most 999 if some
-/// point isn't hit, and at least 1 if some point is. Takes no memory.
+/// The rate of points hit, in tenths of a percent from 0 to 1000. Rounds to the nearest, halves up, but returns at most 999 if some
+/// point isn't hit, and at least 1 if some point is. Never allocates.
 pub fn tenths(hit: u64, found: u64) -> u32
     requires some { 0 < found }
     requires fewer { hit ≤ found }
@@ -69,7 +69,7 @@ fn rounded(hit: u64, found: u64) -> u32
     ((2000 * hit + found) / (2 * found)) as u32
 }
 
-/// The summary: a heading, and one line of text for each kind of points, which are lines, functions and branches.
+/// Prints the summary: a heading, and one line each for lines, functions and branches.
 pub fn summary_text<A: Allocator>(alloc: A, totals: &Totals) -> Result<Bytes<A>, Memory>
     requires { AreTotals totals.now }
     ensures { IfOk result (λ t. t ≡ summary_of totals.now) }
@@ -97,7 +97,7 @@ pub fn summary_text<A: Allocator>(alloc: A, totals: &Totals) -> Result<Bytes<A>,
     Ok(text)
 }
 
-/// What the line of a kind of points begins with, and the nouns for one point and for any other number of them.
+/// A summary line's label, and its noun in singular and plural.
 #[derive(Clone, Copy)]
 struct Words<'a> {
     label: &'a [u8],
@@ -122,7 +122,7 @@ fn put_summary<A: Allocator>(
     text.append(b"\n")
 }
 
-/// Appends the rate of points hit, with the numbers of points hit and found; `no data found` if there are no points.
+/// Appends the rate of points hit and the numbers of points hit and found, or `no data found` if there are no points.
 fn put_value<A: Allocator>(
     words: &Words<'_>,
     hit: u64,

@@ -27,8 +27,8 @@ use covstore::{Section, Store};
 use std::alloc::Allocator;
 use std::marker::Model;
 
-/// The text of the sections of all chosen files, in order. It allocates this text, and room for the functions of one section. If
-/// no section is chosen, it allocates nothing.
+/// Prints the tracefile of all chosen files, in order. Allocates this text, and memory for the functions of one section; nothing if
+/// no section is chosen.
 pub fn trace_text<A: Allocator + Copy>(
     alloc: A,
     store: &Store<A>,
@@ -43,8 +43,7 @@ pub fn trace_text<A: Allocator + Copy>(
     text.into_text()
 }
 
-/// The text of the sections of chosen files, ready to be printed: there is room for the functions of each of them. Contracts see
-/// the text.
+/// A tracefile that is ready to be printed, with capacity for the functions of any one section. Contracts see the text.
 #[derive(Drop)]
 pub(crate) struct Tracefile<'s, A: Allocator> {
     store: &'s Store<A>,
@@ -66,7 +65,7 @@ impl<'s, A: Allocator> Model for Tracefile<'s, A> {
 }
 
 impl<'s, A: Allocator + Copy> Tracefile<'s, A> {
-    /// The text of the sections of all chosen files, in order.
+    /// The tracefile of all chosen files, in order.
     pub(crate) fn of(
         alloc: A,
         store: &'s Store<A>,
@@ -82,7 +81,7 @@ impl<'s, A: Allocator + Copy> Tracefile<'s, A> {
         })
     }
 
-    /// Prints the text. Between sections, printing stops if the printer wants no more. Takes no memory.
+    /// Prints the text. Stops after a section if the printer wants no more. Never allocates.
     pub(crate) fn print<P: Printer>(self, out: &mut P)
         ensures begun { (rest : List ℕ) × (P.text out.new ++ rest ≡ P.text out.old ++ self.entry) }
         ensures whole { P.is_open out.new ≡ true → P.text out.new ≡ P.text out.old ++ self.entry }
@@ -96,7 +95,7 @@ impl<'s, A: Allocator + Copy> Tracefile<'s, A> {
     }
 }
 
-/// Puts the sections of all chosen files, as long as the printer wants more. `functions` has room for those of each section.
+/// Prints the sections of all chosen files, until the printer wants no more. `functions` has capacity for those of each section.
 fn put_chosen<'s, A: Allocator + Copy, P: Printer>(
     store: &'s Store<A>,
     choice: &Choice<A>,
@@ -114,7 +113,7 @@ fn put_chosen<'s, A: Allocator + Copy, P: Printer>(
     }
 }
 
-/// Puts a section if its file is chosen, unless the printer wants no more. Returns whether the printer wanted more.
+/// Prints a section if its file is chosen and the printer wants more. Returns whether the printer wanted more.
 fn put_if_wanted<'s, A: Allocator, P: Printer>(
     section: &Section<'s, A>,
     choice: &Choice<A>,
@@ -134,7 +133,7 @@ fn put_if_wanted<'s, A: Allocator, P: Printer>(
     true
 }
 
-/// Puts a section if its file is chosen.
+/// Prints a section if its file is chosen.
 fn put_if_chosen<'s, A: Allocator, P: Printer>(
     section: &Section<'s, A>,
     choice: &Choice<A>,
@@ -151,7 +150,7 @@ fn put_if_chosen<'s, A: Allocator, P: Printer>(
     put_section(section, functions, out);
 }
 
-/// Puts a section.
+/// Prints a section.
 fn put_section<'s, A: Allocator, P: Printer>(
     section: &Section<'s, A>,
     functions: &mut Vec<PrintedFunction<'s>, A>,

@@ -1,9 +1,9 @@
-//! Why a subcommand is refused although its words fit the command line.
+//! Why a subcommand is rejected although the command line was parsed.
 
 use covreport::PatternFault;
 use thiserror::Error;
 
-/// Why a subcommand is refused although its words fit the command line.
+/// Why a subcommand is rejected although the command line was parsed.
 #[derive(Clone, Copy, Debug, PartialEq, Eq, Error)]
 pub enum ArgumentFault {
     /// There are more than 64 patterns.
@@ -15,10 +15,10 @@ pub enum ArgumentFault {
     /// A tracefile can't hold the test's name.
     #[error("BadTest")]
     BadTest,
-    /// A limit isn't a rate: a decimal number of percent from 0 to 100, with at most six digits after the point.
+    /// A threshold isn't a rate: a decimal number of percent from 0 to 100, with at most six digits after the point.
     #[error("BadRate")]
     BadRate,
-    /// There are no jobs, or more than 64. The command line admits no such number.
+    /// The number of jobs is 0 or more than 64. The command line admits no such number.
     #[error("BadJobs")]
     BadJobs,
 }
@@ -28,7 +28,7 @@ impl ArgumentFault {
     ghost use Rattle.covsession.specs.Session.{said};
     ghost use Rattle.covrun.specs.Ending.{argument_fault_name};
 
-    /// The line that reports the fault.
+    /// The line that reports the error.
     pub(crate) fn line(self) -> &'static [u8]
         ensures { result.now ≡ said (argument_fault_name self) }
     {

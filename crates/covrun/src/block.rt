@@ -1,12 +1,12 @@
-//! Bytes that wait to be written.
+//! A buffer of bytes to be written.
 
 use std::alloc::{AllocError, Global};
 use std::marker::Model;
 
-/// How many bytes may wait.
+/// The capacity of a block, in bytes.
 pub(crate) const BLOCK_BYTES: usize = 65_536;
 
-/// A buffer of bytes that wait to be written, at most 65,536. `new` reserves the room for all of them. Contracts see the bytes.
+/// A buffer of up to 65,536 bytes to be written. `new` reserves its whole capacity. Contracts see the bytes.
 #[derive(Drop)]
 pub(crate) struct Block {
     bytes: Vec<u8>,
@@ -25,7 +25,7 @@ impl Model for Block {
 impl Block {
     ghost use Rattle.std.specs.Prelude.{◌≡◌, ◌+◌, ◌≤◌, ◌++◌, [], length, IfOk};
 
-    /// A block in which no bytes wait.
+    /// An empty block.
     pub(crate) fn new(alloc: Global) -> Result<Block, AllocError>
         ensures { IfOk result (λ block. block ≡ []) }
     {
@@ -33,14 +33,14 @@ impl Block {
         Ok(Block { bytes })
     }
 
-    /// The bytes that wait.
+    /// The buffered bytes.
     pub(crate) fn get(&self) -> &[u8]
         ensures { result.now ≡ self.now }
     {
         self.bytes.as_slice()
     }
 
-    /// How many more bytes may wait.
+    /// How many more bytes fit.
     #[inline]
     pub(crate) fn room(&self) -> usize
         ensures { length self.now + result ≡ 65536 }
@@ -48,7 +48,7 @@ impl Block {
         BLOCK_BYTES - self.bytes.len()
     }
 
-    /// Appends the bytes. The block must have room for them.
+    /// Appends the bytes, which must fit.
     #[inline]
     pub(crate) fn append(&mut self, bytes: &[u8])
         requires { length self.old + length bytes.now ≤ 65536 }
@@ -60,7 +60,7 @@ impl Block {
         }
     }
 
-    /// Removes all bytes. The room is kept.
+    /// Removes all bytes and keeps the capacity.
     pub(crate) fn clear(&mut self)
         ensures { self.new ≡ [] }
     {

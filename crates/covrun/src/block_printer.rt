@@ -1,4 +1,4 @@
-//! Prints a text to a sink, block by block.
+//! Prints to a sink, block by block.
 
 ghost use Rattle.std.specs.Prelude.{◌≡◌, ◌<◌, ◌^◌, ◌++◌, [], true, not, OnOk, OnErr, IfErr, suc};
 ghost use Rattle.std.specs.Io.KnownBytes.{Appends};
@@ -11,8 +11,8 @@ use covreport::{Noted, Printer, Printing};
 use covsession::{SessionFault, Sink, put_bytes};
 use std::marker::{Brand, Model, PhantomData};
 
-/// Names the sink that a printer prints to, and what this sink had taken before. The trait has no functions. The contract of a
-/// function that takes any `Printer` can't name a sink, so the type of the printer names it.
+/// Names a printer's sink, and the sink's state before printing. The trait has no functions. The contract of a function that takes
+/// any `Printer` can't name a sink, so the printer's type names it.
 trait Place {
     ghost use Rattle.std.specs.Borrow.{GName};
     ghost use Rattle.covrun.specs.Printed.{SinkData};
@@ -32,14 +32,14 @@ impl Place for Brand {
     ghost start = { record { written = None; failed = 0 } };
 }
 
-/// A printer that writes to a sink, block by block. After a failed write it writes nothing more. Contracts see the bytes that
-/// have left the block (`printed`), the bytes that still wait in the block (`waiting`), and whether no write has failed.
+/// A printer that writes to a sink, block by block, until a write fails. Contracts see the bytes that have left the block
+/// (`printed`), those still in the block (`waiting`), and whether no write has failed.
 #[derive(Drop)]
 struct BlockPrinter<'s, O: Sink, L: Place> {
     sink: &'s mut O,
     block: Block,
     has_failed: bool,
-    // The bytes that have left the block. They exist only in proofs.
+    // Proof only: the bytes that have left the block.
     printed: Noted,
     place: PhantomData<L>,
 }
@@ -82,8 +82,8 @@ impl<'s, O: Sink, L: Place> Printer for BlockPrinter<'s, O, L> {
 }
 
 impl<'s, O: Sink, L: Place> BlockPrinter<'s, O, L> {
-    /// Writes the bytes that wait, and then the piece, block by block. The last block of the piece waits. Few
-    /// pieces don't fit, so this isn't to be inlined.
+    /// Writes the block, and then the piece in blocks; the last one stays in the buffer. Not inlined, since few pieces exceed the
+    /// space that is left in a block.
     #[cold]
     fn put_further(&mut self, piece: &[u8])
         ensures { self.new.printed ++ self.new.waiting ≡ self.old.printed ++ self.old.waiting ++ piece.now }
@@ -94,7 +94,7 @@ impl<'s, O: Sink, L: Place> BlockPrinter<'s, O, L> {
         }
     }
 
-    /// Writes the bytes that wait, unless a write failed before.
+    /// Writes and empties the block. Writes nothing after a failed write.
     fn write_out(&mut self)
         ensures printed { self.new.printed ≡ self.old.printed ++ self.old.waiting }
         ensures waiting { self.new.waiting ≡ [] }
@@ -105,7 +105,7 @@ impl<'s, O: Sink, L: Place> BlockPrinter<'s, O, L> {
         self.block.clear();
     }
 
-    /// Returns the sink, and whether a write failed. The bytes that wait are dropped.
+    /// Returns the sink, and whether a write failed. Drops bytes that are still in the block.
     fn into_printout(self) -> Printout<'s, O>
         ensures sink { result.sink.ghost_name ≡ L.sink }
         ensures is_open { self.entry.is_open ≡ not result.has_failed }
@@ -124,7 +124,7 @@ impl<'s, O: Sink, L: Place> BlockPrinter<'s, O, L> {
     }
 }
 
-/// Writes these bytes, unless a write failed before. Returns whether a write has failed.
+/// Writes the bytes, unless an earlier write failed. Returns whether any write has failed.
 fn write_on<O: Sink>(had_failed: bool, bytes: &[u8], sink: &mut O) -> bool
     requires { O.failed_writes sink.old < 2 ^ 63 }
     ensures written { WritesOn had_failed result bytes.now (sink_data (O.written sink.old) (O.failed_writes sink.old)) (sink_data (O.written sink.new) (O.failed_writes sink.new)) }
@@ -139,7 +139,7 @@ fn write_on<O: Sink>(had_failed: bool, bytes: &[u8], sink: &mut O) -> bool
     }
 }
 
-/// A sink that a text was printed to, and whether a write of it failed.
+/// The result of printing: the sink, and whether a write failed.
 struct Printout<'s, O> {
     sink: &'s mut O,
     has_failed: bool,
@@ -170,7 +170,7 @@ fn printed_at<'s, O: Sink, L: Place>(
     printer.into_printout()
 }
 
-/// Prints a text block by block, as it is made, and flushes the output. Takes no memory besides the empty block.
+/// Prints a text in blocks, while it is made, and flushes the output. Never allocates: the caller provides the empty block.
 pub(crate) fn print_text<O: Sink>(
     text: Printing<'_>,
     block: Block,

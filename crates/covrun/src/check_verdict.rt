@@ -3,11 +3,11 @@
 /// The verdict on a checked file, which decides the exit status.
 #[derive(Clone, Copy)]
 pub(crate) enum CheckVerdict {
-    /// The file is read, and accepted.
+    /// The file was read and accepted.
     Fine,
-    /// The file is read, and not accepted: it has no item, or for a strict check, it isn't clean.
+    /// The file was read but not accepted: it has no item, or a strict check finds that it isn't clean.
     Unaccepted,
-    /// The file's text is refused.
+    /// The file's content is invalid.
     Refused,
     /// The file can't be read.
     Unreadable,
@@ -17,7 +17,7 @@ impl CheckVerdict {
     ghost use Rattle.std.specs.Prelude.{◌≡◌};
     ghost use Rattle.covrun.specs.Checked.{verdict_status, worse};
 
-    /// The worse of the two verdicts. It decides the exit status.
+    /// Returns the worse of two verdicts, which decides the exit status.
     pub(crate) fn or(self, other: CheckVerdict) -> CheckVerdict
         ensures { result ≡ worse self other }
     {

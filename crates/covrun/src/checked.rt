@@ -1,4 +1,4 @@
-//! A check of files: each file is read and checked by itself, and a line reports what it holds.
+//! Checks files: reads each file by itself and prints a line about it.
 
 ghost use Rattle.std.specs.Prelude.{◌≡◌, ◌<◌, ◌≤◌, ◌+◌, ◌^◌, ◌++◌, length, map, max, IfOk};
 ghost use Rattle.std.specs.String.{string_bytes};
@@ -18,8 +18,8 @@ use std::alloc::{AllocError, Global};
 use std::thread;
 use std::thread::Threads;
 
-/// Checks the files, as many at once as there are jobs, reports them one after another in their order, and returns the exit status.
-/// At most one text for each job is in memory.
+/// Checks up to `jobs` files at once, reports them in their order, and returns the exit status. Stores at most one file's content
+/// per job.
 pub(crate) fn check_files<R: Threads + Sync, F: Folder<File: Send> + Sync, O: Sink, E: Sink>(
     rt: &R,
     folder: &F,
@@ -48,7 +48,7 @@ pub(crate) fn check_files<R: Threads + Sync, F: Folder<File: Send> + Sync, O: Si
     }
 }
 
-/// Checks and reports each file, round by round, and returns the worst verdict. A round has a file for each job.
+/// Checks and reports the files in rounds of one file per job. Returns the worst verdict.
 fn check_each<R: Threads + Sync, F: Folder<File: Send> + Sync, O: Sink, E: Sink>(
     rt: &R,
     folder: &F,
@@ -77,7 +77,7 @@ fn check_each<R: Threads + Sync, F: Folder<File: Send> + Sync, O: Sink, E: Sink>
     Ok(worst)
 }
 
-/// The files of the next round, and those of later rounds. A round has at most one file for each job. No job counts as one.
+/// Splits the files into the next round and the rest. A round has at most one file per job; 0 jobs count as one.
 fn next_round(jobs: u32, left: &[String]) -> (&[String], &[String])
     requires { 0 < length left.now }
     ensures all { result.0.now ++ result.1.now ≡ left.now }
@@ -87,7 +87,7 @@ fn next_round(jobs: u32, left: &[String]) -> (&[String], &[String])
     left.split_at(left.len().min(jobs.max(1) as usize))
 }
 
-/// Checks the files of a round at once, reports them one after another, and returns the worst verdict.
+/// Checks the files of a round at once, reports them in their order, and returns the worst verdict.
 fn check_round<R: Threads + Sync, F: Folder<File: Send> + Sync, O: Sink, E: Sink>(
     rt: &R,
     folder: &F,
@@ -114,8 +114,8 @@ fn check_round<R: Threads + Sync, F: Folder<File: Send> + Sync, O: Sink, E: Sink
     Ok(worst)
 }
 
-/// Examines each file in a thread of its own, or on the calling thread if there is only one file, or if no thread can be started.
-/// Returns what came of it, in the order of the files.
+/// Examines each file in a thread of its own. Uses the calling thread for a single file, or if no thread can be started. Returns
+/// the reports in the order of the files.
 fn examine_at_once<R: Threads + Sync, F: Folder<File: Send> + Sync>(
     rt: &R,
     folder: &F,
@@ -134,7 +134,7 @@ fn examine_at_once<R: Threads + Sync, F: Folder<File: Send> + Sync>(
     )
 }
 
-/// Writes the report of a file that was examined, and returns the verdict. Writes nothing if memory ran out.
+/// Writes the report of an examined file and returns its verdict. Writes nothing if memory ran out.
 fn write_report<O: Sink, E: Sink>(
     report: &Result<FileReport, SessionFault>,
     output: &mut O,

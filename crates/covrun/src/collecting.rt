@@ -1,4 +1,4 @@
-//! A subcommand's work: collects its files, decides how the call ends, and reports that.
+//! Does a subcommand's work: collects its files, decides how the run ends, and reports that.
 
 ghost use Rattle.std.specs.Prelude.{◌≡◌, ◌⊎◌, ◌<◌, ◌^◌, ◌++◌, [], ◌∷◌, None, map, option_map, slice_get, IfOk, OnOk, IfErr};
 ghost use Rattle.std.specs.List.{flat_map};
@@ -39,9 +39,9 @@ use std::alloc::Global;
 use std::sync::Wait;
 use std::thread::Threads;
 
-/// Does the work, reports the call's ending, and returns the exit status. A job reads a file when the file's turn comes, and then
-/// frees the file's text. A tracefile that is asked for is made from the book piece by piece, while it is printed. `file`: the
-/// name of the file that the text goes into, if the call names one.
+/// Does the work, reports how it ended, and returns the exit status. A job reads a file when its turn comes, and frees its content
+/// after parsing. A tracefile is printed while it is made from the book. `file` is the name of the output file, if the command line
+/// has one.
 pub(crate) fn do_work<
     R: Threads + Wait + Sync,
     F: Folder<File: Send> + Sync,
@@ -87,8 +87,8 @@ pub(crate) fn do_work<
     }
 }
 
-/// The answer of a call after its files are collected, or why it has none. `asks` is what is asked then. It is `Stopped` if memory
-/// runs out. All memory for printing the answer is already reserved.
+/// Returns the answer to `asks` after all files are collected, or why there is none: `Stopped` if memory runs out. All memory for
+/// printing is already reserved in the answer.
 fn answer_of<'a>(
     alloc: Global,
     files: &[String],
@@ -117,7 +117,7 @@ fn answer_of<'a>(
     Ok(answered(alloc, asks, collected)?)
 }
 
-/// The answer to what is asked, with the lines on rates that are below their limits.
+/// Prepares the text that `asks` requests, and the lines about rates below their thresholds.
 fn answered<'a>(
     alloc: Global,
     asks: &Question,
@@ -134,7 +134,7 @@ fn answered<'a>(
     Ok(ReadyAnswer { text, shortfalls })
 }
 
-/// The lines of the texts with a fault, and then of the clashes.
+/// The lines about invalid files, followed by those about clashes.
 fn complaint_lines(
     alloc: Global,
     files: &[String],
@@ -149,7 +149,7 @@ fn complaint_lines(
     Ok(lines)
 }
 
-/// Whether an input was refused because memory ran out.
+/// Whether an input was rejected because memory ran out.
 fn has_run_out(refused: &[RefusedInput<TextFault>]) -> bool
     ensures { result ≡ ran_out refused.now }
 {
@@ -161,7 +161,7 @@ fn has_run_out(refused: &[RefusedInput<TextFault>]) -> bool
     false
 }
 
-/// Appends the line of each text with a fault, with its file's name in front.
+/// Appends a line for each invalid file, with the file's name in front.
 fn add_refusals(
     alloc: Global,
     files: &[String],
@@ -177,7 +177,7 @@ fn add_refusals(
     Ok(())
 }
 
-/// The name of the file with this index. It is empty if there is no such file.
+/// The name of the file with this index; empty if the index is out of range.
 fn file_name(files: &[String], index: usize) -> &str
     ensures { result.now ≡ name_at (slice_get (map string_bytes files.now) index) }
 {
@@ -187,7 +187,7 @@ fn file_name(files: &[String], index: usize) -> &str
     }
 }
 
-/// Appends the line about a text of the file of this name, if the text has a fault.
+/// Appends the line about the named file if it is invalid.
 fn add_refusal(
     alloc: Global,
     name: &str,
@@ -207,7 +207,7 @@ fn add_refusal(
     Ok(())
 }
 
-/// Appends the line of each clash.
+/// Appends a line for each clash.
 fn add_clashes(alloc: Global, answers: &[Answered], lines: &mut Vec<u8>) -> Result<(), SessionFault>
     ensures added { OnOk result (lines.new.items ≡ lines.old.items ++ flat_map (λ e. clash_text e.answer)
         (map (λ k. entry_data (record k.entry.value { answer = k.answer })) answers.now)) }
@@ -219,7 +219,7 @@ fn add_clashes(alloc: Global, answers: &[Answered], lines: &mut Vec<u8>) -> Resu
     Ok(())
 }
 
-/// Appends the line of a clash. Appends nothing for any other answer.
+/// Appends the line about a clash. Appends nothing for any other answer.
 fn add_clash(alloc: Global, answer: &Answer, lines: &mut Vec<u8>) -> Result<(), SessionFault>
     ensures added { OnOk result (lines.new.items ≡ lines.old.items ++ clash_text (answer_data answer.now)) }
     ensures fault { IfErr result (λ fault. fault ≡ session_faults.Memory) }
@@ -229,7 +229,7 @@ fn add_clash(alloc: Global, answer: &Answer, lines: &mut Vec<u8>) -> Result<(), 
     Ok(())
 }
 
-/// What a strict call reports: the lines of the texts that aren't clean. If there are none, the lines about patterns that match no
+/// The lines that fail a strict run: those about files that aren't clean, or if all are clean, those about patterns that match no
 /// file.
 fn strict_lines(
     alloc: Global,
@@ -251,7 +251,7 @@ fn strict_lines(
     Ok(lines)
 }
 
-/// The lines about patterns that match no file, if the call is strict.
+/// The lines about patterns that match no file; none unless the run is strict.
 fn unmatched_lines(
     alloc: Global,
     strictness: Strictness,
@@ -283,7 +283,7 @@ fn unmatched_patterns(
     Ok(lines)
 }
 
-/// Appends the line of each text that isn't clean, with its file's name in front.
+/// Appends a line for each file that isn't clean, with the file's name in front.
 fn add_unclean(
     files: &[String],
     refused: &[RefusedInput<TextFault>],
@@ -297,7 +297,7 @@ fn add_unclean(
     Ok(())
 }
 
-/// Appends the line about a text of the file of this name, if the text isn't clean.
+/// Appends the line about the named file if it isn't clean.
 fn add_if_unclean(name: &str, fault: &TextFault, lines: &mut Bytes) -> Result<(), Memory>
     ensures { OnOk result (lines.new ≡ lines.old ++ unclean_line name.now fault.now) }
 {

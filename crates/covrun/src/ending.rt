@@ -1,4 +1,4 @@
-//! How a call with a subcommand ends.
+//! How a run of a subcommand ends.
 
 ghost use Rattle.std.specs.Prelude.{◌≡◌};
 ghost use Rattle.covrun.specs.Ending.{of_collect};
@@ -12,33 +12,33 @@ use covjobs::CollectFault;
 use covline::Bytes;
 use covsession::SessionFault;
 
-/// A call's answer, ready to be printed.
+/// An answer that is ready to be printed.
 #[derive(Drop)]
 pub(crate) struct ReadyAnswer<'a> {
-    /// The text that was asked for.
+    /// The text to print.
     pub(crate) text: ReadyText<'a>,
-    /// The lines that say which rates are below their limits. They are empty if no rate is.
+    /// The lines about rates below their thresholds; empty if there are no such rates.
     pub(crate) shortfalls: Bytes,
 }
 
-/// Why a call has no answer: this decides its exit status and what it writes.
+/// Why a run has no answer. Decides its exit status and what it writes.
 #[derive(Drop)]
 pub(crate) enum Failure<'a> {
-    /// The patterns, the limits, the test's name or the number of jobs are refused.
+    /// The patterns, the thresholds, the test's name or the number of jobs are invalid.
     Words(ArgumentFault),
     /// This file can't be read.
     Unreadable(&'a str),
     /// Memory ran out, or the history was full.
     Stopped(SessionFault),
-    /// Collecting ended in `Gather` or `NotLast`, which no run meets.
+    /// Collecting ended with `Gather` or `NotLast`, which never happens.
     Ungathered,
-    /// Texts were refused or clashed. These lines report them.
+    /// Files are invalid, or checksums clash. These lines report them.
     Refused(Vec<u8>),
-    /// The call is strict. These lines report texts that aren't clean, or patterns that match no file.
+    /// A strict run found files that aren't clean, or patterns that match no file. These lines report them.
     Unclean(Bytes),
 }
 
-/// Why a call has no answer if its texts weren't collected.
+/// Turns an error of collecting into the failure of the run.
 pub(crate) fn failure_of_collect<'a>(fault: CollectFault) -> Failure<'a>
     ensures { failure_data result ≡ of_collect fault }
 {
@@ -50,7 +50,7 @@ pub(crate) fn failure_of_collect<'a>(fault: CollectFault) -> Failure<'a>
     }
 }
 
-/// Why a call has no answer if its work doesn't begin.
+/// Turns an error that is found before the work begins into the failure of the run.
 pub(crate) fn failure_of_work<'a>(fault: WorkFault) -> Failure<'a>
     ensures { failure_data result ≡ of_work fault }
 {

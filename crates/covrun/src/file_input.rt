@@ -1,4 +1,4 @@
-//! A file as an input of collecting.
+//! Files as inputs of collecting.
 
 use crate::files::{FileFault, file_text};
 use crate::folder::Folder;
@@ -13,8 +13,7 @@ use covlarge::{LargeTracefile, MAX_PIECES, NextPiece, PieceFault};
 use covline::{Bytes, Memory};
 use std::alloc::Global;
 
-/// A file of this format that is read when its turn comes. A tracefile of any length is read piece by piece. `opened`: what is left of
-/// it once its first piece was read.
+/// A file that is read when its turn comes. A large tracefile is read in chunks; after the first chunk, `opened` is the rest of it.
 #[derive(Drop)]
 pub(crate) struct FileInput<'a, F: Folder> {
     folder: &'a F,
@@ -36,7 +35,7 @@ impl<'a, F: Folder> LateInput<Global> for FileInput<'a, F> {
 
     type Fault = TextFault;
 
-    /// Reads the file, or its next piece, and then parses the text. Frees what was parsed.
+    /// Reads the file, or its next chunk, parses it, and frees its bytes.
     fn read_part(self, alloc: Global) -> Result<Part<Self>, LateFault<TextFault>> {
         match self.format {
             FileFormat::LargeTracefile(version) => self.read_piece(alloc, *version),
@@ -45,7 +44,7 @@ impl<'a, F: Folder> LateInput<Global> for FileInput<'a, F> {
         }
     }
 
-    /// A file has one part, unless it is read in pieces.
+    /// Returns 1, or for a large tracefile the number of chunks that may still be read.
     fn most_parts(&self) -> u64 {
         match (self.format, &self.opened) {
             (FileFormat::LargeTracefile(_), Some(large)) => large.most_pieces(),
@@ -73,7 +72,7 @@ impl<'a, F: Folder> FileInput<'a, F> {
         Ok(Part::Last(Given::packed(self.read_whole(alloc)?)))
     }
 
-    /// Reads the file as a whole, and parses its text.
+    /// Reads the whole file and parses it.
     fn read_whole(&self, alloc: Global) -> Result<PackedRef, LateFault<TextFault>>
         ensures { IsLateOutcome (MayHaveOutcome (F.holds self.now.folder.now self.now.name.now) self.now.format.now self.now.strictness)
             ((folder_data (F.holds self.now.folder.now) (F.may_refuse self.now.folder.now) (F.may_open self.now.folder.now) F.File.left F.File.failed_reads).MayFail self.now.name.now) result }
@@ -85,7 +84,7 @@ impl<'a, F: Folder> FileInput<'a, F> {
         }
     }
 
-    /// Reads the next piece of the file, and parses it.
+    /// Reads and parses the next chunk of the file.
     fn read_piece(
         self,
         alloc: Global,
@@ -134,7 +133,7 @@ ghost use Rattle.covjobs.specs.Late.{IsLateOutcome};
 ghost use Rattle.covrun.specs.Strict.{IsLenientOutcome, IsOutcomeFor};
 ghost use Rattle.covrun.specs.Work.{input_of};
 
-/// Parses the text of a file. Frees the text.
+/// Parses the content of a file and frees it.
 fn read_text(
     alloc: Global,
     format: &FileFormat,
@@ -152,7 +151,7 @@ fn read_text(
     }
 }
 
-/// Reads an input for a call that isn't strict.
+/// Parses an input for a run that isn't strict.
 fn read_leniently(alloc: Global, input: &Input) -> Result<PackedRef, LateFault<TextFault>>
     ensures { IsLateOutcome (IsLenientOutcome (input_data input.now)) ⊥ result }
 {
@@ -162,7 +161,7 @@ fn read_leniently(alloc: Global, input: &Input) -> Result<PackedRef, LateFault<T
     }
 }
 
-/// The text of a file of this format as an input.
+/// Makes an `Input` of this format from a file's content.
 fn input_for(alloc: Global, format: &FileFormat, text: Bytes) -> Result<Input, Memory>
     ensures { IfOk result (λ input. input_data input ≡ input_of format.now text) }
 {
@@ -178,7 +177,7 @@ fn input_for(alloc: Global, format: &FileFormat, text: Bytes) -> Result<Input, M
     }
 }
 
-/// An input for each of these files, in order. No file is read yet.
+/// Makes an input for each of these files, in order. Reads no file yet.
 pub(crate) fn file_inputs<'a, F: Folder>(
     folder: &'a F,
     alloc: Global,

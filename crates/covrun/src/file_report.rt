@@ -1,4 +1,4 @@
-//! What is reported about one checked file.
+//! Reports about single checked files.
 
 ghost use Rattle.std.specs.Prelude.{◌≡◌, ◌<◌, ◌≤◌, ◌^◌, ◌++◌, [], codes, IfOk, IfErr, OnOk, OnErr, suc};
 ghost use Rattle.std.specs.Io.KnownBytes.{Appends};
@@ -28,12 +28,12 @@ use covread::ReadFault;
 use covsession::{SessionFault, Sink, refused_line};
 use std::alloc::Global;
 
-/// What is reported about a checked file. Writing it takes no memory.
+/// The report about a checked file. Writing it never allocates.
 #[derive(Drop)]
 pub(crate) struct FileReport {
-    /// The line for the output. It is empty if the file can't be read.
+    /// The line for stdout; empty if the file can't be read.
     line: Vec<u8>,
-    /// The complaint. It is empty if there is none.
+    /// The line for stderr; empty if there is nothing to complain about.
     complaint: Vec<u8>,
     /// The verdict.
     verdict: CheckVerdict,
@@ -71,7 +71,7 @@ fn complain<E: Sink>(complaint: &[u8], faults: &mut E)
     }
 }
 
-/// Puts out the line, unless it is empty.
+/// Writes the line to the output, unless it is empty.
 fn put_line<O: Sink>(line: &[u8], output: &mut O) -> Result<(), SessionFault>
     requires { O.failed_writes output.old < 2 ^ 62 }
     ensures written { OnOk result (Appends (O.written output.old) (O.written output.new) line.now) }
@@ -88,7 +88,7 @@ fn put_line<O: Sink>(line: &[u8], output: &mut O) -> Result<(), SessionFault>
     Ok(())
 }
 
-/// Reads a file, checks it, and returns what has to be reported. The file's text is freed.
+/// Reads and checks a file, frees its content, and returns the report about it.
 pub(crate) fn examine<F: Folder>(
     folder: &F,
     alloc: Global,
@@ -106,7 +106,7 @@ pub(crate) fn examine<F: Folder>(
     }
 }
 
-/// Examines a file that is read as one text.
+/// Examines a file that is read as a whole.
 fn examine_text<F: Folder>(
     folder: &F,
     alloc: Global,
@@ -124,7 +124,7 @@ fn examine_text<F: Folder>(
     }
 }
 
-/// Examines a tracefile of any length, piece by piece.
+/// Examines a tracefile of any length, chunk by chunk.
 fn examine_large<F: Folder>(
     folder: &F,
     alloc: Global,
@@ -146,7 +146,7 @@ fn examine_large<F: Folder>(
     }
 }
 
-/// The report on a file with this shown name that can't be read.
+/// The report on a file that can't be read. `shown` is its name as printed.
 fn report_on_unread(alloc: Global, shown: &Bytes) -> Result<FileReport, SessionFault>
     ensures report { (strictness : StrictnessData) → IfOk result (IsReportOf strictness shown.now Unread) }
     ensures fault { IfErr result (λ fault. fault ≡ session_faults.Memory) }
@@ -158,7 +158,7 @@ fn report_on_unread(alloc: Global, shown: &Bytes) -> Result<FileReport, SessionF
     })
 }
 
-/// The report on a file with this shown name and this text.
+/// The report on a file with this content. `shown` is its name as printed.
 fn report_on_text(
     alloc: Global,
     format: TextFormat,
@@ -175,7 +175,7 @@ fn report_on_text(
     }
 }
 
-/// What the text holds in this format, or why it is refused.
+/// Returns the summary of the text in this format, or why it is invalid.
 fn answer(alloc: Global, format: TextFormat, text: &[u8]) -> Result<TextSummary<'_>, ReadFault>
     ensures { AnswersText format text.now result }
 {
@@ -186,7 +186,7 @@ fn answer(alloc: Global, format: TextFormat, text: &[u8]) -> Result<TextSummary<
     }
 }
 
-/// The report on a file with this shown name and this summary.
+/// The report on a file with this summary. `shown` is its name as printed.
 fn report_on_summary(
     alloc: Global,
     strictness: Strictness,
@@ -213,7 +213,7 @@ fn report_on_summary(
     })
 }
 
-/// Whether a check accepts a text with this summary.
+/// Whether a check accepts a file with this summary.
 fn is_accepted(strictness: Strictness, summary: &TextSummary<'_>) -> bool
     ensures { result ≡ is_accepted_summary strictness summary.now }
 {
@@ -223,7 +223,7 @@ fn is_accepted(strictness: Strictness, summary: &TextSummary<'_>) -> bool
     }
 }
 
-/// What is said of a file of this shown name whose text isn't accepted. `line` is the line for the output.
+/// The complaint about a file that isn't accepted. `shown` is its name as printed, `line` the line for stdout.
 fn unaccepted(
     alloc: Global,
     strictness: Strictness,
@@ -239,7 +239,7 @@ fn unaccepted(
     }
 }
 
-/// The report on a file with this shown name whose text is refused.
+/// The report on a file with invalid content. `shown` is its name as printed.
 fn report_on_refusal(
     alloc: Global,
     shown: &Bytes,
@@ -257,7 +257,7 @@ fn report_on_refusal(
     })
 }
 
-/// The line `told`, with the shown name of its file and a colon in front.
+/// The line `told`, with the printed name of its file and a colon in front.
 fn line_of_file(alloc: Global, shown: &[u8], told: &[u8]) -> Result<Vec<u8>, SessionFault>
     ensures line { IfOk result (λ line. line.items ≡ shown.now ++ codes ": " ++ told.now) }
     ensures fault { IfErr result (λ fault. fault ≡ session_faults.Memory) }
@@ -268,7 +268,7 @@ fn line_of_file(alloc: Global, shown: &[u8], told: &[u8]) -> Result<Vec<u8>, Ses
     Ok(line)
 }
 
-/// The first text and then the other.
+/// Concatenates two texts.
 fn joined(alloc: Global, first: &[u8], then: &[u8]) -> Result<Vec<u8>, SessionFault>
     ensures text { IfOk result (λ text. text.items ≡ first.now ++ then.now) }
     ensures fault { IfErr result (λ fault. fault ≡ session_faults.Memory) }
@@ -278,7 +278,7 @@ fn joined(alloc: Global, first: &[u8], then: &[u8]) -> Result<Vec<u8>, SessionFa
     Ok(text)
 }
 
-/// The name of a file as it is shown, with its control bytes in hexadecimal digits.
+/// The name of a file as it is printed, with control bytes as hexadecimal digits.
 fn shown_name(alloc: Global, name: &[u8]) -> Result<Bytes, SessionFault>
     ensures name { IfOk result (λ shown. shown ≡ shown_name_of name.now) }
     ensures fault { IfErr result (λ fault. fault ≡ session_faults.Memory) }

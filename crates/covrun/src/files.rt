@@ -1,4 +1,4 @@
-//! The files that a subcommand reads.
+//! Reads the files of a subcommand.
 
 ghost use Rattle.std.specs.Prelude.{◌<◌, ◌≤◌, ◌^◌, suc, length, IfOk, IfErr};
 ghost use Rattle.covread.specs.Outcome.{max_bytes};
@@ -13,20 +13,20 @@ use covread::MAX_BYTES;
 use covsession::{SessionFault, Source};
 use std::alloc::{AllocError, Global};
 
-/// The most bytes of a file that are kept: one more than a text may have. The extra byte shows that the file is too long.
+/// The most bytes of a file that are read: one more than the size limit. The extra byte shows that the file is too long.
 const MAX_KEPT: usize = MAX_BYTES + 1;
 
-/// Why a file isn't read.
+/// Why a file couldn't be read.
 #[derive(Clone, Copy)]
 pub(crate) enum FileFault<'a> {
     /// The file of this name can't be opened, or a read of it failed.
     Unreadable(&'a str),
-    /// Memory was refused.
+    /// An allocation failed.
     Memory,
 }
 
-/// Reads the bytes that are left in the source, at most one more than a text may have. Room for `awaited` bytes is reserved
-/// first, so the text grows only if more bytes come. The fault is `Read` if a read failed, and otherwise `Memory`.
+/// Reads the rest of the source, up to one byte more than the size limit. Reserves `awaited` bytes first, so the buffer grows only
+/// if more bytes come. Fails with `Read` if a read failed, and otherwise with `Memory`.
 pub(crate) fn read_text<S: Source>(
     alloc: Global,
     awaited: usize,
@@ -44,7 +44,7 @@ pub(crate) fn read_text<S: Source>(
     Ok(text)
 }
 
-/// The text of the file with this name, at most one byte more than a text may have.
+/// Reads the file with this name, up to one byte more than the size limit.
 pub(crate) fn file_text<'a, F: Folder>(
     folder: &F,
     alloc: Global,

@@ -1,4 +1,4 @@
-//! Where a subcommand's files are read from.
+//! The directory trait that subcommands read their files from.
 
 ghost use Rattle.std.specs.Prelude.{◌≡◌, ℕ, List, Option, None, IfOk, IfErr};
 ghost use Rattle.std.specs.Io.KnownBytes.{Keeps};
@@ -13,15 +13,14 @@ use std::rt::Files;
 pub struct Opened<S> {
     /// Gives the file's bytes.
     pub source: S,
-    /// How many bytes the file claims to have. It is a guess: room is reserved for that many, but more or fewer may come.
+    /// How many bytes the file claims to have. It is only a hint for reserving memory: more or fewer may come.
     pub awaited: u64,
 }
 
 /// Opens files by their names.
 ///
-/// While a folder is borrowed, `holds` gives the same value for a file each time. So an implementation must give `None` for a
-/// file that may change between two opens or during a read. If a read of an open file fails, the file's source counts the
-/// failure, and the bytes that are left stay the same.
+/// While a folder is borrowed, `holds` gives the same value for a file each time. So an implementation must give `None` for a file
+/// that may change between two opens or during a read. The file's source counts a failed read, which consumes no bytes.
 pub trait Folder {
     // The bytes of the file with this name, if the folder knows them.
     ghost holds: { Self → List ℕ → Option (List ℕ) };
@@ -44,7 +43,7 @@ pub trait Folder {
         ensures refused { IfErr result (λ _. may_refuse self.now name.now) };
 }
 
-/// The files of std as a folder.
+/// The file system of std as a folder.
 ///
 /// std's `Files` doesn't specify what a file holds, and another program may change a file at any time. So `holds` is `None` for
 /// every file, just as `left` of a `FromRead` is `None` for a reader whose bytes std doesn't specify. It is assumed that std
@@ -55,7 +54,7 @@ pub struct FromFiles<'a, R> {
 }
 
 impl<'a, R: Files> FromFiles<'a, R> {
-    /// The files of this runtime, as a folder.
+    /// Wraps the file system of this runtime.
     pub fn new(files: &'a R) -> FromFiles<'a, R> {
         FromFiles { files }
     }
@@ -82,7 +81,7 @@ impl<'a, R: Files> Folder for FromFiles<'a, R> {
     }
 }
 
-/// The file's length in bytes. 0 if the length isn't known, as for a pipe.
+/// The file's length in bytes; 0 if it is unknown, as for a pipe.
 fn size_of<F: OpenFile>(file: &F) -> u64 {
     match file.metadata() {
         Ok(metadata) => metadata.len(),

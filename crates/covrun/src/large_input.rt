@@ -1,4 +1,4 @@
-//! A tracefile of any length as an input of collecting, piece by piece.
+//! Tracefiles of any length as inputs of collecting, chunk by chunk.
 
 ghost use Rattle.std.specs.Prelude.{◌≡◌, List, Option, None, Result, IfOk, IfErr};
 ghost use Rattle.covjobs.specs.declared.late_fault.LateFault.TheVariants.{Unreadable};
@@ -20,7 +20,7 @@ use covlarge::{Held, LargeTracefile};
 use covsession::Source;
 use std::alloc::Global;
 
-/// What is left of the tracefile of this name: `opened`, or if it isn't opened yet, the whole file.
+/// Returns `opened`, the unread rest of the tracefile. Opens the file if `opened` is `None`.
 pub(crate) fn open_large<F: Folder>(
     folder: &F,
     alloc: Global,
@@ -39,7 +39,7 @@ pub(crate) fn open_large<F: Folder>(
     }
 }
 
-/// The tracefile of this name, of which nothing is read yet.
+/// Opens the tracefile with this name. Reads nothing yet.
 fn open_whole<F: Folder>(
     folder: &F,
     alloc: Global,
@@ -57,7 +57,7 @@ fn open_whole<F: Folder>(
     }
 }
 
-/// A tracefile of which nothing is read yet. What it holds is told only if the call is strict.
+/// Opens a tracefile for reading in chunks. Collects its summary only for a strict run.
 fn begin_large<S: Source + Drop>(
     alloc: Global,
     version: LcovVersion,
@@ -77,7 +77,7 @@ fn begin_large<S: Source + Drop>(
     }
 }
 
-/// The submission of the last piece of a tracefile that holds this. If the call is strict, it is taken only if the tracefile is clean.
+/// Returns the submission of a tracefile's last chunk. A strict run rejects a tracefile whose summary isn't clean.
 pub(crate) fn take_last(
     alloc: Global,
     strictness: Strictness,

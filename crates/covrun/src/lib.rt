@@ -1,13 +1,13 @@
-//! The program as a function: its words, files and streams in, its exit status out.
+//! The program as a function: command line, files and streams in, exit status out.
 //!
-//! `run` parses the command line (covcommand), and makes a `Task` of the command. Without a subcommand, the task is a session
-//! (covsession). For `check`, each file is read and reported by itself (`checked`, `file_report`), several at once if there are
-//! several jobs. Any other subcommand is `Work`: covjobs collects its files in a book, and a job reads each file when its turn
-//! comes (`FileInput`). So at most one text for each job is in memory. The result of collecting is a `ReadyAnswer` or a `Failure`,
-//! which is reported by an exit status and on the two output streams. The text of an answer is made while it is printed: it goes
-//! from the book to the output in blocks (`BlockPrinter`). All memory for printing is reserved before the first byte is written
-//! (`ReadyText`). If the call names a file for its text (`--output`), the blocks go into that file (`write_file`). Files are read
-//! from a `Folder` (`files`), and written to an `OutputFolder`. `FromFiles` and `IntoFiles` are these for std's files.
+//! `run` parses the command line (covcommand) and makes a `Task` of the command. Without a subcommand, the task is a session
+//! (covsession). `check` reads and reports each file by itself (`checked`, `file_report`), several at once if there are several
+//! jobs. Any other subcommand is `Work`: covjobs collects its files in a book, and a job reads each file when its turn comes
+//! (`FileInput`). So at most one file's content per job is in memory. The result of collecting is a `ReadyAnswer` or a `Failure`,
+//! which is reported by an exit status and on the two output streams. An answer is printed while it is made: it goes from the book
+//! to the output in blocks (`BlockPrinter`). All memory for printing is reserved before the first byte is written (`ReadyText`).
+//! With `--output`, the blocks go into that file (`write_file`). Files are read from a `Folder` (`files`) and written to an
+//! `OutputFolder`. `FromFiles` and `IntoFiles` implement these two for the file system of std.
 //!
 //! A sketch: the program's main function.
 //!

@@ -1,5 +1,5 @@
-//! How a call's ending is reported: its text goes to the output or into a file, its complaint goes to the stream for faults, and
-//! the exit status is returned.
+//! Reports how a run ended: its text goes to the output or into a file, its complaint to the error stream, and the exit status is
+//! returned.
 
 ghost use Rattle.std.specs.Prelude.{◌≡◌, ◌⊎◌, ◌<◌, ◌≤◌, ◌^◌, ◌++◌, ℕ, List, Option, None, [], codes, option_map, IfErr, IfOk, OnOk, OnErr, suc};
 ghost use Rattle.std.specs.Io.KnownBytes.{Appends};
@@ -23,7 +23,7 @@ use covlist::put_shown_name;
 use covsession::{SessionFault, Sink, line_of, put_bytes, status_of};
 use std::alloc::Global;
 
-/// Reports an answer, and returns the exit status. The text goes to the output, or into a file if the call names one.
+/// Reports an answer and returns the exit status. The text goes to the output, or into the file if one is named.
 pub(crate) fn report_answer<P: OutputFolder, O: Sink, E: Sink>(
     alloc: Global,
     answer: ReadyAnswer<'_>,
@@ -50,7 +50,7 @@ pub(crate) fn report_answer<P: OutputFolder, O: Sink, E: Sink>(
     }
 }
 
-/// Prints a text, and then says which rates are below their limits. Returns the exit status.
+/// Prints a text, followed by the rates below their thresholds on the error stream. Returns the exit status.
 fn print_answer<O: Sink, E: Sink>(
     text: ReadyText<'_>,
     shortfalls: &[u8],
@@ -69,7 +69,7 @@ fn print_answer<O: Sink, E: Sink>(
     }
 }
 
-/// Writes a text into a file of this name, and then says which rates are below their limits. Returns the exit status.
+/// Writes a text into the named file, then the rates below their thresholds to the error stream. Returns the exit status.
 fn write_answer<P: OutputFolder, E: Sink>(
     alloc: Global,
     name: &str,
@@ -98,7 +98,7 @@ fn write_answer<P: OutputFolder, E: Sink>(
     }
 }
 
-/// The line that says that the file of this name can't be written.
+/// The line about a file that can't be written.
 fn unwritten_line(alloc: Global, name: &str) -> Result<Bytes, Memory>
     ensures { IfOk result (λ line. line ≡ shown_name name.now ++ said (codes ": can't write")) }
 {
@@ -108,7 +108,7 @@ fn unwritten_line(alloc: Global, name: &str) -> Result<Bytes, Memory>
     Ok(line)
 }
 
-/// Says which rates are below their limits, if there are such rates. Returns the exit status: 6 if there are, and 0 if not.
+/// Reports the rates below their thresholds. Returns the exit status: 6, or 0 if there are no such rates.
 fn say_shortfalls<E: Sink>(shortfalls: &[u8], faults: &mut E) -> u8
     requires { E.failed_writes faults.old < 2 ^ 62 }
     ensures status { result ≡ shortfall_status shortfalls.now }
@@ -122,7 +122,7 @@ fn say_shortfalls<E: Sink>(shortfalls: &[u8], faults: &mut E) -> u8
     }
 }
 
-/// Reports why a call has no answer, and returns the exit status.
+/// Reports why a run has no answer, and returns the exit status.
 pub(crate) fn report_failure<E: Sink>(failure: Failure<'_>, faults: &mut E) -> u8
     requires { E.failed_writes faults.old < 2 ^ 62 }
     ensures status { result ≡ status_of_ending (failure_data failure.entry) }
@@ -139,7 +139,7 @@ pub(crate) fn report_failure<E: Sink>(failure: Failure<'_>, faults: &mut E) -> u
     }
 }
 
-/// Prints help or the version, or reports why the words form no command. Returns the exit status.
+/// Prints help or the version, or reports why the command line is invalid. Returns the exit status.
 pub(crate) fn report_line<O: Sink, E: Sink>(
     fault: CommandFault,
     output: &mut O,
@@ -191,7 +191,7 @@ pub(crate) fn put_out<O: Sink>(text: &[u8], output: &mut O) -> Result<(), Sessio
     }
 }
 
-/// Writes `front` and then `words` to the stream for faults. Returns `status`.
+/// Writes `front` and then `words` to the error stream. Returns `status`.
 fn complain<E: Sink>(front: &[u8], words: &[u8], status: u8, faults: &mut E) -> u8
     requires { E.failed_writes faults.old < 2 ^ 62 }
     ensures status { result ≡ status }
@@ -202,7 +202,7 @@ fn complain<E: Sink>(front: &[u8], words: &[u8], status: u8, faults: &mut E) -> 
     status
 }
 
-/// Writes `front` and then `words` to the stream for faults. A failed write isn't reported: there is no other stream for it.
+/// Writes `front` and then `words` to the error stream. Ignores a failed write, since there is no other stream to report it on.
 pub(crate) fn say<E: Sink>(front: &[u8], words: &[u8], faults: &mut E)
     requires { E.failed_writes faults.old < 2 ^ 63 }
     ensures said { E.failed_writes faults.new ≡ E.failed_writes faults.old

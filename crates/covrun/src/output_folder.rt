@@ -1,4 +1,4 @@
-//! Where a call's text goes if the call names a file for it.
+//! The directory trait that output files are written to.
 
 ghost use Rattle.std.specs.Prelude.{◌≡◌, ℕ, ◌<◌, ◌^◌, ◌≤◌, List, Option, None, Some, suc, option_map, IfOk, IfErr, OnOk, OnErr};
 ghost use Rattle.covrun.specs.OutputFiles.{CountsFault, Finishes, IsEmptyIfKnown};
@@ -10,21 +10,21 @@ use std::alloc::AllocGlobal;
 use std::random::RandomSource;
 use std::rt::Files;
 
-/// Why a file isn't begun or finished.
+/// Why a file couldn't be begun or finished.
 #[derive(Clone, Copy, Debug, PartialEq, Eq)]
 pub enum OutputFault {
     /// The file can't be written.
     Failed,
-    /// Memory was refused.
+    /// An allocation failed.
     Memory,
 }
 
 /// Writes files, each of them whole or not at all.
 ///
-/// A file is begun, its bytes are written, and then it is finished. It gets its name only when it is finished. Until then, a file
-/// that had the name before stays as it was. Devices and streams are written to at once. One file is begun at a time.
+/// A file is begun, its bytes are written, and then it is finished. Only then it gets its name; until then, an older file of this
+/// name stays unchanged. Bytes for devices and streams are written to them at once. Only one file can be begun at a time.
 pub trait OutputFolder {
-    // The files that were finished, in order, each with its name and its text, if they are known.
+    // The finished files in order, each with its name and content, if they are known.
     ghost finished: { Self → Option (List (List ℕ × List ℕ)) };
 
     // The name of the file that is begun, and neither finished nor abandoned.
@@ -33,10 +33,10 @@ pub trait OutputFolder {
     // How many files couldn't be written.
     ghost failed: { Self → ℕ };
 
-    /// A file that isn't finished, as a sink of its bytes.
+    /// An unfinished file, as a sink of its bytes.
     type File: Sink + Drop;
 
-    /// Begins a file that is to get this name.
+    /// Begins a file that will get this name.
     fn begin(&mut self, name: &str) -> Result<Self::File, OutputFault>
         requires free { begun self.old ≡ None }
         requires few { failed self.old < 2 ^ 63 }
@@ -48,7 +48,7 @@ pub trait OutputFolder {
         ensures good { OnOk result (failed self.new ≡ failed self.old) }
         ensures counted { IfErr result (λ fault. CountsFault fault (failed self.old) (failed self.new)) };
 
-    /// Finishes the file that is begun: it gets its name. All its bytes have to be written and flushed. A fault drops the file.
+    /// Gives the begun file its name. All its bytes must be written and flushed. On an error, the file is dropped.
     fn finish(&mut self, file: Self::File) -> Result<(), OutputFault>
         requires good { Self.File.failed_writes file ≡ 0 }
         requires sent { Self.File.held file ≡ 0 }
@@ -59,7 +59,7 @@ pub trait OutputFolder {
         ensures good { OnOk result (failed self.new ≡ failed self.old) }
         ensures counted { IfErr result (λ fault. CountsFault fault (failed self.old) (failed self.new)) };
 
-    /// Drops the file that is begun, to which a write failed.
+    /// Drops the begun file after a failed write.
     fn abandon(&mut self, file: Self::File)
         requires failed { 1 ≤ Self.File.failed_writes file }
         requires few { failed self.old < 2 ^ 63 }
@@ -68,20 +68,20 @@ pub trait OutputFolder {
         ensures counted { failed self.new ≡ suc (failed self.old) };
 }
 
-/// The files of std as an output folder.
+/// The file system of std as an output folder.
 ///
 /// std's `Files` doesn't specify what a file holds, so `finished` is `None`. It is assumed that std does with files what the
 /// functions of `unfinished_file` ask for.
 #[derive(Drop)]
 pub struct IntoFiles<'a, R> {
     rt: &'a R,
-    // The name of the file that is begun. It exists only in proofs.
+    // Proof only: the name of the file that is begun.
     begun: Option<Noted>,
     failed: u64,
 }
 
 impl<'a, R: Files + RandomSource + AllocGlobal> IntoFiles<'a, R> {
-    /// The files of this runtime, as an output folder.
+    /// Wraps the file system of this runtime.
     pub fn new(rt: &'a R) -> IntoFiles<'a, R>
         ensures failed { ⟦<IntoFiles<'a, R> as OutputFolder>⟧.failed result ≡ 0 }
         ensures begun { ⟦<IntoFiles<'a, R> as OutputFolder>⟧.begun result ≡ None }

@@ -20,29 +20,34 @@ use std::alloc::{AllocGlobal, Global};
 use std::sync::Wait;
 use std::thread::Threads;
 
-/// Runs the program, and returns its exit status. The first of the words is the program's name.
+/// Runs the program and returns its exit status. `words` is the command line; its first argument is the program's name.
 ///
-/// A call that collects files looks for faults in this order, given here with their exit statuses: the command line (2); the
-/// patterns, then the limits, or the test's name of `gcov` (2); the first file that can't be read (1); a fault of collecting (3),
-/// such as a full history; a text for which memory ran out (3); refused texts, and clashes of accepted ones (4); if the call
-/// is strict, texts that aren't clean (5), and then patterns that match no file (5); a failed write of the text (1); rates below their limits (6). `out of memory` (3) may end the call at any point before the first byte of its text. Only help,
-/// the version, or the text that is asked for goes to the output, and the text only after all faults but the last two are ruled
-/// out. The answer of a call that collects is written in blocks while it is made. If a write fails, the output has a beginning of
-/// the text.
+/// A run that collects files checks for errors in this order, given here with the exit statuses:
+/// - the command line (2);
+/// - the patterns, then the thresholds, or for `gcov` the test's name (2);
+/// - the first file that can't be read (1);
+/// - an error of collecting, such as a full history (3), or an input for which memory ran out (3);
+/// - invalid files, and clashes of accepted ones (4);
+/// - in a strict run, files that aren't clean, and then patterns that match no file (5);
+/// - a failed write of the text (1);
+/// - rates below their thresholds (6).
 ///
-/// If the call names a file for its text (`--output`), the text goes into that file instead. The file is one of `files`, and gets
-/// its name once its whole text is written. If a write fails, no file has changed, unless it is a device or a stream.
+/// `out of memory` (3) may end the run at any point before the first byte of its text. Only help, the version, or the requested
+/// text goes to the output. The text is written after all errors but the last two are ruled out, in blocks while it is made. If a
+/// write fails, the output has a prefix of the text.
 ///
-/// A call that checks files checks as many at once as it has jobs, and reports them one after another, in their order. It writes a
-/// line to the output for each file that can be read, and complains about a file that can't be read or has no item, or if the call is
-/// strict, isn't clean. Its status is 1 if a file can't be read, else 4 if one is refused, else 5 if one has no item or isn't clean,
-/// else 0. The call ends early if a write of a line
-/// fails (1), or if memory runs out (3).
+/// With `--output`, the text goes into the named file instead, which is one of `files`. The file gets its name after its whole text
+/// is written. If a write fails, no file has changed, unless it is a device or a stream.
 ///
-/// If the folder knows what its files hold, the call collects or checks the texts of the files that its words name.
+/// `check` reads as many files at once as there are jobs, and reports them in their order. It writes a line to the output for each
+/// file that can be read. It complains about a file that can't be read or has no item; a strict run also about one that isn't
+/// clean. Its status is 1 if a file can't be read, else 4 if one is invalid, else 5 if one has no item or isn't clean, else 0. The
+/// run ends early if a write of a line fails (1), or if memory runs out (3).
 ///
-/// Only a session reads the input. The output is flushed; `faults` isn't. Without a subcommand, the call is a session over the
-/// input and the output. `run` returns only after all jobs have ended.
+/// If the folder knows its files' bytes, the run collects or checks the content of the files on the command line.
+///
+/// Without a subcommand, the run is a session over the input and the output; only a session reads the input. The output is flushed;
+/// `faults` isn't. `run` returns only after all jobs have ended.
 pub fn run<
     R: AllocGlobal + Threads + Wait + Sync,
     F: Folder<File: Send> + Sync,
@@ -79,7 +84,7 @@ pub fn run<
     }
 }
 
-/// Does what the command asks for, and returns the exit status.
+/// Executes the command and returns the exit status.
 fn run_command<
     R: Threads + Wait + Sync,
     F: Folder<File: Send> + Sync,
@@ -154,7 +159,7 @@ fn run_command<
     }
 }
 
-/// The name of the file, if there is one, and it isn't standard output.
+/// The name of the output file. Returns `None` if no file is named, or if the name is that of standard output.
 fn name_of(file: &Option<String>) -> Option<&str>
     ensures { option_map (λ name. name.now) result ≡ file_of (option_map string_bytes file.now) }
 {
@@ -164,15 +169,15 @@ fn name_of(file: &Option<String>) -> Option<&str>
     }
 }
 
-/// Whether this is a name of standard output. To open such a name would make another stream of the same file, which has a place of
-/// its own in the file.
+/// Whether this is a name of standard output. Opening such a name would make another stream of the same file, with its own
+/// position.
 fn is_output(name: &str) -> bool
     ensures { result ≡ is_output_name name.now }
 {
     name == "/dev/stdout" || name == "/dev/fd/1" || name == "/proc/self/fd/1"
 }
 
-/// Reports why the call's words can't be read, and returns the exit status, as `run` does for words that form no command.
+/// Reports why the command line can't be read, and returns the exit status, as `run` does for an invalid command line.
 pub fn refuse<O: Sink, E: Sink>(fault: CommandFault, output: &mut O, faults: &mut E) -> u8
     requires failed_writes { O.failed_writes output.old < 2 ^ 62 }
     requires failed_words { E.failed_writes faults.old < 2 ^ 62 }

@@ -1,4 +1,4 @@
-//! What is asked after all files of a call are collected.
+//! The question that a run answers after its files are collected.
 
 ghost use Rattle.std.specs.Prelude.{◌≡◌, ◌++◌, [], ◌∷◌, IfOk};
 ghost use Rattle.covreport.specs.ChoiceView.{choice_data};
@@ -21,7 +21,7 @@ use covreport::{Choice, Printing, chosen_totals, summary_text};
 use covstore::{Store, Totals};
 use std::alloc::Global;
 
-/// What is asked, and printed, after all files are collected.
+/// The question that a run answers after its files are collected.
 #[derive(Drop)]
 pub(crate) enum Question {
     /// The answer to an operation.
@@ -30,7 +30,7 @@ pub(crate) enum Question {
     ChosenReport(Choice),
     /// The summary of the chosen source files.
     ChosenSummary(Choice),
-    /// The totals of the chosen source files, in this form. They are then compared with the limits.
+    /// The totals of the chosen source files, in this form, to be compared with the thresholds.
     LimitedTotals {
         form: TotalsForm,
         choice: Choice,
@@ -55,7 +55,7 @@ impl Question {
     ghost use Rattle.covrun.specs.View.{question_data};
     ghost use Rattle.covrun.specs.Work.{ChosenList, ChosenReport, ChosenSummary, asked_of, chosen_or_all, last_of, summary_asked, words_asked};
 
-    /// Asks for the tracefile of the chosen source files, or of all source files if there is no choice.
+    /// Asks for the tracefile of the chosen source files, or of all source files if `choice` is `None`.
     pub(crate) fn report(choice: Option<Choice>) -> Question
         ensures { question_data result ≡ asked_of ReportOp ChosenReport (option_map choice_data choice) }
     {
@@ -65,7 +65,7 @@ impl Question {
         }
     }
 
-    /// Asks for the totals of the chosen source files, or of all source files if there is no choice.
+    /// Asks for the totals of the chosen source files, or of all source files if `choice` is `None`.
     pub(crate) fn summary(form: TotalsForm, limits: Limits, choice: Option<Choice>) -> Question
         ensures { question_data result ≡ summary_asked form (limits_data limits) (option_map choice_data choice) }
     {
@@ -79,7 +79,7 @@ impl Question {
         }
     }
 
-    /// Asks for the summary of the chosen source files, or for their totals if there is a limit to compare these with.
+    /// Asks for the summary of the chosen source files. With a threshold, asks for their totals, to compare these with it.
     fn words(limits: Limits, choice: Option<Choice>) -> Question
         ensures { question_data result ≡ words_asked (limits_data limits) (option_map choice_data choice) }
     {
@@ -96,7 +96,7 @@ impl Question {
         }
     }
 
-    /// Asks for the list of the chosen source files, or of all source files if there is no choice.
+    /// Asks for the list of the chosen source files, or of all source files if `choice` is `None`.
     pub(crate) fn list(form: TotalsForm, choice: Option<Choice>) -> Question
         ensures { question_data result ≡ ChosenList form (chosen_or_all (option_map choice_data choice)) }
     {
@@ -106,7 +106,7 @@ impl Question {
         }
     }
 
-    /// The text that is asked for, ready to be printed. The operation of an `Answer` has to ask for a text.
+    /// Prepares the requested text for printing. The operation of an `Answer` must be one that asks for a text.
     pub(crate) fn printing<'b>(
         &self,
         alloc: Global,
@@ -138,7 +138,7 @@ impl Question {
         }
     }
 
-    /// The lines that say which rates are below their limits. Empty if there are no limits.
+    /// The lines about rates below their thresholds; empty without thresholds.
     pub(crate) fn shortfalls(
         &self,
         alloc: Global,
@@ -156,7 +156,7 @@ impl Question {
         }
     }
 
-    /// Appends the lines about the patterns of what is asked that match no file of the store.
+    /// Appends a line about each pattern of the question that matches no file of the store.
     pub(crate) fn add_unmatched(&self, store: &Store, lines: &mut Bytes) -> Result<(), Memory>
         ensures { OnOk result (lines.new ≡ lines.old ++ flat_map (unmatched_line store.now.sections) (asked_patterns (question_data self.now))) }
     {
@@ -170,7 +170,7 @@ impl Question {
     }
 }
 
-/// The totals in this form.
+/// Prints the totals in this form.
 fn totals_text(alloc: Global, form: TotalsForm, totals: &Totals) -> Result<Bytes, Memory>
     requires { AreTotals totals.now }
     ensures { IfOk result (λ text. text ≡ totals_text_of form totals.now) }
@@ -181,7 +181,7 @@ fn totals_text(alloc: Global, form: TotalsForm, totals: &Totals) -> Result<Bytes
     }
 }
 
-/// The list of the chosen source files in this form.
+/// Prints the list of the chosen source files in this form.
 fn list_text(
     alloc: Global,
     form: TotalsForm,
@@ -198,7 +198,7 @@ fn list_text(
     }
 }
 
-/// An equal choice, in memory of its own.
+/// Copies a choice.
 fn copy_of(alloc: Global, choice: &Choice) -> Result<Choice, Memory>
     ensures { IfOk result (λ copy. choice_data copy ≡ choice_data choice.now) }
 {

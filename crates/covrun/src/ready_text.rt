@@ -7,11 +7,11 @@ use covsession::{SessionFault, Sink};
 use std::alloc::{AllocError, Global};
 use std::marker::Model;
 
-/// A text that is ready to be printed: all memory for printing it is already reserved. Contracts see the text.
+/// A text that is ready to be printed: all memory for printing it is reserved. Contracts see the text.
 #[derive(Drop)]
 pub(crate) struct ReadyText<'s> {
     text: Printing<'s>,
-    // The block that printing uses. It is empty.
+    // The empty buffer that printing uses.
     block: Block,
 }
 
@@ -39,7 +39,7 @@ impl<'s> ReadyText<'s> {
         Ok(ReadyText { text, block })
     }
 
-    /// Prints the text, and flushes the output. Takes no memory.
+    /// Prints the text and flushes the output. Never allocates.
     pub(crate) fn print<O: Sink>(self, output: &mut O) -> Result<(), SessionFault>
         requires { O.failed_writes output.old < 2 ^ 62 }
         ensures written { OnOk result (Appends (O.written output.old) (O.written output.new) self.entry) }

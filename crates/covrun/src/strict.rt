@@ -1,4 +1,4 @@
-//! What a strict call refuses beside texts with a fault.
+//! Finds what fails a strict run: files that aren't clean, and patterns that match no file.
 
 ghost use Rattle.std.specs.Prelude.{◌≡◌, ◌++◌, IfOk, IfErr, OnOk, IsTrue};
 ghost use Rattle.std.specs.List.{flat_map};
@@ -21,7 +21,7 @@ use covreport::{Choice, Patterns, matches};
 use covstore::Store;
 use std::alloc::Global;
 
-/// Reads an input for a strict call. A text that isn't clean is refused, with the line that says what it holds.
+/// Parses an input for a strict run. Rejects an input that isn't clean, with its summary line.
 pub(crate) fn read_strictly(alloc: Global, input: &Input) -> Result<PackedRef, LateFault<TextFault>>
     ensures { IsLateOutcome (IsStrictOutcome (input_data input.now)) ⊥ result }
 {
@@ -34,7 +34,7 @@ pub(crate) fn read_strictly(alloc: Global, input: &Input) -> Result<PackedRef, L
     Ok(submission)
 }
 
-/// Refuses a text that isn't clean, with the line that says what it holds.
+/// Rejects an input that isn't clean, with its summary line.
 pub(crate) fn refuse_unless_clean(
     alloc: Global,
     summary: &TextSummary<'_>,
@@ -51,7 +51,7 @@ pub(crate) fn refuse_unless_clean(
     }
 }
 
-/// What the input's text holds, which was read as this submission.
+/// The summary of an input that was read as this submission.
 fn summary_of_input<'a>(input: &'a Input, submission: &PackedSubmission) -> TextSummary<'a>
     ensures { HoldsIn (input_data input.now) submission.now result }
 {
@@ -62,14 +62,14 @@ fn summary_of_input<'a>(input: &'a Input, submission: &PackedSubmission) -> Text
     }
 }
 
-/// Whether the text has an item, and neither an odd line nor a line that isn't read.
+/// Whether the input is clean: has an item, no inconsistent line and no skipped line.
 pub(crate) fn is_clean(summary: &TextSummary<'_>) -> bool
     ensures { result ≡ is_clean_summary summary.now }
 {
     summary.items > 0 && summary.odd == 0 && summary.skipped == 0
 }
 
-/// Appends the lines about the patterns of the operation that match no file of the store.
+/// Appends a line about each pattern of the operation that matches no file of the store.
 pub(crate) fn add_unmatched_of_op(op: &Op, store: &Store, lines: &mut Bytes) -> Result<(), Memory>
     ensures { OnOk result (lines.new ≡ lines.old ++ flat_map (unmatched_line store.now.sections) (patterns_of_op (op_data op.now))) }
 {
@@ -79,7 +79,7 @@ pub(crate) fn add_unmatched_of_op(op: &Op, store: &Store, lines: &mut Bytes) -> 
     }
 }
 
-/// Appends the lines about the patterns of the choice that match no file of the store.
+/// Appends a line about each pattern of the choice that matches no file of the store.
 pub(crate) fn add_unmatched_of_choice(
     choice: &Choice,
     store: &Store,

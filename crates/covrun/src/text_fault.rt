@@ -1,13 +1,13 @@
-//! Why the text of a file is refused.
+//! Why the content of a file is rejected.
 
 use covread::ReadFault;
 
-/// Why the text of a file is refused.
+/// Why the content of a file is rejected.
 #[derive(Drop)]
 pub(crate) enum TextFault {
-    /// The text has a fault.
+    /// The content is invalid.
     Faulty(ReadFault),
-    /// The call is strict, and the text has no item, an odd line, or a line that isn't read. This line says what the text holds.
+    /// A strict run found no item, an inconsistent line or a skipped line. The value is the summary line.
     Unclean(Vec<u8>),
 }
 
@@ -15,7 +15,7 @@ impl TextFault {
     ghost use Rattle.std.specs.Prelude.{◌≡◌};
     ghost use Rattle.covrun.specs.Ending.{has_run_out};
 
-    /// Whether the text wasn't read because memory ran out.
+    /// Whether reading ended because memory ran out.
     pub(crate) fn is_memory(&self) -> bool
         ensures { result ≡ has_run_out self.now }
     {

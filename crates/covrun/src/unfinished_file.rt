@@ -1,4 +1,4 @@
-//! A file of std that is written beside the one whose name it gets.
+//! A file of std that is written under a temporary name, beside the file that it will replace.
 
 ghost use Rattle.std.specs.Prelude.{◌≡◌, IfOk};
 
@@ -16,11 +16,11 @@ use std::rt::Files;
 #[derive(Drop)]
 pub struct UnfinishedFile<F> {
     sink: FromWrite<F>,
-    // `None` for a device or a pipe: its bytes go straight into it.
+    // `None` for a device or a pipe: bytes go straight into it.
     rename: Option<Rename>,
 }
 
-/// The name of a file while it is unfinished, and the name that it gets.
+/// The temporary name of an unfinished file, and its final name.
 #[derive(Drop)]
 struct Rename {
     from: String,
@@ -43,9 +43,8 @@ impl<F: io::Write> Sink for UnfinishedFile<F> {
     }
 }
 
-/// Begins a file that is to get this name. If there is a file with the name, the new one gets its rights. If the name is that of a
-/// symbolic link, the link stays, and the file that it leads to is replaced. A device, a pipe or an open stream of the program isn't
-/// replaced, but written to.
+/// Begins a file that will get this name. A file that already has the name gives the new one its rights. A symbolic link stays, and
+/// the file that it leads to is replaced. A device, a pipe or an open stream of the program is written to directly.
 pub(crate) fn begin_file<R: Files + RandomSource + AllocGlobal>(
     rt: &R,
     name: &str,
@@ -67,12 +66,12 @@ pub(crate) fn begin_file<R: Files + RandomSource + AllocGlobal>(
     }
 }
 
-/// Whether the name is that of a stream that is already open. What such a stream leads to isn't replaced, even if it is a file.
+/// Whether this is the name of an open stream. Even a regular file behind such a name isn't replaced.
 fn is_stream(name: &str) -> bool {
     name == "/dev/stderr" || name.starts_with("/dev/fd/") || name.starts_with("/proc/self/fd/")
 }
 
-/// Begins a file that replaces the one with this name, and gets its rights. Until it has them, nobody else can open it.
+/// Creates the temporary file that will replace `name`, with mode 0600, and then copies mode, owner and group of the old file.
 fn begin_instead<R: Files + RandomSource + AllocGlobal>(
     rt: &R,
     name: &str,
@@ -91,7 +90,7 @@ fn begin_instead<R: Files + RandomSource + AllocGlobal>(
     }
 }
 
-/// The name of the file that a symbolic link leads to; for any other name, the name itself.
+/// The name of the file that a symbolic link leads to. Returns any other name unchanged.
 fn name_behind<R: Files + AllocGlobal>(rt: &R, name: &str) -> Result<String, OutputFault> {
     if rt.symlink_metadata(name)?.is_symlink() {
         Ok(rt.canonicalize(rt.alloc(), name)?.into_string())
@@ -100,8 +99,8 @@ fn name_behind<R: Files + AllocGlobal>(rt: &R, name: &str) -> Result<String, Out
     }
 }
 
-/// Gives the file the rights of this other file, and its owner and group, if the caller may. If the group can't be kept, the file
-/// gives its group no rights.
+/// Gives the new file the mode of the old one, and its owner and group as far as the user may set them. If the group can't be kept,
+/// the new file gives its group no rights.
 fn keep_rights<R: Files>(
     rt: &R,
     rename: &Rename,
@@ -118,13 +117,13 @@ fn keep_rights<R: Files>(
         mode &= 0o707;
     }
     if made.uid() != old.uid() {
-        // Only root may. For anyone else the file is the caller's.
+        // Only root can do this. For anyone else, the file belongs to the user.
         let _ = rt.lchown(rename.from.as_str(), Some(old.uid()), None);
     }
     file.set_permissions(Permissions::from_mode(mode))
 }
 
-/// Begins a file whose name no file has. A symbolic link that leads nowhere isn't replaced: that is a fault.
+/// Begins a file with a name that no file has. Fails for a symbolic link that leads nowhere.
 fn begin_new<R: Files + RandomSource + AllocGlobal>(
     rt: &R,
     name: &str,
@@ -139,13 +138,13 @@ fn begin_new<R: Files + RandomSource + AllocGlobal>(
     Ok(unfinished(file, Some(rename)))
 }
 
-/// The names of a file that is made beside the one with the name `to`, which it gets once it is finished.
+/// Chooses a temporary name beside `to`, the final name.
 fn rename_to<R: RandomSource + AllocGlobal>(rt: &R, to: String) -> Result<Rename, OutputFault> {
     let from = name_beside(rt, to.as_str())?;
     Ok(Rename { from, to })
 }
 
-/// Makes the file, which has these rights, less the umask.
+/// Creates the file with this mode, less the umask.
 fn create<R: Files>(rt: &R, rename: &Rename, mode: u32) -> io::Result<R::File> {
     OpenOptions::new()
         .write(true)
@@ -154,7 +153,7 @@ fn create<R: Files>(rt: &R, rename: &Rename, mode: u32) -> io::Result<R::File> {
         .open(rt, rename.from.as_str())
 }
 
-/// A file that isn't finished, and to which nothing is written yet.
+/// An unfinished file without any bytes yet.
 fn unfinished<F: io::Write>(file: F, rename: Option<Rename>) -> UnfinishedFile<F>
     ensures { ⟦<UnfinishedFile<F> as Sink>⟧.failed_writes result ≡ 0 }
 {
@@ -164,7 +163,7 @@ fn unfinished<F: io::Write>(file: F, rename: Option<Rename>) -> UnfinishedFile<F
     }
 }
 
-/// A name in the same folder that no file has: `name`, followed by random digits and `.part`.
+/// An unused name in the same directory: `name`, followed by random digits and `.part`.
 fn name_beside<R: RandomSource + AllocGlobal>(rt: &R, name: &str) -> Result<String, OutputFault> {
     let mut random = [0u8; 8];
     rt.fill_bytes(&mut random)?;
@@ -176,7 +175,7 @@ fn name_beside<R: RandomSource + AllocGlobal>(rt: &R, name: &str) -> Result<Stri
     Ok(beside)
 }
 
-/// Begins to write to a device, a pipe or a stream. What it has already taken stays.
+/// Opens a device, a pipe or a stream for appending, so what was written to it before stays.
 fn begin_in_place<R: Files>(rt: &R, name: &str) -> Result<UnfinishedFile<R::File>, OutputFault>
     ensures { IfOk result (λ file. ⟦<UnfinishedFile<R::File> as Sink>⟧.failed_writes file ≡ 0) }
 {
@@ -184,7 +183,7 @@ fn begin_in_place<R: Files>(rt: &R, name: &str) -> Result<UnfinishedFile<R::File
     Ok(unfinished(file, None))
 }
 
-/// Gives the file its name, once all its bytes are on the disk. If that fails, the file is removed.
+/// Gives the file its name after all its bytes are on the disk. Removes the file if that fails.
 pub(crate) fn finish_file<R: Files>(
     rt: &R,
     file: UnfinishedFile<R::File>,
@@ -203,17 +202,17 @@ pub(crate) fn finish_file<R: Files>(
     }
 }
 
-/// Waits until all bytes of the file are on the disk, and closes it. A full disk may show only then.
+/// Waits until all bytes of the file are on the disk, and closes it. Some errors, such as a full disk, show only then.
 fn sync_and_close<F: OpenFile + Drop>(file: F) -> io::Result<()> {
     file.sync_all()
 }
 
-/// Removes the file.
+/// Removes the unfinished file.
 pub(crate) fn abandon_file<R: Files>(rt: &R, file: UnfinishedFile<R::File>) {
     let UnfinishedFile { sink, rename } = file;
     drop(sink);
     if let Some(Rename { from, .. }) = rename {
-        // The call already ends with the fault of the write.
+        // The run already ends with the error of the write.
         let _ = rt.remove_file(from.as_str());
     }
 }

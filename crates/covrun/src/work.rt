@@ -1,4 +1,4 @@
-//! What a call has to do.
+//! The task of a run.
 
 use crate::argument_fault::ArgumentFault;
 use crate::question::Question;
@@ -12,28 +12,28 @@ use covline::{Bytes, Memory, good_test};
 use covreport::{Choice, PatternFault, Patterns};
 use std::alloc::{AllocError, Global};
 
-/// What the files of a call are.
+/// The format of a run's files.
 #[derive(Drop)]
 pub(crate) enum FileFormat {
     /// Tracefiles of this version of lcov.
     Tracefile(LcovVersion),
-    /// Tracefiles of this version, of any length. They are read in pieces, each a submission of its own.
+    /// Tracefiles of this version, of any length. They are read in chunks, each a submission of its own.
     LargeTracefile(LcovVersion),
-    /// gcov's output, with the name of the test whose counts it has.
+    /// gcov's output; its counts get this test name.
     GcovOutput(Bytes),
 }
 
-/// How a check reads a file.
+/// How `check` reads a file.
 #[derive(Clone, Copy)]
 pub(crate) enum CheckedFormat {
-    /// As one text of this format.
+    /// As a whole, in this format.
     Text(TextFormat),
-    /// As a tracefile of this version of lcov, of any length, in pieces.
+    /// As a tracefile of any length, in chunks.
     LargeTracefile(LcovVersion),
 }
 
-/// What a subcommand that collects files has to do. `files`: the files to read. `format`: what they are. `strictness`: what is
-/// refused. `jobs`: the number of jobs. `asks`: what is asked after all files are collected.
+/// The work of a subcommand that collects files. `files` are the files to read, in this `format`. `strictness` says which files are
+/// rejected. `asks` is the question to answer after all files are collected.
 #[derive(Drop)]
 pub(crate) struct Work {
     pub(crate) files: Names,
@@ -43,18 +43,18 @@ pub(crate) struct Work {
     pub(crate) asks: Question,
 }
 
-/// What a call has to do.
+/// The task of a run.
 #[derive(Drop)]
 pub(crate) enum Task {
     /// A session over the input and the output.
     Session,
-    /// Collects files, and prints what is asked of them.
+    /// Collects files and prints an answer.
     Collect(Work),
     /// Checks files, each by itself.
     Check {
         /// How the files are read.
         format: CheckedFormat,
-        /// Which texts aren't accepted.
+        /// Which files aren't accepted.
         strictness: Strictness,
         /// The number of jobs.
         jobs: u32,
@@ -63,12 +63,12 @@ pub(crate) enum Task {
     },
 }
 
-/// Why a subcommand's work doesn't begin.
+/// Why a subcommand's work can't begin.
 #[derive(Clone, Copy)]
 pub(crate) enum WorkFault {
-    /// The subcommand's words are refused.
+    /// The subcommand's arguments are invalid.
     Words(ArgumentFault),
-    /// Memory was refused.
+    /// An allocation failed.
     Memory,
 }
 
@@ -120,7 +120,7 @@ ghost use Rattle.covrun.specs.WorkFault.{IsRefusal, IsFilterRefusal, IsLimitRefu
 ghost use Rattle.covrun.specs.declared.argument_fault.ArgumentFault.TheVariants as arguments;
 ghost use Rattle.covrun.specs.declared.work.WorkFault.TheVariants as faults;
 
-/// Checks the command's patterns, limits and test name, and returns what the command has to do.
+/// Checks the command's patterns, thresholds and test name, and makes its task.
 pub(crate) fn task_for(
     alloc: Global,
     command: Command,
@@ -192,7 +192,7 @@ pub(crate) fn task_for(
     }
 }
 
-/// Tracefiles of this version, as files of this size.
+/// The format of tracefiles of this version, with or without `--large`.
 fn tracefiles(size: TextSize, version: LcovVersion) -> FileFormat
     ensures { result ≡ tracefiles_of size version }
 {
@@ -202,7 +202,7 @@ fn tracefiles(size: TextSize, version: LcovVersion) -> FileFormat
     }
 }
 
-/// How a check reads files of this size and format.
+/// Chooses how `check` reads files of this size and format.
 fn checked_as(size: TextSize, format: TextFormat) -> CheckedFormat
     ensures { result ≡ checked_as_of size format }
 {
@@ -243,7 +243,7 @@ fn check_of(format: CheckedFormat, strictness: Strictness, jobs: u32, files: Nam
     }
 }
 
-/// The source files that a filter chooses, or `None` if it has no patterns.
+/// The source files that a filter chooses. Returns `None` if it has no patterns.
 fn chosen_files(alloc: Global, filter: &SourceFilter) -> Result<Option<Choice>, WorkFault>
     ensures choice { IfOk result (λ choice. option_map choice_data choice ≡ choice_of filter.now) }
     ensures taken { IfOk result (λ _. IsFilter filter.now) }
@@ -257,7 +257,7 @@ fn chosen_files(alloc: Global, filter: &SourceFilter) -> Result<Option<Choice>, 
     Ok(Some(Choice::Filter { includes, excludes }))
 }
 
-/// The rates that the words of the limits ask for.
+/// Parses the thresholds.
 fn rates(words: LimitWords) -> Result<Limits, WorkFault>
     ensures rates { IfOk result (λ limits. limits_data limits ≡ limits_of words) }
     ensures taken { IfOk result (λ _. AreRates (limits_of words)) }
@@ -270,7 +270,7 @@ fn rates(words: LimitWords) -> Result<Limits, WorkFault>
     })
 }
 
-/// The rate that this word asks for. `None` if there is no word.
+/// Parses a threshold. Returns `None` if it isn't given.
 fn rate(word: Option<Bytes>) -> Result<Option<Rate>, WorkFault>
     ensures rate { IfOk result (λ rate. rate ≡ word) }
     ensures taken { IfOk result (λ _. IsRateIfAny word) }
@@ -298,7 +298,7 @@ fn test_name(test: &Bytes) -> Result<(), WorkFault>
     }
 }
 
-/// Splits the names: the first is a file's name, and the others are patterns.
+/// Splits the arguments: the first is a file's name, the others are patterns.
 fn split(alloc: Global, names: &Names) -> Result<(Names, Patterns), WorkFault>
     ensures file { IfOk result (λ r. r.0 ≡ take 1 names.now) }
     ensures patterns { IfOk result (λ r. r.1 ≡ drop 1 names.now) }
@@ -314,7 +314,7 @@ fn split(alloc: Global, names: &Names) -> Result<(Names, Patterns), WorkFault>
     Ok((files, patterns))
 }
 
-/// The list of these patterns, or the fault of the first one that can't be added.
+/// Makes a list of these patterns. Fails with the error of the first pattern that can't be added.
 fn patterns_of(alloc: Global, words: &[String]) -> Result<Patterns, WorkFault>
     ensures patterns { IfOk result (λ patterns. patterns ≡ map string_bytes words.now) }
     ensures taken { IfOk result (λ _. ArePatterns (map string_bytes words.now)) }

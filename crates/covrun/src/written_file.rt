@@ -1,4 +1,4 @@
-//! A text that is written into a file.
+//! Writes a text into a file.
 
 ghost use Rattle.std.specs.Prelude.{◌≡◌, ◌<◌, ◌^◌, None, IfErr, OnOk, OnErr};
 ghost use Rattle.covrun.specs.OutputFiles.{CountsFault, Finishes};
@@ -6,7 +6,7 @@ ghost use Rattle.covrun.specs.OutputFiles.{CountsFault, Finishes};
 use crate::output_folder::{OutputFault, OutputFolder};
 use crate::ready_text::ReadyText;
 
-/// Writes the text into a file of this name. If that fails, a file that has the name stays as it is.
+/// Writes the text into the named file. If that fails, an older file of this name stays unchanged.
 pub(crate) fn write_file<P: OutputFolder>(
     name: &str,
     text: ReadyText<'_>,

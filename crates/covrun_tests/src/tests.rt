@@ -1,6 +1,5 @@
-//! Calls of the program with streams and folders that no program has, and one of each subcommand with memory to spare. All other
-//! calls are text, which scripts/e2e plays on the built program: e2e/calls. What is wanted was worked out by hand, and never taken
-//! from an output.
+//! Runs the program with streams and folders that no real program has, and once for each subcommand with ample memory. All other
+//! runs are text, which scripts/e2e plays with the built program: e2e/calls. Expected values were worked out by hand.
 
 ghost use Rattle.std.specs.Prelude.{◌<◌, ◌^◌};
 
@@ -20,8 +19,8 @@ mod folders;
 mod outputs;
 mod printing;
 
-/// Makes a call, and returns its exit status. This function promises nothing: a test looks at what a call does, and is proved
-/// more quickly this way.
+/// Runs the program and returns its exit status. Deliberately without a contract: a test looks only at the result, and its proof is
+/// faster this way.
 fn called<
     R: Files<File: Send, Dir: Send> + RandomSource + AllocGlobal + Threads + Wait + Sync,
     I: Source,
@@ -44,7 +43,7 @@ fn called<
     )
 }
 
-/// The exit status of a call, and what it wrote to its output and to the stream for faults.
+/// The exit status of a run, its output, and its error stream.
 #[derive(Drop)]
 struct Told {
     status: u8,
@@ -52,7 +51,7 @@ struct Told {
     faults: Vec<u8>,
 }
 
-/// Makes a call of these words, with this input.
+/// Runs the program with these arguments and this input.
 fn call<R: Files<File: Send, Dir: Send> + RandomSource + AllocGlobal + Threads + Wait + Sync>(
     rt: &R,
     words: &[String],
@@ -73,7 +72,7 @@ fn call<R: Files<File: Send, Dir: Send> + RandomSource + AllocGlobal + Threads +
     }
 }
 
-/// The words of a call.
+/// Splits a command line into arguments.
 fn words_of(alloc: Global, text: &str) -> Result<Vec<String>, Fail> {
     let mut words = Vec::new(alloc);
     for word in text.split_whitespace() {
@@ -82,7 +81,7 @@ fn words_of(alloc: Global, text: &str) -> Result<Vec<String>, Fail> {
     Ok(words)
 }
 
-/// Checks that what a call wrote is the text `wanted`. If this ends in `...`, only what is before the `...` has to be there.
+/// Checks the text that a run wrote. If `wanted` ends in `...`, the text must only begin with what is before the `...`.
 fn check_text(
     rt: &(impl Abort + AllocGlobal),
     asked: &str,

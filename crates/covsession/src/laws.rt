@@ -1,4 +1,4 @@
-//! Laws of what a session is asked and what it writes. Each law is the contract of a function that does nothing.
+//! Laws of a session's commands and answers. Each law is the contract of a function that does nothing.
 
 ghost use Rattle.std.specs.Prelude.{◌≡◌, ◌≢◌, ℕ, List};
 ghost use Rattle.std.specs.List.{AllByRecursion};
@@ -10,7 +10,7 @@ ghost use Rattle.covsession.specs.Session.{IsSession};
 use covline::lines_are_the_text;
 use covread::{each_gcov_text_has_one_outcome, each_text_has_one_outcome};
 
-/// Each input asks for exactly one list of commands.
+/// Each input has exactly one list of commands.
 pub fn each_input_is_one_list_of_commands()
     ensures some { (input : List ℕ) → (commands : List Command) × AreCommands (pieces_of input) commands }
     ensures one { (input : List ℕ) (x y : List Command) → AreCommands (pieces_of input) x → AreCommands (pieces_of input) y → x ≡ y }
@@ -28,8 +28,8 @@ pub fn each_input_has_one_session_text()
     each_gcov_text_has_one_outcome();
 }
 
-/// No text is refused for the name of its test: the name is a part of one line, and so it is always good. No text is refused
-/// because memory ran out: this ends the session instead.
+/// A session never rejects a text for the name of its test: the name is a part of one line, and so always good. Nor does it answer
+/// that memory ran out: this ends the session instead.
 pub fn no_session_refuses_a_test()
     ensures { (input : List ℕ) (commands : List Command) → AreCommands (pieces_of input) commands
         → AllByRecursion (λ command. (command ≢ Refuse read_faults.BadTest) × (command ≢ Refuse read_faults.Memory)) commands }

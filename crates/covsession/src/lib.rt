@@ -1,12 +1,12 @@
 //! A session of the coverage collector: it reads commands and writes the answers of one book.
 //!
 //! `stream` has the traits of a session's source and sink. `session` reads commands from a source, and writes the answers to a
-//! sink. `program` runs a session as a program does, with an exit status and a line for a fault. `laws` has theorems about all
-//! sessions. Callers that aren't sessions write some of the same lines. So this crate also exports the lines of a refused text
-//! and of a clash, and a fault's line and exit status.
+//! sink. `program` runs a session as a program does, with an exit status and a line about an error. `laws` has theorems about all
+//! sessions. This crate also exports the lines about a rejected text, a clash and an error, and the error's exit status, for other
+//! callers that print them.
 //!
-//! An example, proved and run in `covuses`: a function that returns what a session answers to these commands. `Kept` is the
-//! caller's [`Sink`], which keeps all bytes that it takes.
+//! An example, proved and run in `covuses`: a function that returns the answers of a session to these commands. `Kept` is the
+//! caller's [`Sink`], which stores all bytes that it takes.
 //!
 //! ```text
 //! pub fn answers_to(alloc: Global, commands: &[u8]) -> Result<Vec<u8>, SessionFault> {

@@ -1,4 +1,4 @@
-//! The program over streams: a session, the exit status for how it ended, and the words of its fault.
+//! Runs a session as a program does: with an exit status, and a line about an error.
 
 ghost use Rattle.std.specs.Prelude.{◌≡◌, ◌^◌, ◌<◌};
 ghost use Rattle.covsession.specs.Fault.{calls};
@@ -10,7 +10,7 @@ use crate::session::{SessionFault, session};
 use crate::stream::{Sink, Source};
 use std::alloc::Allocator;
 
-/// The exit status of a program that ended in this fault: 1 if a stream failed, 3 if memory ran out or the history was full.
+/// The exit status of a program that ended with this error: 1 if a stream failed, 3 if memory ran out or the history was full.
 pub fn status_of(fault: SessionFault) -> u8
     ensures { result ≡ fault_status fault }
 {
@@ -20,7 +20,7 @@ pub fn status_of(fault: SessionFault) -> u8
     }
 }
 
-/// The line that reports this fault.
+/// The line that reports this error.
 pub fn line_of(fault: SessionFault) -> &'static [u8]
     ensures { result.now ≡ said (words_of_fault fault) }
 {
@@ -33,8 +33,8 @@ pub fn line_of(fault: SessionFault) -> &'static [u8]
 }
 
 /// Runs a session from a source to a sink, and returns the exit status: 0 if the session ended well, 1 if a stream failed, 3 if
-/// memory ran out or the history was full. The line that reports a fault is written to `faults`. If that write fails, only the
-/// status reports the fault.
+/// memory ran out or the history was full. Writes the line about an error to `faults`. If that write fails, only the status reports
+/// the error.
 pub fn run_session<I: Source, O: Sink, E: Sink, A: Allocator + Copy>(
     alloc: A,
     source: &mut I,
@@ -54,7 +54,7 @@ pub fn run_session<I: Source, O: Sink, E: Sink, A: Allocator + Copy>(
     match session(alloc, source, sink) {
         Ok(()) => 0,
         Err(fault) => {
-            // Nobody is left to whom the failure of this write could be reported.
+            // There is no other stream on which to report a failure of this write.
             let _ = put_bytes(line_of(fault), faults);
             status_of(fault)
         }

@@ -1,4 +1,4 @@
-//! One session: it reads commands and writes the answers to them.
+//! Runs a session: reads commands and writes the answers to them.
 
 ghost use Rattle.std.specs.Prelude.{◌≡◌, ◌≢◌, ◌↔◌, ◌⊎◌, ℕ, ◌+◌, ◌^◌, ◌<◌, ◌≤◌, length, List, Err, IsTrue, IfOk, IfErr, OnOk, IfSome, IfNone};
 ghost use Rattle.std.specs.Io.KnownBytes.{Appends};
@@ -36,10 +36,10 @@ use std::alloc::Allocator;
 use std::mem;
 use std::snapshot::Snapshot;
 
-// The book of a session. Nobody asks a session for its history, so the book keeps nothing of its entries: they exist in proofs alone.
+// The book of a session. A session never returns its history, so the book stores nothing of its entries: they exist only in proofs.
 pub(crate) type SessionBook<A> = Book<A, Snapshot<Entry<A>>>;
 
-// The format of the text that follows a line with this word and this ending, or `None` if no text follows it.
+// The format of the text that follows a line with this word and this ending. Returns `None` if no text follows it.
 fn text_following(word: Word<'_>, ending: LineEnd) -> Option<Format<'_>>
     ensures text { IfSome result (λ format. (word.entry ≡ Word.Text format) × (ending ≡ LineEnd.Feed)) }
     ensures no_text { IfNone result ((format : TextFormat) → word.entry ≡ Word.Text format → ending ≡ LineEnd.Input) }
@@ -78,8 +78,8 @@ fn names_after(word: Word<'_>, ending: LineEnd) -> bool
     }
 }
 
-// Takes the next command, if there is one, and answers it. Returns how its last line ended. A text that belongs to the command
-// is collected in `room`.
+// Reads the next command and answers it. Does nothing at the end of the input. Returns how the command's last line ended. `room` is
+// a buffer for the command's text.
 fn answer_command<I: Source, O: Sink, A: Allocator + Copy>(
     alloc: A,
     book: &mut SessionBook<A>,
@@ -131,8 +131,7 @@ fn answer_all<I: Source, O: Sink, A: Allocator + Copy>(
     }
 }
 
-// Answers all commands, and makes the sink send on the answers. Answers that were given before a fault are sent on too, unless a
-// write failed.
+// Answers all commands, and flushes the answers. After an error, also flushes the answers before it, unless a write failed.
 fn answer_to_the_end<I: Source, O: Sink, A: Allocator + Copy>(
     alloc: A,
     input: &mut SessionInput<'_, I, A>,
@@ -150,18 +149,17 @@ fn answer_to_the_end<I: Source, O: Sink, A: Allocator + Copy>(
     }
 }
 
-/// Answers the commands of the source with a new book, as job 0, and writes the answers to the sink. A text of more than
-/// 67,108,864 bytes is refused, and its further bytes aren't kept. At most 65,536 bytes of output wait: more is written at once.
-/// Before each read and at the end, all that waits is written. Then the sink is flushed, unless it has taken no byte since the
-/// session last flushed it.
+/// Answers the commands of the source with a new book, as job 0, and writes the answers to the sink. Rejects a text of more than
+/// 67,108,864 bytes, and doesn't store its further bytes. Buffers at most 65,536 bytes of output. Before each read and at the end,
+/// writes the buffer and flushes the sink, unless the sink has taken no byte since the session last flushed it.
 ///
 /// # Errors
 ///
-/// `Read` if a read failed, or if more than 4,294,967,296 reads were needed. `Write` if a write or flush failed. `Memory` if
-/// memory was refused. `Full` if the commands ask for more operations than the book's history has room for. What the sink has
-/// taken is a beginning of two session texts: that of the bytes that were read, and that of the whole input. Unless the fault is
-/// `Write`, it is the whole answers to the commands before the fault, and they were sent on. If a write fails after another
-/// fault, `Write` is returned instead of that fault.
+/// `Read` if a read failed, or if more than 4,294,967,296 reads were needed. `Write` if a write or flush failed. `Memory` if an
+/// allocation failed. `Full` if the commands ask for more operations than a history can have. The sink has then taken a prefix of
+/// two session texts: that of the bytes that were read, and that of the whole input. Unless the error is `Write`, this prefix
+/// consists of the whole answers to the commands before the error, and it was flushed. A failed write after another error replaces
+/// that error by `Write`.
 pub fn session<I: Source, O: Sink, A: Allocator + Copy>(
     alloc: A,
     source: &mut I,
@@ -180,13 +178,13 @@ pub fn session<I: Source, O: Sink, A: Allocator + Copy>(
     ensures no_failed_write { OnOk result (O.failed_writes sink.new ≡ O.failed_writes sink.old) }
     // The sink holds back nothing.
     ensures sent { OnOk result (O.held sink.new ≡ 0) }
-    // However it ended, it made at most 4,294,967,296 reads.
+    // The session made at most 4,294,967,296 reads, however it ended.
     ensures few_reads { I.reads source.new ≤ I.reads source.old + 2 ^ 32 }
-    // After a fault, a beginning of the session text was written, and the counts of calls show the fault's cause.
+    // After an error, a prefix of the session text was written, and the counts of calls show the error's cause.
     ensures short { IfErr result (λ f. IsCutShort f (I.left source.old) (I.left source.new) (O.written sink.old) (O.written sink.new)) }
     ensures cause { IfErr result (λ f. HasCause f (calls (I.reads source.old) (I.failed_reads source.old) (O.failed_writes sink.old))
         (calls (I.reads source.new) (I.failed_reads source.new) (O.failed_writes sink.new))) }
-    // Unless a write failed, the answers that were given before the fault were written, and the sink holds back none of them.
+    // Unless a write failed, the answers before the error were written, and the sink holds back none of them.
     ensures kept { IfErr result (λ f. f ≢ faults.Write
         → HasAnswered f (I.left source.old) (I.left source.new) (O.written sink.old) (O.written sink.new)) }
     ensures kept_sent { IfErr result (λ f. f ≢ faults.Write → O.held sink.new ≤ O.held sink.old) }

@@ -1,4 +1,4 @@
-//! The source that a session reads its commands from, and the sink that it writes its answers to.
+//! The traits of a session's streams: a source of commands, and a sink of answers.
 
 ghost use Rattle.std.specs.Prelude.{◌≡◌, ◌≢◌, ℕ, ◌+◌, ◌^◌, ◌<◌, ◌≤◌, List, [], Option, None, length, take, MatchResult, IfOk, OnOk, OnErr};
 ghost use Rattle.std.specs.Io.KnownBytes.{Consumes, Appends, Keeps, IsAtEnd, ReadConsumes, WriteAppends};
@@ -9,9 +9,9 @@ use std::io;
 #[derive(Clone, Copy, Debug, PartialEq, Eq)]
 pub struct Failed;
 
-/// A source of bytes in order. It counts its calls, and those of them that failed.
+/// A source of bytes, in order. It counts its reads, and the failed ones.
 pub trait Source {
-    // The bytes that it still has, if they are known.
+    // The bytes that are left, if they are known.
     ghost left: { Self → Option (List ℕ) };
 
     // How many reads were made.
@@ -20,8 +20,8 @@ pub trait Source {
     // How many of them failed.
     ghost failed_reads: { Self → ℕ };
 
-    /// Reads bytes into the front of the buffer, and returns how many. 0 bytes are read only at the end or into an
-    /// empty buffer. A read that fails takes no bytes.
+    /// Reads bytes into the front of the buffer, and returns how many: 0 only at the end or for an empty buffer. A failed read
+    /// consumes no bytes.
     fn read(&mut self, buffer: &mut [u8]) -> Result<usize, Failed>
         requires few { reads self.old < 2 ^ 63 }
         requires few_failed { failed_reads self.old < 2 ^ 63 }
@@ -32,19 +32,19 @@ pub trait Source {
         ensures failed { OnErr result (failed_reads self.new ≡ failed_reads self.old + 1) };
 }
 
-/// A sink that takes bytes in order. It counts its calls that failed.
+/// A sink of bytes, in order. It counts its failed calls.
 pub trait Sink {
     // The bytes that it has taken, if they are known.
     ghost written: { Self → Option (List ℕ) };
 
-    // How many of them it may still hold back.
+    // How many of the taken bytes it may still hold back.
     ghost held: { Self → ℕ };
 
     // How many calls failed.
     ghost failed_writes: { Self → ℕ };
 
-    /// Takes some of these bytes, from the front, and returns how many. A write that is given bytes and takes none of them fails.
-    /// A write that fails has taken no bytes.
+    /// Takes some of these bytes, from the front, and returns how many. Fails if it can take none of a non-empty slice. A failed
+    /// write takes no bytes.
     fn write(&mut self, bytes: &[u8]) -> Result<usize, Failed>
         requires { failed_writes self.old < 2 ^ 63 }
         ensures bound { IfOk result (λ n. n ≤ length bytes.now) }
@@ -53,7 +53,7 @@ pub trait Sink {
         ensures good { OnOk result (failed_writes self.new ≡ failed_writes self.old) }
         ensures failed { OnErr result (failed_writes self.new ≡ failed_writes self.old + 1) };
 
-    /// Sends on what the sink holds back. The bytes that it has taken stay the same.
+    /// Sends on the bytes that the sink holds back. The taken bytes stay the same.
     fn flush(&mut self) -> Result<(), Failed>
         requires { failed_writes self.old < 2 ^ 63 }
         ensures bytes { Keeps (written self.old) (written self.new) }
@@ -104,7 +104,7 @@ impl<R: io::Read> Source for FromRead<R> {
     }
 }
 
-/// A writer of std as a sink. It may hold back what was written since the writer was last flushed.
+/// A writer of std as a sink. It may hold back what was written since its last flush.
 #[derive(Drop)]
 pub struct FromWrite<W> {
     writer: W,
@@ -126,7 +126,7 @@ impl<W: io::Write> FromWrite<W> {
         }
     }
 
-    /// The writer, with the bytes that the sink has taken. It isn't flushed.
+    /// Returns the writer, without flushing it.
     pub fn into_inner(self) -> W
         ensures { W.contents result ≡ ⟦<FromWrite<W> as Sink>⟧.written self }
     {

@@ -1,5 +1,5 @@
-//! Tests of sessions: the bytes that a session reads, and those that it has to write. This crate has nothing but its tests, so
-//! that the session is proved once, and its edits are tried while the tests are proved.
+//! Tests of sessions: their input and their expected output. This is a crate of its own, so that the session is proved once, and
+//! its mutants are tried while the tests are proved.
 #![tactic(auto)]
 
 #[cfg(test)]

@@ -1,5 +1,5 @@
-//! Tests of sessions with sources and sinks that no program has, and of two whole sessions with memory to spare. All other sessions
-//! are text, which scripts/e2e plays on the built program: e2e/sessions. What no session reaches is tested by covread_tests,
+//! Tests of sessions with sources and sinks that no program has, and of two whole sessions with ample memory. All other sessions
+//! are text, which scripts/e2e plays with the built program: e2e/sessions. What no session reaches is tested by covread_tests,
 //! covstore_tests, covbook_tests and covjobs_tests, with the public calls of the crates below.
 
 ghost use Rattle.std.specs.Prelude.{◌<◌, ◌^◌};
@@ -12,8 +12,8 @@ use std::test::*;
 
 mod streams;
 
-/// How a session ends. This function promises nothing of that: a test looks at what a session does, and is proved more quickly
-/// this way.
+/// Runs a session and returns how it ended. Deliberately without a contract: a test looks only at the result, and its proof is
+/// faster this way.
 fn session_end<I: Source, O: Sink>(
     alloc: Global,
     source: &mut I,
@@ -26,7 +26,7 @@ fn session_end<I: Source, O: Sink>(
     session(alloc, source, sink)
 }
 
-/// How a session on these bytes ends, and what it writes.
+/// Runs a session on these bytes. Returns how it ended, and its output.
 fn run(alloc: Global, input: &[u8]) -> (Result<(), SessionFault>, Vec<u8>) {
     let mut output: Vec<u8> = Vec::new(alloc);
     let ended = {
@@ -37,7 +37,7 @@ fn run(alloc: Global, input: &[u8]) -> (Result<(), SessionFault>, Vec<u8>) {
     (ended, output)
 }
 
-/// Checks that a session on these bytes ends without a fault, and writes exactly what is wanted.
+/// Checks that a session on these bytes ends without an error, and writes exactly `wanted`.
 fn check(rt: &(impl Abort + AllocGlobal), input: &[u8], wanted: &[u8]) {
     let (ended, output) = run(rt.alloc(), input);
     if ended.is_err() || output.as_slice() != wanted {
@@ -125,7 +125,7 @@ dropped 2
     );
 }
 
-/// A session whose texts are refused, clash or don't end.
+/// A session whose texts are rejected, clash or don't end.
 #[test]
 fn texts_that_are_not_taken(rt: HostRuntime) {
     check(

@@ -1,4 +1,4 @@
-//! Walks over the files of a store: drops a test, finds the files that have it, and adds up totals.
+//! Walks over the files of a store: drops a test, finds the files with a test, and adds up totals.
 
 ghost use Rattle.std.specs.Prelude.{◌≡◌, ◌≢◌, ℕ, List, [], true, count_by, map, IfOk, OnErr};
 ghost use Rattle.std.specs.List.{AllByRecursion};
@@ -17,7 +17,7 @@ use covline::Memory;
 use std::alloc::Allocator;
 use std::collections::BTreeMap;
 
-/// Drops the test from every file. A file whose last test is dropped stays, without tests. Takes no memory.
+/// Drops the test from every file. A file whose last test is dropped stays, without tests. Never allocates.
 pub(crate) fn drop_from_files<K: Ord + Drop, A: Allocator + Copy>(
     files: &mut BTreeMap<K, Boxed<File<A>, A>, A>,
     test: &[u8],
@@ -26,8 +26,7 @@ pub(crate) fn drop_from_files<K: Ord + Drop, A: Allocator + Copy>(
     ensures committed { (name : K → List ℕ) → AreWithoutTest test.now (files_committed name files.old.entries) (files_committed name files.new.entries) }
     ensures settled { (name : K → List ℕ) (touched : List (List ℕ × List ℕ)) → AreSettledBut name touched files.old.entries → AreSettledBut name touched files.new.entries }
 {
-    // The closure keeps every file. `retain` is used because its contract says how each file is changed. The contract of a walk
-    // over the files doesn't say that.
+    // The closure keeps every file. `retain` is used because its contract says how each file changes; that of a plain walk doesn't.
     files.retain(
         |_, file|
             requires { IsConsistentFile (file_committed file.old) }
@@ -41,7 +40,7 @@ pub(crate) fn drop_from_files<K: Ord + Drop, A: Allocator + Copy>(
     );
 }
 
-/// The number of files in which the test has points, and the totals of all files without the test. Takes no memory.
+/// The number of files in which the test has points, and the totals of all files without the test. Never allocates.
 pub(crate) fn count_without<A: Allocator + Copy>(
     files: &BTreeMap<Path<A>, Boxed<File<A>, A>, A>,
     test: &[u8],
@@ -61,7 +60,7 @@ pub(crate) fn count_without<A: Allocator + Copy>(
     (sections, totals)
 }
 
-/// The number of files in which the test has points. Takes no memory.
+/// The number of files in which the test has points. Never allocates.
 pub(crate) fn count_sections<A: Allocator + Copy>(
     files: &BTreeMap<Path<A>, Boxed<File<A>, A>, A>,
     test: &[u8],
@@ -75,7 +74,7 @@ pub(crate) fn count_sections<A: Allocator + Copy>(
     sections
 }
 
-/// The totals of all files: the sum of the committed totals of each file. Takes no memory.
+/// The totals of all files: the sum of the committed totals of each file. Never allocates.
 pub(crate) fn add_up<A: Allocator + Copy>(files: &BTreeMap<Path<A>, Boxed<File<A>, A>, A>) -> Totals
     requires { FitTotals (totals_in (files_committed (λ name. name.items) files.now.entries)) }
     ensures { result ≡ totals_in (files_committed (λ name. name.items) files.now.entries) }

@@ -1,4 +1,4 @@
-//! A value of a map, in a box of its own.
+//! Boxed values of a map.
 
 ghost use Rattle.std.specs.Prelude.{◌≡◌, IfOk};
 ghost use Rattle.std.specs.Borrow.{sem};
@@ -6,8 +6,8 @@ ghost use Rattle.std.specs.Borrow.{sem};
 use std::alloc::{AllocError, Allocator};
 use std::marker::Model;
 
-/// A value in a box. A map's node has room for fifteen values and is half full on average. The unused room is small if the values
-/// are boxes. Contracts see the value.
+/// A boxed value. A map node has capacity for fifteen values and is half full on average, so boxes waste less memory. Contracts see
+/// the value.
 #[derive(Drop)]
 pub(crate) struct Boxed<T, A: Allocator> {
     value: Box<T, A>,
@@ -39,7 +39,7 @@ impl<T, A: Allocator> Boxed<T, A> {
         &*self.value
     }
 
-    /// The value itself, to be changed in place.
+    /// The value itself, mutable.
     pub(crate) fn get_mut(&mut self) -> &mut T
         ensures* writes_back { sem 𝓛 (lends_value T.row A.row A.Allocator self.entry result) }
         ensures value { result.now ≡ self.old }

@@ -16,9 +16,8 @@ use covmap::{SlotIndex, StagedMap};
 use std::alloc::Allocator;
 use std::marker::Model;
 
-/// For each line, the number of tests that hold the line's checksum, committed and staged, and the checksum itself. A checksum
-/// may be kept after the last test that held it is gone. From then on, another checksum may replace it. Contracts see the
-/// numbers of tests, and the checksums.
+/// For each line, its checksum, and the committed and the staged number of tests that hold it. A checksum without holders may stay
+/// stored until another one replaces it. Contracts see the numbers of tests and the checksums.
 #[derive(Drop)]
 pub(crate) struct Checksums<A: Allocator> {
     holders: StagedMap<u64, PackedU64, A>,
@@ -48,12 +47,12 @@ impl<A: Allocator + Copy> Checksums<A> {
         }
     }
 
-    /// Stages that a test holds this checksum of a line. If `is_held` is true, the test already holds the line's checksum, and
-    /// isn't counted again.
+    /// Stages that a test holds this checksum of a line. If `is_held`, the test already holds the line's checksum and isn't counted
+    /// again.
     ///
     /// # Errors
     ///
-    /// `Clash` if the line's held checksum differs, `Memory` if memory was refused. Then what is staged may be lost.
+    /// `Clash` if the line's held checksum differs, `Memory` if an allocation failed. Either may discard what is staged.
     pub(crate) fn hold(
         &mut self,
         alloc: A,
@@ -80,8 +79,7 @@ impl<A: Allocator + Copy> Checksums<A> {
         self.set_holders(alloc, line, tests.get() + 1)
     }
 
-    /// Stages that a first test holds a checksum of a line. From then on, the line's checksum is `text`. If memory is refused,
-    /// what is staged may be lost.
+    /// Stages that a first test holds a checksum of a line, which becomes `text`. A failed allocation may discard what is staged.
     fn hold_first(&mut self, alloc: A, line: u64, text: &[u8]) -> Result<(), StageFault<A>>
         requires { value_of nat_cmp line self.old.staged ≡ None }
         ensures committed { self.new.committed ≡ self.old.committed }
@@ -98,8 +96,8 @@ impl<A: Allocator + Copy> Checksums<A> {
         self.set_holders(alloc, line, 1)
     }
 
-    /// Stages how many tests hold the checksum of a line. The line must have a text. If memory is refused, what is staged may be
-    /// lost.
+    /// Stages how many tests hold the checksum of a line. The line must have a text. A failed allocation may discard what is
+    /// staged.
     fn set_holders(&mut self, alloc: A, line: u64, tests: u64) -> Result<(), StageFault<A>>
         requires { is_some (value_of nat_cmp line self.old.texts) ≡ true }
         ensures committed { self.new.committed ≡ self.old.committed }
@@ -138,7 +136,7 @@ impl<A: Allocator + Copy> Checksums<A> {
         Ok(())
     }
 
-    /// Commits what is staged. Takes no memory.
+    /// Commits the staged values. Never allocates.
     pub(crate) fn commit(&mut self)
         ensures committed { self.new.committed ≡ self.old.staged }
         ensures staged { self.new.staged ≡ self.old.staged }
@@ -148,7 +146,7 @@ impl<A: Allocator + Copy> Checksums<A> {
         self.texts.commit();
     }
 
-    /// Forgets the staged numbers of tests. The checksums stay: one that no test holds may be replaced. Takes no memory.
+    /// Discards the staged numbers of tests. Keeps all checksums: one without holders may be replaced later. Never allocates.
     pub(crate) fn rollback(&mut self)
         ensures committed { self.new.committed ≡ self.old.committed }
         ensures staged { self.new.staged ≡ self.old.committed }
@@ -159,7 +157,7 @@ impl<A: Allocator + Copy> Checksums<A> {
 }
 
 impl<A: Allocator> Checksums<A> {
-    /// Removes one of the tests that hold the checksum of a line, and forgets what is staged. Takes no memory.
+    /// Removes one of the holders of a line's checksum, and discards what is staged. Never allocates.
     pub(crate) fn release(&mut self, line: u64)
         requires { is_some (value_of nat_cmp line self.old.committed) ≡ true }
         ensures committed { self.new.committed ≡ held_less line self.old.committed }
@@ -171,17 +169,16 @@ impl<A: Allocator> Checksums<A> {
         }
     }
 
-    /// The checksum that is kept for a line, or `None` if none is kept.
+    /// The stored checksum of a line.
     pub(crate) fn text(&self, line: u64) -> Option<&[u8]>
         ensures { option_map (λ text. text.now) result ≡ value_of nat_cmp line self.now.texts }
     {
-        // A line is added to `holders` and to `texts` together, and usually has the same slot in both. So the slot that was
-        // looked up last in `holders` is a good guess for the slot in `texts`.
+        // `holders` and `texts` get their lines together, so a line usually has the same slot in both. The slot last found in
+        // `holders` is a good guess for the slot in `texts`.
         self.text_at(line, self.holders.cursor()).0
     }
 
-    /// The checksum that is kept for a line, or `None` if none is kept, and the slot to look at first for the next line's
-    /// checksum. `guess` is the slot to look at first for this line's checksum.
+    /// Returns the stored checksum of a line, and the guess for the next line's slot. `guess` is the slot to look at first.
     pub(crate) fn text_at(&self, line: u64, guess: SlotIndex) -> (Option<&[u8]>, SlotIndex)
         ensures { option_map (λ text. text.now) result.0 ≡ value_of nat_cmp line self.now.texts }
     {
@@ -189,7 +186,7 @@ impl<A: Allocator> Checksums<A> {
     }
 }
 
-/// This number of tests less one, or `None` if no test is left.
+/// One test fewer. Returns `None` if no test is left.
 fn one_less(tests: u64) -> Option<PackedU64>
     ensures { result ≡ one_less tests }
 {

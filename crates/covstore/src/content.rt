@@ -1,4 +1,4 @@
-//! Iterators over the sections of a store, and over the points of a section. They take no memory.
+//! Iterators over the sections of a store, and over the points of a section. They never allocate.
 
 ghost use Rattle.std.specs.Iterator.{YieldsFirstBy};
 ghost use Rattle.covstore.specs.ContentView.{or_none};

@@ -18,9 +18,9 @@ use std::alloc::Allocator;
 use std::marker::Model;
 use std::mem;
 
-/// The tests of a file, each with its points, and the file's index. Until a second test is added, the index follows the file's
-/// only test and doesn't count points. From then on, the index counts the points of all tests, even if only one test is left.
-/// Contracts see the tests and the index.
+/// The tests of a file with their points, and the file's index. The index doesn't count points before a second test is added: it
+/// follows the only test. From then on, it counts the points of all tests, even if only one test is left. Contracts see the tests
+/// and the index.
 #[derive(Drop)]
 pub(crate) struct File<A: Allocator> {
     tests: Tests<A>,
@@ -85,7 +85,7 @@ impl<A: Allocator + Copy> File<A> {
         }
     }
 
-    /// Stages the items of a test, and ends at the first item that clashes. Adds the test if the file doesn't have it.
+    /// Stages the items of a test, up to the first that clashes. Adds the test if the file doesn't have it.
     fn add(&mut self, alloc: A, test: &[u8], items: &PackedItems<'_>) -> Result<(), StageFault<A>>
         requires { HasRoomIn items.now (file_staged self.old) }
         ensures committed { KeepsIn (file_committed self.old) (file_committed self.new) }
@@ -97,7 +97,7 @@ impl<A: Allocator + Copy> File<A> {
         self.stage_in(alloc, test, items)
     }
 
-    /// Stages the items of a test that the file has, and ends at the first item that clashes.
+    /// Stages the items of an existing test, up to the first that clashes.
     fn stage_in(
         &mut self,
         alloc: A,
@@ -160,8 +160,8 @@ impl<A: Allocator + Copy> File<A> {
         self.copy_points(alloc, old, new)
     }
 
-    /// Adds an empty test of this name. If the file already has the test, nothing changes. If memory is refused, contracts see
-    /// the file as it was. The index can't follow two tests, so it starts to count the points before a second test is added.
+    /// Adds an empty test, unless the file has a test of this name. If an allocation fails, contracts see the file unchanged. The
+    /// index can't follow two tests, so it starts to count the points before a second test is added.
     fn open(&mut self, alloc: A, test: &[u8]) -> Result<(), Memory>
         ensures committed { OnOk result (file_committed self.new ≡ with_test test.now (file_committed self.old)) }
         ensures staged { OnOk result (file_staged self.new ≡ with_test test.now (file_staged self.old)) }
@@ -180,7 +180,7 @@ impl<A: Allocator + Copy> File<A> {
         Ok(())
     }
 
-    /// Makes the index count the points, if the file has a test. After that, another test can be added.
+    /// Makes the index count the points of the file's test, if there is one. Then another test can be added.
     fn start_counting(&mut self, alloc: A) -> Result<(), Memory>
         ensures same { self.new.tests ≡ self.old.tests }
         ensures committed { index_committed self.new.index ≡ index_committed self.old.index }
@@ -209,7 +209,7 @@ impl<A: Allocator + Copy> File<A> {
         let Some(place) = self.tests.get_mut(new) else {
             unreachable!();
         };
-        // The new test is taken out of the file, since the old one stays borrowed from the file while the new one is changed.
+        // The new test is removed while it changes, since the old one stays borrowed from the file.
         let mut points = mem::replace(place, empty);
         let Some(source) = self.tests.get(old) else {
             unreachable!();
@@ -236,7 +236,7 @@ impl<A: Allocator + Copy> File<A> {
         self.index.commit(points);
     }
 
-    /// Forgets what is staged in a test and in the file's index.
+    /// Discards what is staged in a test and in the file's index.
     pub(crate) fn rollback(&mut self, test: &[u8])
         ensures committed { file_committed self.new ≡ file_committed self.old }
         ensures settled { (tests : List (List ℕ)) → IsSettledBut (tests ++ test.now ∷ []) self.old → IsSettledBut tests self.new }

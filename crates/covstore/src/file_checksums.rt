@@ -1,4 +1,4 @@
-//! The checksums of a file. They take no memory before the first one.
+//! The checksums of a file, which use no memory before the first one.
 
 ghost use Rattle.std.specs.Prelude.{◌≡◌, ◌≤◌, ◌^◌, [], true, is_some, option_map, IfErr, IfSome, OnOk};
 ghost use Rattle.covmap.specs.Puts.{value_of};
@@ -13,8 +13,8 @@ use covmap::SlotIndex;
 use std::alloc::Allocator;
 use std::marker::Model;
 
-/// The checksums of a file's lines. Most files have none, so they are in a box, which is made for the first one and then stays.
-/// Contracts see the same as of `Checksums`.
+/// The checksums of a file's lines. Most files have none, so they are in a box, which is allocated for the first one and then
+/// stays. Contracts see what they see of `Checksums`.
 #[derive(Drop)]
 pub(crate) struct FileChecksums<A: Allocator> {
     held: Option<Boxed<Checksums<A>, A>>,
@@ -30,7 +30,7 @@ impl<A: Allocator> Model for FileChecksums<A> {
 }
 
 impl<A: Allocator + Copy> FileChecksums<A> {
-    /// No checksums. Takes no memory.
+    /// No checksums. Never allocates.
     pub(crate) fn new() -> FileChecksums<A>
         ensures committed { result.committed ≡ [] }
         ensures staged { result.staged ≡ [] }
@@ -39,8 +39,7 @@ impl<A: Allocator + Copy> FileChecksums<A> {
         FileChecksums { held: None }
     }
 
-    /// Stages that a test holds this checksum of a line, as `Checksums::hold` does, and fails where that fails, or if memory for
-    /// the box is refused.
+    /// Like `Checksums::hold`. Fails also if the box can't be allocated.
     pub(crate) fn hold(
         &mut self,
         alloc: A,
@@ -66,7 +65,7 @@ impl<A: Allocator + Copy> FileChecksums<A> {
         Ok(())
     }
 
-    /// Commits what is staged. Takes no memory.
+    /// Commits the staged values. Never allocates.
     pub(crate) fn commit(&mut self)
         ensures committed { self.new.committed ≡ self.old.staged }
         ensures staged { self.new.staged ≡ self.old.staged }
@@ -77,7 +76,7 @@ impl<A: Allocator + Copy> FileChecksums<A> {
         }
     }
 
-    /// Forgets the staged numbers of tests, as `Checksums::rollback` does. Takes no memory.
+    /// Like `Checksums::rollback`. Never allocates.
     pub(crate) fn rollback(&mut self)
         ensures committed { self.new.committed ≡ self.old.committed }
         ensures staged { self.new.staged ≡ self.old.committed }
@@ -90,7 +89,7 @@ impl<A: Allocator + Copy> FileChecksums<A> {
 }
 
 impl<A: Allocator> FileChecksums<A> {
-    /// Removes one of the tests that hold the checksum of a line, as `Checksums::release` does. Takes no memory.
+    /// Like `Checksums::release`. Never allocates.
     pub(crate) fn release(&mut self, line: u64)
         requires { is_some (value_of nat_cmp line self.old.committed) ≡ true }
         ensures committed { self.new.committed ≡ held_less line self.old.committed }
@@ -102,7 +101,7 @@ impl<A: Allocator> FileChecksums<A> {
         }
     }
 
-    /// The checksum that is kept for a line, or `None` if none is kept.
+    /// The stored checksum of a line.
     pub(crate) fn text(&self, line: u64) -> Option<&[u8]>
         ensures { option_map (λ text. text.now) result ≡ value_of nat_cmp line self.now.texts }
     {
@@ -112,7 +111,7 @@ impl<A: Allocator> FileChecksums<A> {
         }
     }
 
-    /// The checksum that is kept for a line, and the slot to look at first for the next line's, as of `Checksums::text_at`.
+    /// Like `Checksums::text_at`.
     pub(crate) fn text_at(&self, line: u64, guess: SlotIndex) -> (Option<&[u8]>, SlotIndex)
         ensures { option_map (λ text. text.now) result.0 ≡ value_of nat_cmp line self.now.texts }
     {

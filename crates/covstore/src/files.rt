@@ -1,4 +1,4 @@
-//! An iterator over the files of a store, each with its totals. It takes no memory.
+//! An iterator over the files of a store, each with its totals. It never allocates.
 
 use crate::boxed::Boxed;
 use crate::file::File;

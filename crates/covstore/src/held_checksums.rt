@@ -1,4 +1,4 @@
-//! Stages that a test holds the checksums of a section's items. This is done before the items' sums are staged.
+//! Stages that a test holds the checksums of a section's items, before the items' sums are staged.
 
 ghost use Rattle.std.specs.Prelude.{◌≡◌, List, ◌++◌, ◌∷◌, IfErr, IfSome, IsTrue, OnOk, ℕ};
 ghost use Rattle.std.specs.List.Sorted.{IsStrictlySortedBy};
@@ -32,7 +32,7 @@ pub(crate) fn checked_lines_ascend(items: &PackedItems<'_>) -> bool
     true
 }
 
-/// The least line that the next item with a checksum may have. `None` if this item has a checksum, and its line is below
+/// The lower bound for the line of the next item with a checksum. Returns `None` if this item has a checksum and its line is below
 /// `least` or is the greatest `u64`.
 fn least_after(item: &ItemRef<'_>, least: u64) -> Option<u64>
     ensures { IfSome result (λ next. (lines : List ℕ) → AscendFrom next lines → AscendFrom least (checked_line (item_ref_data item.now) ++ lines)) }
@@ -49,7 +49,7 @@ fn least_after(item: &ItemRef<'_>, least: u64) -> Option<u64>
     }
 }
 
-/// The line after this one. `None` if this line is below `least`, or is the greatest `u64`.
+/// One more than the line. Returns `None` if the line is below `least`, or is the greatest `u64`.
 fn line_after(line: u64, least: u64) -> Option<u64>
     ensures { IfSome result (λ next. (lines : List ℕ) → AscendFrom next lines → AscendFrom least (line ∷ lines)) }
 {
@@ -59,9 +59,9 @@ fn line_after(line: u64, least: u64) -> Option<u64>
     Some(line + 1)
 }
 
-/// Stages that the test holds the checksums of the items, up to the first item that clashes. The lines of the items with a
-/// checksum strictly ascend, so no two of these items have the same line. This is why the items before an item don't change
-/// whether the test holds the checksum of its line.
+/// Stages that the test holds the checksums of the items, up to the first item that clashes. The lines of the items with a checksum
+/// strictly ascend, so no line comes twice. Therefore earlier items don't change whether the test holds the checksum of an item's
+/// line.
 pub(crate) fn hold_checksums<A: Allocator + Copy>(
     test: &mut Test<A>,
     index: &mut FileIndex<A>,

@@ -18,9 +18,8 @@ use crate::test::Test;
 use crate::totals::Totals;
 use std::alloc::{AllocError, Allocator};
 
-/// For each point of a file, the number of tests that have the point, and the number of tests that have it with a value
-/// above 0. The index also has the checksums of the file's lines. Until a second test is added, the index follows the file's
-/// only test and doesn't count points.
+/// For each point of a file, how many tests have it, and how many have it with a value above 0; and the checksums of the file's
+/// lines. The index doesn't count points before a second test is added: it follows the file's only test.
 #[derive(Drop)]
 pub(crate) struct FileIndex<A: Allocator> {
     pub lines: KindIndex<u64, LineSum, A>,
@@ -56,7 +55,7 @@ impl<A: Allocator + Copy> FileIndex<A> {
     ///
     /// # Errors
     ///
-    /// `AllocError` if memory was refused.
+    /// `AllocError` if an allocation failed.
     pub(crate) fn start_counting(&mut self, alloc: A, test: &Test<A>) -> Result<(), AllocError>
         requires { Follows test.now self.old }
         ensures committed { index_committed self.new ≡ index_committed self.old }
@@ -69,7 +68,7 @@ impl<A: Allocator + Copy> FileIndex<A> {
         self.branches.start_counting(alloc, &test.branches)
     }
 
-    /// Commits what is staged. If the index follows a test, `test` has to be that test, and has to be committed first.
+    /// Commits the staged values. If the index follows a test, `test` must be that test, already committed.
     pub(crate) fn commit(&mut self, test: &Test<A>)
         requires { FollowsCommitted test.now self.old }
         ensures committed { index_committed self.new ≡ index_staged self.old }
@@ -82,7 +81,7 @@ impl<A: Allocator + Copy> FileIndex<A> {
         self.checksums.commit();
     }
 
-    /// Forgets what is staged. If the index follows a test, `test` has to be that test, and has to be rolled back first.
+    /// Discards the staged values. If the index follows a test, `test` must be that test, already rolled back.
     pub(crate) fn rollback(&mut self, test: &Test<A>)
         requires { FollowsRolledBack test.now self.old }
         ensures committed { index_committed self.new ≡ index_committed self.old }
@@ -107,7 +106,7 @@ impl<A: Allocator + Copy> FileIndex<A> {
         self.checksums.commit();
     }
 
-    /// Forgets the staged checksums, and the staged counts of each kind of points unless they follow a test.
+    /// Discards the staged checksums, and the staged counts of each kind of points unless they follow a test.
     pub(crate) fn rollback_counts(&mut self)
         ensures committed { index_committed self.new ≡ index_committed self.old }
         ensures same { FollowsTheSame self.old self.new }
@@ -130,8 +129,8 @@ impl<A: Allocator + Copy> FileIndex<A> {
         )
     }
 
-    /// Stops counting a test that has these points. Nothing is staged afterwards. If the index follows a test, `points` has to be
-    /// that test.
+    /// Removes the test with these points from the counts. Nothing is staged afterwards. If the index follows a test, `points` must
+    /// be that test.
     pub(crate) fn uncount_test(&mut self, points: &Test<A>)
         requires follows { Follows points.now self.old }
         requires counted { (others : List TestData) × IsIndexOf (test_committed points.now ∷ others) (index_committed self.old) }
@@ -157,8 +156,7 @@ impl<A: Allocator + Copy> FileIndex<A> {
         )
     }
 
-    /// The file's committed totals without a test that has these points. If the index follows a test, `points` has to be that
-    /// test.
+    /// The file's committed totals without the test that has these points. If the index follows a test, `points` must be that test.
     pub(crate) fn totals_without(&self, points: &Test<A>) -> Totals
         requires follows { Follows points.now self.now }
         requires counted { (others : List TestData) × IsIndexOf (test_committed points.now ∷ others) (index_committed self.now) }

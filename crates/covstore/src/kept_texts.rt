@@ -11,14 +11,14 @@ use covmap::{SlotIndex, StagedMap};
 use std::alloc::{AllocError, Allocator};
 use std::marker::Model;
 
-/// The texts of the checksums of a file's lines, in a list. Each line with a text has an index of its own in the list. Indexes
-/// are staged. If memory is refused, the indexes that weren't committed are lost, and so are their texts. Contracts see two
-/// lists of lines with their texts, each ascending by line: the texts that would be left if memory is refused, and all texts.
+/// A list of the checksums' texts. Each line with a text has its own index in the list. Indexes are staged: a failed allocation
+/// removes those that aren't committed, and their texts. Contracts see two lists of lines with their texts, each ascending by line:
+/// the texts that remain after a failed allocation, and all texts.
 #[derive(Drop)]
 pub(crate) struct KeptTexts<A: Allocator> {
     places: StagedMap<u64, PackedU64, A>,
     texts: Vec<ShortText<A>, A>,
-    /// How many texts, from the first one on, are at committed indexes.
+    /// How many texts at the front of the list have committed indexes.
     committed: usize,
 }
 
@@ -33,7 +33,7 @@ impl<A: Allocator> Model for KeptTexts<A> {
 }
 
 impl<A: Allocator + Copy> KeptTexts<A> {
-    /// No texts. Takes no memory.
+    /// No texts. Never allocates.
     pub(crate) fn new(alloc: A) -> KeptTexts<A>
         ensures committed { result.committed ≡ [] }
         ensures staged { result.staged ≡ [] }
@@ -45,12 +45,12 @@ impl<A: Allocator + Copy> KeptTexts<A> {
         }
     }
 
-    /// Gives a line this text. A text that the line has already is replaced, which takes no memory. Proofs also learn that the
-    /// committed texts are among all texts (`among`).
+    /// Stores the text of a line. Replacing an older text of the line never allocates. Proofs also learn that the committed texts
+    /// are among all texts (`among`).
     ///
     /// # Errors
     ///
-    /// `AllocError` if memory was refused. Then only the texts at committed indexes are left.
+    /// `AllocError` if an allocation failed. Then only the texts at committed indexes remain.
     pub(crate) fn set(&mut self, alloc: A, line: u64, text: ShortText<A>) -> Result<(), AllocError>
         ensures committed { StillHave self.old.committed self.new.committed }
         ensures ok { OnOk result (self.new.staged ≡ put nat_cmp line text self.old.staged) }
@@ -66,7 +66,7 @@ impl<A: Allocator + Copy> KeptTexts<A> {
         }
     }
 
-    /// Gives this text to a line that has none. If memory is refused, only the texts at committed indexes are left.
+    /// Adds the text of a line that has none. If an allocation fails, only the texts at committed indexes remain.
     fn add(&mut self, alloc: A, line: u64, text: ShortText<A>) -> Result<(), AllocError>
         requires { value_of nat_cmp line self.old.staged ≡ None }
         ensures committed { self.new.committed ≡ self.old.committed }
@@ -74,8 +74,8 @@ impl<A: Allocator + Copy> KeptTexts<A> {
         ensures err { OnErr result (self.new.staged ≡ self.old.committed) }
     {
         if let Err(refused) = push(&mut self.places, &mut self.texts, alloc, line, text) {
-            // The indexes of new texts are lost, so no line would find these texts again. If the texts stayed in the list, they
-            // would pile up whenever memory is refused.
+            // The indexes of new texts are discarded, so no line could find these texts. If they stayed in the list, each failed
+            // allocation would leave more of them.
             self.places.rollback();
             self.texts.truncate(self.committed);
             return Err(refused);
@@ -83,7 +83,7 @@ impl<A: Allocator + Copy> KeptTexts<A> {
         Ok(())
     }
 
-    /// Commits the indexes of all texts. Takes no memory.
+    /// Commits the indexes of all texts. Never allocates.
     pub(crate) fn commit(&mut self)
         ensures committed { self.new.committed ≡ self.old.staged }
         ensures staged { self.new.staged ≡ self.old.staged }
@@ -94,8 +94,7 @@ impl<A: Allocator + Copy> KeptTexts<A> {
 }
 
 impl<A: Allocator> KeptTexts<A> {
-    /// The text of a line, or `None` if the line has no text, and the slot to look at first for the next line's text. `guess`
-    /// is the slot to look at first for this line's text.
+    /// Returns the text of a line, and the guess for the next line's slot. `guess` is the slot to look at first.
     pub(crate) fn text_at(&self, line: u64, guess: SlotIndex) -> (Option<&[u8]>, SlotIndex)
         ensures { option_map (λ text. text.now) result.0 ≡ value_of nat_cmp line self.now.staged }
     {
@@ -107,8 +106,7 @@ impl<A: Allocator> KeptTexts<A> {
     }
 }
 
-/// Appends a text, and stages its index as the index of the line's text. If only the second is refused, the text stays in the
-/// list.
+/// Appends a text, and stages its index as that of the line's text. If only staging fails, the text stays in the list.
 fn push<A: Allocator + Copy>(
     places: &mut StagedMap<u64, PackedU64, A>,
     texts: &mut Vec<ShortText<A>, A>,

@@ -1,5 +1,5 @@
-//! The index of a file's points of one kind. It counts how many tests have each point. As long as the counts follow the file's
-//! only test, the index keeps only tallies.
+//! The index of a file's points of one kind: how many tests have each point. While the counts follow the file's only test, the
+//! index stores only tallies.
 
 ghost use Rattle.std.specs.Prelude.{◌≡◌, None, IfSome, OnOk};
 ghost use Rattle.covstore.specs.KindData.{empty_kind};
@@ -17,16 +17,15 @@ use std::marker::Model;
 /// The counts of a kind of points, in one of two forms.
 #[derive(Drop)]
 pub(crate) enum Counts<K: Key, S: PointSum, A: Allocator> {
-    /// The file has at most one test, and the counts follow that test. Each point of the test counts once.
+    /// The file has at most one test, and the counts follow it. Each of its points counts once.
     OfOneTest(SoleTest<K, S, A>),
-    /// The points of all tests are counted. Few files have several tests, so this is in a box.
+    /// The points of all tests are counted. Boxed, since few files have several tests.
     OfTests(Boxed<PointIndex<K, A>, A>),
 }
 
-/// For each point of a kind, the number of tests of a file that have the point, and the number of tests that have it with a
-/// value above 0. Most files have only one test, and the points of that test tell both numbers. So points aren't counted until
-/// the file gets a second test. Contracts see the counts. As long as the counts follow the only test, contracts also see the
-/// points of that test.
+/// For each point of a kind, how many tests of a file have it, and how many have it with a value above 0. Most files have only one
+/// test, whose points imply both numbers. So points aren't counted until the file gets a second test. Contracts see the counts, and
+/// the points of the only test while the counts follow it.
 #[derive(Drop)]
 pub(crate) struct KindIndex<K: Key, S: PointSum, A: Allocator> {
     pub counts: Counts<K, S, A>,
@@ -74,8 +73,7 @@ impl<K: Key + Drop, S: PointSum, A: Allocator + Copy> KindIndex<K, S, A> {
         }
     }
 
-    /// Commits what is staged. If the counts follow a test, `points` has to be the points of that test, and has to be committed
-    /// first.
+    /// Commits the staged values. If the counts follow a test, `points` must be that test's points, already committed.
     pub(crate) fn commit(&mut self, points: &StagedMap<K, S, A>)
         requires { IfSome self.old.follows (λ seen. points.now ≡ after_commit seen) }
         ensures committed { self.new.committed ≡ self.old.staged }
@@ -89,8 +87,7 @@ impl<K: Key + Drop, S: PointSum, A: Allocator + Copy> KindIndex<K, S, A> {
         }
     }
 
-    /// Forgets what is staged. If the counts follow a test, `points` has to be the points of that test, and has to be rolled back
-    /// first.
+    /// Discards the staged values. If the counts follow a test, `points` must be that test's points, already rolled back.
     pub(crate) fn rollback(&mut self, points: &StagedMap<K, S, A>)
         requires { IfSome self.old.follows (λ seen. points.now ≡ after_rollback seen) }
         ensures committed { self.new.committed ≡ self.old.committed }
@@ -104,7 +101,7 @@ impl<K: Key + Drop, S: PointSum, A: Allocator + Copy> KindIndex<K, S, A> {
         }
     }
 
-    /// Commits what is staged, unless the counts follow a test.
+    /// Commits the staged values, unless the counts follow a test.
     pub(crate) fn commit_counts(&mut self)
         ensures staged { self.new.staged ≡ self.old.staged }
         ensures same { self.new.follows ≡ self.old.follows }
@@ -115,7 +112,7 @@ impl<K: Key + Drop, S: PointSum, A: Allocator + Copy> KindIndex<K, S, A> {
         }
     }
 
-    /// Forgets what is staged, unless the counts follow a test.
+    /// Discards the staged values, unless the counts follow a test.
     pub(crate) fn rollback_counts(&mut self)
         ensures committed { self.new.committed ≡ self.old.committed }
         ensures same { self.new.follows ≡ self.old.follows }
@@ -128,12 +125,11 @@ impl<K: Key + Drop, S: PointSum, A: Allocator + Copy> KindIndex<K, S, A> {
 }
 
 impl<K: CopyKey<A> + Drop, S: PointSum, A: Allocator + Copy> KindIndex<K, S, A> {
-    /// Counts the points, unless they are counted already. If the counts follow a test, `points` has to be the points of that
-    /// test.
+    /// Counts the points, unless they are counted already. If the counts follow a test, `points` must be that test's points.
     ///
     /// # Errors
     ///
-    /// `AllocError` if memory was refused.
+    /// `AllocError` if an allocation failed.
     pub(crate) fn start_counting(
         &mut self,
         alloc: A,

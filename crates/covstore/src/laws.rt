@@ -39,9 +39,8 @@ pub fn order_is_unique()
     ensures lines { (all some others : List ℕ) → IsAscendingOf nat_cmp all some → IsAscendingOf nat_cmp all others → some ≡ others }
 {}
 
-/// Suppose that the held checksums agree with each other. Then `first_clash` gives a clash exactly if that clash is the first
-/// one. The first clash is that of the first given checksum that differs from a held checksum or from an earlier given one. The
-/// held checksums and the given checksums before that one all agree with each other. `first_clash` gives `None` exactly if all
+/// `first_clash` finds the first clash, provided that the held checksums agree with each other. The first clash is that of the
+/// first given checksum that differs from a held one or from an earlier given one. `first_clash` gives `None` if and only if all
 /// held and given checksums agree with each other.
 pub fn the_first_clash_is_told()
     ensures first { (held given : List Checksum) (clash : ClashData) → Agree held → first_clash held given ≡ Some clash ↔ IsFirstClash held given clash }
@@ -65,26 +64,25 @@ pub fn totals_count_different_points()
     ensures branches { (rows : List Row) → ((totals_of (content_of rows)).bf ≡ found branches rows) × ((totals_of (content_of rows)).bh ≡ hit branches rows) }
 {}
 
-/// For each kind of points, no more points are hit than found. This holds for any sections, and so for the sections that any
-/// rows add up to.
+/// For each kind of points, no more points are hit than found. This holds for any sections, and so for those of any rows.
 pub fn no_more_are_hit_than_found()
     ensures sections { (sections : List SectionData) → AreTotals (totals_of sections) }
     ensures rows { (rows : List Row) → AreTotals (totals_of (content_of rows)) }
 {}
 
-/// Rows add up to sections. The totals of these sections can be counted from the rows themselves. For each file, the points
-/// found are the distinct points of its rows, over all tests. A point is hit if some row gives it a count above 0.
+/// The totals of the sections of some rows can be counted from the rows themselves. For each file, the points found are the
+/// distinct points of its rows, over all tests. A point is hit if some row gives it a count above 0.
 pub fn totals_count_the_rows()
     ensures { (rows : List Row) → totals_of (content_of rows) ≡ totals_over rows }
 {}
 
-/// What rows add up to doesn't depend on their order, if their checksums agree.
+/// The sum of rows doesn't depend on their order, if their checksums agree.
 pub fn order_of_rows_does_not_matter()
     ensures content { (rows others : List Row) → IsPermutation rows others → Agree (checksums_in rows) → content_of rows ≡ content_of others }
     ensures agree { (rows others : List Row) → IsPermutation rows others → Agree (checksums_in rows) → Agree (checksums_in others) }
 {}
 
-/// What a table adds up to doesn't depend on the order of its submissions, if their checksums agree.
+/// The sum of a table doesn't depend on the order of its submissions, if their checksums agree.
 pub fn order_of_submissions_does_not_matter()
     ensures content { (table others : Table) → IsPermutation table others → Agree (checksums_in (all_rows table)) → content_at table ≡ content_at others }
     ensures agree { (table others : Table) → IsPermutation table others → Agree (checksums_in (all_rows table)) → Agree (checksums_in (all_rows others)) }

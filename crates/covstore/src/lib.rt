@@ -1,21 +1,20 @@
-//! A store holds the merged execution counts of all its submissions. The counts of a point are added up if they have the same
-//! test and the same file (lcov(1), --add-tracefile). A sum stops at 2^128 - 1. A submission is refused if it gives a line of a
-//! file a checksum that differs from the one the store holds, or if it gives the line two different checksums. Lines without a
-//! checksum are never compared.
+//! A store holds the merged execution counts of all its submissions. Counts of a point are added up if they have the same test and
+//! the same file (lcov(1), --add-tracefile). A sum saturates at 2^128 - 1. A submission is rejected if one of its checksums differs
+//! from the one that the store or an earlier record of the submission has for the same line of a file. Lines without a checksum are
+//! never compared.
 //!
-//! A submission is added in two steps. `prepare` checks whether the submission clashes, allocates all memory and returns a
-//! plan. `commit` adds the submission, and needs no memory. Between the two steps, the caller can allocate memory of its own.
-//! If that memory is refused, the caller can drop the plan. A test is renamed in two such steps, `prepare_rename` and
-//! `commit_rename`. A test is dropped in one step, `drop_test`, which needs no memory.
+//! A submission is added in two steps. `prepare` checks for clashes, allocates all memory and returns a plan. `commit` adds the
+//! submission and never allocates. Between the two steps, the caller can allocate memory of its own, and can drop the plan if that
+//! fails. A test is renamed in two such steps, `prepare_rename` and `commit_rename`. A test is dropped in one step, `drop_test`,
+//! which never allocates.
 //!
-//! A store consists of nested ordered maps: for each file its tests, and for each test its points. If a file has several tests,
-//! the store also counts, for each point of the file, how many tests have the point, and how many tests have it with a value
-//! above 0. The store also keeps totals. `prepare` stages values beside the committed values, and `commit` replaces the
-//! committed values by the staged ones.
+//! A store consists of nested ordered maps: for each file its tests, and for each test its points. If a file has several tests, the
+//! store also counts how many tests have each of its points, and how many have it with a value above 0. The store keeps its totals
+//! too. `prepare` stages values beside the committed values, and `commit` replaces the committed values by the staged ones.
 //!
-//! The following example is proved and run in `covuses`. It returns the store of two submissions. It returns `Refuse::Clash` if
-//! the submissions have two different checksums of one line of a file, and `Refuse::Memory` if memory was refused.
-//! `Store::sections`, `Store::files` and `Store::totals` show what the store holds.
+//! The following example is proved and run in `covuses`. It returns the store of two submissions. It returns `Refuse::Clash` if the
+//! submissions have two different checksums of one line of a file, and `Refuse::Memory` if an allocation failed. `Store::sections`,
+//! `Store::files` and `Store::totals` show what the store holds.
 //!
 //! ```text
 //! pub fn merged(alloc: Global, first: &Submission, second: &Submission) -> Result<Store, Refuse> {

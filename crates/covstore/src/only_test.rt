@@ -64,7 +64,7 @@ impl<A: Allocator> OnlyTest<A> {
         None
     }
 
-    /// The test, if it has this name, to be changed in place. Proofs also learn that the names ascend (`ordered`).
+    /// The test, mutable, if it has this name. Proofs also learn that the names ascend (`ordered`).
     pub(crate) fn get_mut(&mut self, name: &[u8]) -> Option<&mut Boxed<Test<A>, A>>
         ensures* writes_back { sem 𝓛 (lends_only A.row A.Allocator self.entry name.now result) }
         ensures value { option_map (λ points. points.now) result ≡ lookup (is_at (λ other. slice_cmp nat_cmp name.now other.items)) self.old.entries }
@@ -78,7 +78,7 @@ impl<A: Allocator> OnlyTest<A> {
 }
 
 impl<A: Allocator + Copy> OnlyTest<A> {
-    /// A map with this test alone. If memory is refused, the test comes back.
+    /// Makes a map with this test alone. If an allocation fails, returns `self` as the error.
     pub(crate) fn into_map(
         self,
         alloc: A,
@@ -97,7 +97,7 @@ impl<A: Allocator + Copy> OnlyTest<A> {
         }
     }
 
-    /// The test, if it has this name. Else this `OnlyTest` comes back.
+    /// Returns the test if it has this name, else `self` as the error.
     pub(crate) fn take(self, name: &[u8]) -> Result<Boxed<Test<A>, A>, OnlyTest<A>>
         ensures ok { IfOk result (λ points. lookup (is_at (λ other. slice_cmp nat_cmp name.now other.items)) self.entries ≡ Some points) }
         ensures nothing_left { OnOk result (remove_entry (is_at (λ other. slice_cmp nat_cmp name.now other.items)) self.entries ≡ []) }

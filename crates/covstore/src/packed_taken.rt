@@ -1,4 +1,4 @@
-//! How often a branch was taken, or `None`, in 17 bytes. An `Option<u128>` takes 32 bytes, and an option of that takes 48.
+//! How often a branch was taken, or `None`, in 17 bytes. An `Option<u128>` needs 32 bytes, and an option of that 48.
 
 ghost use Rattle.std.specs.Prelude.{◌≡◌, None};
 ghost use Rattle.covstore.specs.Sums.{sum_taken};
@@ -23,7 +23,7 @@ impl Model for PackedTaken {
 }
 
 impl PackedTaken {
-    /// This number, or `None`.
+    /// Packs a number or `None`.
     pub(crate) fn of(times: Option<u128>) -> PackedTaken
         ensures { result ≡ times }
     {
@@ -49,7 +49,7 @@ impl PackedTaken {
         }
     }
 
-    /// The sum of this number and `times`. If one of them is `None`, the sum is the other one. The sum stops at 2^128 - 1.
+    /// The sum of this number and `times`. If one of them is `None`, the sum is the other one. Saturates at 2^128 - 1.
     pub(crate) fn plus(&self, times: Option<u128>) -> PackedTaken
         ensures { result ≡ sum_taken self.now times }
     {
@@ -75,7 +75,7 @@ impl PackedTaken {
         false
     }
 
-    /// The number, if there is one.
+    /// Unpacks the number or `None`.
     pub(crate) fn get(&self) -> Option<u128>
         ensures { result ≡ self.now }
     {

@@ -1,5 +1,4 @@
-//! A number of 128 bits in sixteen bytes. A struct of bytes needs no padding; one with a `u128` is aligned to
-//! sixteen bytes.
+//! A number of 128 bits in sixteen bytes. A struct of bytes needs no padding; a struct with a `u128` is aligned to sixteen bytes.
 
 ghost use Rattle.std.specs.Prelude.{◌≡◌, ◌+◌, nat_lt};
 ghost use Rattle.covstore.specs.Value.{bounded};
@@ -24,7 +23,7 @@ impl Model for PackedU128 {
 }
 
 impl PackedU128 {
-    /// This number.
+    /// Packs a number.
     pub(crate) fn of(number: u128) -> PackedU128
         ensures { result ≡ number }
     {
@@ -44,7 +43,7 @@ impl PackedU128 {
         }
     }
 
-    /// The sum of this number and another. It stops at the largest number of 128 bits.
+    /// The sum of this number and another. Saturates at 2^128 - 1.
     pub(crate) fn plus(&self, number: u128) -> PackedU128
         ensures { result ≡ bounded (self.now + number) }
     {
@@ -58,7 +57,7 @@ impl PackedU128 {
         self.high.get() > 0 || self.low.get() > 0
     }
 
-    /// The number.
+    /// Unpacks the number.
     pub(crate) fn get(&self) -> u128
         ensures { result ≡ self.now }
     {

@@ -1,5 +1,5 @@
-//! A number of 64 bits in eight bytes. A struct of bytes needs no padding, so an option of it takes one byte more than the struct.
-//! An option of a word of 64 bits takes 8 bytes more than the word.
+//! A number of 64 bits in eight bytes. A struct of bytes needs no padding, so an option of it is one byte longer. An option of a
+//! `u64` is 8 bytes longer than the `u64`.
 
 ghost use Rattle.std.specs.Prelude.{◌≡◌};
 
@@ -22,7 +22,7 @@ impl Model for PackedU64 {
 }
 
 impl PackedU64 {
-    /// This number.
+    /// Packs a number.
     pub(crate) fn of(number: u64) -> PackedU64
         ensures { result ≡ number }
     {
@@ -31,7 +31,7 @@ impl PackedU64 {
         }
     }
 
-    /// The number.
+    /// Unpacks the number.
     pub(crate) fn get(&self) -> u64
         ensures { result ≡ self.now }
     {

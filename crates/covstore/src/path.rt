@@ -10,7 +10,7 @@ use std::alloc::{AllocError, Allocator};
 use std::cmp::Ordering;
 use std::marker::Model;
 
-/// The path of a source file. Paths are ordered byte by byte, like slices of bytes, but two paths that begin alike are compared
+/// The path of a source file. Paths are ordered byte by byte, like slices of bytes, but paths with a long common prefix compare
 /// faster. Contracts see the vector of the bytes.
 #[derive(Drop)]
 pub(crate) struct Path<A: Allocator> {
@@ -80,8 +80,8 @@ impl<A: Allocator> Ord for Path<A> {
     }
 }
 
-/// The order of two paths or names, byte by byte. Paths of one source tree begin alike, and so do names of functions. So eight
-/// bytes at a time are compared, as one number.
+/// Compares two paths or names byte by byte. Paths of one source tree begin alike, and so do names of functions; so this compares
+/// eight bytes at a time, as one number.
 pub(crate) fn order_bytes(a: &[u8], b: &[u8]) -> Ordering
     ensures { result ≡ slice_cmp nat_cmp a.now b.now }
 {
@@ -110,7 +110,7 @@ fn word_at(bytes: &[u8], at: usize) -> u64
     ])
 }
 
-/// The order of two texts' bytes from index `start` on.
+/// Compares the bytes of two texts from index `start` on.
 fn order_rest(a: &[u8], b: &[u8], start: usize) -> Ordering
     requires { (start ≤ length a.now) × (start ≤ length b.now) }
     ensures { result ≡ slice_cmp nat_cmp (drop start a.now) (drop start b.now) }

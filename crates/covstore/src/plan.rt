@@ -3,8 +3,8 @@
 use crate::totals::Totals;
 use std::marker::Model;
 
-/// The totals that a store will have after the commit that it has prepared. The values to commit are staged in the store
-/// itself. Contracts see the totals.
+/// The totals that a store will have after the prepared commit. The values to commit are staged in the store itself. Contracts see
+/// the totals.
 #[derive(Drop)]
 pub struct Plan {
     after: Totals,

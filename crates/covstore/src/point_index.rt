@@ -1,5 +1,5 @@
-//! For each point of a kind, the number of tests of a file that have the point, and the number of tests that have it with a
-//! value above 0. The tally of all these points is kept too.
+//! For each point of a kind, how many tests of a file have it, and how many have it with a value above 0; and the tally of all
+//! points.
 
 ghost use Rattle.std.specs.Prelude.{◌≡◌, ◌+◌, ◌<◌, ◌≤◌, ◌^◌, IfSome, OnOk, length};
 ghost use Rattle.covstore.specs.PointIndex.{changed};
@@ -25,8 +25,8 @@ impl KindTally {
     ghost use Rattle.covstore.specs.PointIndexDrops.{CanBeLess, IsLess};
     ghost use Rattle.covstore.specs.SoleTest.{found_by, hit_by};
 
-    /// The tally after a point's numbers grow. The point is newly found if it had no numbers before. It is newly hit if it is hit
-    /// now and wasn't before.
+    /// The tally after a point's numbers grow. The point is newly found if it had no numbers before, and newly hit if it is hit now
+    /// and wasn't before.
     fn more(self, before: &Option<TestCounts>, after: &TestCounts) -> KindTally
         requires found { self.found < 2 ^ 63 }
         requires hit { self.hit < 2 ^ 63 }
@@ -90,16 +90,16 @@ impl KindTally {
     }
 }
 
-/// A walk over the points of a test. `tally` is the tally as if the test didn't have the points that the walk has passed.
-/// `place` is the slot to look at first for the next point.
+/// A walk over the points of a test. `tally` is the tally without the test's points that the walk has passed. `place` is the slot
+/// to look at first for the next point.
 #[derive(Clone, Copy)]
 pub(crate) struct TallyWalk {
     pub tally: KindTally,
     place: SlotIndex,
 }
 
-/// For each point of a kind, the number of tests of a file that have the point, and the number of tests that have it with a
-/// value above 0. Both numbers are kept as committed and as staged. Contracts see the points with these numbers.
+/// For each point of a kind, how many tests of a file have it, and how many have it with a value above 0. Both numbers are
+/// committed and staged. Contracts see the points with these numbers.
 #[derive(Drop)]
 pub(crate) struct PointIndex<K: Key, A: Allocator> {
     counts: StagedMap<K, TestCounts, A>,
@@ -139,8 +139,8 @@ impl<K: Key + Drop, A: Allocator + Copy> PointIndex<K, A> {
         }
     }
 
-    /// Adds a test's change to a point's numbers. `None` changes nothing. `guess` is the point's slot in the test's map. The call
-    /// costs no search if the point has the same slot in this index. This is usual if the test has all points of the file, since
+    /// Stages a test's change of a point's numbers. `None` changes nothing. `guess` is the point's slot in the test's map. The call
+    /// costs no search if the point has the same slot in this index. That is usual if the test has all points of the file, since
     /// both maps then have the same keys.
     pub(crate) fn add<Q: Query<K, A>>(
         &mut self,
@@ -169,7 +169,7 @@ impl<K: Key + Drop, A: Allocator + Copy> PointIndex<K, A> {
         Ok(())
     }
 
-    /// Adds a test's changes to the numbers of a run of points.
+    /// Stages a batch of changes to the counts of tests per point. Changes nothing that is staged if an allocation fails.
     pub(crate) fn add_run<Q: Query<K, A>>(
         &mut self,
         alloc: A,
@@ -194,7 +194,7 @@ impl<K: Key + Drop, A: Allocator + Copy> PointIndex<K, A> {
         Ok(())
     }
 
-    /// Commits what is staged.
+    /// Commits the staged values.
     pub(crate) fn commit(&mut self)
         ensures committed { self.new.committed ≡ self.old.staged }
         ensures staged { self.new.staged ≡ self.old.staged }
@@ -203,7 +203,7 @@ impl<K: Key + Drop, A: Allocator + Copy> PointIndex<K, A> {
         self.totals = self.staged_totals;
     }
 
-    /// Forgets what is staged.
+    /// Discards the staged values.
     pub(crate) fn rollback(&mut self)
         ensures committed { self.new.committed ≡ self.old.committed }
         ensures staged { self.new.staged ≡ self.old.committed }
@@ -235,8 +235,8 @@ impl<K: Key, A: Allocator> PointIndex<K, A> {
     ghost use Rattle.covstore.specs.PointIndex.{IsTallyOf};
     ghost use Rattle.covstore.specs.PointIndexDrops.{CanLose, IsTallyAt, counts_without};
 
-    /// Counts one test fewer in a point's committed numbers. `was_above` says whether that test has the point above 0. What was
-    /// staged is forgotten.
+    /// Removes one test from a point's committed numbers. `was_above` says whether that test has the point above 0. Discards what
+    /// was staged.
     pub(crate) fn take_test_off<Q: Query<K, A>>(&mut self, query: Q, was_above: bool)
         requires { CanLose was_above (value_of K.cmp (Q.named query) self.old.committed) }
         ensures committed { self.new.committed ≡ counts_without K.cmp (Q.named query) was_above self.old.committed }
@@ -260,8 +260,7 @@ impl<K: Key, A: Allocator> PointIndex<K, A> {
         }
     }
 
-    /// Passes a point. The returned walk's tally no longer counts one test that has the point. The index doesn't change: its
-    /// committed numbers of the point still count that test.
+    /// Passes a point. The returned walk's tally no longer counts one of the tests with the point. The index itself doesn't change.
     pub(crate) fn walk_without<Q: Query<K, A>>(
         &self,
         walk: TallyWalk,

@@ -1,12 +1,12 @@
-//! Why a store refuses a submission.
+//! Why a store rejects a submission.
 
 use covline::{Bytes, Memory};
 use std::alloc::{AllocError, AllocFailed, Allocator, Global};
 
-/// Why a store refuses a submission.
+/// Why a store rejects a submission.
 #[derive(Drop)]
 pub enum Refuse<A: Allocator = Global> {
-    /// Refusal 1: the submission gives this line of this file a checksum that differs from the held one, or from an earlier one
+    /// Refusal 1: the submission has a checksum for this line of this file that differs from the held one, or from an earlier one
     /// of the submission. So the two checksums come from two versions of the source file.
     Clash {
         file: Bytes<A>,
@@ -14,7 +14,7 @@ pub enum Refuse<A: Allocator = Global> {
         held: Bytes<A>,
         given: Bytes<A>,
     },
-    /// Refusal 2: memory was refused.
+    /// Refusal 2: an allocation failed.
     Memory,
 }
 

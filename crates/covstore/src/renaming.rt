@@ -3,8 +3,8 @@
 use std::alloc::{Allocator, Global};
 use std::marker::Model;
 
-/// The number of sections of the old test, and the old test's name if the commit drops that test. The old test's values are
-/// staged in the store, under the new name. Contracts see the number and the name.
+/// A prepared rename: the number of sections of the old test, and the old test's name if the commit drops that test. The old test's
+/// values are staged in the store, under the new name. Contracts see the number and the name.
 #[derive(Drop)]
 pub struct Renaming<A: Allocator = Global> {
     sections: u64,
@@ -46,7 +46,7 @@ impl<A: Allocator> Renaming<A> {
         }
     }
 
-    /// The number of sections of the old test. Takes no memory.
+    /// The number of sections of the old test. Never allocates.
     pub fn sections(&self) -> u64
         ensures { result ≡ self.now.sections }
     {

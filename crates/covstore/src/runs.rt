@@ -1,5 +1,5 @@
-//! Splits the items of a section by kind into runs, and stages the runs. A run of lines or of branches is staged at once. The
-//! items of a run of functions are staged one by one.
+//! Splits the items of a section by kind into runs, and stages the runs. A run of lines or branches is staged at once, a run of
+//! functions item by item.
 
 ghost use Rattle.std.specs.Prelude.{◌≡◌, [], IfOk, OnOk};
 ghost use Rattle.std.specs.List.{All};
@@ -33,7 +33,7 @@ pub(crate) struct Runs<'a, A: Allocator> {
 }
 
 impl<'a, A: Allocator + Copy> Runs<'a, A> {
-    /// Empty runs with room for so many items in all: all of them may be of lines, and half of them of branches.
+    /// Empty runs with capacity for `items` lines and half as many branches.
     pub(crate) fn with_room(alloc: A, items: usize) -> Result<Runs<'a, A>, AllocError>
         ensures { IfOk result (λ runs. runs_seen runs ≡ runs_of []) }
     {
@@ -82,7 +82,7 @@ impl<'a, A: Allocator + Copy> Runs<'a, A> {
     }
 }
 
-/// The runs that these items are split into.
+/// Splits these items into runs.
 pub(crate) fn runs_in<'a, A: Allocator + Copy>(
     alloc: A,
     items: &PackedItems<'a>,
@@ -113,8 +113,8 @@ pub(crate) fn stage_runs<'a, A: Allocator + Copy>(
     ensures held { OnOk result (KeepsHeld (index_staged index.old) (index_staged index.new)) }
 {
     stage_whole_run(&mut test.lines, &mut index.lines, alloc, &runs.lines)?;
-    // A tracefile usually has functions in the order of their lines, but the map has functions in the order of their names. So
-    // it is faster to stage functions one by one.
+    // A tracefile usually has functions in the order of their lines, and the map in the order of their names. So staging functions
+    // one by one is faster.
     stage_one_by_one(
         &mut test.functions,
         &mut index.functions,
@@ -130,7 +130,7 @@ pub(crate) fn stage_runs<'a, A: Allocator + Copy>(
     Ok(())
 }
 
-/// Stages the items, none of which has a checksum, in the section's order.
+/// Stages items without checksums, in the section's order.
 pub(crate) fn stage_as_they_are<A: Allocator + Copy>(
     test: &mut Test<A>,
     index: &mut FileIndex<A>,

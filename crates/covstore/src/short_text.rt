@@ -1,4 +1,4 @@
-//! A text that mostly takes no memory beside the value itself.
+//! A text that usually needs no memory besides the value itself.
 
 ghost use Rattle.std.specs.Prelude.{◌≡◌, ◌≤◌, IfOk, length};
 
@@ -6,7 +6,7 @@ use covline::{Bytes, Memory};
 use std::alloc::Allocator;
 use std::marker::Model;
 
-/// How many bytes are kept in place. A checksum of geninfo(1) has 22.
+/// How many bytes fit in place. A checksum of geninfo(1) has 22.
 const ROOM: usize = 23;
 
 /// At most 23 bytes. Contracts see the bytes.
@@ -56,7 +56,7 @@ enum Form<A: Allocator> {
     Long(Bytes<A>),
 }
 
-/// A text that owns its bytes. Up to 23 bytes are kept in place, and take no memory beside the value. Contracts see the bytes.
+/// A text that owns its bytes. Up to 23 bytes are stored in place, without further memory. Contracts see the bytes.
 #[derive(Drop)]
 pub(crate) struct ShortText<A: Allocator> {
     form: Form<A>,
@@ -97,5 +97,5 @@ impl<A: Allocator> ShortText<A> {
     }
 }
 
-// As long as `Bytes`, so that neither form has room which the other can't use.
+// As long as `Bytes`, so both forms have the same size.
 const _: () = prove!(size_of::<InPlace>() <= 24);

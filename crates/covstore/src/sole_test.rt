@@ -1,4 +1,4 @@
-//! What is kept of a kind of points while their file has at most one test.
+//! The tallies of a kind of points while their file has at most one test.
 
 ghost use Rattle.std.specs.Prelude.{◌≡◌, ◌+◌, ◌<◌, ◌≤◌, ◌^◌, length, count_by, IfOk};
 ghost use Rattle.covstore.specs.PointIndexCounts.{found_of, hit_of};
@@ -11,9 +11,9 @@ use std::alloc::{AllocError, Allocator};
 use std::marker::Model;
 use std::snapshot::Snapshot;
 
-/// The tallies of a kind of points of a file that has at most one test. The points and their counts aren't kept: the test has the
-/// points, and each of them counts once. Contracts see the test's points as they were at the last `follow`, `follow_run`,
-/// `commit` or `rollback`.
+/// The tallies of a kind of points of a file that has at most one test. The points and their counts aren't stored: the test has the
+/// points, and each of them counts once. Contracts see the test's points as of the last `follow`, `follow_run`, `commit` or
+/// `rollback`.
 #[derive(Drop)]
 pub(crate) struct SoleTest<K: Key, S: PointSum, A: Allocator> {
     seen: Option<Snapshot<StagedMap<K, S, A>>>,
@@ -49,8 +49,8 @@ impl<K: Key, S: PointSum, A: Allocator> SoleTest<K, S, A> {
         }
     }
 
-    /// Follows the test after an item was staged at one of its points. `change` is the change of the point's numbers. `None`
-    /// means no change.
+    /// Follows the test after an item was staged at one of its points. `change` is the change of the point's numbers; `None` is no
+    /// change.
     pub(crate) fn follow(&mut self, points: &StagedMap<K, S, A>, change: Option<TestsAddend>)
         requires few { length (counts_of S.above self.old.staged) < 2 ^ 63 }
         requires committed { points.now.committed ≡ self.old.committed }
@@ -118,7 +118,7 @@ impl<K: CopyKey<A> + Drop, S: PointSum, A: Allocator + Copy> SoleTest<K, S, A> {
     ///
     /// # Errors
     ///
-    /// `AllocError` if memory was refused.
+    /// `AllocError` if an allocation failed.
     pub(crate) fn counted(
         &self,
         alloc: A,

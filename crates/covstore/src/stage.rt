@@ -1,4 +1,4 @@
-//! Staging: the items of a section are added beside the committed values, in their test and in the file's index.
+//! Stages the items of a section beside the committed values, in their test and in the file's index.
 
 mod by_line;
 pub(crate) mod copied;

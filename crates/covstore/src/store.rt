@@ -1,4 +1,4 @@
-//! The store of all submissions, with the calls that callers make.
+//! The store of all submissions, and its public functions.
 
 ghost use Rattle.std.specs.Prelude.{◌≡◌, ◌+◌, ◌≤◌, ◌++◌, ℕ, List, None, [], ◌∷◌, map, IfErr, IfOk, OnOk};
 ghost use Rattle.std.specs.BTreeMap.{is_at};
@@ -133,10 +133,10 @@ fn stage_in_new_file<A: Allocator + Copy>(
     Ok(totals)
 }
 
-/// A store of submissions, with their merged counts. For each file and each test of the file, the store has the value of every
-/// line, function and branch. A store has at most 1,048,576 submissions. Dropping or renaming a test drops or renames its rows
-/// in all submissions. Contracts see the committed values as sections, and the number of submissions. They also see the files
-/// as they are committed, the files as they will be after the next commit, and the totals after that commit.
+/// A store of submissions, with their merged counts: for each file and each of its tests, the value of every line, function and
+/// branch. A store has at most 1,048,576 submissions. Dropping or renaming a test changes its rows in all submissions. Contracts
+/// see the committed values as sections, the number of submissions, the committed files, and the files and totals after the next
+/// commit.
 #[derive(Drop)]
 pub struct Store<A: Allocator = Global> {
     files: BTreeMap<Path<A>, Boxed<File<A>, A>, A>,
@@ -177,7 +177,7 @@ impl<A: Allocator + Copy> Store<A> {
     ghost use Rattle.covstore.specs.Totals.{AreTotals, totals_of};
     ghost use Rattle.covstore.specs.Without.{sections_of_test, without_test};
 
-    /// A store that holds nothing. Takes no memory.
+    /// An empty store. Never allocates.
     pub fn new(alloc: A) -> Store<A>
         ensures { StandsFor result [] }
     {
@@ -190,16 +190,15 @@ impl<A: Allocator + Copy> Store<A> {
         }
     }
 
-    /// Prepares to add the submission. The content of the store doesn't change. The parts of a plan are private. A caller that
-    /// gets a plan knows three things. The submission doesn't clash with any table that the store represents. The plan has the
-    /// totals after the submission is added. The plan is made for the store as this call leaves it, which `commit` requires.
+    /// Prepares to add the submission. The content of the store doesn't change. The parts of a plan are private. The caller knows
+    /// that the submission clashes with no table that the store represents, which totals the store will have, and that the plan is
+    /// made for the store as this call leaves it, which `commit` requires.
     ///
     /// # Errors
     ///
-    /// `Clash` if the submission gives a line a checksum that differs from the held one, or from an earlier one of the
-    /// submission. The error has the first such checksum. `Memory` if memory was refused. No contract can promise that memory
-    /// suffices, so a submission that clashes may be refused with `Memory` too. A submission without a row is never refused,
-    /// since it allocates nothing.
+    /// `Clash` with the first checksum of the submission that differs from the held one of its line, or from an earlier one of the
+    /// submission. `Memory` if an allocation failed. No contract can promise that memory suffices, so a clashing submission may
+    /// also fail with `Memory`. A submission without a row always succeeds, since it allocates nothing.
     pub fn prepare(&mut self, alloc: A, submission: &Submission<A>) -> Result<Plan, Refuse<A>>
         requires { self.old.members < max_members }
         ensures content { SameContent self.old self.new }
@@ -210,7 +209,7 @@ impl<A: Allocator + Copy> Store<A> {
         ensures some { OnErr result (rows_of submission.now ≢ []) }
     {
         if submission.items() == 0 {
-            // Nothing is packed, so that no memory is taken.
+            // Packs nothing, so nothing is allocated.
             let nothing = PackedSubmission::of_lawful(PackedSects::new(alloc), 0);
             return self.prepare_packed(alloc, &nothing);
         }
@@ -218,7 +217,7 @@ impl<A: Allocator + Copy> Store<A> {
         self.prepare_packed(alloc, &packed)
     }
 
-    /// Prepares to add a packed submission, as [`prepare`](Store::prepare).
+    /// Like [`prepare`](Store::prepare), for a packed submission.
     ///
     /// # Errors
     ///
@@ -238,7 +237,7 @@ impl<A: Allocator + Copy> Store<A> {
     {
         // Proof only: the contract of `kept` bounds the number of committed rows.
         self.kept();
-        // A plan or a renaming that was dropped may have left something staged.
+        // A dropped plan or renaming may have left values staged.
         self.rollback();
         let added = self.add_all(alloc, submission.sects());
         match added {
@@ -250,7 +249,7 @@ impl<A: Allocator + Copy> Store<A> {
         }
     }
 
-    /// Adds the planned submission. The store must be as `prepare` left it. Takes no memory.
+    /// Adds the planned submission. The store must be as `prepare` left it. Never allocates.
     pub fn commit(&mut self, plan: Plan)
         requires { (s : SubmissionData) × IsPlanOf self.old s plan }
         ensures stands { (s : SubmissionData) (table : Table) → IsPlanOf self.old s plan → StandsFor self.old table → StandsFor self.new (table ++ rows_of s ∷ []) }
@@ -261,15 +260,15 @@ impl<A: Allocator + Copy> Store<A> {
         self.members += 1;
     }
 
-    /// Prepares to give the rows of the test `old` the name `new`, which may be the name of another test. The content of the
-    /// store doesn't change. The parts of a renaming are private. A caller that gets a renaming knows two things. The renaming
-    /// has the number of sections of the old test. The renaming is made for the store as this call leaves it, which
-    /// `commit_rename` requires. If the old test has no row, or both names are the same, the rename does nothing. The call
-    /// looks the old test up in each file. Unless the rename does nothing, the call stages each of the old test's points.
+    /// Prepares to give the rows of the test `old` the name `new`, which may be the name of another test. The content of the store
+    /// doesn't change. The parts of a renaming are private. The caller knows the number of sections of the old test, and that the
+    /// renaming is made for the store as this call leaves it, which `commit_rename` requires. The rename does nothing if the old
+    /// test has no row, or if both names are the same. Otherwise, the call stages each of the old test's points, after looking the
+    /// test up in each file.
     ///
     /// # Errors
     ///
-    /// `Memory` if memory was refused. A rename that does nothing is never refused, since it allocates nothing.
+    /// `Memory` if an allocation failed. A rename that does nothing always succeeds, since it allocates nothing.
     pub fn prepare_rename(
         &mut self,
         alloc: A,
@@ -282,7 +281,7 @@ impl<A: Allocator + Copy> Store<A> {
         ensures apart { OnErr result (old.now ≢ new.now) }
         ensures some { OnErr result ((table : Table) → StandsFor self.old table → sections_of_test old.now table ≢ 0) }
     {
-        // A plan or a renaming that was dropped may have left something staged.
+        // A dropped plan or renaming may have left values staged.
         self.rollback();
         if old == new {
             return Ok(Renaming::none(count_sections(&self.files, old)));
@@ -301,8 +300,8 @@ impl<A: Allocator + Copy> Store<A> {
         }
     }
 
-    /// Gives the rows of the old test their new name. The store must be as `prepare_rename` left it. If a point has rows of
-    /// both names, its value is what all these rows add up to. The totals don't change. Takes no memory.
+    /// Gives the rows of the old test their new name. The store must be as `prepare_rename` left it. A point with rows of both
+    /// names gets the sum of all these rows as its value. The totals don't change. Never allocates.
     pub fn commit_rename(&mut self, renaming: Renaming<A>)
         requires { (old new : List ℕ) × IsRenamingOf self.old old new renaming }
         ensures stands { (old new : List ℕ) (table : Table) → IsRenamingOf self.old old new renaming → StandsFor self.old table → StandsFor self.new (renamed old new table) }
@@ -327,7 +326,7 @@ impl<A: Allocator + Copy> Store<A> {
         self.totals_after
     }
 
-    /// Forgets what is staged. Takes no memory.
+    /// Discards the staged values. Never allocates.
     fn rollback(&mut self)
         ensures sections { self.new.sections ≡ self.old.sections }
         ensures members { self.new.members ≡ self.old.members }
@@ -343,7 +342,7 @@ impl<A: Allocator + Copy> Store<A> {
         self.totals_after = self.totals;
     }
 
-    /// Stages the sections, in order, up to the first that is refused.
+    /// Stages the sections in order, up to the first error.
     fn add_all(&mut self, alloc: A, sects: PackedSectsIter<'_>) -> Result<(), Refuse<A>>
         requires { HasRoomForRows (flat_map rows_of_sect sects) self.old }
         ensures committed { SameCommitted self.old self.new }
@@ -357,7 +356,7 @@ impl<A: Allocator + Copy> Store<A> {
         Ok(())
     }
 
-    /// Stages the items of a section. A section without items takes no memory.
+    /// Stages the items of a section. Never allocates for a section without items.
     fn add_section(&mut self, alloc: A, sect: &PackedSect<'_>) -> Result<(), Refuse<A>>
         requires { HasRoomForRows (rows_of_sect (packed_sect_data sect.now)) self.old }
         ensures committed { SameCommitted self.old self.new }
@@ -430,8 +429,8 @@ impl<A: Allocator + Copy> Store<A> {
         opened.get_mut().copy_test(alloc, old, new)
     }
 
-    /// Whether the store has a section of this test, which means that it has a row of the test. Looks the test up in one file
-    /// after another, and stops at the first file in which the test has points. Takes no memory.
+    /// Whether the store has a section, and so a row, of this test. Looks the test up in one file after another, up to the first
+    /// file in which it has points. Never allocates.
     pub fn has_test(&self, test: &[u8]) -> bool
         ensures value { result ≡ list_any (λ s. bytes_eq s.key.test test.now) self.now.sections }
         ensures rows { (table : Table) → StandsFor self.now table → result ≡ list_any (λ row. bytes_eq row.test test.now) (all_rows table) }
@@ -439,7 +438,7 @@ impl<A: Allocator + Copy> Store<A> {
         self.files.values().any(|file| file.get().has_test(test))
     }
 
-    /// The number of sections of the test, and the totals that the store would have after `drop_test`. Takes no memory.
+    /// The number of sections of the test, and the totals that the store would have after `drop_test`. Never allocates.
     pub fn after_drop(&self, test: &[u8]) -> (u64, Totals)
         ensures sections { (table : Table) → StandsFor self.now table → result.0 ≡ sections_of_test test.now table }
         ensures totals { (table : Table) → StandsFor self.now table → result.1 ≡ totals_of (content_at (without_test test.now table)) }
@@ -448,13 +447,12 @@ impl<A: Allocator + Copy> Store<A> {
         count_without(&self.files, test)
     }
 
-    /// Drops all rows of a test. The points of other tests stay. Returns the number of sections that the test had. Takes no
-    /// memory.
+    /// Drops all rows of a test. The points of other tests stay. Returns the number of sections that the test had. Never allocates.
     pub fn drop_test(&mut self, test: &[u8]) -> u64
         ensures sections { (table : Table) → StandsFor self.old table → result ≡ sections_of_test test.now table }
         ensures stands { (table : Table) → StandsFor self.old table → StandsFor self.new (without_test test.now table) }
     {
-        // A plan or a renaming that was dropped may have left something staged.
+        // A dropped plan or renaming may have left values staged.
         self.rollback();
         let sections = count_sections(&self.files, test);
         drop_from_files(&mut self.files, test);
@@ -464,7 +462,7 @@ impl<A: Allocator + Copy> Store<A> {
         sections
     }
 
-    /// The totals over all files and tests. Takes no memory.
+    /// The totals over all files and tests. Never allocates.
     pub fn totals(&self) -> Totals
         ensures value { result ≡ totals_of self.now.sections }
         ensures bounds { AreTotals result }
@@ -472,14 +470,14 @@ impl<A: Allocator + Copy> Store<A> {
         self.totals
     }
 
-    /// The files with a row, ascending by path, each with its totals over all tests. Takes no memory.
+    /// The files with a row, ascending by path, each with its totals over all tests. Never allocates.
     pub fn files(&self) -> Files<'_, A>
         ensures { result ≡ files_with_totals self.now.sections }
     {
         Files::of(self.files.iter())
     }
 
-    /// The sections of the files and tests with a row, ascending by file and then by test. Takes no memory.
+    /// The sections of the files and tests with a row, ascending by file and then by test. Never allocates.
     pub fn sections(&self) -> Sections<'_, A>
         ensures { result ≡ self.now.sections }
     {

@@ -1,5 +1,4 @@
-//! What the items of a test add up to at a point of a file, and how many tests of the file have the point. A sum stops at
-//! 2^128 - 1.
+//! The sum of a test's items at a point of a file, and how many tests of the file have the point. A sum saturates at 2^128 - 1.
 
 ghost use Rattle.std.specs.Prelude.{◌≡◌, Bool, true, Option};
 ghost use Rattle.std.proofs.Common.{refl};
@@ -15,8 +14,7 @@ use crate::packed_u64::PackedU64;
 use crate::packed_u128::PackedU128;
 use covmap::{Addend, Image, ReportingAddend, Value};
 
-/// A value of a point. It is either what the items of a test add up to at the point, or how many tests have the point
-/// (`TestCounts`).
+/// A value of a point: either the sum of a test's items there, or how many tests have the point (`TestCounts`).
 pub(crate) trait PointSum: Value {
     ghost above: { Self → Bool };
 
@@ -25,8 +23,8 @@ pub(crate) trait PointSum: Value {
         ensures { result ≡ above self.now };
 }
 
-/// What an item adds to the sum at a point. A sum above 0 stays above 0. The report is the change of the point's numbers in the
-/// index.
+/// The amount that an item adds to the sum at a point. A sum above 0 stays above 0. The report is the change of the point's numbers
+/// in the index.
 pub(crate) trait PointAddend<S: PointSum>: ReportingAddend<S, TestsAddend> {
     ghost always_fits: { (more : Self) (before : Option S) → Self.fits more before };
 
@@ -65,7 +63,7 @@ pub(crate) struct BranchSum {
     pub times: PackedTaken,
 }
 
-// A map keeps an `Option` of one of these types for each point, so the size of each `Option` matters.
+// A map stores an `Option` of one of these types for each point, so the size of that `Option` matters.
 const _: () = prove!(size_of::<Option<LineSum>>() <= 18);
 
 const _: () = prove!(size_of::<Option<FunctionSum>>() <= 25);
@@ -198,8 +196,8 @@ impl PointAddend<BranchSum> for BranchAddend {
     ghost tells = { λ more before after. refl };
 }
 
-/// What one test changes in a point's numbers of tests. `is_new` tells whether one more test has the point. `is_hit` tells
-/// whether one more test has the point with a value above 0.
+/// One test's change of a point's numbers of tests. `is_new`: one more test has the point. `is_hit`: one more test has it with a
+/// value above 0.
 #[derive(Clone, Copy)]
 pub(crate) struct TestsAddend {
     pub is_new: bool,
@@ -207,8 +205,8 @@ pub(crate) struct TestsAddend {
 }
 
 impl TestsAddend {
-    /// What a test adds to a point's numbers when the test's sum at the point changes from `before` to `after`. `None` if
-    /// neither number changes.
+    /// The change of a point's numbers when a test's sum there changes from `before` to `after`. Returns `None` if neither number
+    /// changes.
     pub(crate) fn of<S: PointSum>(before: &Option<S>, after: &S) -> Option<TestsAddend>
         ensures { result ≡ change_of S.above before.now after.now }
     {
@@ -271,8 +269,8 @@ impl TestCounts {
         }
     }
 
-    /// The numbers without one test, or `None` if that test was the only one. `was_above` tells whether that test had the point
-    /// with a value above 0.
+    /// The numbers without one test. Returns `None` if that test was the only one. `was_above` says whether it had the point above
+    /// 0.
     pub(crate) fn fewer(&self, was_above: bool) -> Option<TestCounts>
         requires { HaveOne was_above self.now }
         ensures { result ≡ fewer_tests was_above self.now }

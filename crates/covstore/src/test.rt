@@ -1,4 +1,4 @@
-//! A test of a file: its points of each kind. Each point has the value that the test's items add up to at the point.
+//! A test of a file: its points of each kind, each with the sum of the test's items there.
 
 ghost use Rattle.std.specs.Prelude.{◌≡◌, []};
 
@@ -31,7 +31,7 @@ impl<A: Allocator + Copy> Test<A> {
         }
     }
 
-    /// Commits what is staged.
+    /// Commits the staged values.
     pub(crate) fn commit(&mut self)
         ensures committed { test_committed self.new ≡ test_staged self.old }
         ensures staged { test_staged self.new ≡ test_staged self.old }
@@ -41,7 +41,7 @@ impl<A: Allocator + Copy> Test<A> {
         self.branches.commit();
     }
 
-    /// Forgets what is staged.
+    /// Discards the staged values.
     pub(crate) fn rollback(&mut self)
         ensures committed { test_committed self.new ≡ test_committed self.old }
         ensures staged { test_staged self.new ≡ test_committed self.old }

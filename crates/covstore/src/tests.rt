@@ -30,7 +30,7 @@ pub(crate) enum Held<A: Allocator> {
     Many(BTreeMap<Vec<u8, A>, Boxed<Test<A>, A>, A>),
 }
 
-/// The tests of a file, by name. Most files have one test, and a map's node has room for fifteen: so the first test is kept in
+/// The tests of a file, by name. Most files have one test, and a map node has capacity for fifteen. So the first test is stored in
 /// place until a second one is added. Contracts see the tests with their names, ascending.
 #[derive(Drop)]
 pub(crate) struct Tests<A: Allocator> {
@@ -47,7 +47,7 @@ impl<A: Allocator> Model for Tests<A> {
 }
 
 impl<A: Allocator> Tests<A> {
-    /// No tests. Takes no memory.
+    /// No tests. Never allocates.
     pub(crate) fn new() -> Tests<A>
         ensures { result.entries ≡ [] }
     {
@@ -103,7 +103,7 @@ impl<A: Allocator> Tests<A> {
         }
     }
 
-    /// The test of this name, to be changed in place. Proofs also learn that the names ascend (`ordered`).
+    /// The test of this name, mutable. Proofs also learn that the names ascend (`ordered`).
     pub(crate) fn get_mut(&mut self, name: &[u8]) -> Option<&mut Boxed<Test<A>, A>>
         ensures* writes_back { sem 𝓛 (lends_test A.row A.Allocator self.entry name.now result) }
         ensures value { option_map (λ points. points.now) result ≡ lookup (is_at (λ other. slice_cmp nat_cmp name.now other.items)) self.old.entries }
@@ -118,7 +118,7 @@ impl<A: Allocator> Tests<A> {
 }
 
 impl<A: Allocator + Copy> Tests<A> {
-    /// Adds a test, or replaces the test of this name. If memory is refused, no test changes.
+    /// Adds a test, or replaces the test of this name. If an allocation fails, no test changes.
     pub(crate) fn insert(
         &mut self,
         alloc: A,
@@ -144,7 +144,7 @@ impl<A: Allocator + Copy> Tests<A> {
         }
     }
 
-    /// Holds these tests and this one, in place of what was held. If memory is refused, holds these tests without this one.
+    /// Replaces the content by `tests` and one more test. If an allocation fails, the content is `tests` alone.
     fn hold_with(
         &mut self,
         mut tests: BTreeMap<Vec<u8, A>, Boxed<Test<A>, A>, A>,
@@ -160,7 +160,7 @@ impl<A: Allocator + Copy> Tests<A> {
         Ok(())
     }
 
-    /// Takes out the test of this name.
+    /// Removes and returns the test of this name.
     pub(crate) fn remove(&mut self, name: &[u8]) -> Option<Boxed<Test<A>, A>>
         ensures value { result ≡ lookup (is_at (λ other. slice_cmp nat_cmp name.now other.items)) self.old.entries }
         ensures unchanged { IfNone result (self.new.entries ≡ self.old.entries) }

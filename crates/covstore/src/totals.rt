@@ -23,7 +23,7 @@ pub struct Totals {
 }
 
 impl Totals {
-    /// The totals if nothing is found: all 0.
+    /// The totals of nothing: all 0.
     pub(crate) fn none() -> Totals
         ensures { result ≡ no_totals }
     {
@@ -44,7 +44,7 @@ impl Totals {
         self.lf == 0 && self.ff == 0 && self.bf == 0
     }
 
-    /// These totals with the part `before` replaced by `after`.
+    /// Replaces the part `before` of these totals by `after`.
     pub(crate) fn exchanged(self, before: Totals, after: Totals) -> Totals
         requires part { IsAmong before self }
         requires fits { FitTogether after self }

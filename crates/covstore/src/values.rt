@@ -1,5 +1,5 @@
-//! The points of a section, each with its value: what all rows of the section's file and test add up to at the point. A sum
-//! stops at 2^128 - 1.
+//! The points of a section, each with its value: the sum of all rows of the section's file and test there. A sum saturates at 2^128
+//! - 1.
 
 /// A function with its least start line and the sum of its execution counts (geninfo(1): `FN:`, `FNDA:`).
 #[derive(Clone, Copy)]

@@ -16,8 +16,8 @@ use covline::Submission;
 use covread::{ReadFault, read_gcov, read_trace};
 use std::alloc::Global;
 
-/// What a text says: a tracefile, or else gcov's annotated source, whose counts are this test's. A text of gcov's has no line
-/// that a tracefile has, so it is read as a tracefile without items.
+/// Reads a tracefile, or else gcov's annotated source, whose counts get this test name. gcov's output has no line that a tracefile
+/// has, so it is read as a tracefile without items.
 pub fn read_either(alloc: Global, test: &[u8], text: &[u8]) -> Result<Submission, ReadFault>
     ensures { IfOk result (λ s. trace.IsOutcome text.now (Ok s) ⊎ gcov.IsOutcome test.now text.now (Ok s)) }
 {
@@ -28,7 +28,7 @@ pub fn read_either(alloc: Global, test: &[u8], text: &[u8]) -> Result<Submission
     read_gcov(alloc, test, text)
 }
 
-/// How many items a tracefile of LCOV 2 has.
+/// The number of items of a tracefile of LCOV 2.
 pub fn items_of_lcov2(alloc: Global, text: &[u8]) -> Result<u64, ReadFault>
     ensures { IfOk result (λ items. (read : SubmissionData) × lcov2.IsOutcome text.now (Ok read) × (items ≡ items_in read.sects)) }
 {
@@ -36,7 +36,7 @@ pub fn items_of_lcov2(alloc: Global, text: &[u8]) -> Result<u64, ReadFault>
     Ok(submission.items())
 }
 
-/// The line that says what a tracefile holds.
+/// The summary line of a tracefile.
 pub fn check_line(alloc: Global, text: &[u8]) -> Result<Vec<u8>, ReadFault>
     ensures { IfOk result (λ line. (summary : SummaryData) × (read : SubmissionData) × trace.IsOutcome text.now (Ok read)
         × Holds IsSkippedRecord text.now read summary × (line.items ≡ summary_text summary)) }

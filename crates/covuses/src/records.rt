@@ -8,18 +8,18 @@ use covline::{Bytes, LineFault, Memory, TraceLine, lines, put_line, read_line};
 use std::alloc::Global;
 use thiserror::Error;
 
-/// Why a tracefile isn't printed again.
+/// Why a tracefile couldn't be printed again.
 #[derive(Clone, Copy, Debug, PartialEq, Eq, Error)]
 pub enum PrintFault {
-    /// A line can't be read.
+    /// A line can't be parsed.
     #[error("{0}")]
     Line(#[from] LineFault),
-    /// Memory was refused.
+    /// An allocation failed.
     #[error("{0}")]
     Memory(#[from] Memory),
 }
 
-/// The counted lines of a tracefile, printed again.
+/// Prints the counted lines of a tracefile again.
 pub fn counted_lines(alloc: Global, text: &[u8]) -> Result<Bytes, PrintFault>
     ensures { IfOk result (λ t. AreCounted (lines_of text.now) t) }
 {

@@ -7,7 +7,7 @@ use covsession::session::session;
 use covsession::{Failed, FromRead, SessionFault, Sink};
 use std::alloc::Global;
 
-/// A sink that keeps what it takes.
+/// A sink that stores all bytes.
 #[derive(Drop)]
 struct Kept {
     text: Vec<u8>,
@@ -36,7 +36,7 @@ impl Sink for Kept {
     }
 }
 
-/// What a session answers to these commands.
+/// The answers of a session to these commands.
 pub fn answers_to(alloc: Global, commands: &[u8]) -> Result<Vec<u8>, SessionFault>
     ensures { IfOk result (λ answers. IsSession commands.now answers.items) }
 {

@@ -1,5 +1,5 @@
-//! Runs each example with a small text. The wanted results were worked out by hand from the formats (geninfo(1), section FILES;
-//! lcov(1), `--summary`; gcov(1)). None was taken from an output.
+//! Runs each example with a small input. The expected results were worked out by hand from the formats (geninfo(1), section FILES;
+//! lcov(1), `--summary`; gcov(1)).
 
 use crate::books::answers;
 use crate::calls::merge_of;
@@ -33,7 +33,7 @@ Summary coverage rate:
   branches...: no data found
 ";
 
-/// Checks that the bytes are as wanted.
+/// Checks that the bytes are as expected.
 fn check_bytes(rt: &impl Abort, given: &[u8], wanted: &[u8]) {
     assert_eq!(rt; given, wanted);
 }
@@ -155,7 +155,7 @@ fn answers_of_a_session(rt: HostRuntime) -> Result<(), Fail> {
     Ok(())
 }
 
-/// The words of a call.
+/// The arguments of a command line.
 fn words_of(alloc: Global, call: &str) -> Result<Vec<String>, Fail> {
     let mut words = Vec::new(alloc);
     for word in call.split_whitespace() {
@@ -164,7 +164,7 @@ fn words_of(alloc: Global, call: &str) -> Result<Vec<String>, Fail> {
     Ok(words)
 }
 
-/// Whether the call merges `a.info` and `b.info` by this number of jobs.
+/// Whether the command line merges `a.info` and `b.info` with this number of jobs.
 fn merges_both(alloc: Global, call: &str, wanted: u32) -> Result<bool, Fail> {
     let words = words_of(alloc, call)?;
     match merge_of(alloc, words.as_slice()) {
@@ -181,7 +181,7 @@ fn are_both(names: &Names) -> bool {
     }
 }
 
-/// Whether the call is taken, and asks for no merge.
+/// Whether the command line is valid and isn't a merge.
 fn merges_nothing(alloc: Global, call: &str) -> Result<bool, Fail> {
     let words = words_of(alloc, call)?;
     Ok(matches!(merge_of(alloc, words.as_slice()), Ok(None)))

@@ -1,5 +1,5 @@
-//! Copies of texts, pattern lists, submissions, operations and answers. A copy is equal to its original. If memory for a copy is
-//! refused, the original is still whole, and is copied once there is room.
+//! Copies of texts, pattern lists, submissions, operations and answers. A copy equals its original. If a copy can't be allocated,
+//! the original is still whole, and can be copied with more capacity.
 
 use super::heap::{check_none, check_rising, narrow, widen};
 use super::said::check_answer;
@@ -38,7 +38,7 @@ fn copies_patterns(rt: &impl Abort, heap: &Bump, room: usize) -> bool {
     is_refused
 }
 
-/// A submission is copied with its sections and their items.
+/// Copies a submission with its sections and their items.
 fn copies_submission(rt: &impl Abort, heap: &Bump, room: usize) -> bool {
     let given = made(rt, read(heap, CHECKED));
     narrow(rt, heap, room);
@@ -60,7 +60,7 @@ fn texts_and_lists(rt: HostRuntime) {
     check_rising(&rt, |heap, room| copies_submission(&rt, heap, room));
 }
 
-/// Copies the operation that these words ask for.
+/// Copies the operation of these words.
 fn copies_op(rt: &impl Abort, heap: &Bump, room: usize, words: &[u8]) -> bool {
     let op = op_of(rt, heap, words);
     narrow(rt, heap, room);
@@ -92,7 +92,7 @@ fn operations(rt: HostRuntime) {
     check_none(&rt, |heap, room| copies_op(&rt, heap, room, b"summary"));
 }
 
-/// Copies the answer of a clash. The copy has a path and checksums of its own, which take memory.
+/// Copies the answer of a clash. The copy allocates its own path and checksums.
 fn copies_clash(rt: &(impl Abort + AllocGlobal), heap: &Bump, room: usize) -> bool {
     let answer = Answer::Clash {
         file: made(rt, bytes(heap, b"/a.c")),
@@ -111,7 +111,7 @@ fn copies_clash(rt: &(impl Abort + AllocGlobal), heap: &Bump, room: usize) -> bo
     is_refused
 }
 
-/// Copies a shared text, and the answer that is this text. Both copies share the text's bytes, so they take no memory.
+/// Copies a shared text, and an answer with this text. Both copies share the text's bytes, so they allocate nothing.
 fn copies_shared(rt: &(impl Abort + AllocGlobal), heap: &Bump, room: usize) -> bool {
     let text = made(rt, bytes(heap, b"two\nlines\n"));
     let text = made(rt, shared_text(heap, text));

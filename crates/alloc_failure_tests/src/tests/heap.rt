@@ -1,4 +1,4 @@
-//! Heaps whose room is known to the byte.
+//! Heaps whose capacity is known to the byte.
 
 ghost use Rattle.std.specs.Prelude.{◌≡◌};
 
@@ -7,11 +7,10 @@ use std::alloc::AllocError;
 use std::process::Abort;
 use std::test::*;
 
-/// How many bytes of room a heap has, in addition to the first room that a call is tried with.
+/// The capacity of a heap, in addition to the first capacity that a call is tried with.
 const AMPLE: usize = 60_000;
 
-/// A heap that has at least this much room. It has several blocks, so it never uses memory again that is given back to it: each
-/// growth needs room of its own.
+/// A heap with at least this capacity. It has several blocks, so it never reuses freed memory: each allocation needs new capacity.
 fn new_heap(rt: &(impl Abort + AllocGlobal), room: usize) -> Bump {
     let heap = Bump::new(rt.alloc());
     take(rt, &heap, 1);
@@ -20,7 +19,7 @@ fn new_heap(rt: &(impl Abort + AllocGlobal), room: usize) -> Bump {
     heap
 }
 
-/// Takes `bytes` bytes of the heap's room. They don't come back.
+/// Uses up `bytes` bytes of the heap for good.
 fn take(rt: &impl Abort, heap: &Bump, bytes: usize) {
     let taken: Result<Vec<u8, &Bump>, AllocError> = Vec::with_capacity(heap, bytes);
     if taken.is_err() {
@@ -28,7 +27,7 @@ fn take(rt: &impl Abort, heap: &Bump, bytes: usize) {
     }
 }
 
-/// Leaves the heap exactly this much room: takes what is more, and forbids further blocks.
+/// Limits the heap to exactly this capacity: uses up the rest, and forbids further blocks.
 pub(super) fn narrow(rt: &impl Abort, heap: &Bump, room: usize) {
     let left = heap.chunk_capacity();
     assert!(rt; room <= left, "a heap is too small");
@@ -37,13 +36,13 @@ pub(super) fn narrow(rt: &impl Abort, heap: &Bump, room: usize) {
     assert_eq!(rt; heap.chunk_capacity(), room);
 }
 
-/// Allows further blocks again, so that the heap has ample room.
+/// Allows further blocks again, so that the heap has ample capacity.
 pub(super) fn widen(heap: &Bump) {
     heap.set_allocation_limit(None);
 }
 
-/// Tries a call in one heap after another, each with one byte more of room, until the call isn't refused. `is_refused` makes the
-/// call, and returns whether it was refused. In a heap without room it has to be refused.
+/// Tries a call in heaps with a capacity of 0, 1, 2 and so on, until the call succeeds. `is_refused` makes the call, and returns
+/// whether an allocation failed, as one must in the first heap.
 pub(super) fn check_rising<R: Abort + AllocGlobal, F: Fn(&Bump, usize) -> bool>(
     rt: &R,
     is_refused: F,
@@ -53,8 +52,8 @@ pub(super) fn check_rising<R: Abort + AllocGlobal, F: Fn(&Bump, usize) -> bool>(
     check_rising_by(rt, 1, 1, is_refused);
 }
 
-/// The same for a call that takes much memory: after the heap without room, the rooms begin at `first` and rise by `more` bytes.
-/// With less room than `first`, the call's first growth is known to be refused.
+/// Like `check_rising`, for a call that allocates much: after the heap without capacity, the capacities begin at `first` and rise
+/// by `more` bytes. With less capacity than `first`, the call's first allocation is known to fail.
 pub(super) fn check_rising_by<R: Abort + AllocGlobal, F: Fn(&Bump, usize) -> bool>(
     rt: &R,
     first: usize,
@@ -77,7 +76,7 @@ pub(super) fn check_rising_by<R: Abort + AllocGlobal, F: Fn(&Bump, usize) -> boo
     panic!(rt; "refused in each heap");
 }
 
-/// Checks that a call isn't refused in a heap without room, so that it takes no memory.
+/// Checks that a call succeeds in a heap without capacity, so that it never allocates.
 pub(super) fn check_none<R: Abort + AllocGlobal, F: Fn(&Bump, usize) -> bool>(rt: &R, is_refused: F)
     requires { F.IsAlwaysCallable is_refused }
 {

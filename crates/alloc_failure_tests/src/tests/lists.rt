@@ -1,4 +1,4 @@
-//! Lists to which elements are appended. A refusal drops the element, and the list stays as it was.
+//! Appends elements to lists. A failed allocation drops the element, and leaves the list unchanged.
 
 use super::heap::{check_rising, narrow, widen};
 use super::made;
@@ -12,7 +12,7 @@ use std::alloc::Allocator;
 use std::process::Abort;
 use std::test::*;
 
-/// A list whose elements are made of numbers. An element takes no memory of its own.
+/// A list whose elements are made of numbers. An element needs no memory of its own.
 trait List<A: Allocator + Copy>: Drop {
     /// The empty list.
     fn none(alloc: A) -> Self;
@@ -53,7 +53,7 @@ impl<A: Allocator + Copy> List<A> for Items<A> {
     }
 }
 
-/// Sections keep no number, so the number of a section is its index.
+/// A section stores no number, so its number is its index.
 impl<A: Allocator + Copy> List<A> for Sects<A> {
     fn none(alloc: A) -> Sects<A> {
         Sects::new(alloc)
@@ -186,7 +186,7 @@ impl<A: Allocator + Copy> List<A> for Refused<A> {
     }
 }
 
-/// Checks that the list has the numbers below this one, in ascending order.
+/// Checks that the list has all numbers below `numbers`, in ascending order.
 fn check_list<A: Allocator + Copy, T: List<A>>(rt: &impl Abort, list: &T, numbers: u32) {
     assert_eq!(rt; list.count(), numbers as usize);
     for number in 0..numbers {
@@ -194,7 +194,7 @@ fn check_list<A: Allocator + Copy, T: List<A>>(rt: &impl Abort, list: &T, number
     }
 }
 
-/// Appends nine elements to a list. If one is refused, it is appended again, with ample room.
+/// Appends nine elements to a list. If one can't be allocated, appends it again, with ample capacity.
 fn puts<'h, T: List<&'h Bump>>(rt: &impl Abort, heap: &'h Bump, room: usize) -> bool {
     let mut list = T::none(heap);
     let mut is_refused = false;

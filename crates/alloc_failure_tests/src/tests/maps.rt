@@ -1,5 +1,5 @@
-//! A run of items that is staged into a map, and a map of the images of its values. After a refusal the committed entries are as
-//! before. Once the staged values are rolled back, the whole run can be staged, with room; and so the images can be made.
+//! Stages a run of items into a map, and makes a map of the images of its values. A failed allocation doesn't change the committed
+//! entries. After a rollback, the whole run can be staged with ample capacity, and the images can be made.
 
 use super::heap::{check_rising, narrow, widen};
 use super::made;
@@ -35,7 +35,7 @@ impl ReportingAddend<u64, u64> for Newest {
     }
 }
 
-/// Stages a run, and returns what its addends report.
+/// Stages a run, and returns the reports of its addends.
 fn stage<A: Allocator + Copy>(
     alloc: A,
     map: &mut StagedMap<u64, u64, A>,
@@ -67,7 +67,7 @@ fn entries<A: Allocator + Copy>(
     Ok(numbers)
 }
 
-/// Checks that the numbers are as wanted.
+/// Checks that the numbers are as expected.
 fn check_numbers(rt: &impl Abort, given: &[u64], wanted: &[u64]) {
     assert_eq!(rt; given, wanted);
 }

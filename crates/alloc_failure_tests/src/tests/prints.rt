@@ -1,4 +1,4 @@
-//! Texts that are printed, and patterns that choose the files to print.
+//! Prints texts, and chooses the files to print by patterns.
 
 ghost use Rattle.covstore.specs.Totals.{AreTotals};
 
@@ -14,7 +14,7 @@ use std::alloc::Allocator;
 use std::process::Abort;
 use std::test::*;
 
-/// Prints a line after another one. A refusal leaves the text as it was.
+/// Prints a line after another one. A failed allocation doesn't change the text.
 fn puts_line(rt: &impl Abort, heap: &Bump, room: usize, line: &[u8]) -> bool {
     let mut text = made(rt, bytes(heap, b"TN:t\n"));
     let record = made(rt, read_line(line));
@@ -30,7 +30,7 @@ fn puts_line(rt: &impl Abort, heap: &Bump, room: usize, line: &[u8]) -> bool {
     is_refused
 }
 
-/// Checks that the text is the line `TN:t` and then this line.
+/// Checks that the text is the line `TN:t` followed by this line.
 fn check_line(rt: &impl Abort, text: &[u8], line: &[u8]) {
     let behind = text
         .strip_prefix(b"TN:t\n")
@@ -64,7 +64,7 @@ fn lines_of_all_kinds(rt: HostRuntime) {
     }
 }
 
-/// Adds a pattern to a list of `held` patterns. A refusal leaves the list as it was.
+/// Adds a pattern to a list of `held` patterns. A failed allocation doesn't change the list.
 fn adds_pattern(rt: &impl Abort, heap: &Bump, room: usize, held: usize) -> bool {
     let mut list = Patterns::new(heap);
     for _pattern in 0..held {
@@ -89,7 +89,7 @@ fn patterns(rt: HostRuntime) {
     }
 }
 
-/// Prints a store that holds this text. The report has to be the same text.
+/// Prints a store that holds this text. The report must equal the text.
 fn prints_all(rt: &impl Abort, heap: &Bump, room: usize, text: &[u8]) -> bool {
     let store = holding(rt, heap, text);
     narrow(rt, heap, room);

@@ -1,4 +1,4 @@
-//! Texts that are read. All that was read is printed, and this is checked.
+//! Reads inputs, and checks all that was read by printing it.
 
 use super::heap::{check_rising_by, narrow, widen};
 use super::stores::{stored, stored_packed};
@@ -16,7 +16,7 @@ use covreport::Choice;
 use std::process::Abort;
 use std::test::*;
 
-/// Checks how many items the submission has, that no line is odd, and what is printed of it.
+/// Checks the number of items of the submission, that no line is inconsistent, and the printed report.
 fn check_read<'h>(
     rt: &impl Abort,
     heap: &'h Bump,
@@ -30,7 +30,7 @@ fn check_read<'h>(
     check_bytes(rt, report.get(), wanted);
 }
 
-/// The same of a packed submission.
+/// Like `check_read`, for a packed submission.
 fn check_packed<'h>(
     rt: &impl Abort,
     heap: &'h Bump,
@@ -44,7 +44,7 @@ fn check_packed<'h>(
     check_bytes(rt, report.get(), wanted);
 }
 
-/// Reads a tracefile of two items. What is printed of it has to be the same text.
+/// Reads a tracefile of two items. The printed report must equal the input.
 fn reads_trace(rt: &impl Abort, heap: &Bump, room: usize, text: &[u8]) -> bool {
     narrow(rt, heap, room);
     let first = read(heap, text);
@@ -98,7 +98,7 @@ fn packed_tracefiles(rt: HostRuntime) {
     );
 }
 
-/// A text in another format. What is printed of each is `TRACED`.
+/// An input in another format. The printed report of each is `TRACED`.
 #[derive(Clone, Copy)]
 enum Other {
     /// gcov's annotated source, as counts of the test `t`.
@@ -107,7 +107,7 @@ enum Other {
     Lcov2,
 }
 
-/// What the text is read as.
+/// Reads the input.
 fn read_other(heap: &Bump, other: Other) -> Result<Submission<&Bump>, ReadFault> {
     match other {
         Other::Annotated => read_annotated(heap, b"t", ANNOTATED),
@@ -115,7 +115,7 @@ fn read_other(heap: &Bump, other: Other) -> Result<Submission<&Bump>, ReadFault>
     }
 }
 
-/// How many items the text has. In a tracefile a function has two: its start line and its count.
+/// The number of items of the input. In a tracefile a function has two: its start line and its count.
 fn items_of(other: Other) -> u64 {
     match other {
         Other::Annotated => 8,
@@ -139,7 +139,7 @@ fn reads_other(rt: &impl Abort, heap: &Bump, room: usize, other: Other) -> bool 
     is_refused
 }
 
-/// What the text is read as, packed.
+/// Reads the input into a packed submission.
 fn read_other_packed(heap: &Bump, other: Other) -> Result<PackedSubmission<&Bump>, ReadFault> {
     match other {
         Other::Annotated => read_annotated_packed(heap, b"t", ANNOTATED),

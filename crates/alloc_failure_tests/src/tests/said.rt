@@ -33,7 +33,7 @@ fn put_sections(text: &mut Vec<u8>, word: &[u8], sections: u64) -> Result<(), Al
     put_number(text, sections)
 }
 
-/// Appends where a clash is, and the two checksums.
+/// Appends the place of a clash, and the two checksums.
 fn put_clash(
     text: &mut Vec<u8>,
     file: &[u8],
@@ -93,7 +93,7 @@ fn put_totals(text: &mut Vec<u8>, totals: &Totals) -> Result<(), AllocError> {
     put_number(text, totals.lh)
 }
 
-/// The operation and its answer, and how many lines are found and hit after it, in words.
+/// Prints the operation and its answer in words, and the number of lines found and hit after it.
 fn told<A: Allocator>(
     alloc: Global,
     op: &Op<A>,
@@ -106,7 +106,7 @@ fn told<A: Allocator>(
     Ok(text)
 }
 
-/// Checks that `told` gives the wanted words of this operation, answer and totals.
+/// Checks the words that `told` returns for this operation, answer and totals.
 pub(super) fn check_told<A: Allocator>(
     rt: &(impl Abort + AllocGlobal),
     op: &Op<A>,
@@ -121,7 +121,7 @@ pub(super) fn check_told<A: Allocator>(
     );
 }
 
-/// Checks that there is an entry, that it is this job's, and that `told` gives the wanted words of it.
+/// Checks that there is an entry of this job, and the words that `told` returns for it.
 pub(super) fn check_entry<A: Allocator>(
     rt: &(impl Abort + AllocGlobal),
     entry: Option<&Entry<A>>,
@@ -135,7 +135,7 @@ pub(super) fn check_entry<A: Allocator>(
     check_told(rt, &entry.op, &entry.answer, &entry.after, wanted);
 }
 
-/// Checks that `put_answer` gives the wanted words of this answer.
+/// Checks the words that `put_answer` appends for this answer.
 pub(super) fn check_answer<A: Allocator>(
     rt: &(impl Abort + AllocGlobal),
     answer: &Answer<A>,
@@ -146,11 +146,10 @@ pub(super) fn check_answer<A: Allocator>(
     check_bytes(rt, text.as_slice(), wanted);
 }
 
-/// The entry that a book has before a call is tried in it, in the words of `told`: a text was submitted, with two lines found
-/// and one hit.
+/// The words of `told` for the entry of a book before a call is tried in it: a submitted text, with two lines found and one hit.
 pub(super) const BEGUN: &[u8] = b"submit accepted 1 2 0 | 2 1";
 
-/// The operations that are tried in such a book. After the `>` are the words that `told` gives of the step.
+/// The operations that are tried in such a book. The words after `>` are those of `told` for the step.
 pub(super) const STEPS: &[u8] = b"\
 submit>submit accepted 2 2 0 | 2 1
 clash>submit clash /a.c 1 abc abd | 2 1
@@ -165,14 +164,14 @@ extract *.c>extract TN:t;SF:/a.c;DA:1,2,abc;DA:2,0;LF:2;LH:1;end_of_record; | 2 
 remove *.c>remove  | 2 1
 summary>summary Summary coverage rate:;  lines......: 50.0% (1 of 2 lines);  functions..: no data found;  branches...: no data found; | 2 1";
 
-/// A row of `STEPS`: the operation that is asked, and the words wanted of the step.
+/// A row of `STEPS`: the operation to try, and the expected words.
 #[derive(Clone, Copy)]
 pub(super) struct Step<'a> {
     pub(super) asked: &'a [u8],
     pub(super) wanted: &'a [u8],
 }
 
-/// The row in these bytes.
+/// Parses a row.
 pub(super) fn step_of<'a>(rt: &impl Abort, row: &'a [u8]) -> Step<'a> {
     let mut parts = row.split(|byte| *byte == b'>');
     let (Some(asked), Some(wanted)) = (parts.next(), parts.next()) else {

@@ -1,4 +1,4 @@
-//! Sessions in which memory runs out. Such a session has written a beginning of what it would have written with ample memory.
+//! Sessions in which memory runs out. Such a session has written a prefix of what it would have written with ample memory.
 
 ghost use Rattle.std.specs.Prelude.{◌<◌, ◌^◌, None};
 
@@ -13,7 +13,7 @@ use std::cell::Cell;
 use std::process::Abort;
 use std::test::*;
 
-/// A source that gives one byte at each read, so that each answer is written before the next command is read.
+/// A source that gives one byte per read, so that each answer is written before the next command is read.
 #[derive(Drop)]
 struct Slow<'a> {
     input: &'a [u8],
@@ -44,7 +44,7 @@ impl<'a> Source for Slow<'a> {
     }
 }
 
-/// How a session ends. This function promises nothing of that.
+/// Runs a session and returns how it ended. Deliberately without a contract.
 fn session_end<I: Source, O: Sink, A: Allocator + Copy>(
     alloc: A,
     source: &mut I,
@@ -57,7 +57,7 @@ fn session_end<I: Source, O: Sink, A: Allocator + Copy>(
     session(alloc, source, sink)
 }
 
-/// How a session on these bytes ends, and what it writes.
+/// Runs a session on these bytes. Returns how it ended, and its output.
 fn run<A: Allocator + Copy>(
     global: Global,
     alloc: A,
@@ -72,8 +72,8 @@ fn run<A: Allocator + Copy>(
     (ended, output)
 }
 
-/// Whether a session on these bytes is refused memory. If so, it has written a beginning of what is wanted, and otherwise all
-/// of it.
+/// Whether a session on these bytes runs out of memory. Checks that it then has written a prefix of `wanted`, and otherwise all of
+/// it.
 fn is_refused(
     rt: &(impl Abort + AllocGlobal),
     heap: &Bump,
@@ -93,14 +93,14 @@ fn is_refused(
     false
 }
 
-/// What a session reads, and what it has to write.
+/// The input of a session and its expected output.
 #[derive(Drop)]
 struct Streams {
     input: Vec<u8>,
     wanted: Vec<u8>,
 }
 
-/// Cuts an example into its streams. What comes after `> ` has to be written, and all lines without this sign are read.
+/// Splits an example: lines that begin with `> ` are the expected output, all others the input.
 fn cut(alloc: Global, example: &[u8]) -> Result<Streams, AllocError> {
     let mut streams = Streams {
         input: Vec::new(alloc),
@@ -123,10 +123,10 @@ fn push_line(text: &mut Vec<u8>, line: &[u8]) -> Result<(), AllocError> {
     Ok(())
 }
 
-/// The first growth of a session, its block for reading, asks for this much room.
+/// The size of a session's first allocation, its block for reading.
 const BLOCK: usize = 65_536;
 
-/// Checks a session on these streams, with more and more room.
+/// Checks a session on these streams, with more and more capacity.
 fn check(rt: &(impl Abort + AllocGlobal), streams: &Streams) {
     let input = streams.input.as_slice();
     let wanted = streams.wanted.as_slice();
@@ -135,7 +135,7 @@ fn check(rt: &(impl Abort + AllocGlobal), streams: &Streams) {
     });
 }
 
-/// Cuts an example, and checks the session on its streams.
+/// Splits an example, and checks the session on its streams.
 fn check_example(rt: &(impl Abort + AllocGlobal), example: &[u8]) {
     check(rt, &made(rt, cut(rt.alloc(), example)));
 }
@@ -260,8 +260,8 @@ Summary coverage rate:
 .
 ";
 
-/// Whether a session that reads all commands at once, so that all its answers wait, is refused memory. If so, it has written no
-/// answer or the first one, and `noted` becomes the largest number of bytes that a refused session has written.
+/// Whether a session that reads all commands at once, so that all its answers are buffered, runs out of memory. Checks that it then
+/// has written no answer or the first one, and raises `noted` to the largest number of bytes that such a session has written.
 fn is_refused_at_once(
     rt: &(impl Abort + AllocGlobal),
     heap: &Bump,

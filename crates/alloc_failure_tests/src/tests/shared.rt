@@ -1,4 +1,4 @@
-//! A shared book, used by one thread. After a refusal its history, its seat and what readers see are as before.
+//! A shared book, used by one thread. A failed allocation changes neither its history, nor its seat, nor what readers see.
 
 ghost use Rattle.std.specs.Prelude.{◌≡◌};
 
@@ -73,12 +73,12 @@ fn check_live<L: Name, A: Allocator>(
     assert_eq!(rt; reading.totals, totals);
 }
 
-/// Checks how many of the seat's calls succeeded, and that no other seat's did.
+/// Checks that the seat made `calls` successful calls, and that it saw no other entries than theirs.
 fn check_seat<L: Name>(rt: &impl Abort, seat: &Seat<L>, calls: u64) {
     assert_eq!(rt; (seat.calls(), seat.seen()), (calls, calls));
 }
 
-/// Whether a book is opened. Checks that an opened book has three seats, no entry, and a reader that reports none.
+/// Whether a book is opened. Checks that it then has three seats, no entry, and a reader that reports none.
 fn opens<L: Name, A: Allocator + Copy, R: Wait + Abort>(rt: &R, alloc: A, start: Start<A>) -> bool
     requires name { start.name ≡ L.name }
     requires jobs { start.jobs ≡ L.parts }
@@ -94,12 +94,12 @@ fn opens<L: Name, A: Allocator + Copy, R: Wait + Abort>(rt: &R, alloc: A, start:
     true
 }
 
-/// Whether a new book for three jobs is opened. The `Start` that it is made of takes no memory.
+/// Whether a new book for three jobs is opened. Making its `Start` never allocates.
 fn opens_anew<A: Allocator + Copy>(rt: &(impl Wait + Abort), alloc: A) -> bool {
     opens::<Brand, A, _>(rt, alloc, made(rt, start(alloc, 3)))
 }
 
-/// Whether no book is opened in this room. A refusal drops the book's `Start`, and a new one is tried with ample room.
+/// Whether no book is opened with this capacity. A failure drops the book's `Start`, so a new one is tried with ample capacity.
 fn is_not_opened(rt: &(impl Wait + Abort), heap: &Bump, room: usize) -> bool {
     narrow(rt, heap, room);
     let is_opened = opens_anew(rt, heap);
@@ -113,7 +113,7 @@ fn books_are_opened(rt: HostRuntime) {
     check_rising_by(&rt, 1, 64, |heap, room| is_not_opened(&rt, heap, room));
 }
 
-/// Makes a `Start`, which takes no memory, and returns whether it was refused.
+/// Makes a `Start`, which never allocates, and returns whether that failed.
 fn starts(rt: &impl Abort, heap: &Bump, room: usize) -> bool {
     narrow(rt, heap, room);
     let first = start(heap, 64);
@@ -149,7 +149,7 @@ fn performs<L: Name, A: Allocator + Copy, R: Wait + Abort + AllocGlobal>(
     is_refused
 }
 
-/// What is tried: the operation of a row, while the heap has only this much room.
+/// The operation to try, and the capacity of the heap for it.
 #[derive(Clone, Copy)]
 struct Narrow<'a> {
     heap: &'a Bump,
@@ -157,7 +157,7 @@ struct Narrow<'a> {
     row: Step<'a>,
 }
 
-/// The seat submits a text, and then asks for the tried operation while the heap has only the tried room.
+/// Submits a text, and then tries the operation with the limited capacity.
 fn asks<L: Name, A: Allocator + Copy, R: Wait + Abort + AllocGlobal>(
     rt: &R,
     alloc: A,
@@ -208,7 +208,7 @@ fn check_done<L: Name, A: Allocator + Copy>(
     check_live(rt, live, 2, reading.totals);
 }
 
-/// The same in a new book.
+/// Like `performs`, with a new book.
 fn performs_anew<R: Wait + Abort + AllocGlobal>(
     rt: &R,
     heap: &Bump,
@@ -227,7 +227,7 @@ fn shared_steps(rt: HostRuntime) {
     }
 }
 
-/// Makes a reader while the heap has only this much room, and returns whether that was refused.
+/// Makes a reader with this capacity of the heap, and returns whether that failed.
 fn reads<L: Name, A: Allocator + Copy, R: Wait + Abort>(
     rt: &R,
     alloc: A,
@@ -252,7 +252,7 @@ fn reads<L: Name, A: Allocator + Copy, R: Wait + Abort>(
     }
 }
 
-/// The same for a reader of a new book.
+/// Like `reads`, with a new book.
 fn reads_anew(rt: &(impl Wait + Abort), heap: &Bump, room: usize) -> bool {
     reads::<Brand, &Bump, _>(rt, heap, made(rt, start(heap, 1)), heap, room)
 }
@@ -262,7 +262,7 @@ fn readers_take_no_memory(rt: HostRuntime) {
     check_none(&rt, |heap, room| reads_anew(&rt, heap, room));
 }
 
-/// Appends the seats of nine jobs to a list. If one is refused, it is given up, and the list stays as it was.
+/// Appends the seats of nine jobs to a list. A seat that can't be appended is dropped, and the list is unchanged.
 fn hands_in<L: Name, A: Allocator + Copy, R: Wait + Abort>(
     rt: &R,
     alloc: A,
@@ -290,7 +290,7 @@ fn hands_in<L: Name, A: Allocator + Copy, R: Wait + Abort>(
     refused.is_some()
 }
 
-/// Checks that the seats are those of nine jobs, in ascending order, without the one that was given up.
+/// Checks that the seats are those of nine jobs, in ascending order, without the dropped one.
 fn check_jobs<L: Name>(rt: &impl Abort, seats: &[Seat<L>], given_up: Option<u32>) {
     let mut jobs = (0..9u32).filter(|job| given_up != Some(*job));
     for seat in seats {
@@ -299,7 +299,7 @@ fn check_jobs<L: Name>(rt: &impl Abort, seats: &[Seat<L>], given_up: Option<u32>
     assert_eq!(rt; jobs.next(), None);
 }
 
-/// The same for the seats of a new book.
+/// Like `hands_in`, with a new book.
 fn hands_in_anew(rt: &(impl Wait + Abort), heap: &Bump, room: usize) -> bool {
     hands_in::<Brand, &Bump, _>(rt, heap, made(rt, start(heap, 9)), heap, room)
 }

@@ -1,4 +1,4 @@
-//! Steps of a book. After a refusal the book has the same entries and totals as before.
+//! Steps of a book. A failed allocation changes neither the entries nor the totals.
 
 use super::heap::{check_rising, narrow, widen};
 use super::made;
@@ -10,7 +10,7 @@ use std::alloc::Allocator;
 use std::process::Abort;
 use std::test::*;
 
-/// A book that one text was submitted to, by job 3.
+/// A book with one submission, of job 3.
 fn begun<A: Allocator + Copy>(rt: &impl Abort, alloc: A) -> Book<A> {
     let mut book = Book::new(alloc);
     let op = op_of(rt, alloc, b"begin");
@@ -18,7 +18,7 @@ fn begun<A: Allocator + Copy>(rt: &impl Abort, alloc: A) -> Book<A> {
     book
 }
 
-/// Checks how many entries the book has, and the last one, by `check_entry`. Its totals have to be the book's.
+/// Checks the number of entries of the book, and the last one, by `check_entry`. Its totals must be the book's.
 fn check_book<A: Allocator + Copy>(
     rt: &(impl Abort + AllocGlobal),
     book: &Book<A>,
@@ -32,7 +32,7 @@ fn check_book<A: Allocator + Copy>(
     assert!(rt; last.is_some_and(|entry| entry.after == book.totals()));
 }
 
-/// Takes a step as job 4, in one call or in two halves.
+/// Performs a step as job 4, in one call or in two halves.
 fn taken<A: Allocator + Copy>(
     alloc: A,
     book: &mut Book<A>,
@@ -46,7 +46,7 @@ fn taken<A: Allocator + Copy>(
     }
 }
 
-/// Takes the row's step in the book of `begun`, and checks it. Returns whether the step was refused in this room.
+/// Performs the row's step in the book of `begun`, and checks it. Returns whether it failed with this capacity.
 fn takes(
     rt: &(impl Abort + AllocGlobal),
     heap: &Bump,

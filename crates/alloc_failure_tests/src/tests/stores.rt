@@ -1,4 +1,4 @@
-//! A store that prepares to hold a submission or to rename a test. After a refusal it has the same sections and totals as before.
+//! A store that prepares a submission or a rename. A failed allocation changes neither its sections nor its totals.
 
 ghost use Rattle.std.specs.Prelude.{◌<◌, OnErr};
 ghost use Rattle.covstore.specs.Store.{max_members};
@@ -83,7 +83,7 @@ fn check_store<A: Allocator + Copy>(
     check_bytes(rt, report.get(), text);
 }
 
-/// Makes the store hold the submission too, or returns the refusal. Only `prepare` can be refused, and not `commit`.
+/// Adds the submission to the store, or returns the error. Only `prepare` can fail, not `commit`.
 fn hold<A: Allocator + Copy>(
     alloc: A,
     store: &mut Store<A>,
@@ -101,7 +101,7 @@ fn hold<A: Allocator + Copy>(
     }
 }
 
-/// Makes the store hold `SMALL` too. The store has to print the first of the texts after a refusal, and the second one at last.
+/// Adds `SMALL` to the store. The store must print the first of `texts` after a failed allocation, and the second one at last.
 fn holds<'h>(
     rt: &impl Abort,
     room: usize,
@@ -126,14 +126,14 @@ fn holds<'h>(
     is_refused
 }
 
-/// An empty store gets `SMALL`.
+/// Adds `SMALL` to an empty store.
 fn first_text(rt: &impl Abort, heap: &Bump, room: usize) -> bool {
     let store = Store::new(heap);
     check_store(rt, heap, &store, b"", NONE);
     holds(rt, room, heap, store, (b"", SMALL))
 }
 
-/// A store that holds the submission alone, as by `stored`, with the promise that it has room for another one.
+/// A store that holds the submission alone, as by `stored`, with the promise that it has capacity for another one.
 fn begun<A: Allocator + Copy>(rt: &impl Abort, alloc: A, given: &Submission<A>) -> Store<A>
     ensures { result.members < max_members }
 {
@@ -145,7 +145,7 @@ fn begun<A: Allocator + Copy>(rt: &impl Abort, alloc: A, given: &Submission<A>) 
     store
 }
 
-/// A store that holds `SMALL` gets it once more.
+/// Adds `SMALL` to a store that holds it already.
 fn second_text(rt: &impl Abort, heap: &Bump, room: usize) -> bool {
     let store = begun(rt, heap, &made(rt, read(heap, SMALL)));
     check_store(rt, heap, &store, SMALL, OF_SMALL);
@@ -168,8 +168,7 @@ const OF_ONE: Totals = Totals {
     bh: 0,
 };
 
-/// Renames the test, and returns how many sections it was in, or the refusal. Only `prepare_rename` can be refused, and not
-/// `commit_rename`.
+/// Renames the test, and returns the number of its sections, or the error. Only `prepare_rename` can fail, not `commit_rename`.
 fn rename<A: Allocator + Copy>(
     alloc: A,
     store: &mut Store<A>,
@@ -205,7 +204,7 @@ fn renames(rt: &impl Abort, heap: &Bump, room: usize, held: &[u8], row: Renamed<
     is_refused
 }
 
-/// The new name, what is printed after the rename, and the totals, which are the same before and after it.
+/// The new name, the printed report after the rename, and the totals, which a rename doesn't change.
 #[derive(Clone, Copy)]
 struct Renamed<'a> {
     new: &'a [u8],
@@ -223,7 +222,7 @@ fn a_new_name(rt: HostRuntime) {
     check_rising(&rt, |heap, room| renames(&rt, heap, room, SMALL, row));
 }
 
-/// If a test has the new name already, the counts of one line are added up.
+/// Adds up the counts of one line if a test with the new name exists.
 #[test]
 fn a_name_that_is_there(rt: HostRuntime) {
     let row = Renamed {

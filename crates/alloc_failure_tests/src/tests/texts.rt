@@ -1,12 +1,12 @@
-//! Texts that are read, and what is printed of them.
+//! Inputs, and the reports printed of them.
 
-/// A tracefile with two lines of one file, one of them hit. What is printed of it is the same text.
+/// A tracefile with two lines of one file, one of them hit. Its report is the same text.
 pub(super) const SMALL: &[u8] = b"TN:t\nSF:/a.c\nDA:1,2\nDA:2,0\nLF:2\nLH:1\nend_of_record\n";
 
-/// What is printed after `SMALL` was submitted twice.
+/// The report after `SMALL` was submitted twice.
 pub(super) const DOUBLED: &[u8] = b"TN:t\nSF:/a.c\nDA:1,4\nDA:2,0\nLF:2\nLH:1\nend_of_record\n";
 
-/// What is printed of `SMALL` after its test was renamed to `v`.
+/// The report of `SMALL` after its test was renamed to `v`.
 pub(super) const RENAMED: &[u8] = b"TN:v\nSF:/a.c\nDA:1,2\nDA:2,0\nLF:2\nLH:1\nend_of_record\n";
 
 /// A tracefile with one line of a file, in two tests.
@@ -25,7 +25,7 @@ LH:1
 end_of_record
 ";
 
-/// What is printed of `APART` after `t` was renamed to `u`.
+/// The report of `APART` after `t` was renamed to `u`.
 pub(super) const JOINED: &[u8] = b"TN:u\nSF:/a.c\nDA:1,5\nLF:1\nLH:1\nend_of_record\n";
 
 /// A tracefile of LCOV 2 with the same records as `TRACED`.
@@ -67,7 +67,7 @@ branch  0 never executed
     =====:    5:  g();
 ";
 
-/// What is printed of the annotated source, as counts of the test `t`.
+/// The report of `ANNOTATED`, as counts of the test `t`.
 pub(super) const TRACED: &[u8] = b"\
 TN:t
 SF:tmp.c

@@ -1,4 +1,4 @@
-//! Values that are made from others: texts from bytes, and shared texts and submissions from others that aren't shared.
+//! Makes values from others: texts from bytes, and shareable texts and submissions.
 
 use super::heap::{check_rising, narrow, widen};
 use super::texts::SMALL;
@@ -21,7 +21,7 @@ fn text_of(rt: &impl Abort, heap: &Bump, room: usize) -> bool {
     is_refused
 }
 
-/// Makes a text a shared one. A refusal drops the text, so another one is used for the second try.
+/// Makes a text shareable. A failed allocation drops the text, so the second try uses another one.
 fn text_shared(rt: &impl Abort, heap: &Bump, room: usize) -> bool {
     let text = made(rt, bytes(heap, SMALL));
     let again = made(rt, bytes(heap, SMALL));
@@ -36,7 +36,7 @@ fn text_shared(rt: &impl Abort, heap: &Bump, room: usize) -> bool {
     is_refused
 }
 
-/// Makes a submission a shared one. A refusal drops the submission, so another one is used for the second try.
+/// Makes a submission shareable. A failed allocation drops the submission, so the second try uses another one.
 fn submission_shared(rt: &impl Abort, heap: &Bump, room: usize) -> bool {
     let given = made(rt, read(heap, SMALL));
     let again = made(rt, read(heap, SMALL));
@@ -51,7 +51,7 @@ fn submission_shared(rt: &impl Abort, heap: &Bump, room: usize) -> bool {
     is_refused
 }
 
-/// Makes a packed submission a shared one. A refusal drops the submission, so another one is used for the second try.
+/// Makes a packed submission shareable. A failed allocation drops the submission, so the second try uses another one.
 fn packed_shared(rt: &impl Abort, heap: &Bump, room: usize) -> bool {
     let given = made(rt, read_packed(heap, SMALL));
     let again = made(rt, read_packed(heap, SMALL));

@@ -1,4 +1,4 @@
-//! Calls of the crates below, in functions without contracts. A test looks only at values, and its proof is quicker without
+//! Calls of the crates below, in functions without contracts. A test looks only at values, and its proof is faster without
 //! contracts.
 
 use super::made;
@@ -78,7 +78,7 @@ pub(super) fn printed<A: Allocator + Copy>(
     trace_text(alloc, store, choice)
 }
 
-/// The submission as a shared one.
+/// Makes the submission shareable.
 pub(super) fn shared<A: Allocator + Copy>(
     alloc: A,
     given: Submission<A>,
@@ -86,7 +86,7 @@ pub(super) fn shared<A: Allocator + Copy>(
     SubRef::of(alloc, given)
 }
 
-/// The packed submission as a shared one.
+/// Makes the packed submission shareable.
 pub(super) fn shared_packed<A: Allocator>(
     alloc: A,
     given: PackedSubmission<A>,
@@ -94,7 +94,7 @@ pub(super) fn shared_packed<A: Allocator>(
     PackedRef::of(alloc, given)
 }
 
-/// The text as a shared one.
+/// Makes the text shareable.
 pub(super) fn shared_text<A: Allocator>(alloc: A, text: Bytes<A>) -> Result<TextRef<A>, Memory> {
     TextRef::of(alloc, text)
 }
@@ -155,9 +155,9 @@ fn submit_packed<A: Allocator + Copy>(rt: &impl Abort, alloc: A, text: &[u8]) ->
     Op::SubmitPacked(made(rt, shared_packed(alloc, given)))
 }
 
-/// The operation that these words ask for: its name, and then the tests' names or the patterns that it takes, with a space
-/// before each. `begin` submits `CHECKED`, `clash` submits `CLASHING`, and `packed` and `packed-clash` submit `SMALL` and
-/// `CLASHING` packed. An unknown name is a summary.
+/// Makes the operation of these words: its name, and then the tests' names or patterns, with a space before each. `begin` submits
+/// `CHECKED`, `clash` submits `CLASHING`, and `packed` and `packed-clash` submit `SMALL` and `CLASHING` packed. An unknown name is
+/// a summary.
 pub(super) fn op_of<A: Allocator + Copy>(rt: &impl Abort, alloc: A, words: &[u8]) -> Op<A> {
     let mut words = words.split(|byte| *byte == b' ');
     let Some(name) = words.next() else {

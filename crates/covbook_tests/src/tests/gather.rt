@@ -1,4 +1,4 @@
-//! A history of six calls, and what `gather` returns for it and for what two jobs kept.
+//! A history of six calls, and the result of `gather` for it and for the logs of two jobs.
 
 use super::said::put_answer;
 use super::script::{check_run, op_of, run};
@@ -23,12 +23,12 @@ const SIX_CALLS: &[u8] = b"0 submit DA:1,2;DA:2,0
 0 report
 1 summary";
 
-/// The number that a digit is.
+/// The value of a digit.
 fn number_of(digit: u8) -> u8 {
     digit.wrapping_sub(b'0')
 }
 
-/// The entry at the place that the digit says.
+/// The entry at the index that the digit gives.
 fn entry_at<'e>(rt: &impl Abort, entries: &'e [Entry], digit: u8) -> &'e Entry {
     match entries.get(usize::from(number_of(digit))) {
         Some(entry) => entry,
@@ -36,7 +36,7 @@ fn entry_at<'e>(rt: &impl Abort, entries: &'e [Entry], digit: u8) -> &'e Entry {
     }
 }
 
-/// The text of the answer with another first byte.
+/// The answer with another first byte in its text.
 fn other_text(alloc: Global, answer: &Answer) -> Result<Answer, Fail> {
     let mut text = Vec::new(alloc);
     put_answer(alloc, &mut text, answer)?;
@@ -46,7 +46,7 @@ fn other_text(alloc: Global, answer: &Answer) -> Result<Answer, Fail> {
     text_of(alloc, &text)
 }
 
-/// The answer of the entry at the place that the digit says; for `!` instead, this entry's answer with another text.
+/// The answer of the entry at the index that the digit gives; for `!`, this entry's answer with another text.
 fn answer_of(
     rt: &(impl Abort + AllocGlobal),
     entries: &[Entry],
@@ -60,7 +60,7 @@ fn answer_of(
     Ok(copied_answer(rt.alloc(), &answered.answer)?)
 }
 
-/// The place that a sign says: a digit, or `^` for the largest number.
+/// The index of a sign: a digit, or `^` for the largest number.
 fn place_of(sign: u8) -> u64 {
     match sign {
         b'^' => u64::MAX,
@@ -68,8 +68,8 @@ fn place_of(sign: u8) -> u64 {
     }
 }
 
-/// The receipt that a word of three signs describes: its place, the entry whose operation it has, and the entry whose answer
-/// it has. If the last sign is `!`, the answer is that of the operation's entry with another text.
+/// Makes a receipt from three signs: its index, the entry whose operation it has, and the entry whose answer it has. If the last
+/// sign is `!`, the answer is that of the operation's entry with another text.
 fn receipt_of(
     rt: &(impl Abort + AllocGlobal),
     entries: &[Entry],
@@ -87,7 +87,7 @@ fn receipt_of(
     })
 }
 
-/// The reading with these numbers of entries, of lines found and of lines hit, and nothing else; each is a digit.
+/// Makes a reading with these numbers of entries, of lines found and of lines hit, and nothing else; each is a digit.
 fn reading_of(upto: u8, lines_found: u8, lines_hit: u8) -> Reading {
     let mut totals = Totals::default();
     totals.lf = u64::from(number_of(lines_found));
@@ -98,8 +98,7 @@ fn reading_of(upto: u8, lines_found: u8, lines_hit: u8) -> Reading {
     }
 }
 
-/// The log that a line describes: its job, and after it the words of its receipts and readings. A reading has `=` after its
-/// number of entries.
+/// Makes a log from a line: its job, followed by its receipts and readings. A reading has `=` after its number of entries.
 fn log_of(
     rt: &(impl Abort + AllocGlobal),
     entries: &[Entry],
@@ -127,7 +126,7 @@ fn counted(alloc: Global, word: &str, number: u64) -> Result<String, Fail> {
     Ok(format!(in alloc; "{word} {number}")?)
 }
 
-/// A word, and the places of a log and of a receipt or a reading in it.
+/// A word, and the indices of a log and of a receipt or a reading in it.
 fn placed(alloc: Global, word: &str, log: usize, index: usize) -> Result<String, Fail> {
     Ok(format!(in alloc; "{word} {log} {index}")?)
 }
@@ -144,7 +143,7 @@ fn fault_in_words(alloc: Global, fault: &GatherFault) -> Result<String, Fail> {
     }
 }
 
-/// What `gather` returns for entries and logs, in words.
+/// Prints the result of `gather` for entries and logs.
 fn told(alloc: Global, entries: &[Entry], logs: &[JobLog]) -> Result<String, Fail> {
     match gathered(entries, logs) {
         Ok(()) => Ok(String::from_str(alloc, "yes")?),
@@ -152,7 +151,7 @@ fn told(alloc: Global, entries: &[Entry], logs: &[JobLog]) -> Result<String, Fai
     }
 }
 
-/// Checks what `gather` returns for the entries and these logs.
+/// Checks the result of `gather` for the entries and these logs.
 fn check_told(
     rt: &(impl Abort + AllocGlobal),
     entries: &[Entry],
@@ -174,9 +173,9 @@ fn check_all(
     check_history(rt, entries, entries, examples)
 }
 
-/// Checks examples, one after the other. Each has a line for each log. A line that begins with `> ` is what `gather` has to
-/// return for the history and these logs. A line that begins with `= ` ends the example and is its name. The receipts are made
-/// of `entries`, which may be more than the history has.
+/// Checks examples, one after the other. An example has a line for each log; a line `> ` with the expected result of `gather` for
+/// the history and these logs; and a line `= ` with its name, which ends it. The receipts are made of `entries`, which may be more
+/// than the history has.
 fn check_history(
     rt: &(impl Abort + AllocGlobal),
     entries: &[Entry],
@@ -198,7 +197,7 @@ fn check_history(
     Ok(())
 }
 
-/// What two jobs kept of the six calls, and what `gather` returns for it.
+/// Logs of two jobs for the six calls, each with the expected result of `gather`.
 const EXAMPLES: &[u8] = b"0 000 222 444
 1 111 333 555
 > yes
@@ -315,7 +314,7 @@ const EXAMPLES: &[u8] = b"0 000 222 444
 > BadReading 0 0
 = a reading comes before a receipt of the next log";
 
-/// The same six calls, but job 1 renames the test that both submit, instead of dropping one that isn't there.
+/// Like the six calls of the history above, but job 1 renames the test that both submit, instead of dropping one that isn't there.
 const A_RENAME: &[u8] = b"0 submit DA:1,2;DA:2,0
 1 submit DA:1,2;DA:2,0
 0 summary

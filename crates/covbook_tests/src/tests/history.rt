@@ -39,7 +39,7 @@ end_of_record
     )
 }
 
-/// A clash has its entry like every other answer, and takes no number.
+/// A clash has its entry like every other answer, and gets no submission number.
 #[test]
 fn a_history_with_a_clash(rt: HostRuntime) -> Result<(), Fail> {
     check_new(
@@ -129,7 +129,7 @@ fn a_list_of_receipts(rt: HostRuntime) -> Result<(), Fail> {
     }
 }
 
-/// Takes the book's next step, and returns whether it has this place.
+/// Performs the book's next step, and returns whether it has this index.
 fn is_next(alloc: Global, book: &mut Book, place: u64) -> bool {
     match step(alloc, book, 0, &Op::Summary) {
         Ok(receipt) => receipt.place == place,
@@ -137,7 +137,7 @@ fn is_next(alloc: Global, book: &mut Book, place: u64) -> bool {
     }
 }
 
-/// Whether the book refuses a step since its history is full.
+/// Whether the book rejects a step because its history is full.
 fn is_full(alloc: Global, book: &mut Book) -> bool {
     match step(alloc, book, 0, &Op::Summary) {
         Ok(_receipt) => false,
@@ -145,7 +145,7 @@ fn is_full(alloc: Global, book: &mut Book) -> bool {
     }
 }
 
-/// Takes the first `steps` steps of the book, and returns whether they have the first places, in order.
+/// Performs the first `steps` steps of the book, and returns whether they have the first indices, in order.
 fn is_filled(alloc: Global, book: &mut Book, steps: u64) -> bool {
     for place in 0..steps {
         if !is_next(alloc, book, place) {

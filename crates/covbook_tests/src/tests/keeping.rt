@@ -1,4 +1,4 @@
-//! Books that keep less than their whole history.
+//! Books that store less than their whole history.
 
 use super::wrappers::submit;
 use covbook::{Answer, Answered, Book, BookFault, Entry, Keep, Op, Receipt, Receipts};
@@ -67,7 +67,7 @@ fn check_steps<K: Keep<Of = Entry>>(
     Ok(())
 }
 
-/// A book that keeps nothing answers as one that keeps its whole history.
+/// A book that stores nothing of its history gives the same answers as one that stores all of it.
 #[test]
 fn a_book_that_keeps_nothing(rt: HostRuntime) -> Result<(), Fail> {
     let mut book: Book<Global, Snapshot<Entry>> = Book::keeping(rt.alloc());
@@ -76,7 +76,7 @@ fn a_book_that_keeps_nothing(rt: HostRuntime) -> Result<(), Fail> {
     Ok(())
 }
 
-/// Whether this is kept of an entry, and its answer is a clash.
+/// Whether an entry is stored, and its answer is a clash.
 fn keeps_clash(kept: Option<&Answered>) -> bool {
     match kept {
         Some(kept) => is_clash(&kept.answer),
@@ -84,7 +84,7 @@ fn keeps_clash(kept: Option<&Answered>) -> bool {
     }
 }
 
-/// Whether this is kept of an entry, and its answer is the report.
+/// Whether an entry is stored, and its answer is the report.
 fn keeps_report(kept: Option<&Answered>) -> bool {
     match kept {
         Some(kept) => is_text(&kept.answer, REPORT),
@@ -111,7 +111,7 @@ fn a_book_that_keeps_entries(rt: HostRuntime) -> Result<(), Fail> {
     Ok(())
 }
 
-/// The list of one receipt, of the place 0.
+/// A list of one receipt, with the index 0.
 fn one_receipt(alloc: Global) -> Result<Receipts, Memory> {
     let mut receipts = Vec::new(alloc);
     receipts.push(Receipt {

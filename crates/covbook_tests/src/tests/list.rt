@@ -1,4 +1,4 @@
-//! Random submissions to a book, which is compared with a plain list of their rows.
+//! Submits random tracefiles to a book, and compares it with a plain list of their rows.
 
 use super::push_line;
 use super::script::{check_printed, receipt_of};
@@ -11,7 +11,7 @@ use std::alloc::Global;
 use std::process::Abort;
 use std::test::*;
 
-/// The sections of the plain list, each a test of a file, in the order in which they are printed.
+/// The sections of the plain list, each a test of a file, in the order of printing.
 const SECTIONS: [&[u8]; 6] = [
     b"TN:a\nSF:/f\n",
     b"TN:b\nSF:/f\n",
@@ -29,7 +29,7 @@ pub(super) struct Row {
     count: Option<u64>,
 }
 
-/// The numbers of a linear congruence, which are as good as random here.
+/// Pseudorandom numbers of a linear congruence.
 #[derive(Drop)]
 pub(super) struct Random {
     pub state: u64,
@@ -46,7 +46,7 @@ impl Random {
     }
 }
 
-/// The records that are printed of points.
+/// The kinds of printed records.
 #[derive(Clone, Copy)]
 enum Record {
     Start,
@@ -64,7 +64,7 @@ fn points_of(record: Record) -> (u64, u64) {
     }
 }
 
-/// The line that says a point and its count.
+/// The line with a point and its count.
 fn line_of(alloc: Global, record: Record, point: u64, count: Option<u64>) -> Result<String, Fail> {
     let number = count.unwrap_or(0);
     match record {
@@ -158,7 +158,7 @@ fn has_section(rows: &[Row], section: usize) -> bool {
     rows.iter().any(|row| row.section == section)
 }
 
-/// Appends what is to be printed of a section.
+/// Appends the expected report of a section.
 fn put_list(
     alloc: Global,
     rows: &[Row],
@@ -250,7 +250,7 @@ fn put_random(
     Ok(())
 }
 
-/// What is to be printed of all rows.
+/// The expected report of all rows.
 fn text_of(alloc: Global, rows: &[Row]) -> Result<Vec<u8>, Fail> {
     let mut text = Vec::new(alloc);
     for (section, name) in SECTIONS.iter().enumerate() {
@@ -280,7 +280,7 @@ fn summary(rt: &(impl Abort + AllocGlobal), totals: &Totals) -> Result<Bytes, Me
     summary_text(rt.alloc(), totals)
 }
 
-/// Checks that the book's report is what the plain list says.
+/// Checks that the book's report equals that of the plain list.
 fn check_report(
     rt: &(impl Abort + AllocGlobal),
     book: &mut Book,
@@ -290,14 +290,14 @@ fn check_report(
     check_printed(rt, book, b"0 report", &wanted)
 }
 
-/// Checks that the book's report and its summary are what the plain list says.
+/// Checks that the book's report and summary equal those of the plain list.
 fn check_list(rt: &(impl Abort + AllocGlobal), book: &mut Book, rows: &[Row]) -> Result<(), Fail> {
     check_report(rt, book, rows)?;
     let summary = summary(rt, &totals_of(rows))?;
     check_printed(rt, book, b"0 summary", summary.get())
 }
 
-/// The rows of all other tests. A test's sections are those at the places `test` and `test + 3`.
+/// The rows of all other tests. A test has the sections with the indices `test` and `test + 3`.
 fn without(alloc: Global, rows: &[Row], test: usize) -> Result<Vec<Row>, Fail> {
     let mut others = Vec::new(alloc);
     for row in rows {
@@ -357,7 +357,7 @@ fn take_random(
     hand_in(alloc, book, &text)
 }
 
-/// Submits a random text. Checks that the book then prints what the list says.
+/// Submits a random text. Checks that the book's report then equals that of the list.
 fn check_random(
     rt: &(impl Abort + AllocGlobal),
     random: &mut Random,
@@ -368,7 +368,7 @@ fn check_random(
     check_list(rt, book, rows)
 }
 
-/// Drops a test of the book and of the list. Checks that the book then prints what the list says.
+/// Drops a test of the book and of the list. Checks that the book's report then equals that of the list.
 fn check_drop(
     rt: &(impl Abort + AllocGlobal),
     book: &mut Book,
@@ -380,8 +380,8 @@ fn check_drop(
     check_list(rt, book, rows)
 }
 
-/// After each of many random submissions, and after each drop of a test, the book prints what a plain list of all rows says. The
-/// whole list is passed over for each point.
+/// The book's report equals that of a plain list of all rows, after each of many random submissions and each drop of a test. The
+/// report of the list walks over the whole list for each point.
 #[test]
 fn random_submissions(rt: HostRuntime) -> Result<(), Fail> {
     let mut random = Random { state: 20_261_123 };

@@ -1,4 +1,4 @@
-//! The same submissions in other orders.
+//! The order of submissions doesn't change the result.
 
 use super::list::{Random, random_text};
 use super::script::{check_printed, printed};
@@ -8,8 +8,7 @@ use std::alloc::Global;
 use std::process::Abort;
 use std::test::*;
 
-/// Submits the texts, as many as there are: first the one at `first`, and after each one the one `stride` places on. After the
-/// end of the list it goes on at the beginning.
+/// Submits all texts in a cyclic order: first the one with the index `first`, and then always the one `stride` indices later.
 fn hand_in_all(
     alloc: Global,
     book: &mut Book,
@@ -30,7 +29,7 @@ fn hand_in_all(
     Ok(())
 }
 
-/// Checks that both books print the same for the step that a line asks, and that this isn't empty.
+/// Checks that both books print the same text for the step in this line, and that it isn't empty.
 fn check_alike(
     rt: &(impl Abort + AllocGlobal),
     one: &mut Book,
@@ -42,7 +41,7 @@ fn check_alike(
     check_printed(rt, other, line, &text)
 }
 
-/// Checks that both books print the same report and summary, the same of one file, and the same of all other files.
+/// Checks that both books print the same report and summary, of all files, of one file, and of all others.
 fn check_books(
     rt: &(impl Abort + AllocGlobal),
     one: &mut Book,

@@ -1,4 +1,4 @@
-//! Histories as text. Each line that is asked is a job and what it asks for, and each step is told in words.
+//! Histories as text. Each line of a script has a job and its operation, and each step is printed in words.
 
 use super::push_line;
 use super::said::{put_answer, put_number, words_of};
@@ -63,7 +63,7 @@ fn section_of(alloc: Global, lines: &[u8]) -> Result<Vec<u8>, Fail> {
     Ok(text)
 }
 
-/// The job that asks what a line says: the digit at the line's beginning.
+/// The job of a line: its first digit.
 fn job_of(line: &[u8]) -> u32 {
     match line.first() {
         Some(job) => u32::from(job.wrapping_sub(b'0')),
@@ -71,7 +71,7 @@ fn job_of(line: &[u8]) -> u32 {
     }
 }
 
-/// What a line asks, after its job and a space.
+/// The operation of a line, after its job and a space.
 fn asked(line: &[u8]) -> &[u8] {
     match line.get(2..) {
         Some(words) => words,
@@ -79,7 +79,7 @@ fn asked(line: &[u8]) -> &[u8] {
     }
 }
 
-/// The receipt of the step that a line asks.
+/// The receipt of the step in a line.
 pub(super) fn receipt_of(
     rt: &(impl Abort + AllocGlobal),
     book: &mut Book,
@@ -97,7 +97,7 @@ fn text_of(rt: &(impl Abort + AllocGlobal), answer: &Answer) -> Result<Vec<u8>, 
     Ok(text)
 }
 
-/// What the book prints for the step that a line asks.
+/// Prints the text of the step in this line.
 pub(super) fn printed(
     rt: &(impl Abort + AllocGlobal),
     book: &mut Book,
@@ -107,7 +107,7 @@ pub(super) fn printed(
     text_of(rt, &receipt.answer)
 }
 
-/// Checks that the book prints this text for the step that a line asks.
+/// Checks the text that the book prints for the step in a line.
 pub(super) fn check_printed(
     rt: &(impl Abort + AllocGlobal),
     book: &mut Book,
@@ -119,7 +119,7 @@ pub(super) fn check_printed(
     Ok(())
 }
 
-/// Checks that `words_of` gives the wanted words of this operation and answer.
+/// Checks the words that `words_of` returns for this operation and answer.
 pub(super) fn check_words(
     rt: &(impl Abort + AllocGlobal),
     op: &Op,
@@ -195,7 +195,7 @@ fn put_receipt(
     put_step(rt, book, receipt.place, &words, text)
 }
 
-/// Takes the step that a line asks, and appends the words on it.
+/// Performs the step of a line, and appends its words.
 fn take_step(
     rt: &(impl Abort + AllocGlobal),
     book: &mut Book,
@@ -229,7 +229,7 @@ fn put_lines(alloc: Global, totals: &Totals, text: &mut Vec<u8>) -> Result<(), F
     Ok(())
 }
 
-/// Takes the steps that the lines ask of the book, and returns the words on them.
+/// Performs the steps of the lines, and returns their words.
 pub(super) fn run(
     rt: &(impl Abort + AllocGlobal),
     book: &mut Book,
@@ -242,7 +242,7 @@ pub(super) fn run(
     Ok(text)
 }
 
-/// Checks the words on the steps that the lines ask of the book.
+/// Checks the words of the steps in the lines.
 pub(super) fn check_run(
     rt: &(impl Abort + AllocGlobal),
     book: &mut Book,
@@ -254,7 +254,7 @@ pub(super) fn check_run(
     Ok(())
 }
 
-/// Checks the words on the steps that the lines ask of a new book, in which nothing is found.
+/// Checks the words of the steps in the lines, in a new book, in which nothing is found.
 pub(super) fn check_new(
     rt: &(impl Abort + AllocGlobal),
     lines: &[u8],

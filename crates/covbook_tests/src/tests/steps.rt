@@ -8,7 +8,7 @@ use std::alloc::Global;
 use std::process::Abort;
 use std::test::*;
 
-/// Checks how many lines would be found and hit after the text's submission. Its step is made ready and dropped.
+/// Checks how many lines would be found and hit after submitting the text. Makes the step ready and drops it.
 fn check_dropped(
     rt: &(impl Abort + AllocGlobal),
     book: &mut Book,
@@ -21,7 +21,7 @@ fn check_dropped(
     Ok(())
 }
 
-/// A step can be taken in two halves. If its second half never comes, it isn't taken.
+/// A step can be done in two halves. Without its second half, it has no effect.
 #[test]
 fn halves_of_a_step(rt: HostRuntime) -> Result<(), Fail> {
     let mut book = Book::new(rt.alloc());
@@ -128,8 +128,8 @@ fn check_drops(rt: &(impl Abort + AllocGlobal), book: &mut Book) -> Result<(), F
     check_drop(rt, book, b"0 drop t0", without_t0, b"0 0 0 0 0 0")
 }
 
-/// What each test has in each of the five files follows from the places in `text_of_one`. The count of test t at a place is
-/// `place % (t + 2)`, and a point is hit if one of its counts isn't 0.
+/// The points of each test in the five files follow from the places in `text_of_one`. The count of test t at a place is `place % (t
+/// + 2)`, and a point is hit if one of its counts isn't 0.
 ///
 /// | test | lines   | hit        | functions | hit   | branches | hit |
 /// |------|---------|------------|-----------|-------|----------|-----|

@@ -1,4 +1,4 @@
-//! Calls of the crates below, in functions without contracts. A test looks only at values, and its proof is quicker without
+//! Calls of the crates below, in functions without contracts. A test looks only at values, and its proof is faster without
 //! contracts.
 
 use covbook::{
@@ -30,7 +30,7 @@ fn step_in_halves(alloc: Global, book: &mut Book, job: u32, op: &Op) -> Result<R
     Ok(book.finish(ready))
 }
 
-/// Takes a step. The jobs from 8 on take it in two halves.
+/// Performs a step; for the jobs from 8 on, in two halves.
 pub(super) fn take(
     alloc: Global,
     book: &mut Book,

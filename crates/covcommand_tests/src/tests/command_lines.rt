@@ -1,11 +1,11 @@
-//! What calls ask for, and how they are refused.
+//! Tests of parsed command lines, and of their errors.
 
 use super::{asked, check_all, told};
 use std::alloc::Global;
 use std::process::Abort;
 use std::test::*;
 
-/// Calls with the program's name alone, with `--` after it, and without any words.
+/// Command lines of only the program's name, with `--` after it, and without any argument.
 #[test]
 fn without_a_subcommand(rt: HostRuntime) -> Result<(), Fail> {
     check_all(
@@ -125,7 +125,7 @@ covcollect --lcov2 merge a.info => 2 2 error: unexpected argument '--lcov2' foun
     )
 }
 
-/// The flag `--strict`, of each subcommand that has it, before, between and after other words.
+/// The flag `--strict` of each subcommand that has it, before, between and after other arguments.
 #[test]
 fn strict(rt: HostRuntime) -> Result<(), Fail> {
     check_all(
@@ -152,7 +152,8 @@ covcollect check --gcov --strict main.c.gcov => check (gcov 1) [main.c.gcov] str
     )
 }
 
-/// The flag `--strict` twice, with a value, without the words that are required, misspelt, and where nothing takes it.
+/// Rejects `--strict` if it is given twice, has a value, is misspelt, stands without the required arguments, or isn't allowed
+/// there.
 #[test]
 fn strict_that_is_refused(rt: HostRuntime) -> Result<(), Fail> {
     check_all(
@@ -175,7 +176,7 @@ covcollect list -s a.info => 2 2 error: unexpected argument '-s' found
     )
 }
 
-/// The flag `--large`, of each subcommand that has it, before, between and after other words, and beside `--strict`.
+/// The flag `--large` of each subcommand that has it, before, between and after other arguments, and beside `--strict`.
 #[test]
 fn large(rt: HostRuntime) -> Result<(), Fail> {
     check_all(
@@ -205,7 +206,7 @@ covcollect check --gcov --large main.c.gcov => check (gcov 1) [main.c.gcov] larg
     )
 }
 
-/// The flag `--large` twice, with a value, without the words that are required, misspelt, and where nothing takes it.
+/// Rejects `--large` if it is given twice, has a value, is misspelt, stands without the required arguments, or isn't allowed there.
 #[test]
 fn large_that_is_refused(rt: HostRuntime) -> Result<(), Fail> {
     check_all(
@@ -228,7 +229,8 @@ covcollect list -l a.info => 2 2 error: unexpected argument '-l' found
     )
 }
 
-/// The options `--include` and `--exclude`: each several times, mixed with each other and with other words. Each takes one word.
+/// The options `--include` and `--exclude`: each several times, mixed with each other and with other arguments. Each has one
+/// argument.
 #[test]
 fn filters(rt: HostRuntime) -> Result<(), Fail> {
     check_all(
@@ -255,7 +257,7 @@ covcollect summary include exclude => summary (1 1) [include] [exclude]
     )
 }
 
-/// A filter without a pattern, without a file, of another subcommand, and of other names.
+/// Rejects a filter that lacks its pattern or a file, isn't allowed there, or is misspelt.
 #[test]
 fn filters_that_are_refused(rt: HostRuntime) -> Result<(), Fail> {
     check_all(
@@ -277,7 +279,8 @@ covcollect merge -i '*.c' a.info => 2 2 error: unexpected argument '-i' found
     )
 }
 
-/// The flag `--json` and the options `--fail-under-..`, alone, together, and mixed with other words. A limit is any word.
+/// The flag `--json` and the options `--fail-under-..`, alone, together, and mixed with other arguments. Any argument is a
+/// threshold here.
 #[test]
 fn totals(rt: HostRuntime) -> Result<(), Fail> {
     check_all(
@@ -301,7 +304,7 @@ covcollect list --lcov2 --jobs 4 --include b --exclude x --include c --json f g 
     )
 }
 
-/// A flag or a limit that comes twice, a limit without its word, no file, and other subcommands.
+/// Rejects a flag or a threshold that is given twice, lacks its argument or a file, or isn't allowed there.
 #[test]
 fn totals_that_are_refused(rt: HostRuntime) -> Result<(), Fail> {
     check_all(
@@ -333,8 +336,8 @@ covcollect summary --fail-under 80 a => 2 2 error: unexpected argument '--fail-u
     )
 }
 
-/// The option `--output` or `-o`, of each subcommand that has it, before, between and after other words. Its word may be an input,
-/// empty, and anything that is no option.
+/// The option `--output` or `-o` of each subcommand that has it, before, between and after other arguments. Its argument may be an
+/// input, empty, or anything that is no option.
 #[test]
 fn outputs(rt: HostRuntime) -> Result<(), Fail> {
     check_all(
@@ -371,7 +374,7 @@ covcollect gcov -o unit.info --test= main.c.gcov util.c.gcov => gcov () [main.c.
     )
 }
 
-/// An output that comes twice, has no word, or stands without the words that are required; and where nothing takes it.
+/// Rejects an output that is given twice, lacks its argument or the required arguments, or isn't allowed there.
 #[test]
 fn outputs_that_are_refused(rt: HostRuntime) -> Result<(), Fail> {
     check_all(
@@ -400,7 +403,7 @@ covcollect merge --output-file out a.info => 2 2 error: unexpected argument '--o
     )
 }
 
-/// Words that are missing, that come twice, and that nothing takes.
+/// Rejects missing, repeated and unknown arguments.
 #[test]
 fn refusals(rt: HostRuntime) -> Result<(), Fail> {
     check_all(
@@ -432,7 +435,7 @@ covcollect merge -V a.info => 2 2 error: unexpected argument '-V' found
     )
 }
 
-/// A name is a word as it is: with spaces in it, empty, in any script.
+/// A name is any argument: with spaces in it, empty, in any script.
 #[test]
 fn names_as_they_are(rt: HostRuntime) -> Result<(), Fail> {
     let alloc = rt.alloc();
@@ -450,7 +453,7 @@ fn names_as_they_are(rt: HostRuntime) -> Result<(), Fail> {
     )
 }
 
-/// Checks that the words have this answer.
+/// Checks that the arguments have this result.
 fn check_words(
     rt: &(impl Abort + AllocGlobal),
     words: &[String],
@@ -461,7 +464,7 @@ fn check_words(
     Ok(())
 }
 
-/// What the words ask for, or the text of their refusal.
+/// Prints the parsed command line, or the text of its error.
 fn told_of(alloc: Global, words: &[String]) -> Result<String, Fail> {
     match asked(alloc, words) {
         Ok(whole) => told(alloc, &whole),

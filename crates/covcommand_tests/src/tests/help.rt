@@ -1,4 +1,4 @@
-//! What help says.
+//! Tests of help.
 
 use super::{asked, check, check_all, told, words_of};
 use covcommand::{CommandFault, VERSION};
@@ -6,7 +6,7 @@ use std::alloc::Global;
 use std::process::Abort;
 use std::test::*;
 
-/// A call that asks for help ends with status 0, whatever else it asks for.
+/// A run with `--help` ends with status 0, whatever its other arguments are.
 #[test]
 fn help_at_both_levels(rt: HostRuntime) -> Result<(), Fail> {
     check_all(
@@ -30,7 +30,7 @@ covcollect check --gcov main.c.gcov --help => 1 0 Tells what is read of each fil
     )
 }
 
-/// A call that asks for the version ends with status 0, whatever else it asks for.
+/// A run with `--version` ends with status 0, whatever its other arguments are.
 #[test]
 fn version(rt: HostRuntime) -> Result<(), Fail> {
     let wanted = format!(in rt.alloc(); "4 0 covcollect {VERSION}")?;
@@ -39,7 +39,7 @@ fn version(rt: HostRuntime) -> Result<(), Fail> {
     check(&rt, "covcollect --version merge", wanted.as_str())
 }
 
-/// The text of the version if a call asks for it, and otherwise no text.
+/// The text of the version if it is requested, and otherwise no text.
 fn version_of(alloc: Global, call: &str) -> Result<String, Fail> {
     let words = words_of(alloc, call)?;
     match asked(alloc, words.as_slice()) {
@@ -56,7 +56,7 @@ fn the_whole_version(rt: HostRuntime) -> Result<(), Fail> {
     check_text(&rt, text.as_str(), wanted.as_str())
 }
 
-/// The text of the help if a call asks for one, and otherwise no text.
+/// The text of help if it is requested, and otherwise no text.
 fn help_of(alloc: Global, call: &str) -> Result<String, Fail> {
     let words = words_of(alloc, call)?;
     match asked(alloc, words.as_slice()) {
@@ -65,7 +65,7 @@ fn help_of(alloc: Global, call: &str) -> Result<String, Fail> {
     }
 }
 
-/// The program's help is exactly this.
+/// The whole help of the program.
 #[test]
 fn the_whole_help(rt: HostRuntime) -> Result<(), Fail> {
     let help = help_of(rt.alloc(), "covcollect --help")?;
@@ -116,7 +116,7 @@ Exit status:
     )
 }
 
-/// The help of a subcommand is exactly this.
+/// The whole help of a subcommand.
 #[test]
 fn the_whole_help_of_gcov(rt: HostRuntime) -> Result<(), Fail> {
     let help = help_of(rt.alloc(), "covcollect gcov --help")?;
@@ -144,7 +144,7 @@ it without options, or by -b -c with functions and branches:
     )
 }
 
-/// The help of a subcommand that takes patterns as names is exactly this.
+/// The whole help of a subcommand with patterns as names.
 #[test]
 fn the_whole_help_of_remove(rt: HostRuntime) -> Result<(), Fail> {
     let help = help_of(rt.alloc(), "covcollect remove --help")?;
@@ -182,7 +182,7 @@ and to put the result in place of the tracefile
     )
 }
 
-/// The help of a subcommand with options that have a short form is exactly this.
+/// The whole help of a subcommand with options that have a short form.
 #[test]
 fn the_whole_help_of_summary(rt: HostRuntime) -> Result<(), Fail> {
     let help = help_of(rt.alloc(), "covcollect summary --help")?;
@@ -227,7 +227,7 @@ and to end with status 6 where too little is hit
     )
 }
 
-/// The help of a subcommand with options of both kinds, but without limits, is exactly this.
+/// The whole help of a subcommand with options of both kinds, but without thresholds.
 #[test]
 fn the_whole_help_of_list(rt: HostRuntime) -> Result<(), Fail> {
     let help = help_of(rt.alloc(), "covcollect list --help")?;
@@ -267,7 +267,7 @@ and as JSON
     )
 }
 
-/// The help of a subcommand with flags is exactly this.
+/// The whole help of a subcommand with flags.
 #[test]
 fn the_whole_help_of_check(rt: HostRuntime) -> Result<(), Fail> {
     let help = help_of(rt.alloc(), "covcollect check --help")?;
@@ -312,8 +312,7 @@ fn check_text(rt: &impl Abort, given: &str, wanted: &str) -> Result<(), Fail> {
     Ok(())
 }
 
-/// The examples in the helps have calls of the program. Each is a call that the program takes, with the subcommand that is named
-/// there.
+/// Each example of a call in the texts of help is a valid command line, with the subcommand of that text.
 #[test]
 fn examples_are_taken(rt: HostRuntime) -> Result<(), Fail> {
     check_examples(&rt, "covcollect --help", 5)?;
@@ -326,7 +325,7 @@ fn examples_are_taken(rt: HostRuntime) -> Result<(), Fail> {
     check_examples(&rt, "covcollect check --help", 4)
 }
 
-/// Checks how many calls of the program the help has as examples, and that each is taken.
+/// Checks the number of examples in the help, and that each is valid.
 fn check_examples(rt: &(impl Abort + AllocGlobal), call: &str, wanted: usize) -> Result<(), Fail> {
     let help = help_of(rt.alloc(), call)?;
     let mut examples: usize = 0;
@@ -340,8 +339,8 @@ fn check_examples(rt: &(impl Abort + AllocGlobal), call: &str, wanted: usize) ->
     Ok(())
 }
 
-/// The call of the program that a line of a help has as an example, without the program's name and without ` > ` and what comes
-/// after it. Such a line is indented, and nothing but a call of lcov may come before the call.
+/// Finds the example of a call in a line of help. Such a line is indented, and only a call of lcov may come before the example.
+/// Returns the example without the program's name, and without ` > ` and what follows.
 fn example_in(line: &str) -> Option<&str> {
     let (before, call) = line.strip_prefix("  ")?.split_once("covcollect ")?;
     if !before.is_empty() && !before.starts_with("lcov ") {
@@ -353,7 +352,7 @@ fn example_in(line: &str) -> Option<&str> {
     )
 }
 
-/// Checks that the program takes the call, which asks for the subcommand that is its first word.
+/// Checks that the command line is valid, and has the subcommand that is its first argument.
 fn check_example(rt: &(impl Abort + AllocGlobal), call: &str) -> Result<(), Fail> {
     let given = told_after_name(rt.alloc(), call)?;
     let wanted = call.split_whitespace().next().unwrap_or("");
@@ -361,7 +360,7 @@ fn check_example(rt: &(impl Abort + AllocGlobal), call: &str) -> Result<(), Fail
     Ok(())
 }
 
-/// What a call asks for, given without the program's name.
+/// Prints the parsed command line, which is given without the program's name.
 fn told_after_name(alloc: Global, call: &str) -> Result<String, Fail> {
     let call = format!(in alloc; "covcollect {call}")?;
     let words = words_of(alloc, call.as_str())?;

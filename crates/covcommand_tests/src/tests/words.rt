@@ -1,4 +1,4 @@
-//! Words as text.
+//! Arguments as text.
 
 use super::refused;
 use covcommand::{CommandFault, word_at};
@@ -6,8 +6,8 @@ use std::alloc::Global;
 use std::process::Abort;
 use std::test::*;
 
-/// A word that is UTF-8 is taken as it is. Any other word is reported with its place and its bytes, of which those that can't be
-/// printed are a `?`.
+/// A UTF-8 argument is returned unchanged. Any other argument is reported with its index and its bytes, with `?` for those that
+/// can't be printed.
 #[test]
 fn words_as_text(rt: HostRuntime) -> Result<(), Fail> {
     check_word(&rt, 2, b"my files/a.info", "my files/a.info")?;
@@ -27,7 +27,7 @@ fn words_as_text(rt: HostRuntime) -> Result<(), Fail> {
     )
 }
 
-/// Checks that the word at this place is taken as `wanted`, or refused in these words.
+/// Checks that the argument with this index is returned as `wanted`, or that its error has this text.
 fn check_word(
     rt: &(impl Abort + AllocGlobal),
     place: usize,
@@ -39,12 +39,12 @@ fn check_word(
     Ok(())
 }
 
-/// The word as text, or its refusal. This function has no contract.
+/// The argument as text, or its error. This function has no contract.
 fn taken(alloc: Global, place: usize, word: &[u8]) -> Result<String, CommandFault> {
     word_at(alloc, place, word)
 }
 
-/// The text, or the refusal in words.
+/// The text, or the error in words.
 fn told_of(alloc: Global, taken: Result<String, CommandFault>) -> Result<String, Fail> {
     match taken {
         Ok(text) => Ok(text),

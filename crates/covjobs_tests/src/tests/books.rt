@@ -1,5 +1,5 @@
-//! A shared book from its opening to its history. These functions panic at a refusal. A function that returned early would have
-//! to drop its book and its seats on each way out, and each of these ways would have to be proved.
+//! A shared book from its opening to its history. These functions panic on an error. A function that returned early would have to
+//! drop its book and its seats on each way out, and each of these ways would have to be proved.
 
 ghost use Rattle.std.specs.Prelude.{◌≡◌};
 
@@ -69,7 +69,7 @@ pub(super) fn op_of(rt: &impl Abort, alloc: Global, name: &[u8]) -> Op {
     }
 }
 
-/// The receipt and the news of the seat's call. Panics if the call is refused.
+/// The receipt and the news of the seat's call. Panics if the call fails.
 pub(super) fn done_of<L: Name, R: Wait + Abort>(
     rt: &R,
     alloc: Global,
@@ -83,7 +83,7 @@ pub(super) fn done_of<L: Name, R: Wait + Abort>(
     }
 }
 
-/// The receipt of the seat's call. Panics if the call is refused.
+/// The receipt of the seat's call. Panics if the call fails.
 pub(super) fn receipt_of<L: Name, R: Wait + Abort>(
     rt: &R,
     alloc: Global,

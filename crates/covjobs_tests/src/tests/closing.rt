@@ -11,7 +11,7 @@ use std::process::Abort;
 use std::sync::Wait;
 use std::test::*;
 
-/// The wanted entries: job 0 submits before the first refusal, and asks for a summary after it.
+/// The expected entries: job 0 submits before the first failed close, and asks for a summary after it.
 const ENTRIES: &[u8] = b"\
 0 submit: accepted 1 2 0 
 0 summary: Summary coverage rate:
@@ -21,7 +21,7 @@ const ENTRIES: &[u8] = b"\
 
 ";
 
-/// Checks that the book isn't closed, since the seat of this job is missing, and is handed back with the seats.
+/// Checks that the book isn't closed without the seat of this job, and is returned with the other seats.
 fn close_without<L: Name, R: Wait + Abort>(
     rt: &R,
     book: Shared<L>,
@@ -37,8 +37,8 @@ fn close_without<L: Name, R: Wait + Abort>(
     }
 }
 
-/// Calls the book through the first seat, and asks for the operation of this name. Checks that the call succeeds, that the seat
-/// is job 0's, and that `calls` of its calls have now succeeded.
+/// Performs the operation of this name with the first seat. Checks that the call succeeds, that the seat is job 0's, and that
+/// `calls` of its calls have succeeded.
 fn check_usable<L: Name, R: Wait + Abort + AllocGlobal>(
     rt: &R,
     book: &Shared<L>,
@@ -61,7 +61,7 @@ fn check_calls<L: Name>(rt: &impl Abort, seat: &Seat<L>, calls: u64) {
     assert_eq!(rt; (seat.job(), seat.calls()), (0, calls));
 }
 
-/// The seats with the one that was kept back.
+/// The seats with the one that was held back.
 fn with_last<L: Name>(rt: &impl Abort, seats: Vec<Seat<L>>, last: Option<Seat<L>>) -> Vec<Seat<L>> {
     let Some(seat) = last else {
         panic!(rt; "no seat was kept back");
@@ -84,8 +84,8 @@ fn refused_once<L: Name, R: Wait + Abort + AllocGlobal>(
     (book, seats)
 }
 
-/// Tries to close a book of two seats without the second one, then without both, and at last closes it with both. What was
-/// asked before and after a refusal is in the history.
+/// Tries to close a book of two seats without the second one, then without both, and at last closes it with both. Operations before
+/// and after a failed close are in the history.
 fn kept_back<L: Name, R: Wait + Abort + AllocGlobal>(rt: &R, start: Start)
     requires name { start.name ≡ L.name }
     requires jobs { start.jobs ≡ L.parts }

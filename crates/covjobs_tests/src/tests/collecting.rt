@@ -1,4 +1,4 @@
-//! Inputs that jobs collect.
+//! Collects inputs with several jobs.
 
 use super::books::op_of;
 use super::check_bytes;
@@ -40,7 +40,7 @@ pub(super) fn traces(alloc: Global, texts: &[&[u8]]) -> Result<Vec<Input>, Fail>
     Ok(inputs)
 }
 
-/// What `jobs` jobs collect of the inputs, with this last operation, or the fault.
+/// Collects the inputs with `jobs` jobs and this last operation.
 fn answered<R: Threads + Wait + Sync + AllocGlobal, G: Gate + Sync>(
     rt: &R,
     inputs: &[Input],
@@ -51,7 +51,7 @@ fn answered<R: Threads + Wait + Sync + AllocGlobal, G: Gate + Sync>(
     collect(rt, rt.alloc(), inputs, last, jobs, gate)
 }
 
-/// What `jobs` jobs collect of the inputs, with this last operation. Panics at a fault.
+/// Collects the inputs with `jobs` jobs and this last operation. Panics on an error.
 fn collected_after<R: Threads + Wait + Sync + AllocGlobal + Abort, G: Gate + Sync>(
     rt: &R,
     inputs: &[Input],
@@ -65,7 +65,7 @@ fn collected_after<R: Threads + Wait + Sync + AllocGlobal + Abort, G: Gate + Syn
     }
 }
 
-/// What `jobs` jobs collect of the inputs, with the report as the last operation. Panics at a fault.
+/// Collects the inputs with `jobs` jobs, and the report as the last operation. Panics on an error.
 pub(super) fn collected_of<R: Threads + Wait + Sync + AllocGlobal + Abort, G: Gate + Sync>(
     rt: &R,
     inputs: &[Input],
@@ -90,7 +90,7 @@ fn a_rename_at_the_end(rt: HostRuntime) -> Result<(), Fail> {
     rename_at_the_end(&rt)
 }
 
-/// Whether the only refused input is the one at this place, since its first line is a record outside of any section.
+/// Whether only the input with this index is rejected, because its first line is a record outside of any section.
 pub(super) fn is_outside(refused: &[RefusedInput], index: usize) -> bool {
     match refused.split_first() {
         Some((first, [])) => {
@@ -115,7 +115,7 @@ fn a_refused_input(rt: HostRuntime) -> Result<(), Fail> {
     one_refused(&rt)
 }
 
-/// What the report has of a tracefile of LCOV 2: the records of version 1 that its lines stand for.
+/// The report of a tracefile of LCOV 2: the records of version 1 that its lines represent.
 const LCOV2_ENTRIES: &[u8] = b"\
 0 submit: accepted 1 4 0 
 0 report: TN:t
@@ -149,7 +149,7 @@ fn a_tracefile_of_lcov2(rt: HostRuntime) -> Result<(), Fail> {
     one_of_lcov2(&rt)
 }
 
-/// Whether the input is read packed as this tracefile is read as it is.
+/// Whether reading the input packed gives the same as reading the tracefile `wanted` unpacked.
 fn packs_as(alloc: Global, input: &Input, wanted: &[u8]) -> Result<bool, Fail> {
     let packed = input.read_packed(alloc)?;
     let wanted = trace(alloc, wanted)?.read(alloc)?;
@@ -182,7 +182,7 @@ fn packed_inputs(rt: HostRuntime) -> Result<(), Fail> {
     Ok(())
 }
 
-/// What `jobs` jobs collect of inputs that they may use up, with the report as the last operation.
+/// Collects owned inputs with `jobs` jobs, and the report as the last operation.
 fn answered_by_owned<R: Threads + Wait + Sync + AllocGlobal>(
     rt: &R,
     inputs: Vec<Input>,
@@ -279,7 +279,7 @@ fn a_reading_for_each_submit(rt: HostRuntime) -> Result<(), Fail> {
     read_by_two(&rt)
 }
 
-/// Whether nothing is collected of inputs that may be used up, since this number of jobs isn't allowed.
+/// Whether `collect_owned` rejects this number of jobs.
 fn are_bad_for_owned<R: Threads + Wait + Sync + AllocGlobal>(rt: &R, jobs: u32) -> bool {
     match answered_by_owned(rt, Vec::new(rt.alloc()), jobs) {
         Ok(_collected) => false,
@@ -294,7 +294,7 @@ fn jobs_to_collect_owned(rt: HostRuntime) {
     assert!(rt; are_bad_for_owned(&rt, 65));
 }
 
-/// Whether nothing is collected, since this number of jobs isn't allowed.
+/// Whether `collect` rejects this number of jobs.
 fn are_bad<R: Threads + Wait + Sync + AllocGlobal>(rt: &R, jobs: u32) -> bool {
     match answered(rt, &[], &Op::Report, jobs, &NoGate) {
         Ok(_collected) => false,

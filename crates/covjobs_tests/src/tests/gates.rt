@@ -1,4 +1,4 @@
-//! Workers run at the same time: in a gate, one waits for what only another one does.
+//! Workers run at the same time: in a gate, one waits for an act of another one.
 
 use super::collecting::{collected_of, trace, traces};
 use super::turns::SMALL;
@@ -10,10 +10,10 @@ use std::sync::atomic::{AtomicU64, Ordering};
 use std::test::*;
 use std::thread::Threads;
 
-/// How often a flag is looked at until a worker gives up.
+/// How often a worker looks at a flag before it gives up.
 const MAX_TURNS: u64 = 1_000_000_000;
 
-/// A flag that is down at first. Once it is raised, it stays up.
+/// A flag that is down at first, and stays up once it is raised.
 #[derive(Drop)]
 struct Flag {
     up: AtomicU64,
@@ -34,7 +34,7 @@ impl Flag {
         self.up.load(Ordering::SeqCst) == 1
     }
 
-    /// Looks at the flag again and again until it is up. Returns `false` if it gives up.
+    /// Waits until the flag is up. Returns `false` if it gives up.
     fn is_seen(&self) -> bool {
         for _turn in 0..MAX_TURNS {
             if self.is_up() {
@@ -228,8 +228,7 @@ fn read_when_both_are_done<R: Threads + Wait + Sync + AllocGlobal + Abort>(
     Ok(())
 }
 
-/// A job's reading has all that is published when it reads, and not only what its own submit returned. It comes before the last
-/// operation.
+/// A job's reading covers all that is published when it reads, not only its own submit. It comes before the last operation.
 #[test]
 fn a_reading_sees_other_jobs(rt: HostRuntime) -> Result<(), Fail> {
     read_when_both_are_done(&rt)
@@ -265,7 +264,7 @@ fn check_first(rt: &impl Abort, entries: &[Entry], job: u32) {
     }
 }
 
-/// Two jobs take two inputs each. Job 0 is held after its first submit until job 1 is done with its own first one.
+/// Two jobs process two inputs each. Job 0 waits after its first submit until job 1 has done its first one.
 fn first_is_held<R: Threads + Wait + Sync + AllocGlobal + Abort>(rt: &R) -> Result<(), Fail> {
     let inputs = traces(rt.alloc(), &[SMALL, SMALL, SMALL, SMALL])?;
     let gate = Between {
@@ -280,7 +279,7 @@ fn first_is_held<R: Threads + Wait + Sync + AllocGlobal + Abort>(rt: &R) -> Resu
 }
 
 /// A gate's `after` is called after the submit. In it, job 0 lets job 1 begin, and waits until job 1 has submitted. Since job 0's
-/// own submit is over by then, its entry is the first one.
+/// own submit is complete by then, its entry is the first one.
 #[test]
 fn after_is_after_the_submit(rt: HostRuntime) -> Result<(), Fail> {
     first_is_held(&rt)
@@ -297,8 +296,8 @@ fn one_job<R: Threads + Wait + Sync + AllocGlobal + Abort, G: Gate + Sync>(
     Ok(())
 }
 
-/// The gate is called before each submit and after it, with the submit's number. It isn't called for a text that can't be read,
-/// nor for the last operation.
+/// The gate is called before and after each submit, with the submit's number. It isn't called for an input that can't be read, nor
+/// for the last operation.
 #[test]
 fn around_each_submit(rt: HostRuntime) -> Result<(), Fail> {
     let gate = Steps {

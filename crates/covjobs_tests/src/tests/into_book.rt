@@ -1,4 +1,4 @@
-//! Inputs that jobs collect into a book, each read when its turn comes.
+//! Collects inputs into a book, each read when its turn comes.
 
 use super::check_bytes;
 use super::collecting::{ADDED_UP, OTHERS, is_outside, trace};
@@ -16,7 +16,7 @@ use std::sync::Wait;
 use std::test::*;
 use std::thread::Threads;
 
-/// An input that may turn out not to be readable, or for which there may be no memory.
+/// An input that may be unreadable, or run out of memory.
 #[derive(Drop)]
 enum Late {
     Readable(Input),
@@ -49,10 +49,10 @@ impl LateInput<Global> for Late {
     }
 }
 
-/// Stands for an input for which there is no memory.
+/// Stands for an input that runs out of memory.
 pub(super) const TOO_LARGE: &[u8] = b"too large";
 
-/// An input of this text, or one that can't be read in place of an empty text.
+/// An input of this text. An empty text makes an unreadable one.
 fn late_of(alloc: Global, text: &[u8]) -> Result<Late, Memory> {
     if text.is_empty() {
         return Ok(Late::Unreadable);
@@ -63,7 +63,7 @@ fn late_of(alloc: Global, text: &[u8]) -> Result<Late, Memory> {
     Ok(Late::Readable(trace(alloc, text)?))
 }
 
-/// These texts as inputs, of which empty ones can't be read.
+/// Inputs of these texts. Empty ones make unreadable inputs.
 fn lates(alloc: Global, texts: &[&[u8]]) -> Result<Vec<Late>, Fail> {
     let mut inputs = Vec::new(alloc);
     for text in texts {
@@ -72,7 +72,7 @@ fn lates(alloc: Global, texts: &[&[u8]]) -> Result<Vec<Late>, Fail> {
     Ok(inputs)
 }
 
-/// What `jobs` jobs collect into a book.
+/// Collects inputs into a book with `jobs` jobs.
 fn answered<R: Threads + Wait + Sync + AllocGlobal>(
     rt: &R,
     inputs: Vec<Late>,
@@ -81,7 +81,7 @@ fn answered<R: Threads + Wait + Sync + AllocGlobal>(
     collect_into_book(rt, rt.alloc(), inputs, jobs, &NoGate)
 }
 
-/// What `jobs` jobs collect into a book. Panics at a fault.
+/// Collects inputs into a book with `jobs` jobs. Panics on an error.
 fn collected_of<R: Threads + Wait + Sync + AllocGlobal + Abort>(
     rt: &R,
     inputs: Vec<Late>,
@@ -105,7 +105,7 @@ pub(super) fn check_report<R: AllocGlobal + Abort>(
     }
 }
 
-/// The second of four inputs is refused. Job 0 has two of the others.
+/// The second of four inputs is rejected. Job 0 has two of the others.
 fn by_three<R: Threads + Wait + Sync + AllocGlobal + Abort>(rt: &R) -> Result<(), Fail> {
     let inputs = lates(rt.alloc(), &[SMALL, b"DA:1,1", OTHERS, SMALL])?;
     let collected = collected_of(rt, inputs, 3);
@@ -142,7 +142,7 @@ pub(super) fn is_clash(answer: Option<&Answered>, wanted: u64) -> bool {
     }
 }
 
-/// The same line with two checksums: the second input clashes with the first.
+/// The second input has another checksum for the line, so it clashes with the first.
 fn two_versions<R: Threads + Wait + Sync + AllocGlobal + Abort>(rt: &R) -> Result<(), Fail> {
     let texts: [&[u8]; 2] = [
         b"TN:t\nSF:/a.c\nDA:7,1,one\nend_of_record\n",
@@ -162,7 +162,7 @@ fn the_answers_are_kept(rt: HostRuntime) -> Result<(), Fail> {
     two_versions(&rt)
 }
 
-/// Whether this number of jobs stops at the input at this place, of five of which the second and the fourth can't be read.
+/// Whether this number of jobs stops at the input with this index. Of five inputs, the second and the fourth are unreadable.
 fn stops_at<R: Threads + Wait + Sync + AllocGlobal>(
     rt: &R,
     jobs: u32,
@@ -175,7 +175,7 @@ fn stops_at<R: Threads + Wait + Sync + AllocGlobal>(
     }
 }
 
-/// The first input that can't be read is told, whichever jobs come to the others first.
+/// The first unreadable input is reported, whichever jobs reach the others first.
 #[test]
 fn the_first_unread_input(rt: HostRuntime) -> Result<(), Fail> {
     assert!(rt; stops_at(&rt, 1, 1)?);
@@ -185,7 +185,7 @@ fn the_first_unread_input(rt: HostRuntime) -> Result<(), Fail> {
     Ok(())
 }
 
-/// Whether two jobs stop at these four inputs with this fault.
+/// Whether two jobs stop at these four inputs with this error.
 fn ends_with<R: Threads + Wait + Sync + AllocGlobal>(
     rt: &R,
     texts: [&[u8]; 4],
@@ -198,8 +198,8 @@ fn ends_with<R: Threads + Wait + Sync + AllocGlobal>(
     }
 }
 
-/// An input that can't be read is told before memory that is refused for a later one, and not if it is refused for an earlier one,
-/// which may be unreadable too.
+/// An unreadable input takes precedence over memory that runs out for a later one. If memory runs out for an earlier one, `Memory`
+/// is reported, since that input may be unreadable too.
 #[test]
 fn an_unread_input_beside_refused_memory(rt: HostRuntime) -> Result<(), Fail> {
     let memory = IntoBookFault::Collect(CollectFault::Memory);
@@ -212,7 +212,7 @@ fn an_unread_input_beside_refused_memory(rt: HostRuntime) -> Result<(), Fail> {
     Ok(())
 }
 
-/// Whether nothing is collected, since this number of jobs isn't allowed.
+/// Whether `collect_into_book` rejects this number of jobs.
 fn are_bad<R: Threads + Wait + Sync + AllocGlobal>(rt: &R, jobs: u32) -> bool {
     match answered(rt, Vec::new(rt.alloc()), jobs) {
         Ok(_collected) => false,

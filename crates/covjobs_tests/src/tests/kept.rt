@@ -1,5 +1,5 @@
-//! What the jobs of a shared book kept, gathered with its history. `gather` finds what no contract of a single call excludes: an
-//! answer from an old copy of the book, and a closed history that is another legal one. A book that refuses all steps, which the
+//! The logs of a shared book's jobs, gathered with its history. `gather` finds what no contract of a single call excludes: an
+//! answer from an old copy of the book, and a closed history that is another legal one. A book that rejects all steps, which the
 //! contracts allow, fails these tests.
 
 ghost use Rattle.std.specs.Prelude.{◌≡◌};
@@ -16,7 +16,7 @@ use std::process::Abort;
 use std::sync::Wait;
 use std::test::*;
 
-/// Two jobs take turns to ask for the operations that the lines name. Each keeps its receipts in its log.
+/// Lets two jobs perform the operations that the lines name, in turn, and stores each receipt in the job's log.
 fn keep_turns<L: Name, R: Wait + Abort>(
     rt: &R,
     alloc: Global,
@@ -56,8 +56,8 @@ fn in_turn<L: Name, R: Wait + Abort + AllocGlobal>(
     (history_of(rt, book, seats), logs)
 }
 
-/// Two jobs share a book, and take turns to ask for the operations that the lines name. Returns the book's history, and the log
-/// of each job.
+/// Lets two jobs perform the operations that the lines name, in turn, on one book. Returns the book's history, and the log of each
+/// job.
 fn history<R: Wait + Abort + AllocGlobal>(
     rt: &R,
     lines: &[u8],
@@ -128,13 +128,13 @@ fn a_rename_among_six_calls(rt: HostRuntime) -> Result<(), Fail> {
     Ok(())
 }
 
-/// Checks that `gather` refuses the logs since the first receipt of the first log differs from its entry.
+/// Checks that `gather` rejects the logs because the first receipt of the first log differs from its entry.
 fn check_differs(rt: &impl Abort, entries: &Entries, logs: &[JobLog]) {
     let told = gathered(entries.get(), logs);
     assert!(rt; told == Err(GatherFault::Differs { log: 0, index: 0 }));
 }
 
-/// A log of job 0 with one receipt: of a report at place 4, with this answer.
+/// A log of job 0 with one receipt: of a report at index 4, with this answer.
 fn report_log(rt: &impl Abort, alloc: Global, answer: Answer) -> JobLog {
     let mut log = JobLog {
         job: 0,
@@ -157,7 +157,7 @@ fn put_first(logs: &mut [JobLog], first: JobLog) {
     }
 }
 
-/// `gather` refuses a report after two submissions whose answer has only the first submission.
+/// `gather` rejects a stale report, whose answer misses the second of two submissions.
 #[test]
 fn answer_from_an_old_copy(rt: HostRuntime) -> Result<(), Fail> {
     let first = report_log(&rt, rt.alloc(), old_report(&rt)?);
@@ -167,7 +167,7 @@ fn answer_from_an_old_copy(rt: HostRuntime) -> Result<(), Fail> {
     Ok(())
 }
 
-/// `gather` refuses the history of another book, although it is legal, and as long as the history that the logs are of.
+/// `gather` rejects the history of another book, although it is legal and as long as that of the logs.
 #[test]
 fn another_history(rt: HostRuntime) -> Result<(), Fail> {
     let (_entries, logs) = history(&rt, ASKED)?;
@@ -185,7 +185,7 @@ fn read_in_first(rt: &impl Abort, logs: &mut [JobLog], reading: Reading) {
     }
 }
 
-/// `gather` refuses a reading of zeros after two submissions.
+/// `gather` rejects a reading of zeros after two submissions.
 #[test]
 fn a_bad_reading(rt: HostRuntime) -> Result<(), Fail> {
     let (entries, mut logs) = history(&rt, ASKED)?;

@@ -15,7 +15,7 @@ use std::sync::Wait;
 use std::test::*;
 use std::thread::Threads;
 
-/// An input whose parts are these texts. In place of an empty text it can't be read.
+/// An input whose parts are these texts. An empty text makes it unreadable there.
 #[derive(Drop)]
 struct Pieces<'a> {
     texts: &'a [&'a [u8]],
@@ -51,7 +51,7 @@ impl<'a> LateInput<Global> for Pieces<'a> {
     }
 }
 
-/// Reads one part, packed. An empty text stands for one that can't be read, and `TOO_LARGE` for one for which there is no memory.
+/// Reads one packed part. An empty text is unreadable, and `TOO_LARGE` runs out of memory.
 fn read_piece(alloc: Global, text: &[u8]) -> Result<PackedRef, LateFault> {
     if text.is_empty() {
         return Err(LateFault::Unreadable);
@@ -68,7 +68,7 @@ fn read_piece(alloc: Global, text: &[u8]) -> Result<PackedRef, LateFault> {
     }
 }
 
-/// What `jobs` jobs collect of inputs with these parts.
+/// Collects inputs with these parts, with `jobs` jobs.
 fn answered<R: Threads + Wait + Sync + AllocGlobal>(
     rt: &R,
     inputs: &[&[&[u8]]],
@@ -83,7 +83,7 @@ fn answered<R: Threads + Wait + Sync + AllocGlobal>(
     collect_into_book(rt, rt.alloc(), pieces, jobs, &NoGate)
 }
 
-/// What `jobs` jobs collect of inputs with these parts. Panics at a fault.
+/// Collects inputs with these parts, with `jobs` jobs. Panics on an error.
 fn collected_of<R: Threads + Wait + Sync + AllocGlobal + Abort>(
     rt: &R,
     inputs: &[&[&[u8]]],
@@ -104,7 +104,8 @@ fn three_parts(rt: HostRuntime) {
     check_report(&rt, &collected, ADDED_UP);
 }
 
-/// The third part of the second input is refused, and with it the rest of the input. The two parts before it stay submitted.
+/// The third part of the second input is invalid, so it and the rest of the input are rejected. The two parts before it stay
+/// submitted.
 #[test]
 fn a_fault_after_two_parts(rt: HostRuntime) {
     let collected = collected_of(&rt, &[&[SMALL], &[OTHERS, SMALL, b"DA:1,1", SMALL]], 1);
@@ -113,7 +114,7 @@ fn a_fault_after_two_parts(rt: HostRuntime) {
     check_report(&rt, &collected, ADDED_UP);
 }
 
-/// The same line with two checksums.
+/// `ONE` and `TWO` have different checksums for one line.
 const ONE: &[u8] = b"TN:t\nSF:/a.c\nDA:7,1,one\nend_of_record\n";
 
 const TWO: &[u8] = b"TN:t\nSF:/a.c\nDA:7,1,two\nend_of_record\n";
@@ -130,7 +131,7 @@ fn the_order_of_parts(rt: HostRuntime) {
     assert!(rt; is_clash(kept.get(3), 7));
 }
 
-/// Job 0 has the first input and the third, and job 1 the second, which is refused after its first part.
+/// Job 0 has the first input and the third, and job 1 the second, which is rejected after its first part.
 #[test]
 fn parts_of_two_jobs(rt: HostRuntime) {
     let collected = collected_of(&rt, &[&[SMALL], &[OTHERS, b"DA:1,1"], &[SMALL]], 2);
@@ -139,7 +140,7 @@ fn parts_of_two_jobs(rt: HostRuntime) {
     check_report(&rt, &collected, ADDED_UP);
 }
 
-/// Whether two jobs stop at these inputs with this fault.
+/// Whether two jobs stop at these inputs with this error.
 fn ends_with<R: Threads + Wait + Sync + AllocGlobal>(
     rt: &R,
     inputs: &[&[&[u8]]],
@@ -151,7 +152,7 @@ fn ends_with<R: Threads + Wait + Sync + AllocGlobal>(
     }
 }
 
-/// An input that can't be read after its first part is told by its place. So is one with no part at all.
+/// An input that can't be read after its first part is reported by its index. So is one without a part.
 #[test]
 fn unreadable_after_a_part(rt: HostRuntime) {
     let second = IntoBookFault::Unread { index: 1 };
@@ -166,7 +167,7 @@ fn unreadable_after_a_part(rt: HostRuntime) {
     assert!(rt; ends_with(&rt, &[&[SMALL], &[], &[SMALL, b""]], second));
 }
 
-/// Memory that is refused for a later part stops the job at this input. The input may be unreadable too, so a later one isn't told.
+/// The job stops if memory runs out for a later part of an input. This input may be unreadable too, so no later one is reported.
 #[test]
 fn refused_memory_after_a_part(rt: HostRuntime) {
     let memory = IntoBookFault::Collect(CollectFault::Memory);

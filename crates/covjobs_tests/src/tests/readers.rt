@@ -1,4 +1,4 @@
-//! Readers of the totals, which take no lock.
+//! Readers of the totals, which need no lock.
 
 ghost use Rattle.std.specs.Prelude.{◌≡◌};
 
@@ -21,7 +21,7 @@ fn reader_of<L: Name, R: Wait + Abort>(rt: &R, book: &Shared<L>) -> Live<L> {
     }
 }
 
-/// Checks how many entries the reading is of, and how many lines are found and hit after them. Nothing else is found.
+/// Checks the reading's number of entries, and how many lines are found and hit after them. Nothing else is found.
 fn check_reading(rt: &impl Abort, reading: Reading, upto: u64, found: u64, hit: u64) {
     let totals = reading.totals;
     assert_eq!(rt; reading.upto, upto);
@@ -58,7 +58,7 @@ fn submitted<L: Name, R: Wait + Abort>(
     }
 }
 
-/// Two readers are made before a submit. One learns the news of the submit, and the other doesn't. Both report the submit.
+/// Two readers are made before a submit. Only one learns the news of the submit, but both report it.
 fn read_by_two<L: Name, R: Wait + Abort + AllocGlobal>(rt: &R, start: Start)
     requires name { start.name ≡ L.name }
     requires jobs { start.jobs ≡ L.parts }
@@ -81,8 +81,8 @@ fn a_submit_is_read(rt: HostRuntime) -> Result<(), Fail> {
     Ok(())
 }
 
-/// Three readers of a book that is closed after its only entry. One has read this entry. One was made before the entry and one
-/// after it, and neither of these two has read. Of these, the early one reports no entries until it learns the news.
+/// Three readers of a book that is closed after its only entry: one has read this entry; one was made before it and one after it,
+/// and neither has read. The early one reports no entries until it learns the news.
 fn kept_over_close<L: Name, R: Wait + Abort + AllocGlobal>(rt: &R, start: Start)
     requires name { start.name ≡ L.name }
     requires jobs { start.jobs ≡ L.parts }
@@ -161,7 +161,7 @@ fn numbers_of_reader_faults(rt: HostRuntime) {
 /// How often the small tracefile is submitted, and how often the totals are read at the same time.
 const TIMES: u64 = 1000;
 
-/// What many submits leave: the seats, the job's log, and the news of the last submit.
+/// The result of many submits: the seats, the job's log, and the last news.
 #[derive(Drop)]
 struct Told<L: Name> {
     seats: Vec<Seat<L>>,

@@ -1,4 +1,4 @@
-//! Steps that are refused because memory ran out, or because the history is full.
+//! Steps that fail because memory ran out, or because the history is full.
 
 ghost use Rattle.std.specs.Prelude.{◌≡◌};
 
@@ -13,7 +13,7 @@ use std::process::Abort;
 use std::sync::Wait;
 use std::test::*;
 
-/// Asks for summaries until one is refused, at most `most` times. Returns how many were answered, and the fault if there was one.
+/// Asks for summaries until one fails, at most `most` times. Returns how many were answered, and the error.
 fn summaries<L: Name, A: Allocator + Copy, R: Wait>(
     rt: &R,
     alloc: A,
@@ -29,13 +29,13 @@ fn summaries<L: Name, A: Allocator + Copy, R: Wait>(
     (most, None)
 }
 
-/// Checks how many of the seat's calls succeeded, and that no other seat's did.
+/// Checks that the seat made `calls` successful calls, and that it saw no other entries than theirs.
 fn check_seat<L: Name>(rt: &impl Abort, seat: &Seat<L>, calls: u64) {
     assert_eq!(rt; (seat.calls(), seat.seen()), (calls, calls));
 }
 
-/// Asks for summaries until the heap has no more room, and returns how many were answered. Meanwhile a part of the heap is kept
-/// back here, so that there is room again later. The refused call leaves the seat as it was.
+/// Asks for summaries until the heap is full, and returns how many were answered. Holds a part of the heap back meanwhile and frees
+/// it at the end. The failed call doesn't change the seat.
 fn fill_heap<L: Name, A: Allocator + Copy, R: Wait + Abort>(
     rt: &R,
     alloc: A,
@@ -53,7 +53,7 @@ fn fill_heap<L: Name, A: Allocator + Copy, R: Wait + Abort>(
     succeeded
 }
 
-/// The seat fills the heap. With room again, the same call is answered at the next place.
+/// The seat fills the heap. With memory again, the same call is answered with the next index.
 fn check_refusal<L: Name, A: Allocator + Copy, R: Wait + Abort>(
     rt: &R,
     alloc: A,
@@ -68,7 +68,7 @@ fn check_refusal<L: Name, A: Allocator + Copy, R: Wait + Abort>(
     check_seat(rt, seat, succeeded.wrapping_add(1));
 }
 
-/// The only seat fills the heap, and can still be used when there is room again.
+/// The only seat fills the heap, and works again after memory is freed.
 fn no_room<L: Name, A: Allocator + Copy, R: Wait + Abort>(rt: &R, alloc: A, start: Start<A>)
     requires name { start.name ≡ L.name }
     requires jobs { start.jobs ≡ L.parts }
@@ -81,7 +81,7 @@ fn no_room<L: Name, A: Allocator + Copy, R: Wait + Abort>(rt: &R, alloc: A, star
     check_length(rt, book, seats);
 }
 
-/// Closes the book, and checks that its history has as many entries as the only seat counts calls.
+/// Closes the book, and checks that its history has one entry per call that the only seat counts.
 fn check_length<L: Name, A: Allocator, R: Wait + Abort>(
     rt: &R,
     book: Shared<L, A>,
@@ -107,7 +107,7 @@ fn a_heap_without_room(rt: HostRuntime) -> Result<(), Fail> {
     Ok(())
 }
 
-/// The history takes 1,048,576 entries, and a call after them is refused and leaves the seat as it was.
+/// The history has at most 1,048,576 entries. A further call fails and doesn't change the seat.
 fn full<L: Name, R: Wait + Abort + AllocGlobal>(rt: &R, start: Start)
     requires name { start.name ≡ L.name }
     requires jobs { start.jobs ≡ L.parts }

@@ -1,4 +1,4 @@
-//! Calls in functions without contracts. A test looks only at values, and its proof is quicker without contracts.
+//! Calls in functions without contracts. A test looks only at values, and its proof is faster without contracts.
 
 ghost use Rattle.std.specs.Prelude.{◌≡◌};
 
@@ -29,7 +29,7 @@ pub(super) fn open<L: Name, A: Allocator + Copy>(
     open_book::<L, A>(alloc, start)
 }
 
-/// What the book answers to the call.
+/// The answer of the book to the call.
 pub(super) fn done<L: Name, A: Allocator + Copy, R: Wait>(
     rt: &R,
     alloc: A,

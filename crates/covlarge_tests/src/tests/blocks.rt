@@ -1,4 +1,4 @@
-//! `read_at_most`.
+//! Tests of `read_at_most`.
 
 use super::Given;
 use covlarge::read_at_most;
@@ -8,8 +8,8 @@ use std::alloc::Global;
 use std::process::Abort;
 use std::test::*;
 
-/// What is read of `bytes` behind `text`, at most `most` bytes and 100, and how many reads were made. A source that gives at most two
-/// bytes in a read is asked for at most three.
+/// Reads `bytes` after `text`, at most `most` bytes and 100. Returns the text and the number of reads. The source gives at most two
+/// bytes per read and is asked for at most three.
 fn read(
     alloc: Global,
     text: &[u8],
@@ -32,7 +32,7 @@ fn read(
     }
 }
 
-/// Checks what is read, by how many reads.
+/// Checks the bytes that are read, and the number of reads.
 fn check(
     rt: &(impl Abort + AllocGlobal),
     text: &[u8],
@@ -49,7 +49,7 @@ fn check(
     Ok(())
 }
 
-/// The bytes are appended, until there are enough or the source is at its end.
+/// Bytes are appended until there are enough of them, or the source is at its end.
 #[test]
 fn reads(rt: HostRuntime) -> Result<(), Fail> {
     check(&rt, b"", b"abcdef", 4, (b"abcd", 2))?;
@@ -60,7 +60,7 @@ fn reads(rt: HostRuntime) -> Result<(), Fail> {
     check(&rt, b"xy", b"abc", 0, (b"xy", 0))
 }
 
-/// A read that fails is the fault, unless it isn't made.
+/// A failed read is the error. A read that isn't needed isn't made, and so can't fail.
 #[test]
 fn failed_reads(rt: HostRuntime) -> Result<(), Fail> {
     let first = read(rt.alloc(), b"x", b"abc", 1, 4)?;

@@ -1,11 +1,11 @@
-//! `check_large`, and what a whole tracefile holds.
+//! Tests of `check_large` and of the summary of a whole tracefile.
 
 use super::texts::{push_long_section, push_sections, three_pieces};
 use super::{WELL, Way, check_whole, check_words};
 use covcommand::LcovVersion;
 use std::test::*;
 
-/// Skipped lines in the second piece and the third, and odd ones in the first and the third.
+/// Skipped lines in the second and third chunk, and inconsistent ones in the first and third.
 #[test]
 fn several_pieces(rt: HostRuntime) -> Result<(), Fail> {
     let mut text = Vec::from_slice(rt.alloc(), b"TN:t\nSF:/b.c\nFNDA:1,f\nend_of_record\n")?;
@@ -28,7 +28,7 @@ fn several_pieces(rt: HostRuntime) -> Result<(), Fail> {
     Ok(())
 }
 
-/// One piece, none, and the ways in which reading ends early.
+/// A tracefile of one chunk, an empty one, and the ways in which reading ends early.
 #[test]
 fn other_ends(rt: HostRuntime) -> Result<(), Fail> {
     let told = check_whole(rt.alloc(), LcovVersion::One, b"", WELL)?;

@@ -1,4 +1,4 @@
-//! Tracefiles of several pieces.
+//! Tracefiles of several chunks.
 
 use super::texts::{doubled, push_long_section, push_sections, three_pieces};
 use super::{Given, WELL, Way, check_words, read_pieces, read_summed};
@@ -7,7 +7,7 @@ use covlarge::{LargeTracefile, NextPiece};
 use std::process::Abort;
 use std::test::*;
 
-/// Three pieces, whose sections are all of the test `t`. In the last lines is a total that is odd.
+/// Three chunks with sections of the test `t`. The last lines have an inconsistent total.
 #[test]
 fn three(rt: HostRuntime) -> Result<(), Fail> {
     let text = three_pieces(rt.alloc(), b"SF:/b.c\nLF:1\nend_of_record\nVER:1\n")?;
@@ -32,7 +32,7 @@ fn three(rt: HostRuntime) -> Result<(), Fail> {
     Ok(())
 }
 
-/// After a piece one piece less may be read.
+/// Each chunk reduces the number of chunks that may follow by one.
 #[test]
 fn pieces_that_are_left(rt: HostRuntime) -> Result<(), Fail> {
     let text = three_pieces(rt.alloc(), b"")?;
@@ -54,7 +54,7 @@ fn pieces_that_are_left(rt: HostRuntime) -> Result<(), Fail> {
     Ok(())
 }
 
-/// Faults in the last piece have their numbers in the whole, and the pieces before are read.
+/// Errors in the last chunk have their line numbers in the whole, and the chunks before it are read.
 #[test]
 fn faults(rt: HostRuntime) -> Result<(), Fail> {
     let examples: [(&[u8], &str); 4] = [
@@ -74,7 +74,8 @@ fn faults(rt: HostRuntime) -> Result<(), Fail> {
     Ok(())
 }
 
-/// A section of 8 MiB, and what goes over to it: the test's name, and in LCOV 2 that totals of functions say nothing. A name behind it.
+/// A section of 8 MiB, and the state carried over to it: the test's name, and in LCOV 2 that totals of functions are ignored. A
+/// name follows it.
 #[test]
 fn a_long_section(rt: HostRuntime) -> Result<(), Fail> {
     let mut text = Vec::from_slice(
@@ -94,7 +95,7 @@ fn a_long_section(rt: HostRuntime) -> Result<(), Fail> {
     Ok(())
 }
 
-/// A section of 64 MiB is too long. The one before it is read, and its fault is told.
+/// A section of 64 MiB is too long. Reading reports this after the section before it.
 #[test]
 fn a_section_that_is_too_long(rt: HostRuntime) -> Result<(), Fail> {
     let mut text = Vec::from_slice(rt.alloc(), b"SF:/a.c\nDA:1,1\nend_of_record\n")?;
@@ -108,7 +109,7 @@ fn a_section_that_is_too_long(rt: HostRuntime) -> Result<(), Fail> {
     Ok(())
 }
 
-/// Just as many bytes as a text may have, and one more: 15 + 67,108,834 + 15, or five less with the front `TN:t`.
+/// A section at the size limit, and one byte above it: 15 + 67,108,834 + 15, or five less with the prefix `TN:t`.
 #[test]
 fn the_longest_section(rt: HostRuntime) -> Result<(), Fail> {
     let examples: [(&[u8], usize, &str); 4] = [
@@ -130,7 +131,7 @@ fn the_longest_section(rt: HostRuntime) -> Result<(), Fail> {
     Ok(())
 }
 
-/// A read that fails in the first piece, which takes 64 reads of 64 KiB, or in the second one, which takes 17 and one more at the end.
+/// A failed read in the first chunk, which needs 64 reads of 64 KiB, or in the second one, which needs 17 and one more at the end.
 #[test]
 fn failed_reads(rt: HostRuntime) -> Result<(), Fail> {
     let mut text = Vec::from_slice(rt.alloc(), b"")?;

@@ -1,4 +1,4 @@
-//! Tracefiles of one piece, which are read as a whole.
+//! Tracefiles of one chunk, which are read as a whole.
 
 use super::{Given, WELL, Way, check_words, read_pieces, read_summed};
 use covcommand::LcovVersion;
@@ -7,11 +7,11 @@ use covread::read_trace;
 use std::process::Abort;
 use std::test::*;
 
-/// Two sections, whatever a read gives.
+/// Two sections.
 const TWO: &[u8] =
     b"TN:t\nSF:/a.c\nFN:1,f\nFNDA:2,f\nDA:1,2,x\nDA:2,0\nLF:3\nend_of_record\n\nx\nSF:/b.c\nend_of_record\n";
 
-/// The submission of the only piece is that of the whole text, and no more are left.
+/// The submission of the only chunk is that of the whole tracefile, and no chunk follows.
 #[test]
 fn one_piece(rt: HostRuntime) -> Result<(), Fail> {
     let source = Given {
@@ -33,7 +33,7 @@ fn one_piece(rt: HostRuntime) -> Result<(), Fail> {
     Ok(())
 }
 
-/// However many bytes a read gives.
+/// The result doesn't depend on the number of bytes per read.
 #[test]
 fn small_reads(rt: HostRuntime) -> Result<(), Fail> {
     for most in [1, 2, 13, 1_000] {
@@ -51,7 +51,7 @@ fn small_reads(rt: HostRuntime) -> Result<(), Fail> {
     Ok(())
 }
 
-/// Checks a tracefile: the words of its only piece and of its end.
+/// Checks a tracefile: the printed words of its only chunk and of its end.
 fn check(
     rt: &(impl Abort + AllocGlobal),
     version: LcovVersion,
@@ -63,7 +63,7 @@ fn check(
     Ok(())
 }
 
-/// Texts without sections, and faults.
+/// Inputs without sections, and errors.
 #[test]
 fn other_texts(rt: HostRuntime) -> Result<(), Fail> {
     check(&rt, LcovVersion::One, b"", "- 0 0 0\nend\n")?;
@@ -102,7 +102,7 @@ fn other_texts(rt: HostRuntime) -> Result<(), Fail> {
     )
 }
 
-/// A read that fails.
+/// A failed read ends reading.
 #[test]
 fn failed_reads(rt: HostRuntime) -> Result<(), Fail> {
     for fails in [1, 2, 5] {

@@ -1,9 +1,9 @@
-//! Texts of several pieces.
+//! Inputs of several chunks.
 
 use std::alloc::Global;
 use std::test::*;
 
-/// This text, 2^`times` times.
+/// Repeats the text 2^`times` times.
 pub(super) fn doubled(alloc: Global, text: &[u8], times: usize) -> Result<Vec<u8>, Fail> {
     let mut all = Vec::from_slice(alloc, text)?;
     for _time in 0..times {
@@ -13,8 +13,8 @@ pub(super) fn doubled(alloc: Global, text: &[u8], times: usize) -> Result<Vec<u8
     Ok(all)
 }
 
-/// Appends the section `SF:/a.c` with the line `DA:1,1`, so many times. The line's count has 524,288 zeros in front, so the section
-/// has 524,317 bytes, and a piece of 4 MiB has seven of them.
+/// Appends the section `SF:/a.c` with the line `DA:1,1`, `times` times. The line's count has 524,288 leading zeros, so the section
+/// has 524,317 bytes, and a chunk of 4 MiB has seven of them.
 pub(super) fn push_sections(alloc: Global, text: &mut Vec<u8>, times: usize) -> Result<(), Fail> {
     let zeros = doubled(alloc, b"0", 19)?;
     for _time in 0..times {
@@ -25,7 +25,7 @@ pub(super) fn push_sections(alloc: Global, text: &mut Vec<u8>, times: usize) -> 
     Ok(())
 }
 
-/// 9 MiB: the test `t` with 18 of these sections, and then these lines. They begin in line 56.
+/// 9 MiB: 18 of these sections in the test `t`, followed by the lines `last`, which begin at line 56.
 pub(super) fn three_pieces(alloc: Global, last: &[u8]) -> Result<Vec<u8>, Fail> {
     let mut text = Vec::from_slice(alloc, b"TN:t\n")?;
     push_sections(alloc, &mut text, 18)?;

@@ -1,10 +1,10 @@
-//! The faults of texts.
+//! Errors of inputs.
 
 use super::{check_fault, push_line};
 use std::process::Abort;
 use std::test::*;
 
-/// Checks the faults of texts, one after the other. A line that begins with `= ` ends a text and has its fault.
+/// Checks the errors of inputs. A line that begins with `= ` ends an input and has its error.
 fn check_all(rt: &(impl Abort + AllocGlobal), examples: &[u8]) -> Result<(), Fail> {
     let mut text = Vec::new(rt.alloc());
     for line in examples.split(|byte| *byte == b'\n') {
@@ -98,7 +98,7 @@ BRDA:1,0,x,340282366920938463463374607431768211456
     )
 }
 
-/// Lines in a wrong place.
+/// Lines in the wrong place.
 #[test]
 fn misplaced_lines(rt: HostRuntime) -> Result<(), Fail> {
     check_all(

@@ -4,7 +4,7 @@ use super::{push_line, reads_as};
 use std::process::Abort;
 use std::test::*;
 
-/// Checks that the text is read as the wanted one.
+/// Checks that the input is read as the expected one.
 fn check_one(
     rt: &(impl Abort + AllocGlobal),
     name: &[u8],
@@ -15,8 +15,8 @@ fn check_one(
     Ok(())
 }
 
-/// Checks what texts are read as, one after the other. Each is in a section that begins `SF:a`, which it ends. A line that begins
-/// with `> ` is wanted, one that begins with `= ` ends the example and is its name, and the others are the text.
+/// Checks examples. Each input is the rest of a section that begins with `SF:a`. A line that begins with `> ` is expected, one that
+/// begins with `= ` ends the example and is its name, and the others are the input.
 fn check_all(rt: &(impl Abort + AllocGlobal), examples: &[u8]) -> Result<(), Fail> {
     let mut text = Vec::from_slice(rt.alloc(), b"SF:a\n")?;
     let mut wanted = Vec::from_slice(rt.alloc(), b"SF:a\n")?;
@@ -270,7 +270,7 @@ BRDA:5,e0,jump to the function exit,0
     )
 }
 
-/// Lines that say nothing.
+/// Lines without a meaning are skipped.
 #[test]
 fn skipped_lines(rt: HostRuntime) -> Result<(), Fail> {
     check_all(
@@ -292,7 +292,7 @@ FNA
     )
 }
 
-/// Texts of several sections, or with carriage returns.
+/// Inputs of several sections, or with carriage returns.
 #[test]
 fn sections(rt: HostRuntime) -> Result<(), Fail> {
     check_one(

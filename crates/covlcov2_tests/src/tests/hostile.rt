@@ -1,11 +1,10 @@
-//! Long texts.
+//! Long inputs.
 
 use super::{check_fault, read};
 use std::process::Abort;
 use std::test::*;
 
-/// A section of 20,000 leaders that descend, and a function of each: a reader that passes over all leaders for each function
-/// wouldn't end in time.
+/// A section of 20,000 descending `FNL:` lines, each with a function. A reader with quadratic running time wouldn't end in time.
 #[test]
 fn many_leaders(rt: HostRuntime) -> Result<(), Fail> {
     let mut text = Vec::from_slice(rt.alloc(), b"SF:a\n")?;
@@ -34,7 +33,7 @@ fn many_expressions(rt: HostRuntime) -> Result<(), Fail> {
     Ok(())
 }
 
-/// A text with one byte more than 64 MiB.
+/// An input with one byte more than 64 MiB.
 #[test]
 fn too_long_text(rt: HostRuntime) -> Result<(), Fail> {
     let text = vec![in rt.alloc(); b'\n'; 67_108_865]?;

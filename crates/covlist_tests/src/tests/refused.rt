@@ -1,4 +1,4 @@
-//! Texts in heaps that have no room, and then more and more room, until a text isn't refused.
+//! Makes texts in a heap without capacity, and then with more and more capacity, until a text is made.
 
 use super::heap::{check_rising, narrow, widen};
 use super::objects::{JSON_OF_TWO, SUMMARY_OF_TWO};
@@ -10,7 +10,7 @@ use covreport::Choice;
 use std::process::Abort;
 use std::test::*;
 
-/// Makes the table in this room, and once more with ample room if it was refused.
+/// Makes the table with this capacity, and if that fails, with ample capacity.
 fn makes_table(rt: &impl Abort, heap: &Bump, room: usize) -> bool {
     let store = holding(rt, heap, TWO_FILES);
     narrow(rt, heap, room);
@@ -24,7 +24,7 @@ fn makes_table(rt: &impl Abort, heap: &Bump, room: usize) -> bool {
     is_refused
 }
 
-/// Makes the JSON of the files in this room, and once more with ample room if it was refused.
+/// Makes the JSON of the files with this capacity, and if that fails, with ample capacity.
 fn makes_json(rt: &impl Abort, heap: &Bump, room: usize) -> bool {
     let store = holding(rt, heap, TWO_FILES);
     narrow(rt, heap, room);
@@ -38,7 +38,7 @@ fn makes_json(rt: &impl Abort, heap: &Bump, room: usize) -> bool {
     is_refused
 }
 
-/// Makes the JSON of the totals in this room, and once more with ample room if it was refused.
+/// Makes the JSON of the totals with this capacity, and if that fails, with ample capacity.
 fn makes_summary(rt: &impl Abort, heap: &Bump, room: usize) -> bool {
     let totals = holding(rt, heap, TWO_FILES).totals();
     narrow(rt, heap, room);

@@ -1,4 +1,4 @@
-//! Calls of the crates below, in functions without contracts. A test looks only at values, and its proof is quicker without
+//! Calls of the crates below, in functions without contracts. A test looks only at values, and its proof is faster without
 //! contracts.
 
 use super::made;

@@ -9,16 +9,15 @@ use crate::slots::run::make_slots;
 use std::alloc::{AllocError, Allocator};
 
 impl<K: Key + Drop, V: Value, A: Allocator + Copy> StagedMap<K, V, A> {
-    /// Stages, for each item in turn, the sum of its key's staged value and its addend. Appends what the addends report to the
-    /// list `reports`. Keys may come in any order, and more than once.
+    /// Stages, for each item in turn, the sum of its key's staged value and its addend. Appends the addends' reports to `reports`.
+    /// Keys may come in any order and more than once.
     ///
-    /// Ascending keys that have slots cost one look-up for each page that they are on. New keys that are greater than all
-    /// others are put on a new page together, unless fewer than 32 items are left and the last page has room. Any other new key
-    /// is inserted by itself.
+    /// Ascending keys with slots cost one look-up per page. New keys above all others begin a new page together, unless fewer than
+    /// 32 items are left and the last page isn't full. Any other new key is inserted by itself.
     ///
     /// # Errors
     ///
-    /// `AllocError` if memory was refused. Anything may be staged then, so roll it back.
+    /// `AllocError` if an allocation failed. Anything may be staged then, so roll it back.
     pub fn stage_run<Q: Query<K, A>, N: Drop, M: ReportingAddend<V, N>>(
         &mut self,
         alloc: A,

@@ -1,6 +1,6 @@
 //! Inserts a slot, even while values are staged. The columns of staged values are then changed in the same way as the pages.
 //!
-//! If memory is refused, committed values stay, but staged ones may be lost.
+//! A failed allocation keeps committed values, but may discard staged ones.
 
 ghost use Rattle.std.specs.Prelude.{◌≡◌, ◌+◌, ◌^◌, ◌<◌, IfOk, OnOk, length};
 ghost use Rattle.std.specs.declared.cmp.Ordering.TheVariants.{Less};
@@ -117,7 +117,7 @@ fn put_after<K: Key + Drop, V: Value, A: Allocator + Copy>(
     })
 }
 
-/// Inserts an empty slot on a page that has room for it.
+/// Inserts an empty slot on a page that isn't full.
 fn put_at<K: Key + Drop, V: Value, A: Allocator + Copy>(
     slots: &mut Slots<K, V, A>,
     staged: &mut StagedColumns<V, A>,

@@ -19,7 +19,7 @@ impl<K: CopyKey<A> + Drop, V, A: Allocator + Copy> Slots<K, V, A> {
     }
 }
 
-/// The images of the pages. Reserves room for exactly `pages.len()` images.
+/// The images of the pages. Reserves capacity for exactly `pages.len()` images.
 fn page_images<K: CopyKey<A> + Drop, V, W: Image<V>, A: Allocator + Copy>(
     pages: &[Page<K, V, A>],
     alloc: A,

@@ -1,7 +1,7 @@
 //! A page of slots: a list of ascending keys, and a list of their values, which may be shorter.
 //!
-//! The lists are separate, so that a search reads only keys, and a commit replaces all values of a page at once. The slots past
-//! the end of the list of values are empty, so a page without committed values takes memory only for its keys.
+//! The lists are separate, so that a search reads only keys, and a commit replaces all values of a page at once. Slots past the end
+//! of the list of values are empty, so a page without committed values uses memory only for its keys.
 
 ghost use Rattle.std.specs.Prelude.{◌≡◌, ◌<◌, ◌≤◌, ◌-◌, ◌++◌, None, [], ◌∷◌, IfNone, IfOk, IfSome, OnErr, OnOk, true, is_some, length, map, drop, option_map, slice_get, slice_set, take};
 ghost use Rattle.std.specs.List.{insert};
@@ -51,7 +51,7 @@ impl<'a, K, V> Model for Rest<'a, K, V> {
 }
 
 impl<K, V, A: Allocator> Page<K, V, A> {
-    /// A page with one empty slot, and no room for more.
+    /// A page with one empty slot, and no capacity for more.
     pub(crate) fn of(alloc: A, key: K) -> Result<Page<K, V, A>, AllocError>
     where
         K: Drop,
@@ -184,7 +184,7 @@ impl<K, V: Value, A: Allocator> Page<K, V, A> {
 }
 
 impl<K: Drop, V: Value, A: Allocator + Copy> Page<K, V, A> {
-    /// Inserts an empty slot, mostly after all others.
+    /// Inserts an empty slot. Usually it comes after all others.
     #[inline(always)]
     pub(crate) fn insert(&mut self, index: usize, key: K) -> Result<(), AllocError>
         requires { index ≤ length self.old }
@@ -208,14 +208,14 @@ impl<K: Drop, V: Value, A: Allocator + Copy> Page<K, V, A> {
             self.keys.insert(index, key)?;
             return Ok(());
         }
-        // Reserves room for the value first, so that the keys don't change if memory is refused.
+        // Reserves capacity for the value first, so that the keys don't change if an allocation fails.
         self.values.reserve(1)?;
         self.keys.insert(index, key)?;
         self.values.insert(index, None)?;
         Ok(())
     }
 
-    /// Moves the second half of a full page to a page of its own.
+    /// Splits a full page: moves its second half to a new page, which is returned.
     pub(crate) fn split(&mut self, alloc: A) -> Result<Page<K, V, A>, AllocError>
         requires { length self.old ≡ 256 }
         ensures front { OnOk result (self.new ≡ take 128 self.old) }
@@ -230,7 +230,7 @@ impl<K: Drop, V: Value, A: Allocator + Copy> Page<K, V, A> {
 }
 
 impl<K, V: Value, A: Allocator> Page<K, V, A> {
-    /// A copy of the values from a slot on. If there are fewer values than slots, the slots without one are empty.
+    /// Copies the values from a slot on. Slots past the end of the list of values are empty.
     fn values_from(&self, alloc: A, start: usize) -> Result<Vec<Option<V>, A>, AllocError>
         ensures values { IfOk result (λ values. beside (drop start (map (λ slot. slot.0) self.now)) values.items ≡ drop start self.now) }
         ensures fits { IfOk result (λ values. length values.items ≤ length self.now - start) }
@@ -242,7 +242,7 @@ impl<K, V: Value, A: Allocator> Page<K, V, A> {
     }
 }
 
-/// Appends empty values until the column has `len` values. Reserves no more room than that.
+/// Appends empty values until the column has `len` values. Reserves no more capacity than that.
 fn fill_up<V: Drop, A: Allocator>(
     column: &mut Vec<Option<V>, A>,
     len: usize,

@@ -13,8 +13,8 @@ use crate::slots::staged::StagedColumns;
 use crate::slots::{PAGE_SLOTS, SlotIndex, Slots, push};
 use std::alloc::{AllocError, Allocator};
 
-/// A run is short if fewer items than this are left of it. A new key that is greater than all others goes to the last page if
-/// the run is short and that page has room. Otherwise the key begins a new page.
+/// A run is short if fewer items than this are left. A new key above all others goes to the last page if the run is short and that
+/// page isn't full. Otherwise the key begins a new page.
 const SHORT_RUN: usize = 32;
 
 impl SlotIndex {
@@ -28,7 +28,7 @@ impl SlotIndex {
 }
 
 impl<K: Key, V, A: Allocator> Slots<K, V, A> {
-    /// Whether the last page has room for one more slot.
+    /// Whether the last page isn't full.
     fn has_room(&self) -> bool {
         match self.pages.last() {
             Some(page) => page.len() < PAGE_SLOTS,
@@ -36,7 +36,7 @@ impl<K: Key, V, A: Allocator> Slots<K, V, A> {
         }
     }
 
-    /// Whether a new key at a place is inserted on a page that there is, if `len` items of its run are left.
+    /// Whether a new key at a place goes on an existing page, if `len` items of its run are left.
     #[inline]
     fn takes(&self, place: SlotIndex, len: usize) -> bool
         ensures { result ≡ false → length self.now ≤ place.page }
@@ -48,7 +48,7 @@ impl<K: Key, V, A: Allocator> Slots<K, V, A> {
         self.has_room() && len < SHORT_RUN
     }
 
-    /// Where to begin the search for a key: a place on the page of the guess, found without a search among the pages.
+    /// A place on the page of the guess at which to look for a key first. Searches only that page.
     fn guess_near<Q: Query<K, A>>(&self, query: Q, guess: SlotIndex) -> SlotIndex
     where
         V: Value,
@@ -87,8 +87,8 @@ impl<K: Key + Drop, V: Value, A: Allocator + Copy> Slots<K, V, A> {
     }
 }
 
-/// Returns the place of the first key of a run. If this key has no slot, it gets an empty one, and so do the keys that follow it
-/// in the run, as long as they ascend and belong to the same page.
+/// Returns the place of the first key of a run. A key without a slot gets an empty one, and so do the following keys of the run
+/// that ascend and belong to the same page.
 pub(crate) fn make_slots<
     K: Key + Drop,
     V: Value,
@@ -116,7 +116,7 @@ pub(crate) fn make_slots<
     }
 }
 
-/// The same as `make_slots`, for a run whose first key has no slot. The key would be inserted at `place`.
+/// Like `make_slots`, for a run whose first key has no slot. The key would be inserted at `place`.
 #[inline]
 fn make_absent<K: Key + Drop, V: Value, A: Allocator + Copy, Q: Query<K, A>, M: Addend<V>>(
     slots: &mut Slots<K, V, A>,
@@ -139,7 +139,7 @@ fn make_absent<K: Key + Drop, V: Value, A: Allocator + Copy, Q: Query<K, A>, M: 
     put_run(slots, staged, alloc, run)
 }
 
-/// The same as `make_slots`, without new pages at the end for a part of the run.
+/// Like `make_absent`, but never appends new pages for a part of the run.
 #[inline]
 fn make_within<K: Key + Drop, V: Value, A: Allocator + Copy, Q: Query<K, A>, M: Addend<V>>(
     slots: &mut Slots<K, V, A>,

@@ -1,4 +1,4 @@
-//! Staged values, which are kept beside the slots until they are committed.
+//! Staged values, stored beside the slots until they are committed.
 
 ghost use Rattle.std.specs.Prelude.{◌≡◌, ◌↔◌, ◌+◌, ◌^◌, ◌<◌, ◌≤◌, nat_lt, None, [], ◌∷◌, ◌++◌, IfNone, IfOk, IfSome, IsTrue, OnErr, OnOk, length, map, option_map, slice_get};
 ghost use Rattle.std.specs.List.{AllByRecursion, insert};
@@ -35,7 +35,7 @@ impl<V, A: Allocator> Model for StagedColumns<V, A> {
 }
 
 impl<V, A: Allocator> StagedColumns<V, A> {
-    /// No columns, so nothing is staged. Takes no memory.
+    /// No columns, so nothing is staged. Never allocates.
     pub(crate) fn new(alloc: A) -> StagedColumns<V, A>
         ensures { result ≡ [] }
     {
@@ -44,7 +44,7 @@ impl<V, A: Allocator> StagedColumns<V, A> {
         }
     }
 
-    /// Removes and returns the column with the greatest number. If there is none, the list frees its memory.
+    /// Removes and returns the column with the greatest number. Frees the list's memory if the list is empty.
     pub(crate) fn pop(&mut self) -> Option<(usize, Vec<Option<V>, A>)>
         ensures some { IfSome result (λ column. self.old ≡ self.new ++ (column.0, column.1.items) ∷ []) }
         ensures none { IfNone result (self.new ≡ []) }
@@ -65,7 +65,7 @@ impl<V, A: Allocator> StagedColumns<V, A> {
         self.search(page)
     }
 
-    /// The same as `index_of`, by a search among all columns.
+    /// Like `index_of`, by a binary search among all columns.
     fn search(&self, page: usize) -> usize
         ensures { result ≡ lead (λ column. nat_lt column.0 page) self.now }
     {
@@ -95,7 +95,7 @@ impl<V, A: Allocator> StagedColumns<V, A> {
 }
 
 impl<V: Drop, A: Allocator> StagedColumns<V, A> {
-    /// Forgets all columns, and frees their memory.
+    /// Discards all columns, and frees their memory.
     pub(crate) fn clear(&mut self)
         ensures { self.new ≡ [] }
     {
@@ -117,7 +117,7 @@ impl<V: Value, A: Allocator> StagedColumns<V, A> {
         ensures ok { IfOk result (IsTouched slots.now self.old self.new page) }
         ensures err { OnErr result (self.new ≡ self.old) }
     {
-        // A walk in order touches the last column again and again.
+        // Staging in order uses the last column again and again.
         let last = self.columns.len().saturating_sub(1);
         if self.has(last, page) {
             return Ok(last);
@@ -250,7 +250,7 @@ impl<V: Value, A: Allocator + Copy> StagedColumns<V, A> {
     }
 }
 
-/// Removes and returns the last item. If there is none, the list frees its memory.
+/// Removes and returns the last item. Frees the list's memory if the list is empty.
 fn pop_last<T, A: Allocator>(list: &mut Vec<T, A>) -> Option<T>
     ensures items { list.old.items ≡ list.new.items ++ option_to_list result }
     ensures some { IfSome result (λ last. list.old.items ≡ list.new.items ++ last ∷ []) }
@@ -263,7 +263,7 @@ fn pop_last<T, A: Allocator>(list: &mut Vec<T, A>) -> Option<T>
     list.pop()
 }
 
-/// Inserts an item. The first item reserves room for itself only, since most lists of columns have one item.
+/// Inserts an item. The first item reserves capacity for itself only, since most lists of columns have one item.
 fn insert_first<T: Drop, A: Allocator>(
     list: &mut Vec<T, A>,
     index: usize,

@@ -1,4 +1,4 @@
-//! Sections are closed.
+//! Closes sections.
 
 use super::made;
 use super::mixed::{check_numbers, push_numbers};
@@ -27,7 +27,7 @@ fn none(rt: HostRuntime) {
     assert!(rt; sects.sects().next().is_none());
 }
 
-/// A section that isn't closed isn't among the others, and then it is.
+/// A section is among the others only after it is closed.
 #[test]
 fn an_open_section(rt: HostRuntime) {
     let mut sects = PackedSects::new(rt.alloc());
@@ -41,7 +41,7 @@ fn an_open_section(rt: HostRuntime) {
     assert!(rt; closed.next().is_none());
 }
 
-/// The same six sections as elsewhere, one more at a time.
+/// Closes 0 to 6 sections and reads all of them back each time.
 #[test]
 fn six_sections(rt: HostRuntime) {
     for count in 0..=ALL_SECTS {
@@ -51,7 +51,7 @@ fn six_sections(rt: HostRuntime) {
     }
 }
 
-/// The same test's name twice, then another one, then the first one again.
+/// One test's name comes twice in a row, and again after another one. Names that only begin like it stay apart.
 #[test]
 fn names_of_tests(rt: HostRuntime) {
     let mut sects = PackedSects::new(rt.alloc());
@@ -71,7 +71,7 @@ fn names_of_tests(rt: HostRuntime) {
     assert!(rt; closed.next().is_none());
 }
 
-/// Empty names, at first, between others and twice.
+/// Empty names come first, between others and twice.
 #[test]
 fn empty_names(rt: HostRuntime) {
     let mut sects = PackedSects::new(rt.alloc());
@@ -87,7 +87,7 @@ fn empty_names(rt: HostRuntime) {
     assert!(rt; closed.next().is_none());
 }
 
-/// Sections without items, at first, between others and at the end.
+/// Sections without items come first, between others and last.
 #[test]
 fn sections_without_items(rt: HostRuntime) {
     let mut sects = PackedSects::new(rt.alloc());

@@ -1,4 +1,4 @@
-//! Numbers at the edges of each width that is packed: what was pushed is read back.
+//! Numbers at the limits of each packed width are read back as they were pushed.
 
 use super::made;
 use super::same::check_item;
@@ -135,7 +135,7 @@ fn lines_with_checksums(rt: HostRuntime) {
     check_lines(&rt, Some(b"1B2M2Y8AsgTpgAmY7PhCfg=="));
 }
 
-/// A checksum without bytes isn't a missing one.
+/// An empty checksum isn't a missing one.
 #[test]
 fn lines_with_empty_checksums(rt: HostRuntime) {
     check_lines(&rt, Some(b""));

@@ -1,15 +1,14 @@
-//! Heaps whose room is known to the byte.
+//! Heaps whose capacity is known to the byte.
 
 use bumpalo::Bump;
 use std::alloc::AllocError;
 use std::process::Abort;
 use std::test::*;
 
-/// How many bytes of room a heap has.
+/// The capacity of a heap.
 const AMPLE: usize = 20_000;
 
-/// A heap that has room. It has several blocks, so it never uses memory again that is given back to it: each growth needs room of
-/// its own.
+/// A heap with this capacity. It has several blocks, so it never reuses freed memory: each allocation needs new capacity.
 pub(super) fn new_heap(rt: &(impl Abort + AllocGlobal)) -> Bump {
     let heap = Bump::new(rt.alloc());
     take(rt, &heap, 1);
@@ -18,7 +17,7 @@ pub(super) fn new_heap(rt: &(impl Abort + AllocGlobal)) -> Bump {
     heap
 }
 
-/// Takes `bytes` bytes of the heap's room. They don't come back.
+/// Uses up `bytes` bytes of the heap for good.
 fn take(rt: &impl Abort, heap: &Bump, bytes: usize) {
     let taken: Result<Vec<u8, &Bump>, AllocError> = Vec::with_capacity(heap, bytes);
     if taken.is_err() {
@@ -26,7 +25,7 @@ fn take(rt: &impl Abort, heap: &Bump, bytes: usize) {
     }
 }
 
-/// Leaves the heap exactly this much room: takes what is more, and forbids further blocks.
+/// Limits the heap to exactly this capacity: uses up the rest, and forbids further blocks.
 pub(super) fn narrow(rt: &impl Abort, heap: &Bump, room: usize) {
     let left = heap.chunk_capacity();
     assert!(rt; room <= left, "a heap is too small");
@@ -35,13 +34,13 @@ pub(super) fn narrow(rt: &impl Abort, heap: &Bump, room: usize) {
     assert_eq!(rt; heap.chunk_capacity(), room);
 }
 
-/// Allows further blocks again, so that the heap has ample room.
+/// Allows further blocks again, so that the heap has ample capacity.
 pub(super) fn widen(heap: &Bump) {
     heap.set_allocation_limit(None);
 }
 
-/// Tries a call in one heap after another, each with one byte more of room, until the call isn't refused. `is_refused` makes the
-/// call, and returns whether it was refused. In a heap without room it has to be refused.
+/// Tries a call in heaps with a capacity of 0, 1, 2 and so on, until the call succeeds. `is_refused` makes the call, and returns
+/// whether an allocation failed, as one must in the first heap.
 pub(super) fn check_rising<R: Abort + AllocGlobal, F: Fn(&Bump, usize) -> bool>(
     rt: &R,
     is_refused: F,

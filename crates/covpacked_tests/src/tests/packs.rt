@@ -76,7 +76,7 @@ fn sect_of<A: Allocator + Copy>(rt: &impl Abort, alloc: A, number: usize) -> Sec
     }
 }
 
-/// The submission of the first `count` sections, with this number of odd lines.
+/// The submission of the first `count` sections, with this number of inconsistent lines.
 pub(super) fn submission_of<A: Allocator + Copy>(
     rt: &impl Abort,
     alloc: A,
@@ -90,7 +90,7 @@ pub(super) fn submission_of<A: Allocator + Copy>(
     made(rt, Submission::of(sects, odd))
 }
 
-/// Checks that the first `count` sections are packed, with so many items and odd lines.
+/// Checks that the first `count` sections are packed, with so many items and inconsistent lines.
 pub(super) fn check_packed<A: Allocator>(
     rt: &impl Abort,
     packed: &PackedSubmission<A>,
@@ -103,7 +103,7 @@ pub(super) fn check_packed<A: Allocator>(
     assert_eq!(rt; packed.odd(), odd);
 }
 
-/// Packs the first `count` sections, unpacks them and packs them again. They have so many items.
+/// Packs the first `count` sections, unpacks them and packs them again. Checks that they have `items` items.
 fn check(rt: &(impl Abort + AllocGlobal), count: usize, items: u64, odd: u64) {
     let given = submission_of(rt, rt.alloc(), count, odd);
     let first = made(rt, packed(rt.alloc(), &given));

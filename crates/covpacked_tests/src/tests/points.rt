@@ -1,4 +1,4 @@
-//! What an item counts, and whether it is hit.
+//! The points of items, and whether they are hit.
 
 use super::mixed::{ALL, item};
 use covline::BranchPoint;
@@ -6,12 +6,12 @@ use covpacked::ItemRef;
 use std::process::Abort;
 use std::test::*;
 
-/// Checks which line the item with this number counts.
+/// Checks the line of the item with this number.
 fn check_line(rt: &impl Abort, number: usize, wanted: Option<u64>) {
     assert_eq!(rt; item(number).line_point(), wanted);
 }
 
-/// Checks that the item with this number counts the branch of this line, block and number.
+/// Checks the branch of the item with this number.
 fn check_branch(rt: &impl Abort, number: usize, line: u64, block: u64, branch: u64) {
     let wanted = BranchPoint {
         line,

@@ -1,4 +1,4 @@
-//! What a text was read as, packed or not: its numbers and its last test.
+//! Tests of `ReadText`: the numbers of a submission, packed or not, and its last test.
 
 use super::made;
 use super::packs::submission_of;

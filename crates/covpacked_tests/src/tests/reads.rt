@@ -46,7 +46,7 @@ fn by_index(rt: HostRuntime) {
     assert!(rt; items.get(18_446_744_073_709_551_615).is_none());
 }
 
-/// The same items are read from a copy, also of what an iterator has left.
+/// A copy has the items of the original, even while the original is iterated.
 #[test]
 fn by_iterator(rt: HostRuntime) {
     let sects = open_all(&rt);

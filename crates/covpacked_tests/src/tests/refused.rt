@@ -1,5 +1,5 @@
-//! Calls in heaps that have no room, and then more and more room, until none is refused. After a refusal all is as it was, and the
-//! same call succeeds with ample room.
+//! Tries calls in a heap without capacity, and then with more and more capacity, until they succeed. A failed call changes nothing,
+//! and succeeds with ample capacity.
 
 use super::heap::{check_rising, narrow, new_heap, widen};
 use super::made;
@@ -12,7 +12,7 @@ use covpacked::PackedSects;
 use std::process::Abort;
 use std::test::*;
 
-/// Pushes all items behind two closed sections.
+/// Pushes all items after two closed sections.
 fn pushes(rt: &impl Abort, heap: &Bump, room: usize) -> bool {
     let mut sects = PackedSects::new(heap);
     push_sections(rt, &mut sects, 2);
@@ -111,7 +111,7 @@ fn submissions(rt: HostRuntime) {
     check_rising(&rt, |heap, room| unpacks(&rt, heap, room));
 }
 
-/// A submission without sections takes no memory.
+/// Unpacking a submission without sections never allocates.
 #[test]
 fn nothing_is_unpacked(rt: HostRuntime) {
     let heap = new_heap(&rt);

@@ -1,4 +1,4 @@
-//! Items of the open section are removed, and counted.
+//! Removes items of the open section.
 
 use super::made;
 use super::mixed::{check_numbers, push_numbers};
@@ -8,7 +8,7 @@ use covpacked::PackedSects;
 use std::process::Abort;
 use std::test::*;
 
-/// Pushes the first six items, removes those at these places, and then pushes item 8. Checks the numbers of the items that are left.
+/// Pushes the first six items, removes those at these indices, and then pushes item 8. Checks the numbers of the remaining items.
 fn check(rt: &(impl Abort + AllocGlobal), places: &[usize], left: &[usize], then: &[usize]) {
     let mut sects = PackedSects::new(rt.alloc());
     push_numbers(rt, &mut sects, &[0, 1, 2, 3, 4, 5]);
@@ -76,7 +76,7 @@ fn from_no_items(rt: HostRuntime) {
     check_numbers(&rt, sects.items(), &[]);
 }
 
-/// Twice, and then once more from what was pushed since.
+/// Items are removed twice, and then once more from those pushed since.
 #[test]
 fn several_times(rt: HostRuntime) {
     let mut sects = PackedSects::new(rt.alloc());
@@ -89,7 +89,7 @@ fn several_times(rt: HostRuntime) {
     check_numbers(&rt, sects.items(), &[3, 6, 1]);
 }
 
-/// Places are counted in the open section, and the closed ones stay as they are.
+/// Indices are those in the open section. The closed ones don't change.
 #[test]
 fn behind_a_closed_section(rt: HostRuntime) {
     let mut sects = PackedSects::new(rt.alloc());

@@ -1,4 +1,4 @@
-//! How much room an item takes. No clause says that small numbers are packed into few bytes.
+//! The memory that an item uses. No contract says that small numbers are packed into few bytes.
 
 use super::heap::{narrow, new_heap};
 use super::made;
@@ -7,7 +7,7 @@ use covpacked::{ItemRef, PackedSects};
 use std::process::Abort;
 use std::test::*;
 
-/// Checks that 64 such items fit into `bytes` bytes for each, and as many for lists that were outgrown.
+/// Checks that 64 such items need at most `bytes` bytes each, and as much again for lists that were outgrown.
 fn check(rt: &(impl Abort + AllocGlobal), item: ItemRef<'_>, bytes: usize) {
     let heap = new_heap(rt);
     let mut sects = PackedSects::new(&heap);
@@ -17,7 +17,7 @@ fn check(rt: &(impl Abort + AllocGlobal), item: ItemRef<'_>, bytes: usize) {
     }
 }
 
-/// Checks the room of a line with this checksum. Its numbers are the largest that are packed into few bytes.
+/// Checks the capacity for lines with this checksum. Their numbers are the largest that are packed into few bytes.
 fn check_line(rt: &(impl Abort + AllocGlobal), count: u128, checksum: Option<&[u8]>, bytes: usize) {
     let item = ItemRef::Line {
         line: 1_073_741_823,
@@ -27,7 +27,7 @@ fn check_line(rt: &(impl Abort + AllocGlobal), count: u128, checksum: Option<&[u
     check(rt, item, bytes);
 }
 
-/// The same of a branch.
+/// Checks the capacity for branches. Their numbers are the largest that are packed into few bytes.
 fn check_branch(rt: &(impl Abort + AllocGlobal), taken: Option<u128>, bytes: usize) {
     let item = ItemRef::Branch {
         line: 1_073_741_823,
@@ -43,7 +43,7 @@ fn lines(rt: HostRuntime) {
     check_line(&rt, 2_147_483_647, None, 8);
 }
 
-/// Eight bytes more for the bytes of the checksum.
+/// The checksum's text needs eight bytes more.
 #[test]
 fn lines_with_checksums(rt: HostRuntime) {
     check_line(&rt, 4_294_967_295, Some(b"abcdefgh"), 32);
@@ -55,7 +55,7 @@ fn branches(rt: HostRuntime) {
     check_branch(&rt, None, 16);
 }
 
-/// Eight bytes more for the bytes of the name.
+/// The name's text needs eight bytes more.
 #[test]
 fn functions(rt: HostRuntime) {
     let item = ItemRef::Func {
@@ -66,7 +66,7 @@ fn functions(rt: HostRuntime) {
     check(&rt, item, 64);
 }
 
-/// The sections of one test have its name once: 16 names of 1,000 bytes wouldn't fit.
+/// The sections of one test share its name: 16 names of 1,000 bytes wouldn't fit.
 #[test]
 fn names_of_one_test(rt: HostRuntime) {
     let heap = new_heap(&rt);

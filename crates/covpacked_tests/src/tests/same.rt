@@ -1,10 +1,10 @@
-//! Whether an item that was read is the one that is wanted.
+//! Compares items with expected ones.
 
 use covpacked::ItemRef;
 use std::process::Abort;
 use std::test::*;
 
-/// Checks that this is the wanted item. `number` tells which one it is.
+/// Checks that this is the expected item. `number` identifies it in a failure.
 pub(super) fn check_item(
     rt: &impl Abort,
     number: usize,

@@ -1,5 +1,5 @@
-//! Packed submissions are compared with one another, and with submissions that aren't packed. Each sample differs from another one
-//! in one thing alone, and no two samples are equal.
+//! Compares packed submissions with one another, and with unpacked ones. Samples differ in only one detail each, and no two samples
+//! are equal.
 
 use super::made;
 use super::mixed::{branch_of, function_of, line_of};
@@ -88,7 +88,7 @@ fn sect_of(rt: &(impl Abort + AllocGlobal), test: &[u8], file: &[u8], letters: &
     }
 }
 
-/// A part of a sample; empty where there is none.
+/// A part of a sample; empty if it is missing.
 fn part<'a>(part: Option<&'a [u8]>) -> &'a [u8] {
     match part {
         Some(text) => text,
@@ -115,14 +115,14 @@ fn read_sample(rt: &(impl Abort + AllocGlobal), text: &[u8]) -> Submission {
     made(rt, Submission::of(sects, 0))
 }
 
-/// The submission of one section with these items, and with this number of odd lines.
+/// The submission of one section with these items, and with this number of inconsistent lines.
 fn submission_of(rt: &(impl Abort + AllocGlobal), letters: &[u8], odd: u64) -> Submission {
     let mut sects = Sects::new(rt.alloc());
     made(rt, sects.push(sect_of(rt, b"t", b"a.c", letters)));
     made(rt, Submission::of(sects, odd))
 }
 
-/// Whether the submissions are equal. Each comparison has to say the same.
+/// Whether the submissions are equal. Checks that all comparisons agree.
 fn are_same(rt: &(impl Abort + AllocGlobal), first: &Submission, second: &Submission) -> bool {
     let first_packed = made(rt, packed(rt.alloc(), first));
     let second_packed = made(rt, packed(rt.alloc(), second));

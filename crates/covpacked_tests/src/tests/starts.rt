@@ -1,4 +1,4 @@
-//! A function's start line is replaced.
+//! Replaces a function's start line.
 
 use super::made;
 use super::mixed::{ALL, check_numbers, check_range, item, push_all, push_numbers};
@@ -24,7 +24,7 @@ fn check_main(rt: &impl Abort, items: &PackedItems<'_>, line: u64) {
     check_item(rt, 3, items.get(3), wanted);
 }
 
-/// Items of all kinds before and behind the function stay as they are.
+/// Items of all kinds before and after the function don't change.
 #[test]
 fn between_other_items(rt: HostRuntime) {
     let mut sects = PackedSects::new(rt.alloc());
@@ -35,7 +35,7 @@ fn between_other_items(rt: HostRuntime) {
     }
 }
 
-/// The last item, and then it is no longer the last.
+/// The function is the last item, and then no longer the last.
 #[test]
 fn at_the_end(rt: HostRuntime) {
     let mut sects = PackedSects::new(rt.alloc());
@@ -52,7 +52,7 @@ fn at_the_end(rt: HostRuntime) {
     check_item(&rt, 2, sects.items().get(2), item(7));
 }
 
-/// An item of another kind stays as it is, whether it is short or long.
+/// An item of another kind doesn't change, whether it is short or long.
 #[test]
 fn of_another_kind(rt: HostRuntime) {
     let mut sects = PackedSects::new(rt.alloc());
@@ -71,7 +71,7 @@ fn closed_items<'a>(rt: &impl Abort, sects: &'a PackedSects) -> PackedItems<'a> 
     }
 }
 
-/// Places are counted in the open section, and the closed one stays as it is.
+/// Indices are those in the open section. The closed one doesn't change.
 #[test]
 fn behind_a_closed_section(rt: HostRuntime) {
     let mut sects = PackedSects::new(rt.alloc());

@@ -19,7 +19,7 @@ fn whole_blocks(rt: HostRuntime) {
     check(&rt, b"SF:x\nend_of_record\nSF:y\nend_of_record\n", 38);
 }
 
-/// Lines after the last section, whole or not, and blank ones.
+/// Lines after the last section: complete, cut off and blank ones.
 #[test]
 fn more_lines(rt: HostRuntime) {
     check(&rt, b"SF:x\nend_of_record\nTN:b\nSF:y\n", 19);
@@ -38,7 +38,7 @@ fn no_sections(rt: HostRuntime) {
     check(&rt, b"\n", 0);
 }
 
-/// Carriage returns before the line feed, and more bytes after the word.
+/// Carriage returns before the line feed, and more bytes after `end_of_record`.
 #[test]
 fn long_ends(rt: HostRuntime) {
     check(&rt, b"SF:x\r\nend_of_record\r\n", 21);

@@ -1,4 +1,4 @@
-//! What goes over from piece to piece.
+//! The state that is carried over between chunks.
 
 use super::{Version, pass, push_line, read_piece};
 use covpieces::Carried;
@@ -7,7 +7,7 @@ use std::alloc::Global;
 use std::process::Abort;
 use std::test::*;
 
-/// The words of the piece's fault, or `none`.
+/// Prints the error of the chunk, or `none`.
 fn fault_of(
     alloc: Global,
     carried: &Carried,
@@ -20,7 +20,7 @@ fn fault_of(
     })
 }
 
-/// Checks the fault of the last piece.
+/// Checks the error of the last chunk.
 fn check_fault(
     rt: &(impl Abort + AllocGlobal),
     carried: &Carried,
@@ -33,7 +33,7 @@ fn check_fault(
     Ok(())
 }
 
-/// Checks the sections of the last piece. `wanted` is a tracefile of version 1 with them.
+/// Checks the sections of the last chunk. `wanted` is a tracefile of version 1 with them.
 fn check_sections(
     rt: &(impl Abort + AllocGlobal),
     carried: &Carried,
@@ -47,7 +47,7 @@ fn check_sections(
     Ok(())
 }
 
-/// Goes on to the next piece.
+/// Goes on to the next chunk.
 fn check_pass(
     rt: &(impl Abort + AllocGlobal),
     carried: &mut Carried,
@@ -59,8 +59,8 @@ fn check_pass(
     Ok(())
 }
 
-/// Checks the last pieces of texts, one text after the other. A line `--` ends a piece. A line that begins with `! ` ends a text, and
-/// has the fault of its last piece.
+/// Checks the last chunk of each text. A line `--` ends a chunk. A line that begins with `! ` ends a text, and has the error of its
+/// last chunk.
 fn check_faults(
     rt: &(impl Abort + AllocGlobal),
     version: Version,
@@ -84,8 +84,8 @@ fn check_faults(
     Ok(())
 }
 
-/// Checks the last pieces of texts, one text after the other. A line `--` ends a piece. Lines that begin with `> ` are what the last
-/// piece is wanted to have, as a tracefile of version 1. A line that begins with `= ` ends a text.
+/// Checks the last chunk of each text. A line `--` ends a chunk. Lines that begin with `> ` are the expected sections of the last
+/// chunk, as a tracefile of version 1. A line that begins with `= ` ends a text.
 fn check_all(
     rt: &(impl Abort + AllocGlobal),
     version: Version,
@@ -113,7 +113,7 @@ fn check_all(
     Ok(())
 }
 
-/// The front of the second piece.
+/// Checks the prefix of the second chunk.
 fn check_front(
     rt: &(impl Abort + AllocGlobal),
     first: &[u8],
@@ -127,7 +127,7 @@ fn check_front(
     Ok(())
 }
 
-/// The first piece has no front: the name is empty.
+/// The first chunk has no prefix: the test's name is empty.
 #[test]
 fn first_front(rt: HostRuntime) -> Result<(), Fail> {
     let front = Carried::new(rt.alloc()).front(rt.alloc())?;
@@ -135,7 +135,7 @@ fn first_front(rt: HostRuntime) -> Result<(), Fail> {
     Ok(())
 }
 
-/// The front of a second piece.
+/// Prefixes of second chunks.
 #[test]
 fn fronts(rt: HostRuntime) -> Result<(), Fail> {
     check_front(&rt, b"SF:x\nend_of_record\n", Version::One, b"")?;
@@ -171,7 +171,7 @@ fn fronts(rt: HostRuntime) -> Result<(), Fail> {
     )
 }
 
-/// The test's name goes over, and the sections are those of the whole text.
+/// The test's name is carried over, and the sections are those of the whole text.
 #[test]
 fn names(rt: HostRuntime) -> Result<(), Fail> {
     check_all(
@@ -259,7 +259,7 @@ end_of_record
     )
 }
 
-/// Faults have the line's number in the whole text.
+/// Errors have the line number in the whole text.
 #[test]
 fn faults(rt: HostRuntime) -> Result<(), Fail> {
     check_faults(
@@ -323,7 +323,7 @@ end_of_record
     )
 }
 
-/// In LCOV 2 totals of functions say nothing below an `FNL:` line, until the next path.
+/// In LCOV 2, totals of functions are ignored below an `FNL:` line, until the next path.
 #[test]
 fn groups(rt: HostRuntime) -> Result<(), Fail> {
     check_all(
@@ -358,7 +358,7 @@ end_of_record
     )
 }
 
-/// The same in faults. The last two texts show why the front needs an `FNL:` line: without one above it, the total is a fault.
+/// Errors of grouped functions. The last two inputs show why the prefix needs an `FNL:` line: without one, the total is an error.
 #[test]
 fn grouped_faults(rt: HostRuntime) -> Result<(), Fail> {
     check_faults(

@@ -1,4 +1,4 @@
-//! Laws of what a text is read as, as functions that do nothing: their contracts are the laws.
+//! Laws of reading gcov's output. Each law is the contract of a function that does nothing.
 
 ghost use Rattle.std.specs.Prelude.{◌≡◌, ◌≤◌, ℕ, List, length, Result, Err};
 ghost use Rattle.covline.specs.Row.{SubmissionData};
@@ -9,8 +9,8 @@ ghost use Rattle.covread.specs.Gcov.{Says, LineSays};
 ghost use Rattle.covread.specs.Outcome.{max_bytes};
 ghost use Rattle.covread.specs.GcovOutcome.{IsOutcome, Answers, FaultsEarly, GrowsLate};
 
-/// Each line either says exactly one thing or has exactly one fault of its own. For each test, each text has exactly one outcome:
-/// a submission or a fault.
+/// Each line has exactly one meaning or exactly one error of its own. For each test, each input has exactly one outcome: a
+/// submission or an error.
 pub fn each_gcov_text_has_one_outcome()
     ensures some_line { (line : List ℕ) → (says : Says) × LineSays line says }
     ensures one_line { (line : List ℕ) (x y : Says) → LineSays line x → LineSays line y → x ≡ y }
@@ -18,8 +18,8 @@ pub fn each_gcov_text_has_one_outcome()
     ensures one { (test text : List ℕ) (x y : Result SubmissionData Fault) → IsOutcome test text x → IsOutcome test text y → x ≡ y }
 {}
 
-/// This law is about a text that isn't too long, and a test whose name a tracefile can hold. If nothing is kept before the first
-/// faulty line, its fault is the answer: by what `read_gcov` ensures, memory can't have run out before.
+/// `read_gcov` returns the first error even if memory is short, provided that nothing is stored before the invalid line. This holds
+/// for an input within the size limit and a test name that a tracefile can hold.
 pub fn an_early_fault_is_told()
     ensures { (test text : List ℕ) (answer : Result SubmissionData Fault) (fault : Fault) → Answers test text answer → GrowsLate text answer
         → length text ≤ max_bytes → IsGoodTest test → FaultsEarly (lines_of text) fault → answer ≡ Err fault }

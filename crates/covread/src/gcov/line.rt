@@ -1,4 +1,4 @@
-//! What one line says.
+//! Parses one line of gcov's output.
 
 ghost use Rattle.std.specs.Prelude.{◌≡◌};
 ghost use Rattle.covread.specs.Gcov.{Numbered, bare_says, fit, branch_says, source_says, says_of};
@@ -9,20 +9,20 @@ use crate::gcov::shape::{Shape, shape_of};
 use crate::gcov::text::{are_digits, number, without_last};
 use covline::strip_key;
 
-/// A line's own fault, which doesn't depend on other lines.
+/// An error of a single line, whatever the other lines are.
 #[derive(Clone, Copy)]
 pub enum OwnFault {
     /// Counts of template instances follow.
     Instances,
-    /// A branch has a percentage in place of a count.
+    /// A branch has a percentage instead of a count.
     Percent,
-    /// A mark, or a branch's count, of no known form.
+    /// A mark or a branch's count has no known form.
     BadMark,
     /// A number of 2^64 or more.
     NumberTooLarge,
 }
 
-/// What a line says. Its path or name is a part of the line, not a copy.
+/// The meaning of a line. Paths and names are slices of the line.
 #[derive(Clone, Copy)]
 pub enum GcovLine<'a> {
     /// The path of a source file.
@@ -35,18 +35,18 @@ pub enum GcovLine<'a> {
     Branch { branch: u64, taken: Option<u64> },
     /// The number of the block that the branches below belong to.
     Block { block: u64 },
-    /// Nothing that is read.
+    /// A line that is skipped.
     Skip,
 }
 
-/// What the line says.
+/// Parses the line.
 pub(crate) fn read_line(line: &[u8]) -> Result<GcovLine<'_>, OwnFault>
     ensures { Gives result (says_of (shape_of line.now)) }
 {
     read_shape(shape_of(line))
 }
 
-/// What a line of this shape says.
+/// Parses a line of this shape.
 fn read_shape(shape: Shape<'_>) -> Result<GcovLine<'_>, OwnFault>
     ensures { Gives result (says_of (shape_data shape.entry)) }
 {
@@ -70,14 +70,14 @@ fn read_shape(shape: Shape<'_>) -> Result<GcovLine<'_>, OwnFault>
     }
 }
 
-/// The number that digits say, or the fault that it is 2^64 or more.
+/// The number of these digits, or the error that it is 2^64 or more.
 fn fit(digits: &[u8]) -> Result<u64, OwnFault>
     ensures { result ≡ fit digits.now }
 {
     number(digits).ok_or(OwnFault::NumberTooLarge)
 }
 
-/// Reads how often a branch was taken. If the word is no number, this is reported before a number that is too large.
+/// Parses how often a branch was taken. If `word` isn't a number, that error takes precedence over a number that is too large.
 fn read_branch<'a>(branch: &[u8], word: &[u8]) -> Result<GcovLine<'a>, OwnFault>
     ensures { Gives result (branch_says branch.now word.now) }
 {
@@ -93,7 +93,7 @@ fn read_branch<'a>(branch: &[u8], word: &[u8]) -> Result<GcovLine<'a>, OwnFault>
     }
 }
 
-/// Reads a line with a mark and a number. One with the number 0 is about the source file as a whole.
+/// Parses a line with a mark and a number. The number 0 is for lines about the source file as a whole.
 fn read_numbered<'a>(mark: &[u8], line: &[u8], text: &'a [u8]) -> Result<GcovLine<'a>, OwnFault>
     ensures { Gives result (says_of (Numbered mark.now line.now text.now)) }
 {
@@ -106,7 +106,7 @@ fn read_numbered<'a>(mark: &[u8], line: &[u8], text: &'a [u8]) -> Result<GcovLin
     }
 }
 
-/// Reads a line of the source file that has no code.
+/// Parses a line of the source file without code.
 fn read_bare<'a>(line: &[u8]) -> Result<GcovLine<'a>, OwnFault>
     ensures { Gives result (bare_says line.now) }
 {
@@ -114,7 +114,7 @@ fn read_bare<'a>(line: &[u8]) -> Result<GcovLine<'a>, OwnFault>
     Ok(GcovLine::Source { line, count: None })
 }
 
-/// Reads a line of the source file. A mark of no known form is reported before a number that is too large.
+/// Parses a line of the source file. A mark of no known form takes precedence over a number that is too large.
 fn read_source<'a>(mark: &[u8], line: &[u8]) -> Result<GcovLine<'a>, OwnFault>
     ensures { Gives result (source_says mark.now line.now) }
 {

@@ -1,4 +1,4 @@
-//! Reads gcov's annotated source: one pass over its text, forward.
+//! Reads gcov's annotated source in one pass.
 
 ghost use Rattle.std.specs.Prelude.{◌≡◌, ◌≤◌, length, Result};
 ghost use Rattle.covline.specs.Row.{SubmissionData};
@@ -16,36 +16,35 @@ use covline::{LineFault, Submission, good_test, lines};
 use covpacked::{PackedSubmission, unpack};
 use std::alloc::Allocator;
 
-/// Reads gcov's annotated source (gcov(1)) as counts of this test. Returns the submission that its lines make, or the
-/// text's first fault. [`read_gcov_packed`] does the same, and takes less memory and time.
+/// Reads gcov's annotated source (gcov(1)) as counts of this test. Returns its submission, or the input's first error.
+/// [`read_gcov_packed`] does the same with less memory and time.
 pub fn read_gcov<A: Allocator + Copy>(
     alloc: A,
     test: &[u8],
     text: &[u8],
 ) -> Result<Submission<A>, ReadFault>
-    // The answer is what the text is read as, or memory ran out.
+    // The result is what the input is read as, or memory ran out.
     ensures answers { Answers test.now text.now result }
-    // No other answer is possible, unless memory ran out.
+    // No other result is possible, unless memory ran out.
     ensures only { (outcome : Result SubmissionData Fault) → IsOutcome test.now text.now outcome → IsOrMemory result outcome }
-    // Nothing is kept before the first path or function, so memory can run out only at this line or after it.
+    // Nothing is stored before the first path or function, so memory can't run out before this line.
     ensures memory { GrowsLate text.now result }
 {
     let packed = read_gcov_packed(alloc, test, text)?;
     Ok(unpack(alloc, &packed)?)
 }
 
-/// Reads gcov's annotated source (gcov(1)) as counts of this test. Returns the submission that its lines make, packed, or the
-/// text's first fault.
+/// Reads gcov's annotated source (gcov(1)) as counts of this test. Returns its packed submission, or the input's first error.
 pub fn read_gcov_packed<A: Allocator + Copy>(
     alloc: A,
     test: &[u8],
     text: &[u8],
 ) -> Result<PackedSubmission<A>, ReadFault>
-    // The answer is what the text is read as, or memory ran out.
+    // The result is what the input is read as, or memory ran out.
     ensures answers { Answers test.now text.now result }
-    // No other answer is possible, unless memory ran out.
+    // No other result is possible, unless memory ran out.
     ensures only { (outcome : Result SubmissionData Fault) → IsOutcome test.now text.now outcome → IsOrMemory result outcome }
-    // Nothing is kept before the first path or function, so memory can run out only at this line or after it.
+    // Nothing is stored before the first path or function, so memory can't run out before this line.
     ensures memory { GrowsLate text.now result }
 {
     if text.len() > MAX_BYTES {
@@ -57,7 +56,7 @@ pub fn read_gcov_packed<A: Allocator + Copy>(
     read_lines(alloc, test, text)?.finish()
 }
 
-/// Takes all lines of the text.
+/// Processes all lines of the input.
 fn read_lines<'a, A: Allocator + Copy>(
     alloc: A,
     test: &'a [u8],
@@ -75,7 +74,7 @@ fn read_lines<'a, A: Allocator + Copy>(
     Ok(reader)
 }
 
-/// Takes the line with this number.
+/// Processes line number `at`.
 fn take_line<'a, A: Allocator + Copy>(
     reader: &mut Reader<'a, A>,
     at: u64,

@@ -1,4 +1,4 @@
-//! What the reader of gcov's text holds between two lines.
+//! The state of the gcov reader between two lines.
 
 ghost use Rattle.std.specs.Prelude.{true, is_some, ◌≡◌, [], ◌++◌, map, MatchResult, OnOk, OnErr};
 ghost use Rattle.covline.specs.Lawful.{IsLawful};
@@ -28,7 +28,7 @@ pub struct Function<'a> {
 pub struct BranchAnchor {
     /// The last source line.
     pub line: u64,
-    /// The last block that came after that source line, 0 if none came.
+    /// The last block after that source line, or 0 if there was none.
     pub block: u64,
 }
 
@@ -37,20 +37,20 @@ pub struct BranchAnchor {
 pub struct OpenSection<'a> {
     /// Its path.
     pub file: &'a [u8],
-    /// Its last source line with that line's last block, if it has a source line.
+    /// Its last source line with that line's last block.
     pub anchor: Option<BranchAnchor>,
 }
 
-/// What a reader holds between two lines.
+/// The state of the reader between two lines.
 #[derive(Drop)]
 pub struct Reader<'a, A: Allocator> {
     /// The name of the test.
     pub test: &'a [u8],
     /// The functions that wait for the next source line.
     pub waiting: Vec<Function<'a>, A>,
-    /// The open section, if there is one.
+    /// The open section.
     pub section: Option<OpenSection<'a>>,
-    /// The sections that ended, and the items of the open one.
+    /// The closed sections, and the items of the open one.
     pub sects: PackedSects<A>,
 }
 
@@ -68,7 +68,7 @@ impl<'a, A: Allocator + Copy> Reader<'a, A> {
         }
     }
 
-    /// Takes what the line with this number says.
+    /// Processes the meaning of line number `at`.
     pub fn take(&mut self, at: u64, line: GcovLine<'a>) -> Result<(), ReadFault>
         ensures steps { StepsTo result (held_data self.new) (grows (held_data self.old) (line_data line.entry)) (step self.old.test.now at (held_data self.old) (line_data line.entry)) }
         ensures test { self.new.test.now ≡ self.old.test.now }
@@ -89,7 +89,7 @@ impl<'a, A: Allocator + Copy> Reader<'a, A> {
         }
     }
 
-    /// Begins a source file. Functions that still wait for their line are lost, which is a fault.
+    /// Begins a source file. Fails if functions still wait for their source line.
     fn begin(&mut self, at: u64, path: &'a [u8]) -> Result<(), ReadFault>
         ensures steps { StepsTo result (held_data self.new) true (step_path self.old.test.now at (held_data self.old) path.now) }
         ensures test { self.new.test.now ≡ self.old.test.now }
@@ -109,7 +109,7 @@ impl<'a, A: Allocator + Copy> Reader<'a, A> {
         Ok(())
     }
 
-    /// Ends the open section, if there is one.
+    /// Closes the open section. Does nothing if none is open.
     fn close(&mut self) -> Result<(), ReadFault>
         ensures ok { OnOk result (held_data self.new ≡ record { waiting = map func_data self.old.waiting.items; section = None; sects = self.old.sects.sects ++ closed self.old.test.now (held_data self.old).section }) }
         ensures err { OnErr result (result ≡ Err NoMemory) }
@@ -122,7 +122,7 @@ impl<'a, A: Allocator + Copy> Reader<'a, A> {
         Ok(())
     }
 
-    /// Takes a source line: the functions that wait begin at it.
+    /// Processes a source line: the waiting functions begin at it.
     fn source(&mut self, at: u64, line: u64, count: Option<u64>) -> Result<(), ReadFault>
         ensures steps { StepsTo result (held_data self.new) (is_some (held_data self.old).section) (step_source at (held_data self.old).section (held_data self.old) line count) }
         ensures test { self.new.test.now ≡ self.old.test.now }
@@ -137,7 +137,7 @@ impl<'a, A: Allocator + Copy> Reader<'a, A> {
         Err(ReadFault::NoSource { at })
     }
 
-    /// Takes a function, which waits for the next source line.
+    /// Processes a function, which waits for the next source line.
     fn wait(&mut self, function: Function<'a>) -> Result<(), ReadFault>
         ensures steps { StepsTo result (held_data self.new) true (Ok (step_func (held_data self.old) function.entry.name.now function.entry.count)) }
         ensures test { self.new.test.now ≡ self.old.test.now }
@@ -146,7 +146,7 @@ impl<'a, A: Allocator + Copy> Reader<'a, A> {
         Ok(())
     }
 
-    /// Takes a branch of the last source line.
+    /// Processes a branch of the last source line.
     fn branch(&mut self, at: u64, branch: u64, taken: Option<u64>) -> Result<(), ReadFault>
         ensures steps { StepsTo result (held_data self.new) (is_some (held_data self.old).section) (step_branch at (held_data self.old).section (held_data self.old) branch taken) }
         ensures test { self.new.test.now ≡ self.old.test.now }
@@ -165,8 +165,8 @@ impl<'a, A: Allocator + Copy> Reader<'a, A> {
         Err(ReadFault::Misplaced { at })
     }
 
-    /// Takes a block of the last source line: the branches below belong to it. Does nothing if the open section has no source
-    /// line yet, or no section is open.
+    /// Processes a block of the last source line: the branches below belong to it. Does nothing if no section is open, or if it has
+    /// no source line yet.
     fn enter(&mut self, block: u64)
         ensures held { held_data self.new ≡ step_block (held_data self.old) block }
         ensures test { self.new.test.now ≡ self.old.test.now }
@@ -178,7 +178,7 @@ impl<'a, A: Allocator + Copy> Reader<'a, A> {
         }
     }
 
-    /// Returns the submission, after the last line, or the fault that functions still wait for a source line.
+    /// Returns the submission after the last line. Fails if functions still wait for a source line.
     pub fn finish(mut self) -> Result<PackedSubmission<A>, ReadFault>
         requires { IsLawful (submission_held self.test.now (held_data self)) }
         ensures { EndsTo result (is_some (held_data self.entry).section) (ends self.entry.test.now (held_data self.entry)) }

@@ -1,4 +1,4 @@
-//! The shape of a line: the first of seven that fits. Nothing is copied.
+//! Finds the shape of a line: the first of seven that fits. Copies nothing.
 
 ghost use Rattle.std.specs.Prelude.{◌≡◌, ◌↔◌, option_map, IsTrue};
 ghost use Rattle.covread.specs.Gcov.{IsShapeOf, Other};
@@ -10,7 +10,7 @@ use crate::gcov::text::{
 };
 use covline::strip_key;
 
-/// What a line looks like, with the bytes of its parts.
+/// The shape of a line, with the bytes of its parts.
 #[derive(Clone, Copy)]
 pub(crate) enum Shape<'a> {
     /// `-----`: counts of template instances follow.
@@ -44,8 +44,8 @@ pub(crate) enum Shape<'a> {
     Other,
 }
 
-/// Whether a line of gcov's text has none of the known shapes, so that it isn't read: it isn't about template instances, a
-/// function, a branch or a block, and doesn't begin with a mark and the number of a line. A blank line has no shape.
+/// Whether a line of gcov's output has none of the known shapes, and so is skipped: it isn't about template instances, a function,
+/// a branch or a block, and doesn't begin with a mark and the number of a line. A blank line has no shape.
 pub fn fits_no_shape(line: &[u8]) -> bool
     ensures { IsTrue result ↔ IsShapeOf line.now Other }
 {
@@ -69,7 +69,7 @@ pub(crate) fn shape_of(line: &[u8]) -> Shape<'_>
     }
 }
 
-/// The shape of the line, or `None` if it has none of the first six.
+/// The shape of the line. Returns `None` if it has none of the first six.
 fn any_shape(line: &[u8]) -> Option<Shape<'_>>
     ensures { option_map shape_data result ≡ any_shape line.now }
 {
@@ -82,8 +82,8 @@ fn any_shape(line: &[u8]) -> Option<Shape<'_>>
     other_shape(line)
 }
 
-/// The shape of a line that doesn't begin with `-----` or `function `. If it begins with `branch` and isn't a branch line, it may
-/// still be a numbered line: a mark may begin with `branch` too.
+/// The shape of a line that doesn't begin with `-----` or `function `. A line that begins with `branch` but isn't a branch line may
+/// still be a numbered line, since a mark may begin with `branch` too.
 fn other_shape(line: &[u8]) -> Option<Shape<'_>>
     ensures { option_map shape_data result ≡ other_shape line.now }
 {
@@ -117,7 +117,7 @@ fn branch_shape(text: &[u8]) -> Option<Shape<'_>>
     branch_rest(branch, text)
 }
 
-/// A branch's number, and what follows the spaces after the number; from what follows `branch`.
+/// Parses what follows `branch`: the branch's number, and what follows the spaces after it.
 fn branch_front(text: &[u8]) -> Option<(&[u8], &[u8])>
     ensures { option_map (λ parts. (parts.0.now, parts.1.now)) result ≡ branch_front text.now }
 {
@@ -158,7 +158,7 @@ fn numbered_shape(text: &[u8]) -> Option<Shape<'_>>
     after_mark(mark, text)
 }
 
-/// The shape of such a line, from its mark and what follows the mark.
+/// The shape of a numbered line, from its mark and what follows the mark.
 fn after_mark<'a>(mark: &'a [u8], text: &'a [u8]) -> Option<Shape<'a>>
     ensures { option_map shape_data result ≡ after_mark mark.now text.now }
 {
@@ -168,7 +168,7 @@ fn after_mark<'a>(mark: &'a [u8], text: &'a [u8]) -> Option<Shape<'a>>
     numbered_rest(mark, line, text)
 }
 
-/// The shape of such a line, from its mark, its number and what follows the number.
+/// The shape of a numbered line, from its mark, its number and what follows the number.
 fn numbered_rest<'a>(mark: &'a [u8], line: &'a [u8], text: &'a [u8]) -> Option<Shape<'a>>
     ensures { option_map shape_data result ≡ numbered_rest mark.now line.now text.now }
 {

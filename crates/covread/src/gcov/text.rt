@@ -1,4 +1,4 @@
-//! The parts of a line: runs of bytes of one class, keys and numbers.
+//! Splits lines into parts: runs of bytes of one class, keys and numbers.
 
 ghost use Rattle.std.specs.Prelude.{◌≡◌, ◌+◌, ◌-◌, ◌*◌, option_map};
 ghost use Rattle.std.specs.List.{list_all};
@@ -15,9 +15,9 @@ pub(crate) enum Class {
     Digit,
     /// The space alone.
     Space,
-    /// What a mark is made of: all but space and colon.
+    /// A byte of a mark: all but space and colon.
     Mark,
-    /// What a word is made of: all but space.
+    /// A byte of a word: all but space.
     Word,
 }
 
@@ -35,7 +35,7 @@ impl Class {
     }
 }
 
-/// What follows the bytes of this class at the front. There may be no such byte.
+/// The text without the bytes of this class at its front. There may be none.
 pub(crate) fn after_all(text: &[u8], class: Class) -> &[u8]
     ensures { result.now ≡ rest_of (in_class class) text.now }
 {
@@ -49,7 +49,7 @@ pub(crate) fn after_all(text: &[u8], class: Class) -> &[u8]
     rest
 }
 
-/// The bytes of this class at the front, and what follows them; `None` if there is no such byte.
+/// The bytes of this class at the front, and what follows them. Returns `None` if there are none.
 pub(crate) fn split_some(text: &[u8], class: Class) -> Option<(&[u8], &[u8])>
     ensures { option_map (λ parts. (parts.0.now, parts.1.now)) result ≡ some_front (in_class class) text.now }
 {
@@ -60,7 +60,7 @@ pub(crate) fn split_some(text: &[u8], class: Class) -> Option<(&[u8], &[u8])>
     Some((&text[..text.len() - rest.len()], rest))
 }
 
-/// What follows the spaces at the front; `None` if there are none.
+/// The text without the spaces at its front. Returns `None` if there are none.
 pub(crate) fn after_spaces(text: &[u8]) -> Option<&[u8]>
     ensures { option_map (λ rest. rest.now) result ≡ after_spaces text.now }
 {
@@ -82,7 +82,7 @@ fn all_digits(text: &[u8]) -> bool
     text.iter().all(|byte| byte.is_ascii_digit())
 }
 
-/// The number that digits say, if it is below 2^64.
+/// The number of these digits, if it is below 2^64.
 pub(crate) fn number(digits: &[u8]) -> Option<u64>
     ensures { result ≡ number_of digits.now }
 {
@@ -101,7 +101,7 @@ fn push_digit(number: u64, digit: u8) -> Option<u64>
     tens.and_then(|tens| tens.checked_add(u64::from(digit.saturating_sub(b'0'))))
 }
 
-/// The bytes without the last one, if that is this byte. Otherwise all bytes.
+/// Removes this byte from the end. Returns the text unchanged if it ends otherwise.
 pub(crate) fn without_last(text: &[u8], byte: u8) -> &[u8]
     ensures { result.now ≡ without_last byte text.now }
 {
@@ -131,7 +131,7 @@ pub(crate) fn is_name(name: &[u8]) -> bool
     }
 }
 
-/// What follows the ` called ` that begins last.
+/// The text after the last ` called `.
 pub(crate) fn after_last_called(text: &[u8]) -> Option<&[u8]>
     ensures { option_map (λ rest. rest.now) result ≡ last_called text.now }
 {

@@ -18,7 +18,7 @@ pub struct Function {
     pub is_hit: bool,
 }
 
-/// The functions that have a start line, by their names.
+/// The functions with a start line, by name.
 pub type Functions<'a, A> = BTreeMap<&'a [u8], Function, A>;
 
 /// The function that a count belongs to.
@@ -30,7 +30,7 @@ pub struct Found {
     pub is_first_hit: bool,
 }
 
-/// Takes a start line of the function with this name; the least is kept.
+/// Records a start line of the function with this name. The least one is stored.
 pub fn take_start<'a, A: Allocator + Copy>(
     functions: &mut Functions<'a, A>,
     name: &'a [u8],
@@ -59,7 +59,7 @@ fn starts_before(function: &Function, line: u64) -> bool
     function.start < line
 }
 
-/// Takes a count of the function with this name. Returns `None` if it has no start line.
+/// Records a count of the function with this name. Returns `None` if it has no start line.
 pub fn count_function<'a, A: Allocator>(
     functions: &mut Functions<'a, A>,
     name: &'a [u8],

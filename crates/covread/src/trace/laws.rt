@@ -1,4 +1,4 @@
-//! Laws of what a text is read as, as functions that do nothing: their contracts are the laws. They cite covline's laws of lines.
+//! Laws of reading tracefiles. Each law is the contract of a function that does nothing. They cite covline's laws of lines.
 
 ghost use Rattle.std.specs.Prelude.{◌≡◌, ℕ, List, Result};
 ghost use Rattle.covline.specs.Row.{SubmissionData};
@@ -7,7 +7,7 @@ ghost use Rattle.covread.specs.Outcome.{IsOutcome};
 
 use covline::each_line_has_one_meaning;
 
-/// Each text has exactly one outcome: a submission or a fault.
+/// Each input has exactly one outcome: a submission or an error.
 pub fn each_text_has_one_outcome()
     ensures some { (text : List ℕ) → (outcome : Result SubmissionData Fault) × IsOutcome text outcome }
     ensures one { (text : List ℕ) (x y : Result SubmissionData Fault) → IsOutcome text x → IsOutcome text y → x ≡ y }

@@ -1,4 +1,4 @@
-//! Why a line isn't taken.
+//! Why a line is rejected.
 
 ghost use Rattle.std.specs.Prelude.{◌≡◌};
 ghost use Rattle.covread.specs.declared.trace.placement_fault.PlacementFault.TheVariants.{Memory as NoMemory};
@@ -6,12 +6,12 @@ ghost use Rattle.covread.specs.declared.trace.placement_fault.PlacementFault.The
 use covline::Memory;
 use std::alloc::AllocFailed;
 
-/// Why a reader doesn't take a line: it is misplaced, or an allocation failed.
+/// Why a reader rejects a line: it is misplaced, or an allocation failed.
 #[derive(Clone, Copy)]
 pub enum PlacementFault {
-    /// No section is open, but the line has to be in one.
+    /// The line must be in a section, but none is open.
     Outside,
-    /// A section is open, but the line can't be in one.
+    /// The line must not be in a section, but one is open.
     Inside,
     /// An allocation failed.
     Memory,

@@ -1,4 +1,4 @@
-//! How many different lines and branches the items of a section count.
+//! Counts the different lines and branches among the items of a section.
 
 ghost use Rattle.std.specs.Prelude.{◌≡◌, ◌<◌, ◌^◌, ◌++◌, List, [], ◌∷◌, true, Some, IfOk, option_map, MatchOption, length};
 ghost use Rattle.covline.specs.Row.{ItemData};
@@ -11,11 +11,11 @@ use covline::{BranchPoint, Memory, Tally};
 use covpacked::{ItemRef, PackedItems};
 use std::alloc::Allocator;
 
-/// What identifies a line, or a branch, within its section.
+/// A line's or a branch's identity within its section.
 pub trait Point: Ord + Copy + Drop {
     ghost points: { ItemData → List Self };
 
-    /// The point that the item counts; `None` for an item of another kind.
+    /// The point of the item. Returns `None` for an item of another kind.
     fn of(item: &ItemRef<'_>) -> Option<Self>
         ensures { MatchOption result (points (item_ref_data item.now) ≡ []) (λ p. points (item_ref_data item.now) ≡ p ∷ []) };
 }
@@ -36,27 +36,27 @@ impl Point for BranchPoint {
     }
 }
 
-/// A point that an item counts, and whether the item's count is above 0.
+/// An item's point, and whether its count is above 0.
 #[derive(Clone, Copy, PartialEq, Eq, PartialOrd, Ord, Drop)]
 pub struct Hit<P> {
     pub point: P,
     pub is_hit: bool,
 }
 
-/// Points in ascending order. A point may repeat, so the last one isn't counted yet.
+/// Points in ascending order. The last one isn't counted yet, since it may repeat.
 #[derive(Clone, Copy, Drop)]
 pub struct Ascent<P> {
-    /// How many different points are below the last one, and how many of these are hit.
+    /// The tally of the different points below the last one.
     pub below: Tally,
     pub last: Option<Hit<P>>,
 }
 
-/// The points of items, counted as they come.
+/// The points of items, in the order of the items.
 #[derive(Clone, Copy, Drop)]
 pub enum Points<P> {
-    /// They ascend, as in most tracefiles.
+    /// The points ascend, as in most tracefiles, and are counted one by one.
     Ascending(Ascent<P>),
-    /// One of them is below the one before it. They are counted once all of them are known.
+    /// A point was below the one before it. The points are counted after the last one.
     Scattered,
 }
 
@@ -71,7 +71,7 @@ impl<P: Point> Ascent<P> {
         }
     }
 
-    /// Whether the point isn't below the last one, so that the points still ascend.
+    /// Whether the points still ascend with this one, which may equal the last.
     fn goes_on_to(&self, point: P) -> bool
         ensures { result ≡ goes_on P.cmp self.now.last point }
     {
@@ -81,8 +81,7 @@ impl<P: Point> Ascent<P> {
         }
     }
 
-    /// Adds a point. This changes the `Ascent` in place: to copy it, with its tags, would take as long as the rest of the work
-    /// for a line.
+    /// Adds a point in place: copying an `Ascent`, with its tags, would take as long as the rest of the work for a line.
     fn add(&mut self, next: Hit<P>)
         requires ascends { goes_on P.cmp self.old.last next.point ≡ true }
         requires fits { (seen : List (HitOf P)) × IsAscent P.cmp self.old seen × length seen < 2 ^ 64 }
@@ -103,7 +102,7 @@ impl<P: Point> Ascent<P> {
         self.last = Some(next);
     }
 
-    /// How many different points there were, and how many of these were hit.
+    /// The tally of the different points.
     fn tally(self) -> Tally
         requires { (seen : List (HitOf P)) × IsAscent P.cmp self seen × length seen < 2 ^ 64 }
         ensures { (seen : List (HitOf P)) → IsAscent P.cmp self seen → IsTally P.cmp result seen }
@@ -116,7 +115,7 @@ impl<P: Point> Ascent<P> {
 }
 
 impl<P: Point> Points<P> {
-    /// Takes the next point.
+    /// Adds the next point.
     pub fn take(&mut self, next: Hit<P>)
         requires { (seen : List (HitOf P)) × Counts P.cmp self.old seen × length seen < 2 ^ 64 }
         ensures { (seen : List (HitOf P)) → Counts P.cmp self.old seen → Counts P.cmp self.new (seen ++ next ∷ []) }
@@ -131,8 +130,8 @@ impl<P: Point> Points<P> {
     }
 }
 
-/// How many different points the items count, and how many of these are hit. `points` has taken these items. If their points
-/// ascend, nothing is allocated. Otherwise they are sorted, in time n log n.
+/// The tally of the different points of the items, all of which were added to `points`. Allocates nothing if the points ascend.
+/// Otherwise sorts them, in time n log n.
 pub fn totals_of<P: Point, A: Allocator + Copy>(
     alloc: A,
     points: Points<P>,
@@ -148,7 +147,7 @@ pub fn totals_of<P: Point, A: Allocator + Copy>(
     }
 }
 
-/// The points that the items count: one for each item of this kind, in the order of the items.
+/// The points of all items of this kind, in the order of the items.
 fn hits_of<P: Point, A: Allocator + Copy>(
     alloc: A,
     items: &PackedItems<'_>,
@@ -168,7 +167,7 @@ fn hits_of<P: Point, A: Allocator + Copy>(
     Ok(hits)
 }
 
-/// How many different points there are, and how many of these are hit.
+/// The tally of the different points.
 fn sorted_totals<P: Point, A: Allocator>(mut hits: Vec<Hit<P>, A>) -> Tally
     requires { length hits.items < 2 ^ 64 }
     ensures { IsTally P.cmp result hits.items }

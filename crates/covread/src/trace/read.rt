@@ -1,4 +1,4 @@
-//! Reads a tracefile: one pass over its text, forward.
+//! Reads a tracefile in one pass.
 
 ghost use Rattle.std.specs.Prelude.{◌≡◌, ◌≤◌, ◌<◌, ◌∷◌, ℕ, IfOk, length, List, Result, option_map};
 ghost use Rattle.covline.specs.Row.{SubmissionData};
@@ -18,30 +18,30 @@ use covline::{
 use covpacked::{PackedSubmission, unpack};
 use std::alloc::Allocator;
 
-/// Reads a tracefile (geninfo(1), section FILES). Returns the submission that its lines make, or the text's first fault.
-/// [`read_trace_packed`] does the same, and takes less memory and time.
+/// Reads a tracefile (geninfo(1), section FILES). Returns its submission, or the input's first error. [`read_trace_packed`] does
+/// the same with less memory and time.
 pub fn read_trace<A: Allocator + Copy>(alloc: A, text: &[u8]) -> Result<Submission<A>, ReadFault>
-    // The answer is what the text is read as, or memory ran out.
+    // The result is what the input is read as, or memory ran out.
     ensures answers { Answers text.now result }
-    // No other answer is possible, unless memory ran out.
+    // No other result is possible, unless memory ran out.
     ensures only { (outcome : Result SubmissionData Fault) → IsOutcome text.now outcome → IsOrMemory result outcome }
-    // Nothing is kept before the first path, so memory can run out only at this path or after it.
+    // Nothing is stored before the first path, so memory can't run out before this line.
     ensures memory { GrowsLate text.now result }
 {
     let packed = read_trace_packed(alloc, text)?;
     Ok(unpack(alloc, &packed)?)
 }
 
-/// Reads a tracefile (geninfo(1), section FILES). Returns the submission that its lines make, packed, or the text's first fault.
+/// Reads a tracefile (geninfo(1), section FILES). Returns its packed submission, or the input's first error.
 pub fn read_trace_packed<A: Allocator + Copy>(
     alloc: A,
     text: &[u8],
 ) -> Result<PackedSubmission<A>, ReadFault>
-    // The answer is what the text is read as, or memory ran out.
+    // The result is what the input is read as, or memory ran out.
     ensures answers { Answers text.now result }
-    // No other answer is possible, unless memory ran out.
+    // No other result is possible, unless memory ran out.
     ensures only { (outcome : Result SubmissionData Fault) → IsOutcome text.now outcome → IsOrMemory result outcome }
-    // Nothing is kept before the first path, so memory can run out only at this path or after it.
+    // Nothing is stored before the first path, so memory can't run out before this line.
     ensures memory { GrowsLate text.now result }
 {
     // The proof cites this law.
@@ -52,7 +52,7 @@ pub fn read_trace_packed<A: Allocator + Copy>(
     read_lines(alloc, text)?.finish()
 }
 
-/// Takes all lines of the text.
+/// Processes all lines of the input.
 fn read_lines<'a, A: Allocator + Copy>(alloc: A, text: &'a [u8]) -> Result<Reader<'a, A>, ReadFault>
     requires { length text.now ≤ max_bytes }
     ensures { ReadsTo text.now result }
@@ -70,8 +70,8 @@ fn read_lines<'a, A: Allocator + Copy>(alloc: A, text: &'a [u8]) -> Result<Reade
     Ok(reader)
 }
 
-/// Takes the first line of `text`, which is the rest of a text, and returns what follows the line. `at` is the line's number.
-/// Most lines are counts of a source line or of a branch. These two are tried first, before the line is cut from the text.
+/// Processes the first line of `text`, which is the rest of an input, and returns what follows it. `at` is the line's number. Most
+/// lines are counts of a source line or of a branch, so these two are tried first, before the line is cut from the text.
 #[inline(always)]
 fn take_first<'a, A: Allocator + Copy>(
     reader: &mut Reader<'a, A>,
@@ -97,7 +97,7 @@ fn take_first<'a, A: Allocator + Copy>(
     Ok(rest)
 }
 
-/// Takes the count of a source line. `at` is the number of the tracefile's line that says it.
+/// Processes the count of a source line. `at` is the number of its line in the tracefile.
 #[inline(always)]
 pub fn take_line_count<A: Allocator + Copy>(
     reader: &mut Reader<'_, A>,
@@ -115,7 +115,7 @@ pub fn take_line_count<A: Allocator + Copy>(
     }
 }
 
-/// Takes how often a branch was taken. `at` is the number of the tracefile's line that says it.
+/// Processes how often a branch was taken. `at` is the number of its line in the tracefile.
 #[inline(always)]
 pub fn take_branch<A: Allocator + Copy>(
     reader: &mut Reader<'_, A>,
@@ -132,7 +132,7 @@ pub fn take_branch<A: Allocator + Copy>(
     }
 }
 
-/// Takes the line with this number.
+/// Processes line number `at`.
 fn take_line<'a, A: Allocator + Copy>(
     reader: &mut Reader<'a, A>,
     alloc: A,
@@ -152,7 +152,7 @@ fn take_line<'a, A: Allocator + Copy>(
     }
 }
 
-/// The text's fault if the line with this number isn't taken for this reason.
+/// The error of an input whose line number `at` is rejected for this reason.
 pub fn fault_at(why: PlacementFault, at: u64) -> ReadFault
     ensures { result ≡ fault_at why at }
 {

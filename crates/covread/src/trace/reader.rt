@@ -1,4 +1,4 @@
-//! What the reader of a tracefile holds between two lines.
+//! The state of the tracefile reader between two lines.
 
 ghost use Rattle.std.specs.Prelude.{◌≡◌, List, [], option_map};
 ghost use Rattle.covline.specs.Spells.{LineData, line_data, Test, Path, Branch, Line, End};
@@ -14,25 +14,25 @@ use covline::{BranchPoint, TraceLine};
 use covpacked::{PackedSects, PackedSubmission};
 use std::alloc::Allocator;
 
-/// A section whose end hasn't come yet.
+/// A section that isn't closed yet.
 #[derive(Drop)]
 pub struct OpenSection<'a, A: Allocator> {
     /// Its path.
     pub file: &'a [u8],
-    /// What its lines gave so far.
+    /// The state of its lines so far.
     pub builder: SectionBuilder<'a, A>,
 }
 
-/// What a reader holds between two lines.
+/// The state of the reader between two lines.
 #[derive(Drop)]
 pub struct Reader<'a, A: Allocator> {
-    /// The name in the last test line. It is empty if no test line came yet.
+    /// The name in the last test line; empty before the first one.
     pub test: &'a [u8],
-    /// The open section, if there is one.
+    /// The open section.
     pub section: Option<OpenSection<'a, A>>,
-    /// The sections that ended, and the items of the open one.
+    /// The closed sections, and the items of the open one.
     pub sects: PackedSects<A>,
-    /// The number of odd lines in these.
+    /// The number of inconsistent lines of the closed sections.
     pub odd: u64,
 }
 
@@ -50,7 +50,7 @@ impl<'a, A: Allocator + Copy> Reader<'a, A> {
         }
     }
 
-    /// Takes what one line says.
+    /// Processes the record of one line.
     pub fn take(&mut self, alloc: A, line: TraceLine<'a>) -> Result<(), PlacementFault>
         requires { (inside : List LineData) × HasRoom self.old inside }
         ensures { (inside : List LineData) → IsOpen self.old inside → Steps result (held_data self.old inside) self.new (line_data line.entry) }
@@ -68,7 +68,7 @@ impl<'a, A: Allocator + Copy> Reader<'a, A> {
         }
     }
 
-    /// Takes the test name of the sections that follow.
+    /// Stores the test name of the sections that follow.
     fn name_test(&mut self, name: &'a [u8]) -> Result<(), PlacementFault>
         ensures { (inside : List LineData) → IsOpen self.old inside → Steps result (held_data self.old inside) self.new (Test name.now) }
     {
@@ -94,7 +94,7 @@ impl<'a, A: Allocator + Copy> Reader<'a, A> {
         Ok(())
     }
 
-    /// Takes a line of the open section.
+    /// Adds a record to the open section.
     fn keep(&mut self, line: TraceLine<'a>) -> Result<(), PlacementFault>
         requires room { (inside : List LineData) × HasRoom self.old inside }
         requires kept { IsKept (line_data line) }
@@ -147,7 +147,7 @@ impl<'a, A: Allocator + Copy> Reader<'a, A> {
         Err(PlacementFault::Outside)
     }
 
-    /// Ends the open section: it is settled, and kept with the test's name.
+    /// Closes the open section: settles its counts and totals, and stores it with the test's name.
     fn end(&mut self, alloc: A) -> Result<(), PlacementFault>
         requires { (inside : List LineData) × HasRoom self.old inside }
         ensures { (inside : List LineData) → IsOpen self.old inside → Steps result (held_data self.old inside) self.new End }
@@ -162,7 +162,7 @@ impl<'a, A: Allocator + Copy> Reader<'a, A> {
         Ok(())
     }
 
-    /// Returns the submission, after the last line, or the fault that a section is still open.
+    /// Returns the submission after the last line. Fails if a section is still open.
     pub fn finish(self) -> Result<PackedSubmission<A>, ReadFault>
         requires { EndsLawfully (held_data self []) }
         ensures { result ≡ ends (held_data self.entry []) }

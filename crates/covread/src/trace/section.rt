@@ -1,4 +1,4 @@
-//! What the lines of an open section give, one after another.
+//! Collects the lines of an open section.
 
 ghost use Rattle.std.specs.Prelude.{◌≡◌, ℕ};
 ghost use Rattle.covline.specs.Points.{is_hit};
@@ -15,7 +15,7 @@ use std::collections::BTreeMap;
 /// A count of a function, which waits for the least start line of the function.
 #[derive(Clone, Copy, Drop)]
 pub struct PendingCount<'a> {
-    /// The place of its item among the section's items.
+    /// The index of its item among the section's items.
     pub at: usize,
     /// The function's name.
     pub name: &'a [u8],
@@ -23,19 +23,19 @@ pub struct PendingCount<'a> {
     pub is_hit: bool,
 }
 
-/// What the lines of an open section gave so far, beside its items, which packed sections hold. The item of a function's count has
-/// the start line 0 until the section ends. Counts of functions, and totals, depend on later lines, so they wait for that end.
+/// The state of an open section's lines, besides its items, which packed sections store. The item of a function's count has the
+/// start line 0 until the section ends. Counts of functions, and totals, depend on later lines, so they wait until then.
 #[derive(Drop)]
 pub struct SectionBuilder<'a, A: Allocator> {
     /// The functions with a start line.
     pub functions: Functions<'a, A>,
     /// The counts of functions.
     pub waiting: Vec<PendingCount<'a>, A>,
-    /// The lines that items count.
+    /// The lines that the items count.
     pub lines: Points<u64>,
-    /// The branches that items count.
+    /// The branches that the items count.
     pub branches: Points<BranchPoint>,
-    /// The totals that lines state.
+    /// The stated totals.
     pub totals: Vec<StatedTotal, A>,
 }
 
@@ -59,7 +59,7 @@ impl<'a, A: Allocator + Copy> SectionBuilder<'a, A> {
         }
     }
 
-    /// Takes what one line says. It has to be a record that an open section keeps.
+    /// Adds a record, which must be one that an open section stores.
     pub fn take(&mut self, sects: &mut PackedSects<A>, line: TraceLine<'a>) -> Result<(), Memory>
         requires room { (inside : List LineData) × IsBuiltOf self.old sects.old.items inside × length inside + 1 < 2 ^ 64 }
         requires kept { IsKept (line_data line) }
@@ -95,7 +95,7 @@ impl<'a, A: Allocator + Copy> SectionBuilder<'a, A> {
         }
     }
 
-    /// Takes a start line of a function.
+    /// Adds a start line of a function.
     fn take_start(
         &mut self,
         sects: &mut PackedSects<A>,
@@ -109,7 +109,7 @@ impl<'a, A: Allocator + Copy> SectionBuilder<'a, A> {
         sects.push_function(name, line, 0)
     }
 
-    /// Takes a count of a function.
+    /// Adds a count of a function.
     fn take_function_count(
         &mut self,
         sects: &mut PackedSects<A>,
@@ -127,7 +127,7 @@ impl<'a, A: Allocator + Copy> SectionBuilder<'a, A> {
         sects.push_function(name, 0, count)
     }
 
-    /// Takes how often a branch was taken. Only the packed sections may allocate.
+    /// Adds how often a branch was taken. Only the packed sections may allocate.
     #[inline(always)]
     pub fn take_branch(
         &mut self,
@@ -147,7 +147,7 @@ impl<'a, A: Allocator + Copy> SectionBuilder<'a, A> {
         Ok(())
     }
 
-    /// Takes the execution count of a line. Only the packed sections may allocate.
+    /// Adds the execution count of a line. Only the packed sections may allocate.
     #[inline(always)]
     pub fn take_line(
         &mut self,
@@ -169,7 +169,7 @@ impl<'a, A: Allocator + Copy> SectionBuilder<'a, A> {
         Ok(())
     }
 
-    /// Takes a total that a line states.
+    /// Adds a stated total.
     fn take_total(&mut self, stated: StatedTotal) -> Result<(), Memory>
         ensures { OnOk result ((items : List ItemData) (inside : List LineData) → IsBuiltOf self.old items inside → IsBuiltOf self.new items (inside ++ stated_record stated ∷ [])) }
     {

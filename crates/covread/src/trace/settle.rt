@@ -1,4 +1,4 @@
-//! What becomes of a section when it ends: of its items, and how many of its lines are odd.
+//! Settles a section when it ends: completes its items, and counts its inconsistent lines.
 
 ghost use Rattle.std.specs.Prelude.{◌≡◌, ℕ, ◌+◌, ◌<◌, ◌^◌, List, Option, [], ◌∷◌, false, IfOk, MatchOption, count_by, length, map};
 ghost use Rattle.covline.specs.Spells.{LineData};
@@ -14,18 +14,18 @@ use covline::Memory;
 use covpacked::PackedSects;
 use std::alloc::Allocator;
 
-/// What follows from the counts of functions that were taken so far.
+/// The result of the counts of functions so far.
 #[derive(Drop)]
 pub struct SettledCounts<A: Allocator> {
     /// How many functions have both a start line and a count above 0.
     pub hit: u64,
-    /// The places, among the section's items, of the counts whose function has no start line. They ascend.
+    /// The indices, among the section's items, of the counts whose function has no start line. They ascend.
     pub unstarted: Vec<usize, A>,
 }
 
-/// Settles the open section, and returns how many of its lines are odd: counts of functions without a start line, and totals that
-/// differ from the section's own. Each count of a function gets the least start line of the function. If the function has none, the
-/// count is removed as odd. Takes time n log n for n lines.
+/// Settles the open section, and returns the number of its inconsistent lines: counts of functions without a start line, and totals
+/// that differ from the section's own. Each count of a function gets the function's least start line, or is removed if there is
+/// none. Takes time n log n for n lines.
 pub fn settle<'a, A: Allocator + Copy>(
     alloc: A,
     sects: &mut PackedSects<A>,
@@ -60,7 +60,7 @@ pub fn settle<'a, A: Allocator + Copy>(
     Ok(unstarted.len() as u64 + others)
 }
 
-/// Gives each count of a function the least start line of the function, and lists the counts whose function has none.
+/// Gives each count of a function its least start line, and lists the counts whose function has none.
 fn settle_counts<'a, A: Allocator + Copy>(
     alloc: A,
     waiting: &[PendingCount<'a>],
@@ -89,7 +89,7 @@ impl<A: Allocator + Copy> SettledCounts<A> {
     ghost use Rattle.covread.specs.TraceSection.{Mark, mark};
     ghost use Rattle.covread.specs.TraceSettle.{IsSettled, names_in};
 
-    /// Takes the next count of a function.
+    /// Processes the next count of a function.
     fn take<'a>(
         &mut self,
         functions: &mut Functions<'a, A>,

@@ -1,4 +1,4 @@
-//! A section's own totals, and how many of the stated ones differ from them.
+//! Compares a section's own totals with the stated ones.
 
 ghost use Rattle.std.specs.Prelude.{◌≡◌, ◌<◌, ◌^◌, List, true, IfOk, count_by, length, map};
 ghost use Rattle.std.specs.List.{list_any};
@@ -18,7 +18,7 @@ pub struct StatedTotal {
     pub value: u64,
 }
 
-/// What a total counts.
+/// The kind of points that a total counts.
 #[derive(Clone, Copy)]
 enum PointKind {
     Functions,
@@ -26,16 +26,16 @@ enum PointKind {
     Lines,
 }
 
-/// How many functions a section has.
+/// The numbers of functions of a section.
 #[derive(Clone, Copy, Drop)]
 pub struct FunctionTotals {
-    /// Those with a start line.
+    /// The functions with a start line.
     pub found: u64,
-    /// Those of them that some line counts above 0.
+    /// Those of them with an execution count above 0.
     pub hit: u64,
 }
 
-/// What a section has: the totals of its functions, and the points of its branches and lines.
+/// A section's totals of functions, and its branches and lines.
 #[derive(Clone, Copy, Drop)]
 pub struct SectionPoints {
     pub functions: FunctionTotals,
@@ -43,8 +43,8 @@ pub struct SectionPoints {
     pub lines: Points<u64>,
 }
 
-/// A section's own totals. Branches are counted only if a line of the section states a total of branches, and otherwise left
-/// at 0. So are lines.
+/// A section's own totals. Those of branches are counted only if a line of the section states a total of branches, and are 0
+/// otherwise; likewise those of lines.
 #[derive(Clone, Copy)]
 struct OwnTotals {
     functions: FunctionTotals,
@@ -52,7 +52,7 @@ struct OwnTotals {
     lines: Tally,
 }
 
-/// How many of the totals that a section states differ from its own. Its own totals follow from `has` and `items`.
+/// How many of a section's stated totals differ from its own, which are computed from `has` and `items`.
 pub fn odd_totals<A: Allocator + Copy>(
     alloc: A,
     totals: &[StatedTotal],
@@ -71,7 +71,7 @@ pub fn odd_totals<A: Allocator + Copy>(
     Ok(count_odd(totals, &own))
 }
 
-/// The totals of these points if one of the stated totals is of their sort, else zeros.
+/// The totals of these points if a total of this `sort` is stated, else zeros.
 fn stated_totals<P: Point, A: Allocator + Copy>(
     alloc: A,
     totals: &[StatedTotal],
@@ -90,7 +90,7 @@ fn stated_totals<P: Point, A: Allocator + Copy>(
     }
 }
 
-/// Whether one of the totals is of this sort.
+/// Whether a total of this `sort` is stated.
 fn any_states(totals: &[StatedTotal], sort: PointKind) -> bool
     ensures { result ≡ list_any (states sort) (map stated_record totals.now) }
 {
@@ -103,7 +103,7 @@ fn any_states(totals: &[StatedTotal], sort: PointKind) -> bool
 }
 
 impl PointKind {
-    /// Whether a total of this kind counts points of this sort.
+    /// Whether totals of this kind count points of this sort.
     fn has(self, kind: TotalKind) -> bool
         ensures { result ≡ has self kind }
     {

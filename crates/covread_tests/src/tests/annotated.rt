@@ -1,4 +1,4 @@
-//! The reader of gcov's annotated source: what it returns, item by item, and what no session hands it.
+//! The reader of gcov's annotated source: its result, item by item, and inputs that no session gives it.
 
 use super::wrappers::{annotated, annotated_packed, is_packed, read};
 use super::{check_bytes, push_line};
@@ -9,7 +9,7 @@ use std::test::*;
 mod items;
 mod real;
 
-/// How many sections and items a text gives, or its fault.
+/// Prints the numbers of sections and items of an input, or its error.
 fn counted(alloc: Global, test: &[u8], text: &[u8]) -> Result<String, Fail> {
     Ok(match annotated(alloc, test, text) {
         Ok(submission) => {
@@ -21,7 +21,7 @@ fn counted(alloc: Global, test: &[u8], text: &[u8]) -> Result<String, Fail> {
     })
 }
 
-/// A packed submission says the same as a tracefile of the same items.
+/// A packed submission has the same items as a tracefile.
 #[test]
 fn packed(rt: HostRuntime) -> Result<(), Fail> {
     let text = b"        -:    0:Source:tmp.c
@@ -38,7 +38,7 @@ branch  1 never executed
     Ok(())
 }
 
-/// Checks how many sections and items a text gives, or its fault.
+/// Checks the numbers of sections and items of an input, or its error.
 fn check_counted(
     rt: &(impl Abort + AllocGlobal),
     test: &[u8],
@@ -50,7 +50,7 @@ fn check_counted(
     Ok(())
 }
 
-/// What beginnings of one text give. After `> ` is what all the lines above it give together.
+/// Prefixes of one input: each `> ` line is the result expected of all lines above it.
 #[test]
 fn first_lines(rt: HostRuntime) -> Result<(), Fail> {
     let lines = b"> sections 0 items 0
@@ -92,7 +92,7 @@ branch  0 never executed
     Ok(())
 }
 
-/// Names of tests that no tracefile can hold are refused. No session gives the reader such a name.
+/// Test names that no tracefile can hold are rejected. No session gives the reader such a name.
 #[test]
 fn unlawful_names(rt: HostRuntime) -> Result<(), Fail> {
     for name in b"a\nb|\n|a\r|\r".split(|byte| *byte == b'|') {
@@ -101,7 +101,7 @@ fn unlawful_names(rt: HostRuntime) -> Result<(), Fail> {
     Ok(())
 }
 
-/// A text of 67,108,864 bytes is read. A longer one is refused for its length, even if the test's name is unlawful.
+/// An input of 67,108,864 bytes is read. A longer one is rejected for its length, even if the test's name is unlawful.
 #[test]
 fn longest_text(rt: HostRuntime) -> Result<(), Fail> {
     let text = vec![in rt.alloc(); b'#'; 67_108_865]?;
@@ -109,7 +109,7 @@ fn longest_text(rt: HostRuntime) -> Result<(), Fail> {
     check_counted(&rt, b"t", &text[1..], b"sections 0 items 0")
 }
 
-/// The same for a text of line feeds alone, all of whose lines are blank.
+/// Like `longest_text`, with an input of line feeds alone, whose lines are all blank.
 #[test]
 fn most_line_feeds(rt: HostRuntime) -> Result<(), Fail> {
     let text = vec![in rt.alloc(); b'\n'; 67_108_865]?;

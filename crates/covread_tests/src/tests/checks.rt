@@ -1,4 +1,4 @@
-//! What a check reports of a text, with ample memory.
+//! The summary line of a check, with ample memory.
 
 use super::wrappers::{checked, checked_gcov, told, without_shape};
 use super::{check_bytes, push_line};
@@ -8,7 +8,7 @@ use std::alloc::Global;
 use std::process::Abort;
 use std::test::*;
 
-/// How a text is checked.
+/// The kind of a check.
 #[derive(Clone, Copy)]
 enum Kind {
     Trace,
@@ -22,7 +22,7 @@ fn check(alloc: Global, kind: Kind, text: &[u8]) -> Result<TextSummary<'_>, Read
     }
 }
 
-/// The line that a check reports of a text, or its fault.
+/// The summary line of an input, or its error.
 fn line_of(alloc: Global, kind: Kind, text: &[u8]) -> Result<Vec<u8>, Fail> {
     match check(alloc, kind, text) {
         Ok(summary) => Ok(told(alloc, &summary)?),
@@ -33,7 +33,7 @@ fn line_of(alloc: Global, kind: Kind, text: &[u8]) -> Result<Vec<u8>, Fail> {
     }
 }
 
-/// Checks the line that is reported of the text.
+/// Checks the summary line of the input.
 fn check_told(
     rt: &(impl Abort + AllocGlobal),
     kind: Kind,
@@ -46,8 +46,7 @@ fn check_told(
     Ok(())
 }
 
-/// Checks texts, one after the other. A line that begins with `> ` ends a text, and is what has to be reported of it. The other
-/// lines are the text.
+/// Checks examples. A line that begins with `> ` ends an input, and is its expected summary line. The other lines are the input.
 fn check_all(rt: &(impl Abort + AllocGlobal), kind: Kind, lines: &[u8]) -> Result<(), Fail> {
     let mut text: Vec<u8> = Vec::new(rt.alloc());
     for line in lines.split(|byte| *byte == b'\n') {
@@ -62,10 +61,10 @@ fn check_all(rt: &(impl Abort + AllocGlobal), kind: Kind, lines: &[u8]) -> Resul
     Ok(())
 }
 
-/// The second text has an empty line, and the third is empty. The fifth begins with a line of a tab and spaces, and the seventh
-/// with a byte order mark. Of the first skipped line at most 16 bytes are reported: the colons, spaces and tabs at its front, and
-/// what follows them up to the next colon, space or tab. A comma or a `<` doesn't end this. Bytes from 33 to 126 are shown, and
-/// each other byte is a `?`. A record without the colon of its key isn't read.
+/// The second input has an empty line, and the third is empty. The fifth begins with a line of a tab and spaces, and the seventh
+/// with a byte order mark. At most 16 bytes of the first skipped line are printed: the colons, spaces and tabs at its front, and
+/// what follows them up to the next colon, space or tab. A comma or a `<` doesn't end this. Bytes from 33 to 126 are unchanged, and
+/// each other byte is a `?`. A record without the colon of its key is skipped.
 #[test]
 fn checked_tracefiles(rt: HostRuntime) -> Result<(), Fail> {
     check_all(
@@ -126,7 +125,7 @@ DA:1
     )
 }
 
-/// The second text is a tracefile.
+/// The second input is a tracefile.
 #[test]
 fn checked_annotated_source(rt: HostRuntime) -> Result<(), Fail> {
     check_all(
@@ -170,7 +169,7 @@ fn texts_with_and_without_items(rt: HostRuntime) -> Result<(), Fail> {
     check_has_item(&rt, b"<html>\n", false)
 }
 
-/// A line of each shape fits a shape. A blank line fits none, and neither do some others.
+/// Each known shape fits some line. A blank line and some others fit no shape.
 #[test]
 fn lines_with_and_without_a_shape(rt: HostRuntime) {
     for line in b"------|function f called 1|branch 0 never executed|branch 0 taken 1|1: 2-block 3|1: 2:x".split(

@@ -1,4 +1,4 @@
-//! Texts that are cut off, with numbers of a million digits, or with bytes that few names have.
+//! Inputs that are cut off, that have numbers of a million digits, or bytes that few names have.
 
 use super::wrappers::{annotated, read, text_of};
 use super::{check_bytes, push_line};
@@ -8,7 +8,7 @@ use std::alloc::Global;
 use std::process::Abort;
 use std::test::*;
 
-/// How many items a text has and how many of its lines are odd, or its fault.
+/// Prints the numbers of items and of inconsistent lines of an input, or its error.
 fn counted(alloc: Global, text: &[u8]) -> Result<String, Fail> {
     Ok(match read(alloc, text) {
         Ok(submission) => {
@@ -20,7 +20,7 @@ fn counted(alloc: Global, text: &[u8]) -> Result<String, Fail> {
     })
 }
 
-/// What the first `n` bytes of the text in `first_bytes` give.
+/// The expected result for the first `n` bytes of the input in `first_bytes`.
 fn wanted_of(n: usize) -> &'static [u8] {
     match n {
         0..=7 => b"items 0 odd 0",
@@ -34,7 +34,7 @@ fn wanted_of(n: usize) -> &'static [u8] {
     }
 }
 
-/// A text may be cut off anywhere, and its last line then has no line feed.
+/// An input may be cut off anywhere; its last line then has no line feed.
 #[test]
 fn first_bytes(rt: HostRuntime) -> Result<(), Fail> {
     let text = b"TN:t\nSF:/a.c\nDA:1,2\nDA:2,0\nLF:2\nLH:1\nend_of_record\n";
@@ -46,12 +46,12 @@ fn first_bytes(rt: HostRuntime) -> Result<(), Fail> {
     Ok(())
 }
 
-/// A million times the digit.
+/// A million copies of the digit.
 fn million(alloc: Global, digit: u8) -> Result<Vec<u8>, Fail> {
     Ok(vec![in alloc; digit; 1_000_000]?)
 }
 
-/// The text with a million zeros in place of each `*`, and a million nines in place of each `+`.
+/// Replaces each `*` by a million zeros, and each `+` by a million nines.
 fn filled(alloc: Global, text: &[u8]) -> Result<Vec<u8>, Fail> {
     let mut filled = Vec::new(alloc);
     for byte in text {
@@ -64,7 +64,7 @@ fn filled(alloc: Global, text: &[u8]) -> Result<Vec<u8>, Fail> {
     Ok(filled)
 }
 
-/// What was read of a text, as text, or the text's fault.
+/// Prints the submission of an input, or its error.
 fn told(alloc: Global, given: Result<Submission, ReadFault>) -> Result<Vec<u8>, Fail> {
     let mut told = Vec::new(alloc);
     match given {
@@ -80,7 +80,7 @@ fn told(alloc: Global, given: Result<Submission, ReadFault>) -> Result<Vec<u8>, 
     Ok(told)
 }
 
-/// Checks what is read of a text. Both the text and what is wanted are filled first, by `filled`.
+/// Checks the printed submission of an input. Both the input and the expected text are filled first, by `filled`.
 fn check_filled(
     rt: &(impl Abort + AllocGlobal),
     name: &[u8],
@@ -94,8 +94,8 @@ fn check_filled(
     Ok(())
 }
 
-/// Checks what texts are read as, one after the other. A line that begins with `> ` is wanted, one that begins with `= ` ends
-/// the example and is its name, and the others are the text.
+/// Checks examples. A line that begins with `> ` is expected output, one that begins with `= ` ends the example and is its name,
+/// and the others are the input.
 fn check_all(rt: &(impl Abort + AllocGlobal), examples: &[u8]) -> Result<(), Fail> {
     let mut text = Vec::new(rt.alloc());
     let mut wanted = Vec::new(rt.alloc());
@@ -114,7 +114,7 @@ fn check_all(rt: &(impl Abort + AllocGlobal), examples: &[u8]) -> Result<(), Fai
     Ok(())
 }
 
-/// Leading zeros of a number don't matter, and the digits of a count below 0 don't either.
+/// Leading zeros of a number don't matter, nor do the digits of a negative count.
 #[test]
 fn long_numbers(rt: HostRuntime) -> Result<(), Fail> {
     check_all(
@@ -194,7 +194,7 @@ end_of_record\x00
     )
 }
 
-/// The same for the names in annotated source.
+/// Names in annotated source may hold any byte but a line feed; carriage returns at a line's end are stripped.
 #[test]
 fn bytes_of_annotated_names(rt: HostRuntime) -> Result<(), Fail> {
     let text = b"-:0:Source:\xff\r\x00\r\r\r\nfunction \x00\r\xff called 2\n1:3:\x00\xff\n";

@@ -1,4 +1,4 @@
-//! The longest texts, and a long section.
+//! The longest inputs, and a long section.
 
 use super::wrappers::read;
 use covread::ReadFault;
@@ -6,13 +6,13 @@ use std::alloc::Global;
 use std::process::Abort;
 use std::test::*;
 
-/// How many items a text has and how many of its lines are odd, or its fault.
+/// The numbers of items and of inconsistent lines of an input, or its error.
 fn counted(alloc: Global, text: &[u8]) -> Result<(u64, u64), ReadFault> {
     let submission = read(alloc, text)?;
     Ok((submission.items(), submission.odd()))
 }
 
-/// Checks how many items and odd lines a text has, or its fault.
+/// Checks the numbers of items and of inconsistent lines of an input, or its error.
 fn check_counted(
     rt: &(impl Abort + AllocGlobal),
     text: &[u8],
@@ -21,7 +21,7 @@ fn check_counted(
     assert_eq!(rt; counted(rt.alloc(), text), wanted);
 }
 
-/// A text of 67,108,864 bytes is read, and one with one more byte isn't.
+/// An input of 67,108,864 bytes is read, and one with one more byte isn't.
 #[test]
 fn longest_text(rt: HostRuntime) -> Result<(), Fail> {
     let text = vec![in rt.alloc(); b'#'; 67_108_865]?;
@@ -30,7 +30,7 @@ fn longest_text(rt: HostRuntime) -> Result<(), Fail> {
     Ok(())
 }
 
-/// The same for a text of line feeds alone, all of whose lines are blank.
+/// Like `longest_text`, with an input of line feeds alone, whose lines are all blank.
 #[test]
 fn most_line_feeds(rt: HostRuntime) -> Result<(), Fail> {
     let text = vec![in rt.alloc(); b'\n'; 67_108_865]?;
@@ -48,8 +48,8 @@ fn push_point(alloc: Global, n: u64, text: &mut Vec<u8>) -> Result<(), Fail> {
     Ok(())
 }
 
-/// A section of 300,000 lines, 300,000 functions and 300,000 branches that don't ascend. A reader that passes over all of them
-/// for each one wouldn't end in time.
+/// A section of 300,000 lines, 300,000 functions and 300,000 branches that don't ascend. A reader with quadratic running time
+/// wouldn't end in time.
 #[test]
 fn long_section(rt: HostRuntime) -> Result<(), Fail> {
     let mut text = Vec::from_slice(rt.alloc(), b"SF:a\n")?;

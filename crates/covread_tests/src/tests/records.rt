@@ -1,4 +1,4 @@
-//! Calls of covline and covread that no session shows: single records, lists, submissions, and the items of a text.
+//! Calls of covline and covread that no session reaches: single records, lists, submissions, and the items of an input.
 
 use super::wrappers::{
     append, branch_first, bytes_of, copied_items, copied_sects, copied_submission, copy_of,
@@ -34,7 +34,7 @@ fn bytes(rt: HostRuntime) -> Result<(), Fail> {
     Ok(())
 }
 
-/// Records are printed after what is there, with the largest numbers. A skipped line isn't printed.
+/// Records are appended to earlier text, with the largest numbers. A skipped line isn't printed.
 #[test]
 fn printed_records(rt: HostRuntime) -> Result<(), Fail> {
     let records = [
@@ -60,24 +60,23 @@ fn printed_records(rt: HostRuntime) -> Result<(), Fail> {
     Ok(())
 }
 
-/// Checks what `counted_first` gives of a text: what its first line counts, or `None` if that isn't read before it is cut.
+/// Checks the result of `counted_first`: the numbers of a text's first line, or `None` if that line must be cut first.
 fn check_first(rt: &impl Abort, text: &[u8], wanted: Option<(u64, u64, &[u8], usize)>) {
     assert_eq!(rt; counted_first(text), wanted);
 }
 
-/// Checks what `branch_first` gives of a text: what its first line says of a branch, or `None` if that isn't read before it is
-/// cut.
+/// Checks the result of `branch_first`: the branch of a text's first line, or `None` if that line must be cut first.
 fn check_branch(rt: &impl Abort, text: &[u8], wanted: Option<(BranchPoint, Option<u64>, usize)>) {
     assert_eq!(rt; branch_first(text), wanted);
 }
 
-/// Checks how long the first line of a text is, and how many bytes follow it.
+/// Checks the length of a text's first line, and how many bytes follow it.
 fn check_cut(rt: &impl Abort, text: &[u8], wanted: (usize, usize)) {
     assert_eq!(rt; cut_first(text), wanted);
 }
 
-/// A first line that counts is read before it is cut, with or without a checksum. It isn't if its checksum is empty or has a
-/// comma, if it has no line feed, or if its count isn't below 2^64.
+/// A first `DA:` line is read before it is cut, with or without a checksum. It isn't if its checksum is empty or has a comma, if it
+/// has no line feed, or if its count isn't below 2^64.
 #[test]
 fn checksums_before_a_cut(rt: HostRuntime) {
     check_first(
@@ -92,8 +91,8 @@ fn checksums_before_a_cut(rt: HostRuntime) {
     check_first(&rt, b"DA:7,18446744073709551616,a\n", None);
 }
 
-/// A first line that counts without a checksum is read before it is cut, if it has a line feed and its count is below 2^64. Other
-/// lines are cut first.
+/// A first `DA:` line without a checksum is read before it is cut, if it has a line feed and its count is below 2^64. Other lines
+/// are cut first.
 #[test]
 fn counts_before_a_cut(rt: HostRuntime) {
     check_first(&rt, b"DA:7,12", None);
@@ -107,7 +106,7 @@ fn counts_before_a_cut(rt: HostRuntime) {
     check_cut(&rt, b"rest", (4, 0));
 }
 
-/// A first line of a branch is read before it is cut, with a count below 2^64 or a dash, if a line feed comes right after that.
+/// A first `BRDA:` line is read before it is cut, with a count below 2^64 or a dash, if a line feed comes right after that.
 #[test]
 fn branch_before_a_cut(rt: HostRuntime) {
     let point = BranchPoint {
@@ -123,7 +122,7 @@ fn branch_before_a_cut(rt: HostRuntime) {
     check_branch(&rt, b"BRDA:7,0,2,12\r\n", None);
 }
 
-/// The record of each line, printed again. A skipped line is `skipped`, and a line with a fault is `faulty`.
+/// Prints the record of each line again: `skipped` for a skipped line, and `faulty` for an invalid one.
 fn read_and_printed(alloc: Global, text: &[u8]) -> Result<Bytes, Memory> {
     let mut printed = Bytes::new(alloc);
     for line in text.split(|byte| *byte == b'\n') {
@@ -337,7 +336,7 @@ fn two_sects(alloc: Global) -> Result<Sects, Memory> {
     Ok(sects)
 }
 
-/// Checks that the sections are this text, as `text_of` writes them.
+/// Checks that `text_of` prints the sections as this text.
 fn check_sects(rt: &(impl Abort + AllocGlobal), sects: &[Sect], wanted: &[u8]) -> Result<(), Fail> {
     let text = text_of(rt.alloc(), sects)?;
     check_bytes(rt, text.get(), wanted);
@@ -362,7 +361,7 @@ fn lists_and_their_copies(rt: HostRuntime) -> Result<(), Fail> {
     check_copied_items(&rt, copy.get())
 }
 
-/// The submission of `TWO`, with 14 odd lines.
+/// The submission of `TWO`, with 14 inconsistent lines.
 fn of_two(alloc: Global) -> Result<Submission, Fail> {
     match submission_of(two_sects(alloc)?, 14) {
         Ok(submission) => Ok(submission),
@@ -370,7 +369,7 @@ fn of_two(alloc: Global) -> Result<Submission, Fail> {
     }
 }
 
-/// Checks that the submission is that of `TWO`, with 14 odd lines.
+/// Checks that the submission is that of `TWO`, with 14 inconsistent lines.
 fn check_two(rt: &(impl Abort + AllocGlobal), submission: &Submission) -> Result<(), Fail> {
     assert_eq!(rt; submission.items(), 6);
     assert_eq!(rt; submission.odd(), 14);
@@ -385,8 +384,8 @@ fn lawful_submissions(rt: HostRuntime) -> Result<(), Fail> {
     check_two(&rt, &copy)
 }
 
-/// The sections that are handed back since a text in them is unlawful, and the index of the section with this text. `None` if
-/// they aren't refused for that.
+/// The sections that `Submission::of` returns because of an unlawful name or checksum, and the index of the first such section.
+/// Returns `None` if they aren't rejected for that.
 fn handed_back(sects: Sects) -> Option<(Sects, usize)> {
     match submission_of(sects, 0) {
         Ok(_submission) => None,
@@ -397,7 +396,7 @@ fn handed_back(sects: Sects) -> Option<(Sects, usize)> {
     }
 }
 
-/// A section with an empty path is refused. The refusal hands the sections back.
+/// A section with an empty path is rejected. The error returns the sections.
 #[test]
 fn an_empty_file(rt: HostRuntime) -> Result<(), Fail> {
     let mut sects = Sects::new(rt.alloc());
@@ -425,8 +424,8 @@ fn push_row(alloc: Global, sects: &mut Sects, row: &[u8]) -> Result<(), Memory> 
     push_names(alloc, sects, test, file, function, checksum)
 }
 
-/// How many of four sections are handed back, and the index of the one that is refused. The third section is that of the row.
-/// The fourth has unlawful texts too.
+/// The number of sections that `Submission::of` returns of four, and the index of the rejected one. The third section is that of
+/// the row. The fourth is unlawful too.
 fn told(alloc: Global, row: &[u8]) -> Result<(usize, usize), Memory> {
     let mut sects = two_sects(alloc)?;
     push_row(alloc, &mut sects, row)?;
@@ -449,7 +448,7 @@ fn unlawful_texts(rt: HostRuntime) -> Result<(), Fail> {
     Ok(())
 }
 
-/// The numbers of the faults of lines, submissions and texts.
+/// The numbers of the errors of lines, submissions and inputs.
 #[test]
 fn numbers_of_faults(rt: HostRuntime) {
     let line = ReadFault::Line {
@@ -482,7 +481,7 @@ fn numbers_of_faults(rt: HostRuntime) {
     );
 }
 
-/// Checks that a text is read as these sections, with no odd line, packed and not.
+/// Checks that an input is read as these sections, with no inconsistent line, packed and not.
 fn check_read(rt: &(impl Abort + AllocGlobal), text: &[u8], wanted: &[u8]) -> Result<(), Fail> {
     let submission = read(rt.alloc(), text)?;
     assert_eq!(rt; submission.odd(), 0);

@@ -1,4 +1,4 @@
-//! Calls of the crates below, in functions without contracts. A test looks only at values, and its proof is quicker without
+//! Calls of the crates below, in functions without contracts. A test looks only at values, and its proof is faster without
 //! contracts.
 
 use covcheck::{TextSummary, check_gcov, check_trace, summary_line};
@@ -28,20 +28,20 @@ pub(super) fn put_line(record: &TraceLine<'_>, text: &mut Bytes) -> Result<(), M
     covline::put_line(record, text)
 }
 
-/// The numbers of a first line that counts, its checksum (empty if there is none), and how many bytes follow it.
+/// The numbers of a text's first line, a `DA:` line; its checksum, empty if it has none; and how many bytes follow it.
 pub(super) fn counted_first(text: &[u8]) -> Option<(u64, u64, &[u8], usize)> {
     let first = covline::try_line_count(text)?;
     let checksum = first.checksum.unwrap_or(b"");
     Some((first.line, first.count, checksum, first.rest.len()))
 }
 
-/// What a first line says of a branch, and how many bytes follow it.
+/// The branch of a text's first line, and how many bytes follow it.
 pub(super) fn branch_first(text: &[u8]) -> Option<(BranchPoint, Option<u64>, usize)> {
     let first = covline::try_branch_line(text)?;
     Some((first.point, first.taken, first.rest.len()))
 }
 
-/// How long the first line of a text is, and how many bytes follow it.
+/// The length of a text's first line, and how many bytes follow it.
 pub(super) fn cut_first(text: &[u8]) -> (usize, usize) {
     if text.is_empty() {
         return (0, 0);
@@ -89,7 +89,7 @@ pub(super) fn annotated_packed(
     read_gcov_packed(alloc, test, text)
 }
 
-/// Whether a packed submission is the same as one that isn't packed.
+/// Whether a packed submission equals an unpacked one.
 pub(super) fn is_packed(packed: &PackedSubmission, given: &Submission) -> bool {
     packed.is_same_as(given)
 }
@@ -148,7 +148,7 @@ fn put_sect(sect: &Sect, text: &mut Bytes) -> Result<(), Memory> {
     put_line(&TraceLine::End, text)
 }
 
-/// The sections as text.
+/// Prints the sections.
 pub(super) fn text_of(alloc: Global, sects: &[Sect]) -> Result<Bytes, Memory> {
     let mut text = Bytes::new(alloc);
     for sect in sects {

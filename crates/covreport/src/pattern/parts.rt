@@ -6,25 +6,25 @@ ghost use Rattle.covreport.specs.PatternParts.{set_data, BeginsWithRange, head_d
 
 use memchr::memchr;
 
-/// The bytes of which a part takes one. A set `[...]` is kept as its body.
+/// The bytes that a part of a pattern matches. A set `[...]` is stored as its body.
 #[derive(Clone, Copy)]
 pub(crate) enum ByteSet<'a> {
     /// Each byte.
     Any,
     /// This byte.
     Exactly(u8),
-    /// A byte that the body has.
+    /// A byte of the body.
     OneOf(&'a [u8]),
-    /// A byte that the body doesn't have.
+    /// A byte that isn't in the body.
     NoneOf(&'a [u8]),
 }
 
 /// A part of a pattern.
 #[derive(Clone, Copy)]
 pub(crate) enum Part<'a> {
-    /// Takes a run of bytes, which may be empty.
+    /// Matches any run of bytes, also an empty one.
     AnyRun,
-    /// Takes one byte of the set.
+    /// Matches one byte of the set.
     OneByte(ByteSet<'a>),
 }
 
@@ -56,8 +56,8 @@ fn body_takes(body: &[u8], byte: u8) -> bool
     false
 }
 
-/// The range at the front of a set's body, and what follows this range; `None` if the body is empty. A byte without a
-/// `-` and another byte after it is a range of one byte.
+/// The range at the front of a set's body, and the rest of the body. A byte that no `-` and another byte follow is a range of one
+/// byte. Returns `None` if the body is empty.
 fn read_range(body: &[u8]) -> Option<(u8, u8, &[u8])>
     ensures { MatchOption result (body.now ≡ []) (λ range. BeginsWithRange body.now range.0 range.1 range.2.now) }
 {
@@ -68,14 +68,14 @@ fn read_range(body: &[u8]) -> Option<(u8, u8, &[u8])>
     }
 }
 
-/// A part, and what follows it in its pattern.
+/// A part, and the rest of its pattern.
 #[derive(Clone, Copy)]
 pub(crate) struct Head<'a> {
     pub(crate) part: Part<'a>,
     pub(crate) rest: &'a [u8],
 }
 
-/// The part that takes one byte of this set, if these bytes follow it in the pattern.
+/// The part that matches one byte of this set, followed by the rest of the pattern.
 fn one_byte<'a>(set: ByteSet<'a>, rest: &'a [u8]) -> Head<'a>
     ensures { head_data result ≡ (OneByte (set_data set.entry), rest.now) }
 {
@@ -85,7 +85,7 @@ fn one_byte<'a>(set: ByteSet<'a>, rest: &'a [u8]) -> Head<'a>
     }
 }
 
-/// The body of the set whose `[` or `[!` comes right before these bytes, and what follows the set; `None` if no `]` closes it.
+/// The body of the set after its `[` or `[!`, and the rest of the pattern. Returns `None` if no `]` closes the set.
 fn read_body(text: &[u8]) -> Option<(&[u8], &[u8])>
     ensures { option_map (λ read. (read.0.now, read.1.now)) result ≡ option_map (after_body text.now) (body_of text.now) }
 {
@@ -94,7 +94,7 @@ fn read_body(text: &[u8]) -> Option<(&[u8], &[u8])>
     Some((&text[..close + 1], &behind[close + 1..]))
 }
 
-/// The part that begins with a `[` right before these bytes, if the `[` opens a set. `None` if no `]` closes the set.
+/// The set that a `[` before these bytes opens, and the rest of the pattern. Returns `None` if no `]` closes the set.
 fn read_set(rest: &[u8]) -> Option<Head<'_>>
     ensures { option_map head_data result ≡ option_map (after_head rest.now) (opened_set rest.now) }
 {
@@ -106,8 +106,7 @@ fn read_set(rest: &[u8]) -> Option<Head<'_>>
     Some(one_byte(ByteSet::OneOf(body), behind))
 }
 
-/// The part that begins with `\`, if the bytes `rest` follow it in the pattern: it takes only the byte after the `\`, or only
-/// `\` if the pattern ends there.
+/// The part of a `\` before these bytes: it matches only the byte after the `\`, or a `\` if the pattern ends there.
 fn read_quoted(rest: &[u8]) -> Head<'_>
     ensures { head_data result ≡ after_head rest.now (quoted rest.now) }
 {
@@ -117,7 +116,7 @@ fn read_quoted(rest: &[u8]) -> Head<'_>
     }
 }
 
-/// The part that begins with the byte `first`, if the bytes `rest` follow it in the pattern.
+/// The first part of the pattern made of the byte `first` and `rest`.
 pub(crate) fn read_head(first: u8, rest: &[u8]) -> Head<'_>
     ensures { head_data result ≡ after_head rest.now (head_of first rest.now) }
 {

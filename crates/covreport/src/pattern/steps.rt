@@ -1,4 +1,4 @@
-//! The steps of a match.
+//! Matches a pattern with a path, step by step.
 
 ghost use Rattle.std.specs.Prelude.{◌≡◌, ◌+◌, ◌*◌, ◌≤◌, false, ◌∷◌, length, MatchOption};
 ghost use Rattle.covreport.specs.Pattern.{OneByte, matches as pattern_matches, parts_of};
@@ -7,24 +7,24 @@ ghost use Rattle.covreport.specs.PatternSteps.{fits_at, answer_of, steps_left, G
 
 use crate::pattern::parts::{ByteSet, Part, read_head};
 
-/// What is left of a pattern, and of a path.
+/// The rest of a pattern, and the rest of a path.
 #[derive(Clone, Copy)]
 struct Position<'a> {
     pattern: &'a [u8],
     path: &'a [u8],
 }
 
-/// How far a match has come. It goes back to the last star only. The parts before this star fit as early in the path as they
-/// can. If they fit later, there would be less of the path left for the star and the parts after it.
+/// The state of a match. It backtracks to the last star only: the parts before this star match as early in the path as they can,
+/// and later matches would only leave less of the path for the star and the parts after it.
 #[derive(Drop)]
 pub(crate) struct Matcher<'a> {
     here: Position<'a>,
-    /// What is left after the last star, where its run was last taken to end.
+    /// The rest after the last star, at the current end of the star's run.
     star: Option<Position<'a>>,
 }
 
 impl<'a> Matcher<'a> {
-    /// A match of the pattern with the whole path, before its first step.
+    /// Begins to match the pattern with the whole path.
     pub(crate) fn new(pattern: &'a [u8], path: &'a [u8]) -> Matcher<'a>
         ensures answer { answer_of result ≡ pattern_matches pattern.now path.now }
         ensures goes_on { GoesOn result }
@@ -36,8 +36,8 @@ impl<'a> Matcher<'a> {
         }
     }
 
-    /// Takes one step, and returns the answer once it is found. A match takes at most as many steps as there are pairs
-    /// of a place in the pattern and a place in the path.
+    /// Does one step. Returns the result once it is known. A match needs at most as many steps as there are pairs of an index in
+    /// the pattern and one in the path.
     pub(crate) fn step(&mut self) -> Option<bool>
         requires { GoesOn self.old }
         ensures { MatchOption result (Proceeds self.old self.new) (λ answer. answer ≡ answer_of self.old) }
@@ -56,7 +56,7 @@ impl<'a> Matcher<'a> {
         }
     }
 
-    /// Takes a step at the end of the pattern. There is a match if this is also the end of the path. Otherwise goes back.
+    /// Does a step at the end of the pattern: there is a match if this is also the end of the path. Otherwise backtracks.
     fn end(&mut self) -> Option<bool>
         requires goes_on { GoesOn self.old }
         requires at_end { length self.old.here.pattern.now ≡ 0 }
@@ -68,8 +68,8 @@ impl<'a> Matcher<'a> {
         self.go_back()
     }
 
-    /// Takes the next byte of the path if it is in the set. Otherwise goes back. What is left of the pattern is this set and then
-    /// `rest`.
+    /// Matches the next byte of the path with this set; `rest` is the pattern after the set. Backtracks if the byte isn't in the
+    /// set.
     fn take_byte(&mut self, set: ByteSet<'a>, rest: &'a [u8]) -> Option<bool>
         requires goes_on { GoesOn self.old }
         requires parts { parts_of self.old.here.pattern.now ≡ OneByte (set_data set) ∷ parts_of rest.now }
@@ -88,8 +88,8 @@ impl<'a> Matcher<'a> {
         }
     }
 
-    /// Lets the last star take one more byte of the path, and goes on after this byte. There is no match if there is no star,
-    /// or no byte that it could take.
+    /// Lets the last star match one more byte of the path, and goes on after this byte. There is no match without a star, or
+    /// without such a byte.
     fn go_back(&mut self) -> Option<bool>
         requires { fits_at self.old.here ≡ false }
         ensures { MatchOption result (Proceeds self.old self.new) (λ answer. answer ≡ answer_of self.old) }

@@ -1,4 +1,4 @@
-//! The numbers of a record, put together so that a record is printed in few pieces.
+//! Builds a record from its numbers, so that it is printed in few pieces.
 
 ghost use Rattle.std.specs.Prelude.{◌≡◌, ◌+◌, ◌<◌, ◌≤◌, ◌++◌, [], ◌∷◌, decimal, length};
 ghost use Rattle.covline.specs.Spells.{comma};
@@ -6,12 +6,11 @@ ghost use Rattle.covline.specs.Spells.{comma};
 use itoa::{Buffer, write_digits};
 use std::marker::Model;
 
-/// How many bytes there is room for. A record has at most a key of 5 bytes, three numbers of 64 bits, one number of 128 bits,
-/// and a byte after each number.
+/// The capacity in bytes. A record has at most a key of 5 bytes, three numbers of 64 bits, one number of 128 bits, and a byte after
+/// each number.
 const ROOM: usize = 112;
 
-/// The bytes at the front of a record, or the whole record. They are put together from the last to the first. Contracts see the
-/// bytes.
+/// A record, or the front of one, that is built from its last byte to its first. Contracts see the bytes.
 #[derive(Drop)]
 pub(super) struct Front {
     bytes: [u8; ROOM],
@@ -41,7 +40,7 @@ impl Front {
         }
     }
 
-    /// Begins anew with one byte. What was put before is gone.
+    /// Starts again with one byte.
     #[inline]
     pub(super) fn begin(&mut self, last: u8)
         ensures { self.new ≡ last ∷ [] }
@@ -58,7 +57,7 @@ impl Front {
         &self.bytes[self.start..]
     }
 
-    /// Puts a byte before the others.
+    /// Prepends a byte.
     #[inline]
     pub(super) fn put(&mut self, byte: u8)
         requires { length self.old < 112 }
@@ -68,7 +67,7 @@ impl Front {
         self.bytes[self.start] = byte;
     }
 
-    /// Puts a text before the others.
+    /// Prepends a text.
     #[inline]
     pub(super) fn put_text(&mut self, text: &[u8])
         requires { length text.now + length self.old ≤ 112 }
@@ -79,7 +78,7 @@ impl Front {
         self.bytes[self.start..end].copy_from_slice(text);
     }
 
-    /// Puts a number in decimal before the others.
+    /// Prepends a number in decimal.
     #[inline]
     pub(super) fn put_number(&mut self, number: u64)
         requires { length self.old + 20 ≤ 112 }
@@ -89,7 +88,7 @@ impl Front {
         self.start = write_digits(number, &mut self.bytes, self.start);
     }
 
-    /// Puts a number of 128 bits in decimal before the others.
+    /// Prepends a number of 128 bits in decimal.
     #[inline]
     pub(super) fn put_count(&mut self, count: u128)
         requires { length self.old + 39 ≤ 112 }
@@ -102,7 +101,7 @@ impl Front {
         }
     }
 
-    /// Puts a number and a comma before the others.
+    /// Prepends a number and a comma.
     #[inline]
     pub(super) fn put_field(&mut self, number: u64)
         requires { length self.old + 21 ≤ 112 }

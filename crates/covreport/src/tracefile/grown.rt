@@ -7,7 +7,7 @@ use crate::printer::Printer;
 use covline::{Bytes, Memory};
 use std::alloc::Allocator;
 
-/// A text that grows as it is printed, until memory is refused.
+/// A text that grows as it is printed, until an allocation fails.
 #[derive(Drop)]
 pub(super) struct Grown<A: Allocator> {
     text: Bytes<A>,
@@ -20,7 +20,7 @@ pub(super) struct Grown<A: Allocator> {
 impl<A: Allocator> Grown<A> {
     ghost use Rattle.std.specs.Prelude.{◌≡◌, ◌≢◌, [], true, IfOk, OnOk, OnErr};
 
-    /// The empty text. Takes no memory.
+    /// The empty text. Never allocates.
     pub(super) fn new(alloc: A) -> Grown<A>
         ensures empty { result.put.bytes ≡ [] }
         ensures whole { result.is_whole ≡ true }
@@ -32,7 +32,7 @@ impl<A: Allocator> Grown<A> {
         }
     }
 
-    /// The whole text, if no memory was refused.
+    /// Returns the whole text, or `Memory` if an allocation failed.
     pub(super) fn into_text(self) -> Result<Bytes<A>, Memory>
         ensures ok { IfOk result (λ t. t ≡ self.put.bytes) }
         ensures whole { OnOk result (self.is_whole ≡ true) }
@@ -62,7 +62,7 @@ impl<A: Allocator> Printer for Grown<A> {
     }
 }
 
-/// Appends the piece, if the text is whole. Returns whether the text is whole afterwards.
+/// Appends the piece, unless an allocation failed before. Returns whether the text is still whole.
 #[inline]
 fn grow<A: Allocator>(text: &mut Bytes<A>, is_whole: bool, piece: &[u8]) -> bool
     ensures whole { result ≡ true → text.new ≡ text.old ++ piece.now }

@@ -1,4 +1,4 @@
-//! The room that printing takes.
+//! Reserves memory for printing.
 
 ghost use Rattle.std.specs.Prelude.{◌≡◌, ◌<◌, ◌≤◌, ◌∷◌, [], length, IfOk, OnErr, vec_capacity};
 ghost use Rattle.covreport.specs.ChoiceView.{choice_data};
@@ -10,7 +10,7 @@ use covline::Memory;
 use covstore::{Section, Store};
 use std::alloc::Allocator;
 
-/// Room for the functions of any one section of the chosen files. If these files have no functions, the call allocates nothing.
+/// Reserves memory for the functions of any one section of the chosen files. Never allocates if these files have no functions.
 pub(super) fn room_for_functions<'s, A: Allocator + Copy>(
     alloc: A,
     store: &'s Store<A>,
@@ -22,7 +22,7 @@ pub(super) fn room_for_functions<'s, A: Allocator + Copy>(
     Ok(Vec::with_capacity(alloc, most_functions(store, choice))?)
 }
 
-/// The most functions that one section of the chosen files has.
+/// The greatest number of functions of a section of the chosen files.
 fn most_functions<A: Allocator + Copy>(store: &Store<A>, choice: &Choice<A>) -> usize
     ensures { result ≡ most_functions_of (choice_data choice.now) store.now.sections }
 {

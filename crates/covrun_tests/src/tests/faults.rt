@@ -1,4 +1,4 @@
-//! Calls whose input or output fails: what is reported, and what is printed. Only a check prints anything then.
+//! Runs whose input or output fails: the reported errors, and the output. Only a check prints anything then.
 
 ghost use Rattle.std.specs.Prelude.{None};
 
@@ -11,7 +11,7 @@ use std::sync::Wait;
 use std::test::*;
 use std::thread::Threads;
 
-/// An output that takes no byte, or that takes all bytes and can't send them on.
+/// An output that takes no byte, or one that takes all bytes and can't send them on.
 #[derive(Drop)]
 struct Closed {
     takes: bool,
@@ -39,7 +39,7 @@ impl Sink for Closed {
     }
 }
 
-/// The exit status of a call with such an output, and what the call writes to the stream for faults.
+/// Runs the program with a `Closed` output. Returns the exit status and the error stream.
 fn call_closed<
     R: Files<File: Send, Dir: Send> + RandomSource + AllocGlobal + Threads + Wait + Sync,
 >(rt: &R, asked: &str, takes: bool) -> Result<(u8, Vec<u8>), Fail> {
@@ -61,7 +61,7 @@ fn call_closed<
     Ok((status, faults))
 }
 
-/// Checks that a call with such an output ends with status 1, and writes `told` to the stream for faults.
+/// Checks that a run with a `Closed` output ends with status 1 and this error stream.
 fn check_closed<
     R: Files<File: Send, Dir: Send> + RandomSource + AllocGlobal + Threads + Wait + Abort + Sync,
 >(rt: &R, asked: &str, takes: bool, told: &str) -> Result<(), Fail> {
@@ -71,7 +71,7 @@ fn check_closed<
     Ok(())
 }
 
-/// An output that fails at once, and one that fails when it is to send on what it took.
+/// An output that fails at once, and one that fails when it is flushed.
 #[test]
 fn a_closed_output(rt: HostRuntime) -> Result<(), Fail> {
     for takes in [false, true] {
@@ -93,7 +93,7 @@ fn a_closed_output(rt: HostRuntime) -> Result<(), Fail> {
     )
 }
 
-/// If the summary can't be written, this alone is told, whatever limit is missed. Of /dev/null each limit is.
+/// A summary that can't be written is the only reported error, although /dev/null is below each threshold.
 #[test]
 fn a_closed_output_with_a_limit(rt: HostRuntime) -> Result<(), Fail> {
     for takes in [false, true] {
@@ -107,8 +107,7 @@ fn a_closed_output_with_a_limit(rt: HostRuntime) -> Result<(), Fail> {
     Ok(())
 }
 
-/// If the line of a file can't be written, a check reports its complaints about this file and those before it, and tells of no
-/// file after it.
+/// A check that can't write a file's line reports its complaints about this file and those before it, and none about later files.
 #[test]
 fn a_check_with_a_closed_output(rt: HostRuntime) -> Result<(), Fail> {
     for asked in [
@@ -127,7 +126,7 @@ fn a_check_with_a_closed_output(rt: HostRuntime) -> Result<(), Fail> {
     Ok(())
 }
 
-/// An output that takes as many whole writes as are `left`, and fails after them. It keeps the bytes that it took.
+/// An output that takes `left` whole writes and then fails. It stores the bytes that it took.
 #[derive(Drop)]
 pub(super) struct Closing {
     pub(super) left: u64,
@@ -209,7 +208,7 @@ impl Source for Broken {
     }
 }
 
-/// The exit status of a call with such an input, and how often the input was read.
+/// Runs the program with a `Broken` input. Returns the exit status, and how often the input was read.
 fn call_broken<
     R: Files<File: Send, Dir: Send> + RandomSource + AllocGlobal + Threads + Wait + Sync,
 >(rt: &R, asked: &str) -> Result<(u8, u64), Fail> {
@@ -231,7 +230,7 @@ fn call_broken<
     Ok((status, source.reads))
 }
 
-/// Checks the exit status of a call with such an input, and how often the input was read.
+/// Checks the exit status of a run with a `Broken` input, and how often the input was read.
 fn check_broken<
     R: Files<File: Send, Dir: Send> + RandomSource + AllocGlobal + Threads + Wait + Abort + Sync,
 >(rt: &R, asked: &str, status: u8, reads: u64) -> Result<(), Fail> {

@@ -1,4 +1,4 @@
-//! Calls over files of std with memory to spare, one of each subcommand.
+//! Runs on files of std with ample memory, one for each subcommand.
 
 use super::{call, check_text, words_of};
 use std::fs;
@@ -12,7 +12,7 @@ use std::thread::Threads;
 /// A tracefile, as it is printed.
 const TEXT: &str = "TN:t\nSF:/a.c\nDA:1,2\nDA:2,0\nLF:2\nLH:1\nend_of_record\n";
 
-/// Checks that a call ends with status 0, this output and no faults. Its words are those before and after a path.
+/// Checks that a run ends with status 0, this output and an empty error stream. Its arguments are those before and after a path.
 fn check<
     R: Files<File: Send, Dir: Send> + RandomSource + AllocGlobal + Threads + Wait + Abort + Sync,
 >(rt: &R, before: &str, path: &str, after: &str, output: &str) -> Result<(), Fail> {
@@ -81,7 +81,7 @@ fn a_file_is_written(rt: HostRuntime) -> Result<(), Fail> {
     )
 }
 
-/// A session, and words that fit no command line.
+/// A session, and an invalid command line.
 #[test]
 fn calls_without_files(rt: HostRuntime) -> Result<(), Fail> {
     let told = call(

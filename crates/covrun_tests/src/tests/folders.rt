@@ -1,4 +1,4 @@
-//! Calls that read from folders in memory. The contract of one folder says what it holds. The files of the other fail while they
+//! Runs that read from folders in memory. The contract of one folder gives its files' bytes. The files of the other fail while they
 //! are read.
 
 ghost use Rattle.std.specs.Prelude.{◌≡◌, ◌≢◌, None, Some};
@@ -12,7 +12,7 @@ use std::sync::Wait;
 use std::test::*;
 use std::thread::Threads;
 
-/// Makes a call of these words, with this folder.
+/// Runs the program with these arguments and this folder.
 fn call_over<R: AllocGlobal + Threads + Wait + Sync, F: Folder<File: Send> + Sync>(
     rt: &R,
     folder: &F,
@@ -42,7 +42,7 @@ fn call_over<R: AllocGlobal + Threads + Wait + Sync, F: Folder<File: Send> + Syn
     }
 }
 
-/// Checks that a call with this folder ends with status 1, and writes `output` and `faults`.
+/// Checks that a run with this folder ends with status 1, and writes `output` and `faults`.
 fn check_over<R: AllocGlobal + Threads + Wait + Abort + Sync, F: Folder<File: Send> + Sync>(
     rt: &R,
     folder: &F,
@@ -58,7 +58,7 @@ fn check_over<R: AllocGlobal + Threads + Wait + Abort + Sync, F: Folder<File: Se
     Ok(())
 }
 
-/// A folder of one file. Its contract says the file's bytes.
+/// A folder of one file, whose contract gives the file's bytes.
 #[derive(Clone, Copy)]
 pub(super) struct OneFile<'a> {
     pub(super) name: &'a str,
@@ -85,7 +85,7 @@ impl<'a> Folder for OneFile<'a> {
     }
 }
 
-/// A check of a file that isn't there, and of one that is.
+/// A check of a missing file, and of an existing one.
 #[test]
 fn a_folder_of_one_file(rt: HostRuntime) -> Result<(), Fail> {
     let folder = OneFile {
@@ -108,7 +108,7 @@ fn a_folder_of_one_file(rt: HostRuntime) -> Result<(), Fail> {
     )
 }
 
-/// A file that gives one byte. Each read after it fails.
+/// A file whose first read gives one byte, and whose later reads fail.
 #[derive(Drop)]
 struct Torn {
     reads: u64,
@@ -161,7 +161,7 @@ impl Folder for TornFiles {
     }
 }
 
-/// If a read of a file fails, what was read of the file before isn't taken as its text.
+/// If a read of a file fails, the bytes before it aren't accepted as the file's content.
 #[test]
 fn a_read_fails_within_a_file(rt: HostRuntime) -> Result<(), Fail> {
     for asked in [

@@ -1,4 +1,4 @@
-//! Calls whose text goes into a file (`--output`).
+//! Runs with an output file (`--output`).
 
 ghost use Rattle.std.specs.Prelude.{◌≡◌, ◌<◌, ◌^◌, None, Some, map, option_map};
 ghost use Rattle.std.specs.String.{string_bytes};
@@ -50,7 +50,7 @@ struct Kept {
     text: Vec<u8>,
 }
 
-/// An output folder in memory. Its contract says what each file holds. It takes so many files, and then fails.
+/// An output folder in memory, whose contract gives each file's bytes. It accepts `room` files and then fails.
 #[derive(Drop)]
 struct Shelf {
     alloc: Global,
@@ -102,7 +102,7 @@ impl OutputFolder for Shelf {
     }
 }
 
-/// The exit status of a call, and what it wrote to the stream for faults. It writes nothing to the output.
+/// Runs the program with this output folder. Returns the exit status and the error stream. Checks that the output is empty.
 fn call_onto<R: AllocGlobal + Threads + Wait + Abort + Sync, P: OutputFolder>(
     rt: &R,
     asked: &str,
@@ -137,7 +137,7 @@ fn call_onto<R: AllocGlobal + Threads + Wait + Abort + Sync, P: OutputFolder>(
     Ok((status, faults))
 }
 
-/// A shelf that takes so many files.
+/// A shelf with space for `room` files.
 fn shelf_of(alloc: Global, room: u64) -> Shelf
     ensures failed { result.failed ≡ 0 }
     ensures begun { result.begun ≡ None }
@@ -151,7 +151,7 @@ fn shelf_of(alloc: Global, room: u64) -> Shelf
     }
 }
 
-/// The text goes into the file that the call names, and nowhere else. Rates below their limits are told after that.
+/// The text goes only into the named file. Rates below their thresholds are reported after that.
 #[test]
 fn a_text_goes_onto_a_shelf(rt: HostRuntime) -> Result<(), Fail> {
     let mut files = shelf_of(rt.alloc(), 1);
@@ -188,7 +188,7 @@ fn check_shelf(
     check_text(rt, name, kept.text.as_slice(), text)
 }
 
-/// A file that can't be begun or finished is told by its shown name. Rates below their limits aren't told then.
+/// A file that can't be begun or finished is reported with its printed name, and rates below their thresholds aren't.
 #[test]
 fn a_file_cannot_be_written(rt: HostRuntime) -> Result<(), Fail> {
     let mut full = shelf_of(rt.alloc(), 0);
@@ -210,7 +210,7 @@ fn a_file_cannot_be_written(rt: HostRuntime) -> Result<(), Fail> {
     Ok(())
 }
 
-/// An unfinished file that takes so many writes, and then fails.
+/// An unfinished file that takes some writes, and then fails.
 #[derive(Drop)]
 struct Short {
     left: u64,
@@ -238,7 +238,7 @@ impl Sink for Short {
     }
 }
 
-/// An output folder whose files fail while they are written. It counts those that are abandoned.
+/// An output folder whose files fail while they are written. It counts the abandoned ones.
 #[derive(Drop)]
 struct Shorts {
     alloc: Global,
@@ -278,7 +278,7 @@ impl OutputFolder for Shorts {
     }
 }
 
-/// A file to which a write failed is abandoned, and told.
+/// A file is abandoned and reported after a failed write to it.
 #[test]
 fn a_write_to_a_file_fails(rt: HostRuntime) -> Result<(), Fail> {
     let mut files = Shorts {

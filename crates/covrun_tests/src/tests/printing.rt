@@ -1,4 +1,4 @@
-//! Texts that are written in several blocks, to outputs that fail before one of the blocks.
+//! Prints texts in several blocks, to outputs that fail before one of the blocks.
 
 ghost use Rattle.std.specs.Prelude.{◌<◌, ◌^◌};
 
@@ -14,8 +14,7 @@ use std::sync::Wait;
 use std::test::*;
 use std::thread::Threads;
 
-/// Makes a call of these words over this folder, with this output. Returns the exit status, and what was written to the stream for
-/// faults.
+/// Runs the program with these arguments, this folder and this output. Returns the exit status and the error stream.
 fn call_into<R: AllocGlobal + Threads + Wait + Sync, F: Folder<File: Send> + Sync, O: Sink>(
     rt: &R,
     folder: &F,
@@ -42,8 +41,8 @@ fn call_into<R: AllocGlobal + Threads + Wait + Sync, F: Folder<File: Send> + Syn
     (status, faults)
 }
 
-/// The exit status of a merge of this tracefile, what it wrote to the stream for faults, and its output, which takes `writes` whole
-/// writes and then fails.
+/// Merges this tracefile into an output that takes `writes` whole writes and then fails. Returns the exit status, the error stream
+/// and the output.
 fn merge_into<R: AllocGlobal + Threads + Wait + Sync>(
     rt: &R,
     text: &[u8],
@@ -63,8 +62,8 @@ fn merge_into<R: AllocGlobal + Threads + Wait + Sync>(
     Ok((status, faults, output))
 }
 
-/// Checks a merge of a tracefile that is printed as it is, in `blocks` writes. If the output fails before one of them, it has a
-/// beginning of the text, and the failure is reported. If it takes all, it has the whole text.
+/// Checks merges of a tracefile that is printed unchanged, in `blocks` writes. An output that fails before one of them has a prefix
+/// of the text, and the failure is reported. An output that takes all of them has the whole text.
 fn check_blocks<R: AllocGlobal + Threads + Wait + Abort + Sync>(
     rt: &R,
     text: &[u8],
@@ -106,7 +105,7 @@ fn many_lines(alloc: Global) -> Result<String, Fail> {
     Ok(text)
 }
 
-/// The text takes four blocks. No record of it is split between two of them.
+/// The text needs four blocks, and no record is split between two of them.
 #[test]
 fn a_text_of_four_blocks(rt: HostRuntime) -> Result<(), Fail> {
     let text = many_lines(rt.alloc())?;
@@ -123,7 +122,7 @@ fn a_long_name(alloc: Global) -> Result<String, Fail> {
     Ok(text)
 }
 
-/// What is before the name is a write. Then come three blocks of the name, and its rest with what is after it.
+/// The bytes before the name are one write, followed by three blocks of the name, and its rest with the bytes after it.
 #[test]
 fn a_name_longer_than_a_block(rt: HostRuntime) -> Result<(), Fail> {
     let text = a_long_name(rt.alloc())?;

@@ -1,4 +1,4 @@
-//! The lines with which a session answers.
+//! The answer lines of a session.
 
 ghost use Rattle.std.specs.Prelude.{◌≡◌, ◌≢◌, ◌^◌, ◌<◌, codes, decimal, IfOk, IfErr, OnOk, ◌++◌};
 ghost use Rattle.covbook.specs.Op.{AcceptedAnswer, DroppedAnswer, RenamedAnswer};
@@ -17,7 +17,7 @@ use covread::ReadFault;
 use itoa::Buffer;
 use std::alloc::Allocator;
 
-// Appends these words, and the number after them.
+// Appends these words and then the number.
 fn add_number<A: Allocator>(
     line: &mut Vec<u8, A>,
     words: &[u8],
@@ -41,7 +41,7 @@ fn add_checksum<A: Allocator>(line: &mut Vec<u8, A>, checksum: &[u8]) -> Result<
     Ok(())
 }
 
-// The line that says that a submission was accepted.
+// The line about an accepted submission.
 fn accepted_line<A: Allocator>(
     alloc: A,
     number: u64,
@@ -59,7 +59,7 @@ fn accepted_line<A: Allocator>(
     Ok(line)
 }
 
-/// The line that reports a clash. For any other answer, no bytes.
+/// The line about a clash; empty for any other answer.
 pub fn clash_line<A: Allocator>(alloc: A, answer: &Answer<A>) -> Result<Vec<u8, A>, SessionFault>
     ensures line { IfOk result (λ text. text.items ≡ clash_text (answer_data answer.now)) }
     ensures fault { IfErr result (λ f. f ≡ session_faults.Memory) }
@@ -87,7 +87,7 @@ pub fn clash_line<A: Allocator>(alloc: A, answer: &Answer<A>) -> Result<Vec<u8, 
     }
 }
 
-// The line that says from how many sections a test was dropped.
+// The line about a dropped test, with the number of its sections.
 fn dropped_line<A: Allocator>(alloc: A, sections: u64) -> Result<Vec<u8, A>, SessionFault>
     ensures line { IfOk result (λ line. line.items ≡ answer_text (DroppedAnswer sections)) }
     ensures fault { IfErr result (λ f. f ≡ session_faults.Memory) }
@@ -98,7 +98,7 @@ fn dropped_line<A: Allocator>(alloc: A, sections: u64) -> Result<Vec<u8, A>, Ses
     Ok(line)
 }
 
-// The line that says in how many sections a test was renamed.
+// The line about a renamed test, with the number of its sections.
 fn renamed_line<A: Allocator>(alloc: A, sections: u64) -> Result<Vec<u8, A>, SessionFault>
     ensures line { IfOk result (λ line. line.items ≡ answer_text (RenamedAnswer sections)) }
     ensures fault { IfErr result (λ f. f ≡ session_faults.Memory) }
@@ -109,7 +109,7 @@ fn renamed_line<A: Allocator>(alloc: A, sections: u64) -> Result<Vec<u8, A>, Ses
     Ok(line)
 }
 
-// The name of a line's own fault.
+// The name of an error within a line.
 fn line_fault_text(fault: LineFault) -> &'static [u8]
     ensures { result.now ≡ line_fault_name fault }
 {
@@ -120,7 +120,7 @@ fn line_fault_text(fault: LineFault) -> &'static [u8]
     }
 }
 
-// A fault's name, and the number of its line.
+// An error's name and the number of its line.
 fn text_at<A: Allocator>(alloc: A, name: &[u8], at: u64) -> Result<Vec<u8, A>, SessionFault>
     ensures words { IfOk result (λ text. text.items ≡ name.now ++ codes " at " ++ decimal at) }
     ensures fault { IfErr result (λ f. f ≡ session_faults.Memory) }
@@ -130,7 +130,7 @@ fn text_at<A: Allocator>(alloc: A, name: &[u8], at: u64) -> Result<Vec<u8, A>, S
     Ok(text)
 }
 
-// A fault's name alone.
+// An error's name alone.
 fn text_alone<A: Allocator>(alloc: A, name: &[u8]) -> Result<Vec<u8, A>, SessionFault>
     ensures words { IfOk result (λ text. text.items ≡ name.now) }
     ensures fault { IfErr result (λ f. f ≡ session_faults.Memory) }
@@ -138,7 +138,7 @@ fn text_alone<A: Allocator>(alloc: A, name: &[u8]) -> Result<Vec<u8, A>, Session
     Ok(Vec::from_slice(alloc, name)?)
 }
 
-// The name of a fault, with its line if it has one.
+// The name of an error, and its line number if it has one.
 fn fault_words<A: Allocator>(alloc: A, fault: ReadFault) -> Result<Vec<u8, A>, SessionFault>
     ensures words { IfOk result (λ text. text.items ≡ fault_text fault) }
     ensures fault { IfErr result (λ f. f ≡ session_faults.Memory) }
@@ -160,7 +160,7 @@ fn fault_words<A: Allocator>(alloc: A, fault: ReadFault) -> Result<Vec<u8, A>, S
     }
 }
 
-/// The line that says why a text was refused.
+/// The line about a rejected text.
 pub fn refused_line<A: Allocator + Copy>(
     alloc: A,
     fault: ReadFault,
@@ -175,7 +175,7 @@ pub fn refused_line<A: Allocator + Copy>(
     Ok(line)
 }
 
-/// Says an answer of the book.
+/// Writes an answer of the book to the output.
 pub fn say_answer<O: Sink, A: Allocator + Copy>(
     alloc: A,
     answer: &Answer<A>,

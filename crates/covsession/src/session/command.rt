@@ -1,4 +1,4 @@
-//! The commands of one line: what such a line asks for, and the answer to it.
+//! Answers the commands that are one line.
 
 ghost use Rattle.std.specs.Prelude.{◌≡◌, ◌↔◌, ◌^◌, ◌<◌, [], ◌∷◌, ◌++◌, length, ◌≤◌, Err, IfOk, IfErr, IfSome, OnOk, OnErr, option_map};
 ghost use Rattle.covbook.specs.Op.{DropTestOp};
@@ -24,10 +24,10 @@ use covreport::{PatternFault, Patterns};
 use std::alloc::Allocator;
 pub use word::{Format, Pick, Word, word_of};
 
-/// The job that a session's entries have.
+/// The job of a session's entries.
 const SESSION_JOB: u32 = 0;
 
-/// Performs one step of the book, as job 0, and says the answer.
+/// Performs one step of the book, as job 0, and writes the answer to the output.
 pub fn step<O: Sink, A: Allocator + Copy>(
     alloc: A,
     book: &mut SessionBook<A>,
@@ -45,14 +45,14 @@ pub fn step<O: Sink, A: Allocator + Copy>(
     say_answer(alloc, &receipt.answer, output)
 }
 
-// The list that holds only this pattern, or the empty list if there is no pattern; `None` if the pattern is too long.
+// A list of this pattern alone, or the empty list without a pattern. Returns `None` if the pattern is too long.
 fn patterns_of<A: Allocator + Copy>(
     alloc: A,
     pattern: Option<&[u8]>,
 ) -> Result<Option<Patterns<A>>, SessionFault>
     ensures list { IfOk result (λ r. IsListOf (option_map (λ p. p.now) pattern.entry) r) }
     ensures fault { IfErr result (λ f. f ≡ session_faults.Memory) }
-    // Memory runs out only while a pattern is copied, and so after its length was checked.
+    // Only copying the pattern allocates, after its length was checked.
     ensures short { OnErr result (IfSome pattern.entry (λ p. length p.now ≤ max_pattern_bytes)) }
 {
     let mut patterns = Patterns::new(alloc);
@@ -66,7 +66,7 @@ fn patterns_of<A: Allocator + Copy>(
     }
 }
 
-// The operation that a choice of files asks for.
+// The operation for a choice of files.
 fn op_of<A: Allocator>(pick: Pick, patterns: Patterns<A>) -> Op<A>
     ensures { op_data result ≡ pick_op pick patterns }
 {
@@ -84,7 +84,7 @@ fn drop_op<A: Allocator>(alloc: A, test: &[u8]) -> Result<Op<A>, SessionFault>
     Ok(Op::DropTest(Bytes::of(alloc, test)?))
 }
 
-/// Answers a command that is one line. A line that a text or two names should follow is answered as unfinished.
+/// Answers a command that is one line. A line that needs a text or two names after it is answered as unfinished.
 pub fn answer_word<O: Sink, A: Allocator + Copy>(
     alloc: A,
     book: &mut SessionBook<A>,

@@ -1,19 +1,19 @@
-//! The faults that end a session.
+//! The errors that end a session.
 
 use covbook::BookFault;
 use covline::Memory;
 use std::alloc::AllocError;
 
-/// The fault that ended a session.
+/// The error that ended a session.
 #[derive(Clone, Copy, Debug, PartialEq, Eq)]
 pub enum SessionFault {
     /// A read failed, or more than 2^32 reads were needed.
     Read = 1,
-    /// A write or a flush failed, or a write took no byte although it was given some.
+    /// A write or a flush failed, or a write of some bytes took none.
     Write = 2,
-    /// Memory was refused.
+    /// An allocation failed.
     Memory = 3,
-    /// The history has no room for another entry.
+    /// The history is full.
     Full = 4,
 }
 
@@ -21,7 +21,7 @@ impl SessionFault {
     ghost use Rattle.std.specs.Prelude.{◌≡◌};
     ghost use Rattle.covsession.specs.SessionFaults.{fault_number};
 
-    /// The number of the fault, from 1.
+    /// The number of the error, from 1.
     pub fn number(self) -> u32
         ensures { result ≡ fault_number self }
     {

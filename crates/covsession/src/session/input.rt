@@ -1,4 +1,4 @@
-//! The input of a session: a block of bytes that were read, and the source of further bytes.
+//! The buffered input of a session.
 
 ghost use Rattle.std.specs.Prelude.{◌≡◌, ◌≢◌, ℕ, ◌-◌, ◌+◌, ◌^◌, ◌<◌, ◌≤◌, List, [], ◌∷◌, ◌++◌, length, take, drop, IfOk, IfErr, OnOk, OnErr};
 ghost use Rattle.std.specs.Io.KnownBytes.{IsAtEnd};
@@ -17,13 +17,13 @@ use memchr::memchr;
 use std::alloc::Allocator;
 use std::marker::Model;
 
-/// How many bytes one read asks for.
+/// The number of bytes that one read requests.
 const BLOCK_BYTES: usize = 65_536;
 
-/// The most reads that a session makes.
+/// The greatest number of reads of a session.
 const MAX_READS: u64 = 4_294_967_296;
 
-/// Room for a block to read into.
+/// Allocates a block to read into.
 pub fn block<A: Allocator>(alloc: A) -> Result<Vec<u8, A>, SessionFault>
     ensures room { IfOk result (λ block. length block.items ≡ 65536) }
     ensures fault { IfErr result (λ f. f ≡ session_faults.Memory) }
@@ -31,8 +31,8 @@ pub fn block<A: Allocator>(alloc: A) -> Result<Vec<u8, A>, SessionFault>
     Ok(vec![in alloc; 0; BLOCK_BYTES]?)
 }
 
-/// Bytes that were read and are still to be taken, and the source that is read when there are none. Contracts see both, how many
-/// reads were made, how many of them failed, and how many may follow.
+/// Bytes that were read but not yet consumed, and the source of further bytes. Contracts see both, how many reads were made, how
+/// many of them failed, and how many may follow.
 #[derive(Drop)]
 pub struct SessionInput<'s, I: Source, A: Allocator> {
     bytes: Vec<u8, A>,
@@ -61,7 +61,7 @@ impl<'s, I: Source, A: Allocator> Model for SessionInput<'s, I, A> {
 }
 
 impl<'s, I: Source, A: Allocator> SessionInput<'s, I, A> {
-    /// The input from this source, before the first read. Reads put their bytes into this block.
+    /// The input from this source, before the first read. `block` is the buffer of reads.
     pub fn new(block: Vec<u8, A>, source: &'s mut I) -> SessionInput<'s, I, A>
         requires { length block.items ≡ 65536 }
         ensures empty { result.pending ≡ [] }
@@ -80,7 +80,7 @@ impl<'s, I: Source, A: Allocator> SessionInput<'s, I, A> {
         }
     }
 
-    /// Gives the source back.
+    /// Returns the source.
     pub fn into_source(self) -> &'s mut I
         ensures left { I.left result.now ≡ self.entry.left }
         ensures reads { I.reads result.now ≡ self.entry.reads }
@@ -92,14 +92,14 @@ impl<'s, I: Source, A: Allocator> SessionInput<'s, I, A> {
         source
     }
 
-    // The bytes that are still to be taken.
+    // The bytes that are not yet consumed.
     fn pending(&self) -> &[u8]
         ensures { result.now ≡ self.now.pending }
     {
         &self.bytes[self.from..self.to]
     }
 
-    // How many of the pending bytes come before the first line feed: all of them, if there is no line feed.
+    // How many of the pending bytes come before the first line feed; all of them if there is none.
     fn feed_at(&self) -> usize
         ensures front { before_feed self.now.pending ≡ take result self.now.pending }
         ensures bound { result ≤ length self.now.pending }
@@ -112,7 +112,7 @@ impl<'s, I: Source, A: Allocator> SessionInput<'s, I, A> {
         }
     }
 
-    // Takes `count` bytes.
+    // Consumes `count` bytes.
     fn take(&mut self, count: usize)
         requires { count ≤ length self.old.pending }
         ensures { self.new ≡ record self.old { pending = drop count self.old.pending } }
@@ -120,8 +120,8 @@ impl<'s, I: Source, A: Allocator> SessionInput<'s, I, A> {
         self.from += count;
     }
 
-    // Reads the next block. Before this, all bytes of the last block have to be taken, and all that was said has to be written
-    // and sent on: who writes the commands may wait for the answers.
+    // Reads the next block. All bytes of the last block must be consumed, and all output written and flushed: the writer of the
+    // commands may be waiting for the answers.
     fn read<O: Sink>(&mut self, output: &Output<'_, O, A>) -> Result<(), SessionFault>
         requires taken { self.old.pending ≡ [] }
         requires answered { output.now.waiting ≡ [] }
@@ -131,7 +131,7 @@ impl<'s, I: Source, A: Allocator> SessionInput<'s, I, A> {
         ensures ended { OnOk result (self.new.pending ≡ [] → IsAtEnd self.new.left) }
         ensures fewer { OnOk result (turns self.new < turns self.old) }
         ensures fault { IfErr result (λ f. f ≡ session_faults.Read) }
-        // It fails only if no read is left, or if the read failed. Then it takes no bytes.
+        // Fails only if no read is left, or if the read failed. Then it consumes no bytes.
         ensures stalls { OnErr result (Stalls self.old self.new) }
     {
         if self.reads_left == 0 {
@@ -147,8 +147,8 @@ impl<'s, I: Source, A: Allocator> SessionInput<'s, I, A> {
         Ok(())
     }
 
-    // Makes sure that a byte is pending, unless the source is at its end. If none is pending, what waits is written and sent on,
-    // and then the source is read.
+    // Makes sure that a byte is pending, unless the source is at its end. If none is pending, writes and flushes the output, and
+    // then reads.
     fn fill<O: Sink>(&mut self, output: &mut Output<'_, O, A>) -> Result<(), SessionFault>
         requires { CanCall (moment self.old output.old) }
         ensures moves { OnOk result (Moves (moment self.old output.old) (moment self.new output.new) [] []) }
@@ -165,7 +165,7 @@ impl<'s, I: Source, A: Allocator> SessionInput<'s, I, A> {
         self.read(output)
     }
 
-    // Takes the pending part of a line. Returns whether that includes the line feed.
+    // Consumes the pending part of a line. Returns whether it includes the line feed.
     fn take_part(&mut self, text: &mut Text<A>) -> Result<bool, SessionFault>
         ensures taken { IfOk result (λ whole. (part : List ℕ) × (before_feed part ≡ part)
             × TakesPart whole self.old.pending part self.new.pending
@@ -187,8 +187,8 @@ impl<'s, I: Source, A: Allocator> SessionInput<'s, I, A> {
         Ok(false)
     }
 
-    /// Takes the whole lines of a text that are pending, up to the first line that begins with a dot. The line of the text that
-    /// was begun must still be empty.
+    /// Consumes the pending whole lines of a text, up to the first line that begins with a dot. The text's current line must still
+    /// be empty.
     pub fn take_lines(&mut self, text: &mut Text<A>) -> Result<(), SessionFault>
         ensures taken { OnOk result ((lines : List ℕ) × AreLines lines × (self.old.pending ≡ lines ++ self.new.pending)
             × ((before : List ℕ) → HasCollected text.old before [] → HasCollected text.new (before ++ lines) [])) }
@@ -205,7 +205,7 @@ impl<'s, I: Source, A: Allocator> SessionInput<'s, I, A> {
         Ok(())
     }
 
-    /// Takes a line, and returns how it ended.
+    /// Consumes a line, and returns how it ended.
     pub fn take_line<O: Sink>(
         &mut self,
         text: &mut Text<A>,

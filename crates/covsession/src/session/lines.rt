@@ -1,4 +1,4 @@
-//! How many whole lines of a text can be taken at once.
+//! Finds whole lines of a text that can be consumed at once.
 
 ghost use Rattle.std.specs.Prelude.{◌≡◌, ◌≤◌, length, take};
 ghost use Rattle.covsession.specs.Text.{AreLines, starts_with_dot};
@@ -12,8 +12,7 @@ fn begins_with_dot(bytes: &[u8]) -> bool
     matches!(bytes, [b'.', ..])
 }
 
-/// How many bytes the whole lines at the front have, up to the first line that begins with a dot. So none of these lines ends a
-/// text.
+/// The length of the whole lines at the front, up to the first line that begins with a dot. So none of these lines ends a text.
 pub fn whole_lines_len(bytes: &[u8]) -> usize
     ensures bound { result ≤ length bytes.now }
     ensures lines { AreLines (take result bytes.now) }

@@ -1,4 +1,4 @@
-//! The output of a session. What the session says waits, so that many answers are written at once.
+//! The buffered output of a session, so that many answers are written at once.
 
 ghost use Rattle.std.specs.Prelude.{◌≡◌, ◌≢◌, ◌^◌, ◌+◌, ◌<◌, ◌≤◌, [], length, IfErr, OnOk, OnErr};
 ghost use Rattle.std.specs.Io.KnownBytes.{Appends};
@@ -12,15 +12,15 @@ use crate::stream::Sink;
 use std::alloc::Allocator;
 use std::marker::Model;
 
-/// The most bytes that wait before they are written.
+/// The greatest number of buffered bytes.
 const MAX_WAITING: usize = 65_536;
 
-/// Bytes that wait to be written, and the sink that they are written to. Contracts see both, how many bytes the sink
-/// holds back, and how many of its calls failed.
+/// Buffered bytes, and the sink that they will be written to. Contracts see both, how many bytes the sink holds back, and how many
+/// of its calls failed.
 #[derive(Drop)]
 pub struct Output<'s, O: Sink, A: Allocator> {
     waiting: Vec<u8, A>,
-    // Whether the sink is known to hold nothing back.
+    // Whether the sink is known to hold back nothing.
     is_sent: bool,
     sink: &'s mut O,
 }
@@ -43,7 +43,7 @@ impl<'s, O: Sink, A: Allocator> Model for Output<'s, O, A> {
 }
 
 impl<'s, O: Sink, A: Allocator> Output<'s, O, A> {
-    /// The output to this sink. No bytes wait yet.
+    /// The output to this sink, with an empty buffer.
     pub fn new(alloc: A, sink: &'s mut O) -> Output<'s, O, A>
         ensures empty { result.waiting ≡ [] }
         ensures written { result.written ≡ O.written sink.old }
@@ -57,7 +57,7 @@ impl<'s, O: Sink, A: Allocator> Output<'s, O, A> {
         }
     }
 
-    /// Gives the sink back. What waits is lost.
+    /// Returns the sink. Drops buffered bytes.
     pub fn into_sink(self) -> &'s mut O
         ensures written { O.written result.now ≡ self.entry.written }
         ensures held { O.held result.now ≡ self.entry.held }
@@ -69,7 +69,7 @@ impl<'s, O: Sink, A: Allocator> Output<'s, O, A> {
         sink
     }
 
-    // Writes the bytes that wait.
+    // Writes the buffered bytes.
     fn put_out(&mut self) -> Result<(), SessionFault>
         requires { self.old.failed_writes < 2 ^ 63 }
         ensures says { OnOk result (Says self.old self.new []) }
@@ -86,7 +86,7 @@ impl<'s, O: Sink, A: Allocator> Output<'s, O, A> {
         Ok(())
     }
 
-    // Writes the bytes that wait, and then these.
+    // Writes the buffered bytes, and then these.
     fn put_through(&mut self, bytes: &[u8]) -> Result<(), SessionFault>
         requires { self.old.failed_writes < 2 ^ 63 }
         ensures says { OnOk result (Says self.old self.new bytes.now) }
@@ -99,9 +99,8 @@ impl<'s, O: Sink, A: Allocator> Output<'s, O, A> {
         put_bytes(bytes, self.sink)
     }
 
-    /// Says these bytes: they wait, or they are written after all bytes that wait. At most 65,536 bytes wait after the call. If
-    /// memory for them to wait in is refused, they are written at once. So an answer that was begun is never cut short for
-    /// lack of memory.
+    /// Buffers these bytes, or writes them after the buffered ones. At most 65,536 bytes are buffered after the call. If the buffer
+    /// can't grow, writes the bytes at once, so an answer is never cut short for lack of memory.
     pub fn say(&mut self, bytes: &[u8]) -> Result<(), SessionFault>
         requires { self.old.failed_writes < 2 ^ 63 }
         ensures says { OnOk result (Says self.old self.new bytes.now) }
@@ -122,7 +121,7 @@ impl<'s, O: Sink, A: Allocator> Output<'s, O, A> {
         Ok(())
     }
 
-    /// Writes the bytes that wait, and makes the sink send on all that it holds back.
+    /// Writes the buffered bytes and flushes the sink.
     pub fn send_on(&mut self) -> Result<(), SessionFault>
         requires { self.old.failed_writes < 2 ^ 63 }
         ensures says { OnOk result (Says self.old self.new []) }
@@ -143,9 +142,9 @@ impl<'s, O: Sink, A: Allocator> Output<'s, O, A> {
         }
     }
 
-    /// Sends on what was said before this fault, and returns the fault that the session ends with: `Write` if a write or flush
-    /// fails now, else this fault. After `Read` nothing is left to be sent, since all was sent on before the read. After `Write`
-    /// no further write is tried.
+    /// Flushes the output before this error, and returns the error that ends the session: `Write` if a write or flush fails now,
+    /// else `fault`. After `Read` nothing is left to be flushed, since the output was flushed before the read. After `Write` no
+    /// further write is tried.
     pub fn stop(&mut self, fault: SessionFault) -> SessionFault
         requires { self.old.failed_writes < 2 ^ 63 }
         ensures { StopsAs self.old self.new fault result }
@@ -160,7 +159,7 @@ impl<'s, O: Sink, A: Allocator> Output<'s, O, A> {
     }
 }
 
-/// Writes all these bytes, in as many calls as are needed. If a write fails, the sink has taken a beginning of them.
+/// Writes all these bytes, in as many calls as needed. After a failed write, the sink has taken a prefix of them.
 pub fn put_bytes<O: Sink>(bytes: &[u8], sink: &mut O) -> Result<(), SessionFault>
     requires { O.failed_writes sink.old < 2 ^ 63 }
     ensures written { OnOk result (Appends (O.written sink.old) (O.written sink.new) bytes.now) }

@@ -1,4 +1,4 @@
-//! A rename: the two lines after a line `rename` are taken as the old and the new name, and the rename is answered.
+//! Answers a rename: the two lines after `rename` are the old and the new name.
 
 ghost use Rattle.std.specs.Prelude.{◌≡◌, ◌≢◌, ◌⊎◌, [], codes, length, Err, IfOk, IfErr};
 ghost use Rattle.covbook.specs.Op.{RenameOp};
@@ -26,13 +26,13 @@ use std::alloc::Allocator;
 pub struct Names<A: Allocator> {
     /// The test's name.
     pub old: Bytes<A>,
-    /// The name that it is to have.
+    /// The test's new name.
     pub new: Bytes<A>,
     /// How the second line ended.
     pub ending: LineEnd,
 }
 
-// Whether these bytes with this ending are a line. They are none if the input ended before the line's first byte.
+// Whether these bytes with this ending are a line. They aren't if the input ended before the line's first byte.
 fn is_there(line: &[u8], ending: LineEnd) -> bool
     ensures { IsThere result ending line.now }
 {
@@ -42,7 +42,7 @@ fn is_there(line: &[u8], ending: LineEnd) -> bool
     }
 }
 
-// Takes the next line as a name, whatever its bytes are. Returns the name and how the line ended, or `None` if the input ends
+// Reads the next line as a name, whatever its bytes are. Returns the name and how the line ended, or `None` if the input ends
 // before the line.
 fn take_name<I: Source, O: Sink, A: Allocator + Copy>(
     alloc: A,
@@ -63,7 +63,7 @@ fn take_name<I: Source, O: Sink, A: Allocator + Copy>(
     Ok(Some((name, ending)))
 }
 
-// Takes two lines as the old and the new name. Returns `None` if the input ends before both lines are there.
+// Reads two lines as the old and the new name. Returns `None` if the input ends before both lines are there.
 fn take_names<I: Source, O: Sink, A: Allocator + Copy>(
     alloc: A,
     input: &mut SessionInput<'_, I, A>,
@@ -93,7 +93,7 @@ fn rename_op<A: Allocator>(old: Bytes<A>, new: Bytes<A>) -> Op<A>
     Op::Rename { old, new }
 }
 
-/// Takes the names after a line `rename`, and answers the rename.
+/// Reads the names after a line `rename`, and answers the rename.
 pub fn answer_rename<I: Source, O: Sink, A: Allocator + Copy>(
     alloc: A,
     book: &mut SessionBook<A>,

@@ -1,4 +1,4 @@
-//! A text after a line `trace` or `gcov`: it is taken, read and submitted, or refused.
+//! Reads the text after a line `trace` or `gcov`, and submits or rejects it.
 
 ghost use Rattle.std.specs.Prelude.{◌≡◌, ◌≢◌, ◌⊎◌, ℕ, ◌^◌, ◌<◌, length, List, [], Result, Err, IfOk, IfErr, OnOk};
 ghost use Rattle.covline.specs.Row.{SubmissionData};
@@ -26,11 +26,10 @@ use covpacked::PackedSubmission;
 use covread::{MAX_BYTES, ReadFault, read_gcov_packed, read_trace_packed};
 use std::alloc::Allocator;
 
-/// The length of the longest text whose room is kept for the next text.
+/// The length of the longest text whose buffer is reused for the next text.
 const MAX_KEPT_BYTES: usize = 8_388_608;
 
-/// Takes the lines of a text up to a line `.`, and collects them in this room. Returns what was taken, and how the last line
-/// ended.
+/// Collects the lines of a text in the buffer `room`, up to a line `.`. Returns the text, and how the last line ended.
 pub fn take_text<I: Source, O: Sink, A: Allocator>(
     room: Vec<u8, A>,
     input: &mut SessionInput<'_, I, A>,
@@ -57,7 +56,7 @@ pub fn take_text<I: Source, O: Sink, A: Allocator>(
     }
 }
 
-// Decides whether a text's fault is answered: returns `Memory`, which ends the session, if memory ran out, and else `Ok`.
+// Decides whether a text's error is answered: `Ok` if so, or `Memory`, which ends the session, if memory ran out.
 fn check_answerable(fault: ReadFault) -> Result<(), SessionFault>
     ensures answerable { OnOk result (IsNotMemory fault) }
     ensures fault { IfErr result (λ f. (fault ≡ read_faults.Memory) × (f ≡ session_faults.Memory)) }
@@ -68,7 +67,7 @@ fn check_answerable(fault: ReadFault) -> Result<(), SessionFault>
     Ok(())
 }
 
-// Says why a text was refused.
+// Writes why a text was rejected.
 fn refuse<O: Sink, A: Allocator + Copy>(
     alloc: A,
     fault: ReadFault,
@@ -83,7 +82,7 @@ fn refuse<O: Sink, A: Allocator + Copy>(
     output.say(line.as_slice())
 }
 
-// Reads a text of this format.
+// Parses a text of this format.
 fn read_as<A: Allocator + Copy>(
     alloc: A,
     format: Format<'_>,
@@ -98,7 +97,7 @@ fn read_as<A: Allocator + Copy>(
     }
 }
 
-// Submits the submission that was read, or answers why the text is refused.
+// Submits the text's submission, or answers why the text is rejected.
 fn submit<O: Sink, A: Allocator + Copy>(
     alloc: A,
     book: &mut SessionBook<A>,
@@ -125,24 +124,24 @@ fn submit<O: Sink, A: Allocator + Copy>(
     }
 }
 
-/// What was taken of a text, with the text's format.
+/// A collected text and its format.
 #[derive(Drop)]
 pub struct Given<'a, A: Allocator> {
     /// The text's format.
     pub format: Format<'a>,
-    /// What was taken.
+    /// The collected text.
     pub taken: CollectedText<A>,
 }
 
-/// Keeps the room of a text that was read, unless the text is large. The next text uses this room. New room would cost more: the
-/// first write to a page of memory takes longer than to read a text that fills the page.
+/// Keeps the buffer of a text for the next one, unless it is large. New memory would cost more: the first write to a page of memory
+/// takes longer than parsing a text that fills the page.
 fn keep_room<A: Allocator>(room: &mut Vec<u8, A>, text: Vec<u8, A>) {
     if text.len() <= MAX_KEPT_BYTES {
         *room = text;
     }
 }
 
-/// Answers what was taken of a text. As soon as a whole text is read, its room is kept for the next text, or freed.
+/// Answers a collected text. After parsing, keeps its buffer for the next text, or frees it.
 pub fn answer_given<O: Sink, A: Allocator + Copy>(
     alloc: A,
     book: &mut SessionBook<A>,

@@ -1,4 +1,4 @@
-//! A text, or a command line, while it is collected part by part.
+//! Collects a text or a command line, part by part.
 
 ghost use Rattle.std.specs.Prelude.{◌≡◌, ◌↔◌, ℕ, List, [], ◌∷◌, ◌++◌, take, IsTrue, IfErr, OnOk};
 ghost use Rattle.covline.specs.Lines.{line_feed};
@@ -18,7 +18,7 @@ pub enum LineEnd {
     Input,
 }
 
-/// What the bytes of a line so far are. This decides whether the line can be the one that ends a text.
+/// What the bytes of an unfinished line are. This decides whether the line can be the one that ends a text.
 #[derive(Clone, Copy)]
 pub enum LineSoFar {
     /// The line has no byte yet.
@@ -29,7 +29,7 @@ pub enum LineSoFar {
     Other,
 }
 
-/// What a line is after one more byte.
+/// The state of a line after one more byte.
 pub fn with_byte(so_far: LineSoFar, byte: u8) -> LineSoFar
     ensures { result ≡ line_with so_far byte }
 {
@@ -52,7 +52,7 @@ pub fn with_byte(so_far: LineSoFar, byte: u8) -> LineSoFar
     }
 }
 
-/// What a line is after some more bytes.
+/// The state of a line after some more bytes.
 pub fn with_bytes(so_far: LineSoFar, bytes: &[u8]) -> LineSoFar
     ensures { result ≡ line_after so_far bytes.now }
 {
@@ -66,29 +66,29 @@ pub fn with_bytes(so_far: LineSoFar, bytes: &[u8]) -> LineSoFar
     line
 }
 
-/// What was taken of a text.
+/// The result of collecting a text.
 #[derive(Drop)]
 pub enum CollectedText<A: Allocator> {
     /// The whole text: all bytes before the line `.` that ends it.
     Whole(Vec<u8, A>),
-    /// The text has more bytes than a text may have, and isn't kept.
+    /// The text exceeds the size limit, and isn't stored.
     TooLong,
     /// The input ended before a line `.`.
     Unfinished,
 }
 
-/// The bytes of a text or a command line that were collected so far. Only the first ones are kept, up to a limit.
+/// The bytes of a text or a command line that were collected so far. Only the first `limit` bytes are stored.
 #[derive(Drop)]
 pub struct Text<A: Allocator> {
     /// The first bytes, up to the limit.
     pub kept: Vec<u8, A>,
-    /// How many bytes are kept at most.
+    /// The greatest number of bytes that are stored.
     pub limit: usize,
-    /// How many bytes there were, kept or not.
+    /// How many bytes were collected, stored or not.
     pub total: u64,
-    /// How many of them come before the line that was begun.
+    /// How many of them come before the current line.
     pub begins: u64,
-    /// What the line that was begun is so far.
+    /// The state of the current line.
     pub line: LineSoFar,
 }
 
@@ -101,7 +101,7 @@ impl<A: Allocator> Text<A> {
         Text::in_room(Vec::new(alloc), limit)
     }
 
-    /// A text without bytes yet. Its bytes will be collected in this room, whose present bytes are dropped.
+    /// A text without bytes yet, which reuses the buffer `room`. Drops the buffer's content.
     pub fn in_room(room: Vec<u8, A>, limit: usize) -> Text<A>
         ensures empty { HasCollected result [] [] }
         ensures limit { result.limit ≡ limit }
@@ -117,7 +117,7 @@ impl<A: Allocator> Text<A> {
         }
     }
 
-    // Appends the part to the kept bytes, as far as the limit allows.
+    // Appends the part to the stored bytes, up to the limit.
     fn keep(&mut self, part: &[u8]) -> Result<(), SessionFault>
         ensures kept { OnOk result ((all : List ℕ) → self.old.kept.items ≡ take self.old.limit all
             → self.new.kept.items ≡ take self.old.limit (all ++ part.now)) }
@@ -133,7 +133,7 @@ impl<A: Allocator> Text<A> {
         Ok(())
     }
 
-    /// Adds these bytes to the line that was begun.
+    /// Adds these bytes to the current line.
     pub fn add(&mut self, part: &[u8]) -> Result<(), SessionFault>
         ensures collected { OnOk result ((before : List ℕ) → (now : List ℕ)
             → HasCollected self.old before now
@@ -147,7 +147,7 @@ impl<A: Allocator> Text<A> {
         Ok(())
     }
 
-    /// Adds a line feed, which ends the line that was begun, and begins the next line.
+    /// Adds a line feed, which ends the current line and begins the next one.
     pub fn next_line(&mut self) -> Result<(), SessionFault>
         ensures collected { OnOk result ((before : List ℕ) → (now : List ℕ)
             → HasCollected self.old before now
@@ -162,7 +162,7 @@ impl<A: Allocator> Text<A> {
         Ok(())
     }
 
-    /// Adds whole lines. The line that was begun must still be empty.
+    /// Adds whole lines. The current line must still be empty.
     pub fn add_lines(&mut self, lines: &[u8]) -> Result<(), SessionFault>
         ensures collected { OnOk result ((before : List ℕ) → HasCollected self.old before [] → HasCollected self.new (before ++ lines.now) []) }
         ensures limit { OnOk result (self.new.limit ≡ self.old.limit) }
@@ -174,7 +174,7 @@ impl<A: Allocator> Text<A> {
         Ok(())
     }
 
-    /// All bytes that were collected, if the limit is `usize::MAX`.
+    /// All collected bytes, if the limit is `usize::MAX`.
     pub fn whole(&self) -> &[u8]
         ensures { (before : List ℕ) → (now : List ℕ) → self.now.limit ≡ usize.MAX → HasCollected self.now before now
             → result.now ≡ before ++ now }
@@ -182,7 +182,7 @@ impl<A: Allocator> Text<A> {
         self.kept.as_slice()
     }
 
-    /// Whether the line that was begun ends the text, provided that no further byte belongs to the line.
+    /// Whether the current line ends the text, provided that no further byte belongs to it.
     pub fn is_last(&self) -> bool
         ensures { IsTrue result ↔ self.now.line ≡ LineSoFar.Dot }
     {
@@ -192,7 +192,7 @@ impl<A: Allocator> Text<A> {
         }
     }
 
-    /// The text, which is all bytes before the line that was begun; `TooLong` if they are more than a text may have.
+    /// Returns the text: all bytes before the current line, or `TooLong` if they exceed the size limit.
     pub fn body(self) -> CollectedText<A>
         requires { self.limit ≡ max_bytes }
         ensures { (before : List ℕ) → (now : List ℕ) → HasCollected self before now → IsTextOf before result }

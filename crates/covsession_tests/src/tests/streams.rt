@@ -10,7 +10,7 @@ use std::cell::Cell;
 use std::io::{self, Read, Write};
 use std::test::*;
 
-/// The same tracefile twice, a report and a summary: 133 bytes. The commands end at the bytes 59, 118, 125 and 133.
+/// A session: one tracefile twice, a report and a summary, 133 bytes together. The commands end after 59, 118, 125 and 133 bytes.
 const INPUT: &[u8] = b"\
 trace
 TN:t
@@ -34,7 +34,7 @@ report
 summary
 ";
 
-/// The answers to `INPUT`: 222 bytes. They end at the bytes 25, 50, 103 and 222.
+/// The answers to `INPUT`, 222 bytes together. They end after 25, 50, 103 and 222 bytes.
 const ANSWER: &[u8] = b"\
 accepted 1 items 2 odd 0
 accepted 2 items 2 odd 0
@@ -53,7 +53,7 @@ Summary coverage rate:
 .
 ";
 
-/// A source that gives one byte at each read. The read after `good_reads` good ones fails, and the later ones don't.
+/// A source that gives one byte per read. Only read number `good_reads` + 1 fails.
 #[derive(Drop)]
 struct Slow<'a> {
     input: &'a [u8],
@@ -91,8 +91,7 @@ impl<'a> Source for Slow<'a> {
     }
 }
 
-/// A sink that takes at most `width` bytes at each write. The write after `good_writes` good ones fails, and the later ones
-/// don't.
+/// A sink that takes at most `width` bytes per write. Only write number `good_writes` + 1 fails.
 #[derive(Drop)]
 struct Narrow {
     output: Vec<u8>,
@@ -130,9 +129,8 @@ impl Sink for Narrow {
     }
 }
 
-/// How a session on `INPUT` ends that gets one byte at each read, how many bytes it wrote, and whether these are a beginning of
-/// `ANSWER`. The read after `good_reads` good ones fails, and so does the write after `good_writes` good ones. A write takes at
-/// most `width` bytes.
+/// Runs a session on `INPUT`, one byte per read, at most `width` bytes per write. Read number `good_reads` + 1 fails, and write
+/// number `good_writes` + 1. Returns the session's result, the number of bytes written, and whether they are a prefix of `ANSWER`.
 fn by_pieces(
     alloc: Global,
     good_reads: usize,
@@ -165,7 +163,7 @@ fn one_byte_at_a_time(rt: HostRuntime) {
     }
 }
 
-/// How many bytes are written before the next read, once the first `bytes` bytes of `INPUT` are read.
+/// The number of bytes that are written before the next read, after the first `bytes` bytes of `INPUT` are read.
 fn answered_to(bytes: usize) -> usize {
     match bytes {
         0..=58 => 0,
@@ -176,8 +174,7 @@ fn answered_to(bytes: usize) -> usize {
     }
 }
 
-/// Each read in turn fails, and the one at the end of the input too. The session ends there, and has answered all commands that
-/// it has wholly read.
+/// Each read in turn fails, also the one at the end of the input. The session ends there, after answering all complete commands.
 #[test]
 fn each_read_fails(rt: HostRuntime) {
     for good_reads in 0..=133 {
@@ -188,7 +185,7 @@ fn each_read_fails(rt: HostRuntime) {
     assert_eq!(rt; by_pieces(rt.alloc(), 134, 1, 1_000), (Ok(()), 222, true));
 }
 
-/// Each write of a byte in turn fails. The session ends there, and has written the bytes before this one.
+/// Each write of a byte in turn fails. The session ends there, after the bytes before this one.
 #[test]
 fn each_write_fails(rt: HostRuntime) {
     for good_writes in 0..222 {
@@ -199,7 +196,7 @@ fn each_write_fails(rt: HostRuntime) {
     assert_eq!(rt; by_pieces(rt.alloc(), 1_000, 1, 222), (Ok(()), 222, true));
 }
 
-/// Each write of a whole answer in turn fails. Each answer is one write, since all that waits is written before the next read.
+/// Each write of a whole answer in turn fails. Each answer is one write, since the output is written before the next read.
 #[test]
 fn each_answer_fails(rt: HostRuntime) {
     let mut good_writes = 0;
@@ -215,7 +212,7 @@ fn each_answer_fails(rt: HostRuntime) {
     );
 }
 
-/// A sink that holds all bytes back until they are sent on.
+/// A sink that holds all bytes back until it is flushed.
 #[derive(Drop)]
 struct Holding {
     held: Vec<u8>,
@@ -254,7 +251,8 @@ impl Sink for Holding {
     }
 }
 
-/// How a session on `INPUT` ends with a sink that holds back, and whether all of `ANSWER` was sent on.
+/// Runs a session on `INPUT` with a sink that holds bytes back until it is flushed. Returns the session's result, and whether all
+/// of `ANSWER` was sent on.
 fn by_flushes(alloc: Global, can_send: bool) -> (Result<(), SessionFault>, bool) {
     let mut source = FromRead::new(INPUT);
     let mut sink = Holding {
@@ -277,16 +275,15 @@ fn a_writer_that_holds_back(rt: HostRuntime) {
     );
 }
 
-/// What the source and the sink of a session share: how many bytes are written and not yet sent on, and how often bytes were
-/// sent on.
+/// The state that a session's source and sink share: how many written bytes are not yet flushed, and how often bytes were flushed.
 #[derive(Drop)]
 struct Wire {
     unsent: Cell<usize>,
     flushes: Cell<usize>,
 }
 
-/// A source that gives one byte at each read, and notes whether a read comes before all that was written is sent on. Someone who
-/// sends the next command only after the answer to the last one would then wait for ever.
+/// A source that gives one byte per read, and notes a read before all output is flushed. A user who waits for each answer before
+/// the next command would then wait for ever.
 #[derive(Drop)]
 struct Waiting<'a> {
     input: &'a [u8],
@@ -319,8 +316,7 @@ impl<'a> Source for Waiting<'a> {
     }
 }
 
-/// A sink that holds all bytes back until they are sent on. The flush after `good_flushes` good ones fails, and the later ones
-/// don't.
+/// A sink that holds all bytes back until it is flushed. Only flush number `good_flushes` + 1 fails.
 #[derive(Drop)]
 struct Buffered<'a> {
     wire: &'a Wire,
@@ -357,8 +353,8 @@ impl<'a> Sink for Buffered<'a> {
     }
 }
 
-/// How a session ends over a wire on which one flush fails after `good_flushes` good ones, how many bytes it wrote and how
-/// often it sent them on, and whether a read came before all was sent on.
+/// Runs a session over a wire on which only flush number `good_flushes` + 1 fails. Returns how it ended, how many bytes it wrote,
+/// how often it flushed them, and whether a read came before all was flushed.
 fn over_a_wire(
     alloc: Global,
     good_flushes: usize,
@@ -384,8 +380,8 @@ fn over_a_wire(
     (ended, sink.written, wire.flushes.get(), source.starved)
 }
 
-/// Each answer is sent on before the next read. There are five flushes: one before the first read, and one after each of the four
-/// answers. Before each other read nothing new was written, so there is no flush.
+/// Each answer is flushed before the next read. There are five flushes: one before the first read, and one after each of the four
+/// answers. Before every other read nothing new was written, so there is no flush.
 #[test]
 fn answers_are_sent_on_before_a_read(rt: HostRuntime) {
     let ended = over_a_wire(rt.alloc(), 1_000);
@@ -404,7 +400,7 @@ fn each_flush_fails(rt: HostRuntime) {
     }
 }
 
-/// A writer of std that can't send on.
+/// A writer of std whose flush fails.
 #[derive(Drop)]
 struct Stuck;
 
@@ -428,7 +424,7 @@ fn a_writer_that_cannot_send_on(rt: HostRuntime) {
     );
 }
 
-/// A reader and writer of std. Its first call fails if `failed` isn't set yet, and no other call does.
+/// A reader and writer of std. Only its first call fails, unless `failed` is already set.
 #[derive(Drop)]
 struct FailsOnce {
     failed: bool,
@@ -458,7 +454,7 @@ impl Write for FailsOnce {
     }
 }
 
-/// A call of std that failed isn't made again, whatever the kind of its error is.
+/// A failed call of std isn't repeated, whatever the kind of its error is.
 #[test]
 fn a_failed_call_is_not_made_again(rt: HostRuntime) {
     let mut source = FromRead::new(FailsOnce { failed: false });
@@ -475,8 +471,8 @@ fn a_failed_call_is_not_made_again(rt: HostRuntime) {
     );
 }
 
-/// How a session on `INPUT` ends with a writer of std that has room for `bytes` bytes, and whether all of this room has the first
-/// bytes of `ANSWER`.
+/// Runs a session on `INPUT` with a std writer that has capacity for `bytes` bytes. Returns the session's result, and whether the
+/// writer got a full prefix of `ANSWER`.
 fn into_room(alloc: Global, bytes: usize) -> Result<(Result<(), SessionFault>, bool), Fail> {
     let mut room = vec![in alloc; b'?'; bytes]?;
     let ended = {
@@ -487,7 +483,7 @@ fn into_room(alloc: Global, bytes: usize) -> Result<(Result<(), SessionFault>, b
     Ok((ended, ANSWER.starts_with(room.as_slice())))
 }
 
-/// A writer of std that is full takes 0 bytes: at its first call if it has no room, and otherwise at a later one.
+/// A full writer of std takes 0 bytes: at its first call if it has no capacity, and otherwise at a later one.
 #[test]
 fn a_writer_that_is_full(rt: HostRuntime) -> Result<(), Fail> {
     for bytes in 0..222 {
@@ -552,8 +548,8 @@ impl Sink for Counting {
     }
 }
 
-/// The exit status of a session of `commands` summaries of nothing, how many bytes it writes as answers, and how many about its
-/// fault.
+/// Runs a session of `commands` summaries of nothing. Returns the exit status, and how many bytes it writes as answers and about
+/// its error.
 fn summaries(alloc: Global, commands: u64) -> (u8, u64, u64) {
     let mut source = Repeated { commands, reads: 0 };
     let mut sink = Counting { bytes: 0 };
@@ -562,8 +558,8 @@ fn summaries(alloc: Global, commands: u64) -> (u8, u64, u64) {
     (status, sink.bytes, faults.bytes)
 }
 
-/// A session's history takes 1,048,576 entries and no more. Each summary of nothing has 112 bytes with the dot after it, and
-/// `book full` is a line of 10 bytes.
+/// A session's history has at most 1,048,576 entries. Each summary of nothing has 112 bytes with the dot after it, and `book full`
+/// is a line of 10 bytes.
 #[test]
 fn a_full_book(rt: HostRuntime) {
     let most = 1_048_576;
@@ -600,7 +596,7 @@ impl Source for Blocks {
     }
 }
 
-/// A session that ends since its history is full has written the answers to all commands before: to 1,048,576 drops in a book
+/// A session that ends because its history is full has written the answers to all commands before: to 1,048,576 drops in a book
 /// without tests, with a line of 13 bytes each. The last 16 of these commands are in the block where the session ends, the
 /// 43,691st.
 #[test]
@@ -616,7 +612,7 @@ fn a_full_book_loses_no_answer(rt: HostRuntime) {
     assert_eq!(rt; source.reads, 43_691);
 }
 
-/// The exit status of a session whose reads and writes fail as in `by_pieces`, and whether what it writes about its fault is
+/// Runs a session whose reads and writes fail as in `by_pieces`. Returns the exit status, and whether the line about its error is
 /// `words`.
 fn end_of(alloc: Global, good_reads: usize, good_writes: usize, words: &[u8]) -> (u8, bool) {
     let mut source = Slow {

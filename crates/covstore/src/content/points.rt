@@ -111,7 +111,7 @@ impl<'a, A: Allocator> Iterator for Branches<'a, A> {
 pub struct Lines<'a, A: Allocator = Global> {
     rest: Entries<'a, u64, LineSum, A>,
     checksums: &'a FileChecksums<A>,
-    /// The slot in which the next checksum is looked for first.
+    /// The slot to look at first for the next checksum.
     guess: SlotIndex,
 }
 

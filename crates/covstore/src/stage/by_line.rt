@@ -1,6 +1,5 @@
-//! Stages items without checksums. If the lines often fall from one item to the next, the items are staged in the order of
-//! their lines. In that order, points are found without a search, and a new point that comes after all other points moves none
-//! of them.
+//! Stages items without checksums. If their lines often fall from one item to the next, the items are staged in the order of their
+//! lines. In that order, points are found without a search, and appending a new last point moves no other point.
 
 ghost use Rattle.std.specs.Prelude.{◌≡◌, ◌↔◌, IfOk, IsTrue, OnOk};
 ghost use Rattle.std.specs.List.{All};
@@ -22,7 +21,7 @@ use std::alloc::{AllocError, Allocator};
 /// A section with fewer items than this isn't sorted.
 const MIN_SORTED: usize = 1024;
 
-/// One in this many items is sampled, to see whether the lines of the items often fall.
+/// One in this many items is sampled to decide whether lines often fall.
 const SAMPLE_STRIDE: usize = 16;
 
 /// Items are sorted if more than one in this many samples has a lower line than the sample before it.
@@ -35,8 +34,8 @@ struct Spot {
     index: usize,
 }
 
-/// Stages the items, none of which has a checksum. If there are at least `MIN_SORTED` items and their lines often fall, the
-/// items are staged in the order of their lines. Otherwise, they are staged in the section's order.
+/// Stages items without checksums: in the order of their lines if there are at least `MIN_SORTED` items and their lines often fall,
+/// otherwise in the section's order.
 pub(crate) fn stage_without_checksums<A: Allocator + Copy>(
     test: &mut Test<A>,
     index: &mut FileIndex<A>,
@@ -57,8 +56,8 @@ pub(crate) fn stage_without_checksums<A: Allocator + Copy>(
     stage_as_they_are(test, index, alloc, items)
 }
 
-/// Whether the lines of the items often fall. This is so if more than one in `SAMPLES_PER_FALL` samples has a lower line than
-/// the sample before it.
+/// Whether the lines of the items often fall: more than one in `SAMPLES_PER_FALL` samples has a lower line than the sample before
+/// it.
 fn falls_often(items: &PackedItems<'_>) -> bool {
     let most = items.len() / SAMPLE_STRIDE / SAMPLES_PER_FALL;
     let mut falls = 0;
@@ -97,7 +96,7 @@ fn has_no_checksum(item: &ItemRef<'_>) -> bool
     }
 }
 
-/// The line that an item is of.
+/// The line of an item.
 fn line_of(item: &ItemRef<'_>) -> u64 {
     match item {
         ItemRef::Line { line, .. } | ItemRef::Func { line, .. } | ItemRef::Branch { line, .. } => {
@@ -106,7 +105,7 @@ fn line_of(item: &ItemRef<'_>) -> u64 {
     }
 }
 
-/// Stages the items, none of which has a checksum, in the order of their lines.
+/// Stages items without checksums, in the order of their lines.
 fn stage_in_order<A: Allocator + Copy>(
     test: &mut Test<A>,
     index: &mut FileIndex<A>,

@@ -1,5 +1,4 @@
-//! Stages items of one kind in their test and in the counts of the file's points. The index counts these points and doesn't
-//! follow a test.
+//! Stages items of one kind in their test and in an index that counts points (not one that follows a test).
 
 ghost use Rattle.std.specs.Prelude.{◌≡◌, ◌+◌, ◌≤◌, length, IfOk, OnOk};
 ghost use Rattle.covmap.specs.Puts.{put, value_of};
@@ -11,8 +10,8 @@ use crate::sums::{PointAddend, PointSum};
 use covmap::{Key, Query, StagedMap};
 use std::alloc::{AllocError, Allocator};
 
-/// Stages what an item adds to a point of a kind. Returns the sum that the test had at the point before, or `None` if the test
-/// didn't have the point.
+/// Stages what an item adds to a point of a kind. Returns the test's earlier sum at the point, or `None` if the test didn't have
+/// the point.
 pub(crate) fn stage_counted_addend<
     K: Key + Drop,
     S: PointSum,

@@ -6,13 +6,13 @@ use std::alloc::{AllocError, AllocFailed, Allocator};
 /// Why the items of a section can't be staged.
 #[derive(Drop)]
 pub(crate) enum StageFault<A: Allocator> {
-    /// An item gives this line a checksum that differs from the held one, or from an earlier one of the submission.
+    /// An item has a checksum for this line that differs from the held one, or from an earlier one of the submission.
     Clash {
         line: u64,
         held: Bytes<A>,
         given: Bytes<A>,
     },
-    /// Memory was refused.
+    /// An allocation failed.
     Memory,
 }
 

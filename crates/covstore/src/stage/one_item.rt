@@ -159,8 +159,8 @@ pub(crate) fn stage_branch<A: Allocator + Copy>(
     Ok(())
 }
 
-/// Stages what an item adds to a point of a kind, in the item's test and in the file's index. Returns the sum that the test had
-/// at the point before, or `None` if the test didn't have the point.
+/// Stages what an item adds to a point of a kind, in the item's test and in the file's index. Returns the test's earlier sum at the
+/// point, or `None` if the test didn't have the point.
 pub(crate) fn stage_addend<
     K: Key + Drop,
     S: PointSum,

@@ -19,9 +19,8 @@ use crate::test::Test;
 use covpacked::PackedItems;
 use std::alloc::Allocator;
 
-/// Stages the items of a section, and stops at the first item that clashes. At most `MAX_STAGED_AT_ONCE` items are staged at a
-/// time. If there are many items, no item has a checksum and the lines often fall, the items are staged in the order of their
-/// lines.
+/// Stages the items of a section, up to the first that clashes, in batches of at most `MAX_STAGED_AT_ONCE` items. Sorts a long
+/// section by line first if none of its items has a checksum and the lines often fall.
 pub(crate) fn stage_items<A: Allocator + Copy>(
     test: &mut Test<A>,
     index: &mut FileIndex<A>,
@@ -49,9 +48,8 @@ pub(crate) fn stage_items<A: Allocator + Copy>(
     Ok(())
 }
 
-/// Stages some of a section's items, and stops at the first item that clashes. If the lines of the items with a checksum
-/// ascend, the items are staged at once. These lines ascend in the tracefiles that geninfo writes. Otherwise, the items are
-/// staged one by one.
+/// Stages some of a section's items, up to the first that clashes. Stages them at once if the lines of the items with a checksum
+/// ascend, as in the tracefiles of geninfo; otherwise one by one.
 fn stage_some<A: Allocator + Copy>(
     test: &mut Test<A>,
     index: &mut FileIndex<A>,
@@ -72,7 +70,7 @@ fn stage_some<A: Allocator + Copy>(
     stage_each(test, index, alloc, items)
 }
 
-/// Stages the items' checksums, and returns the first clash if there is one. If there is none, stages the items as runs.
+/// Stages the items' checksums, and then the items as runs. Returns the first clash without staging runs.
 fn stage_at_once<A: Allocator + Copy>(
     test: &mut Test<A>,
     index: &mut FileIndex<A>,

@@ -1,4 +1,4 @@
-//! Stages items of one kind at the points of the only test of a file. The index follows these points and doesn't count them.
+//! Stages items of one kind in the only test of a file, and in an index that follows this test and doesn't count points.
 
 ghost use Rattle.std.specs.Prelude.{◌≡◌, ◌+◌, ◌≤◌, length, IfOk, OnOk};
 ghost use Rattle.covmap.specs.Puts.{put, value_of};
@@ -11,8 +11,8 @@ use crate::sums::{PointAddend, PointSum};
 use covmap::{Key, Query, StagedMap};
 use std::alloc::{AllocError, Allocator};
 
-/// Stages what an item adds to a point of a kind. Returns the sum that the test had at the point before, or `None` if the test
-/// didn't have the point. If memory is refused, the committed points stay, but staged points may be lost.
+/// Stages what an item adds to a point of a kind. Returns the test's earlier sum at the point, or `None` if the test didn't have
+/// the point. A failed allocation keeps committed points, but may discard staged ones.
 pub(crate) fn stage_sole_addend<
     K: Key + Drop,
     S: PointSum,
@@ -48,7 +48,7 @@ pub(crate) fn stage_sole_addend<
     Ok(added.before)
 }
 
-/// Stages a run of items. If memory is refused, the committed points stay, but staged ones may be lost.
+/// Stages a run of items. A failed allocation keeps committed points, but may discard staged ones.
 pub(crate) fn stage_sole_run<
     K: Key + Drop,
     S: PointSum,

@@ -1,4 +1,4 @@
-//! A test that is dropped.
+//! Drops tests.
 
 use super::check_bytes;
 use super::held::{NOTHING, held, store_of};
@@ -12,17 +12,17 @@ pub(super) const SHARED: &[u8] =
     SF:/b.c\nDA:1,1\nend_of_record\n\
     TN:u\nSF:/a.c\nFN:3,f\nFNDA:0,f\nBRDA:1,0,0,-\nDA:1,1,k\nDA:2,0\nend_of_record\n";
 
-/// In how many sections a test is, and the totals that a drop of it would leave.
+/// The number of sections of a test, and the totals after dropping it.
 fn after(store: &Store, test: &[u8]) -> (u64, Totals) {
     store.after_drop(test)
 }
 
-/// Drops a test, and returns in how many sections it was.
+/// Drops a test, and returns the number of its sections.
 pub(super) fn dropped(store: &mut Store, test: &[u8]) -> u64 {
     store.drop_test(test)
 }
 
-/// What another test has stays: a point that it hits stays hit, and a point that it has but doesn't hit stays found.
+/// Points of other tests stay: a point that another test hits stays hit, and one that it has but doesn't hit stays found.
 #[test]
 fn a_test_is_dropped(rt: HostRuntime) -> Result<(), Fail> {
     let mut store = store_of(&rt, SHARED)?;

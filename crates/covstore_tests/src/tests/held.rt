@@ -1,4 +1,4 @@
-//! What a store holds, and what it refuses.
+//! The content of a store, and what it rejects.
 
 ghost use Rattle.std.specs.Prelude.{◌<◌, IfOk};
 ghost use Rattle.covstore.specs.Store.{max_members};
@@ -34,7 +34,7 @@ const OF_ALL: Totals = Totals {
     bh: 1,
 };
 
-/// Checks that the totals are as wanted.
+/// Checks that the totals are as expected.
 fn check_totals(rt: &impl Abort, given: Totals, wanted: Totals) {
     assert_eq!(rt; given, wanted);
 }
@@ -54,7 +54,7 @@ fn has_test(store: &Store, test: &[u8]) -> bool {
     store.has_test(test)
 }
 
-/// An empty store, after its `prepare` for the submission, and the result of this: the plan or the refusal.
+/// Prepares the submission in an empty store. Returns the store, and the plan or the error.
 fn prepared(rt: &(impl Abort + AllocGlobal), given: &Submission) -> (Store, Result<Plan, Refuse>) {
     let mut store = Store::new(rt.alloc());
     check_totals(rt, totals_of(&store), NOTHING);
@@ -76,7 +76,7 @@ fn a_plan_that_is_dropped(rt: HostRuntime) -> Result<(), Fail> {
     Ok(())
 }
 
-/// A store that holds the text alone, and has room for another one.
+/// A store that holds the text alone, and has capacity for another one.
 pub(super) fn store_of(rt: &(impl Abort + AllocGlobal), text: &[u8]) -> Result<Store, Fail>
     ensures { IfOk result (λ store. store.members < max_members) }
 {
@@ -138,7 +138,7 @@ fn put_lines(section: &Section<'_>, text: &mut Bytes) -> Result<(), Memory> {
     Ok(())
 }
 
-/// Appends what the section has.
+/// Appends the points of the section.
 fn put_section(section: &Section<'_>, text: &mut Bytes) -> Result<(), Memory> {
     put_line(&TraceLine::Test(section.test()), text)?;
     put_line(&TraceLine::Path(section.file()), text)?;
@@ -147,7 +147,7 @@ fn put_section(section: &Section<'_>, text: &mut Bytes) -> Result<(), Memory> {
     put_lines(section, text)
 }
 
-/// What the store holds, as text.
+/// Prints the content of the store.
 pub(super) fn held(alloc: Global, store: &Store) -> Result<Bytes, Memory> {
     let mut text = Bytes::new(alloc);
     for section in store.sections() {
@@ -172,7 +172,7 @@ fn what_is_held(rt: HostRuntime) -> Result<(), Fail> {
     Ok(())
 }
 
-/// Appends a refusal: the file, the line and the two checksums of a clash.
+/// Appends an error: the file, the line and the two checksums of a clash.
 fn put_refusal(alloc: Global, refuse: &Refuse, text: &mut Vec<u8>) -> Result<(), Fail> {
     match refuse {
         Refuse::Clash {
@@ -192,7 +192,7 @@ fn put_refusal(alloc: Global, refuse: &Refuse, text: &mut Vec<u8>) -> Result<(),
     }
 }
 
-/// What an empty store returns for the submission, in words: `a plan` or the refusal. Then `empty`, if the store still is.
+/// Prints the result of preparing the submission in an empty store: `a plan` or the error. Then `empty`, if the store still is.
 pub(super) fn refused(
     rt: &(impl Abort + AllocGlobal),
     given: &Submission,
@@ -209,7 +209,7 @@ pub(super) fn refused(
     Ok(text)
 }
 
-/// A clash is reported with its file, its line and both checksums, and never as memory that ran out.
+/// A clash is reported with its file, its line and both checksums, and never as `Memory`.
 #[test]
 fn a_clash(rt: HostRuntime) -> Result<(), Fail> {
     let given = read(

@@ -1,10 +1,10 @@
-//! Maps with the images of another map's values, and staged values that are looked up from a guess on.
+//! Makes maps of the images of another map's values, and looks up staged values from a guess.
 
 use covmap::{Image, SlotIndex, StagedMap, Value};
 use std::alloc::Global;
 use std::test::*;
 
-/// The image of a number: the number itself.
+/// The image of a number, which is the number itself.
 #[derive(Clone, Copy)]
 struct Wrapped {
     number: u64,
@@ -41,8 +41,8 @@ fn entry_count(map: &StagedMap<u64, Wrapped, Global>) -> usize {
     count
 }
 
-/// A map with more keys than fit on a page: each of 0 to 599 with ten times itself. For two keys a value is staged: for 4, and for
-/// 1000, which isn't there.
+/// A map with more keys than fit on a page: the keys 0 to 599, each with ten times itself as its value. Values are staged for the
+/// keys 4 and 1000; the map has no committed 1000.
 fn two_staged(alloc: Global) -> Result<StagedMap<u64, u64, Global>, Fail> {
     let mut map = StagedMap::new(alloc);
     for key in 0u64..600 {
@@ -84,7 +84,7 @@ fn images_of_an_empty_map(rt: HostRuntime) -> Result<(), Fail> {
     Ok(())
 }
 
-/// A guess, right or wrong, doesn't change what is found.
+/// A guess, right or wrong, doesn't change the result.
 #[test]
 fn staged_values_from_a_guess(rt: HostRuntime) -> Result<(), Fail> {
     let alloc = rt.alloc();

@@ -1,4 +1,4 @@
-//! A finite map with staged values, by itself.
+//! Tests of covmap's map by itself.
 
 ghost use Rattle.std.specs.Prelude.{◌≡◌};
 
@@ -35,7 +35,7 @@ fn printed(alloc: Global, map: &StagedMap<u64, u64, Global>) -> Result<Vec<u8>, 
     Ok(text)
 }
 
-/// Only `lookup_staged` sees staged values. They become committed by a commit, and are gone after a rollback.
+/// Only `lookup_staged` sees staged values. A commit makes them committed, and a rollback discards them.
 #[test]
 fn staged_values(rt: HostRuntime) -> Result<(), Fail> {
     let mut map = StagedMap::new(rt.alloc());

@@ -6,7 +6,7 @@ use std::alloc::Global;
 use std::process::Abort;
 use std::test::*;
 
-/// What patterns match the empty path. No session tests this, since the paths of its files aren't empty.
+/// Patterns that match the empty path. No session tests this, since the paths of its files aren't empty.
 #[test]
 fn empty_paths(rt: HostRuntime) {
     for pattern in b"|*|**".split(|byte| *byte == b'|') {
@@ -23,13 +23,13 @@ fn bytes_of_patterns(rt: HostRuntime) {
     assert!(rt; !is_match(b"[!\x00-\xff]", b"a"));
 }
 
-/// Whether the list refuses the pattern for this fault.
+/// Whether the list rejects the pattern with this error.
 fn is_refused(alloc: Global, patterns: &mut Patterns, pattern: &[u8], fault: PatternFault) -> bool {
     add(alloc, patterns, pattern) == Err(fault)
 }
 
-/// Checks how many patterns the list has, and which paths it takes: the paths have bars between them, and those that it
-/// doesn't take begin with a minus.
+/// Checks the number of patterns of the list, and which paths it matches. `paths` are separated by bars; those that it doesn't
+/// match begin with a minus.
 fn check_list(rt: &impl Abort, patterns: &Patterns, count: usize, paths: &[u8]) {
     assert_eq!(rt; patterns.get().len(), count);
     for path in paths.split(|byte| *byte == b'|') {
@@ -64,7 +64,7 @@ fn full_list(alloc: Global, pattern: &[u8]) -> Result<Patterns, PatternFault> {
     Ok(patterns)
 }
 
-/// A list takes 64 patterns of 1,024 bytes. If it is full, this is reported even of a pattern that is too long.
+/// A list can have 64 patterns of 1,024 bytes. A full list reports `TooMany` even for a pattern that is too long.
 #[test]
 fn a_full_list(rt: HostRuntime) -> Result<(), Fail> {
     let most = repeated(rt.alloc(), b"a", 1_024)?;

@@ -1,4 +1,4 @@
-//! Plans that are dropped and made again, and a large section.
+//! Drops plans and makes them again, and adds a large section.
 
 ghost use Rattle.std.specs.Prelude.{◌<◌};
 ghost use Rattle.covstore.specs.Store.{max_members};
@@ -12,7 +12,7 @@ use std::test::*;
 
 const SMALL: &[u8] = b"TN:t\nSF:/a.c\nDA:1,2\nDA:2,0\nend_of_record\n";
 
-/// What a dropped plan leaves in the store isn't seen, and the same submission can be prepared again.
+/// A dropped plan leaves nothing visible, and the same submission can be prepared again.
 #[test]
 fn a_plan_that_is_made_again(rt: HostRuntime) -> Result<(), Fail> {
     let given = read(rt.alloc(), SMALL)?;
@@ -45,7 +45,7 @@ DA:4,1,abcdefghijklmnopqrstuvwxyz0123456789abcdefghijklmnopqrstuvwxyz01234567
 end_of_record
 ";
 
-/// The same, each line counted twice.
+/// The report of `CHECKSUMS` submitted twice.
 const CHECKSUMS_TWICE: &[u8] = b"\
 TN:t
 SF:/a.c
@@ -55,7 +55,7 @@ DA:3,2,abcdefghijklmnopqrstuvwx
 DA:4,2,abcdefghijklmnopqrstuvwxyz0123456789abcdefghijklmnopqrstuvwxyz01234567
 ";
 
-/// The text is refused with a clash at the line.
+/// Checks that the text clashes at this line.
 fn check_clash(
     rt: &(impl Abort + AllocGlobal),
     mut store: Store,
@@ -72,7 +72,7 @@ fn check_clash(
     Ok(())
 }
 
-/// A store that was given the text twice. It holds what is wanted.
+/// Submits the text twice to a store, and checks the store's content.
 fn given_twice(rt: &(impl Abort + AllocGlobal), text: &[u8], wanted: &[u8]) -> Result<Store, Fail> {
     let given = read(rt.alloc(), text)?;
     let mut store = store_of(rt, text)?;
@@ -85,7 +85,7 @@ fn given_twice(rt: &(impl Abort + AllocGlobal), text: &[u8], wanted: &[u8]) -> R
     Ok(store)
 }
 
-/// A packed submission is prepared as any other. If its plan is dropped, nothing of it is seen.
+/// A packed submission is prepared like any other. A dropped plan of it leaves nothing visible.
 #[test]
 fn a_packed_submission(rt: HostRuntime) -> Result<(), Fail> {
     let given = read_packed(rt.alloc(), SMALL)?;
@@ -109,7 +109,7 @@ fn a_packed_submission(rt: HostRuntime) -> Result<(), Fail> {
     Ok(())
 }
 
-/// A packed submission that clashes is refused, with the line and both checksums.
+/// A clash of a packed submission is reported with the line and both checksums.
 #[test]
 fn a_packed_clash(rt: HostRuntime) -> Result<(), Fail> {
     let given = read_packed(rt.alloc(), b"TN:u\nSF:/a.c\nDA:7,1,new\nend_of_record\n")?;
@@ -134,14 +134,15 @@ fn a_packed_clash(rt: HostRuntime) -> Result<(), Fail> {
     Ok(())
 }
 
-/// Checksums of 22 to 24 bytes, and one of 70: 23 fit in place. Each is printed as it was given, and given again it agrees.
+/// Checksums of 22 to 24 bytes, and one of 70; up to 23 fit in place. Each is printed unchanged, and agrees with itself when it is
+/// submitted again.
 #[test]
 fn checksums_in_place_and_longer(rt: HostRuntime) -> Result<(), Fail> {
     given_twice(&rt, CHECKSUMS, CHECKSUMS_TWICE)?;
     Ok(())
 }
 
-/// A checksum that differs in its last byte alone clashes, in place and longer.
+/// Checksums that differ only in their last byte clash, in place and longer.
 #[test]
 fn checksums_that_differ_at_the_end(rt: HostRuntime) -> Result<(), Fail> {
     let store = store_of(&rt, CHECKSUMS)?;
@@ -167,7 +168,7 @@ fn checksums_that_differ_at_the_end(rt: HostRuntime) -> Result<(), Fail> {
     )
 }
 
-/// A section of a million lines. If all lines were passed over for each line to get the totals, this wouldn't end in time.
+/// A section of a million lines. Totals with quadratic running time wouldn't end in time.
 #[test]
 fn a_million_lines(rt: HostRuntime) -> Result<(), Fail> {
     let mut text = Vec::from_slice(rt.alloc(), b"SF:/m\n")?;
@@ -191,8 +192,8 @@ fn a_million_lines(rt: HostRuntime) -> Result<(), Fail> {
     Ok(())
 }
 
-/// Branches whose numbers are just below 2^32, just above, and the largest: in each place, alone and together. They come in
-/// another order than they are printed in.
+/// Branches whose line, block or number is just below 2^32, just above, or the largest, alone and together. They aren't in the
+/// order of printing.
 const WIDE_BRANCHES: &[u8] = b"\
 TN:t
 SF:/a.c
@@ -207,7 +208,7 @@ BRDA:1,0,4294967295,8
 end_of_record
 ";
 
-/// The same, in the order of their numbers, each counted twice.
+/// The report of `WIDE_BRANCHES` submitted twice, in the order of the numbers.
 const WIDE_BRANCHES_TWICE: &[u8] = b"\
 TN:t
 SF:/a.c

@@ -1,4 +1,4 @@
-//! Texts that are printed piece by piece.
+//! Prints texts piece by piece.
 
 use super::check_bytes;
 use super::held::store_of;
@@ -10,7 +10,7 @@ use std::alloc::Global;
 use std::process::Abort;
 use std::test::*;
 
-/// A printer that keeps the pieces, and wants no more once it has `most` bytes.
+/// A printer that stores the pieces, and wants no more after `most` bytes.
 #[derive(Drop)]
 struct Pieces {
     text: Bytes,
@@ -35,7 +35,7 @@ impl Printer for Pieces {
     }
 }
 
-/// A printer that wants at most about `most` bytes.
+/// A printer that wants no more after `most` bytes.
 fn printer(alloc: Global, most: usize) -> Pieces {
     Pieces {
         text: Bytes::new(alloc),
@@ -45,7 +45,7 @@ fn printer(alloc: Global, most: usize) -> Pieces {
     }
 }
 
-/// What is printed of the chosen files until the printer has `most` bytes.
+/// Prints the chosen files until the printer has `most` bytes.
 fn printed(alloc: Global, store: &Store, choice: Choice, most: usize) -> Result<Pieces, Memory> {
     let printing = Printing::of_store(alloc, store, choice)?;
     let mut pieces = printer(alloc, most);
@@ -53,7 +53,7 @@ fn printed(alloc: Global, store: &Store, choice: Choice, most: usize) -> Result<
     Ok(pieces)
 }
 
-/// Checks what is printed of the chosen files until the printer has `most` bytes.
+/// Checks the printed text of the chosen files, up to `most` bytes.
 fn check_printed(
     rt: &(impl Abort + AllocGlobal),
     store: &Store,
@@ -86,7 +86,7 @@ fn whole_texts(rt: HostRuntime) -> Result<(), Fail> {
     check_printed(&rt, &store, extract, usize::MAX, FIRST)
 }
 
-/// A printer that wants no more gets the rest of its section, and no other one.
+/// A printer that wants no more gets the rest of the current section, and no other section.
 #[test]
 fn a_printer_that_wants_no_more(rt: HostRuntime) -> Result<(), Fail> {
     let store = store_of(&rt, GIVEN)?;
@@ -104,7 +104,7 @@ fn a_text_that_is_there(rt: HostRuntime) -> Result<(), Fail> {
     Ok(())
 }
 
-/// Files that an include matches, or all files without includes; but none that an exclude matches.
+/// Includes choose the files that match them, or all files if there are none; excludes remove files from these.
 #[test]
 fn included_and_excluded_files(rt: HostRuntime) -> Result<(), Fail> {
     let store = store_of(&rt, GIVEN)?;

@@ -1,4 +1,4 @@
-//! A test that is renamed.
+//! Renames tests.
 
 use super::check_bytes;
 use super::held::{held, store_of};
@@ -23,16 +23,16 @@ const OF_SHARED: Totals = Totals {
     bh: 1,
 };
 
-/// What the store holds after `t` was renamed to `u`.
+/// The content of the store after `t` was renamed to `u`.
 const JOINED: &[u8] =
     b"TN:u\nSF:/a.c\nFN:3,f\nFNDA:2,f\nBRDA:1,0,0,4\nDA:1,3,k\nDA:2,1\nDA:3,0\nTN:u\nSF:/b.c\nDA:1,1\n";
 
-/// Makes a rename ready.
+/// Prepares a rename.
 fn prepared(alloc: Global, store: &mut Store, old: &[u8], new: &[u8]) -> Result<Renaming, Memory> {
     store.prepare_rename(alloc, old, new)
 }
 
-/// Renames a test, and checks in how many sections it was.
+/// Renames a test, and checks the number of its sections.
 fn rename(
     rt: &(impl Abort + AllocGlobal),
     store: &mut Store,
@@ -49,7 +49,7 @@ fn rename(
     }
 }
 
-/// Checks what the store holds, as text.
+/// Checks the printed content of the store.
 fn check_held(rt: &(impl Abort + AllocGlobal), store: &Store, wanted: &[u8]) -> Result<(), Fail> {
     let text = held(rt.alloc(), store)?;
     check_bytes(rt, text.get(), wanted);
@@ -69,7 +69,7 @@ fn a_test_is_renamed(rt: HostRuntime) -> Result<(), Fail> {
     check_held(&rt, &store, JOINED)
 }
 
-/// A rename that is made ready and dropped isn't seen, and doesn't disturb the next rename.
+/// A prepared and dropped rename leaves nothing visible, and doesn't affect the next rename.
 #[test]
 fn a_rename_that_is_dropped(rt: HostRuntime) -> Result<(), Fail> {
     let mut store = store_of(&rt, SHARED)?;

@@ -5,7 +5,7 @@ use super::held::{held, refused, store_of};
 use super::wrappers::read;
 use std::test::*;
 
-/// How many lines the section has. It is a prime, so its remainders of the first 2,003 multiples of 1,000 are all different.
+/// The number of lines of the section. It is a prime, so the first 2,003 multiples of 1,000 have different remainders.
 const LINES: u64 = 2003;
 
 /// Appends a branch of a line, and the line.

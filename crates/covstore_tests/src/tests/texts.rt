@@ -1,4 +1,4 @@
-//! What is printed of a store, and the rates in a summary.
+//! Printed reports of a store, and the rates in a summary.
 
 ghost use Rattle.covstore.specs.Totals.{AreTotals};
 
@@ -11,7 +11,7 @@ use covstore::{Store, Totals};
 use std::process::Abort;
 use std::test::*;
 
-/// Checks what is printed of the chosen files of the store.
+/// Checks the report of the chosen files.
 fn check_text(
     rt: &(impl Abort + AllocGlobal),
     store: &Store,
@@ -23,7 +23,7 @@ fn check_text(
     Ok(())
 }
 
-/// Checks what is printed of the files that match one of the patterns.
+/// Checks the report of the files that match one of the patterns.
 fn check_extract(
     rt: &(impl Abort + AllocGlobal),
     store: &Store,
@@ -34,7 +34,7 @@ fn check_extract(
     check_text(rt, store, &extract, wanted)
 }
 
-/// Checks what is printed of the files that match none of the patterns.
+/// Checks the report of the files that match none of the patterns.
 fn check_remove(
     rt: &(impl Abort + AllocGlobal),
     store: &Store,
@@ -63,7 +63,7 @@ fn choices(rt: HostRuntime) -> Result<(), Fail> {
     Ok(())
 }
 
-/// The rate of `hit` points of `found`, in tenths of a percent. Panics if there is none.
+/// The rate of `hit` points of `found`, in tenths of a percent. Panics without points.
 fn rate(rt: &impl Abort, hit: u64, found: u64) -> u32 {
     assert!(rt; found > 0);
     assert!(rt; hit <= found);

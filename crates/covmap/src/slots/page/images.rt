@@ -8,8 +8,8 @@ use crate::slots::page::Page;
 use std::alloc::{AllocError, Allocator};
 
 impl<K: CopyKey<A> + Drop, V, A: Allocator + Copy> Page<K, V, A> {
-    /// A page with the same keys in the same slots, and the images of the values. If this page takes memory only for its keys, so
-    /// does the new page.
+    /// A page with the same keys in the same slots, and the images of the values. The new page uses memory for values only if this
+    /// one does.
     pub(crate) fn image<W: Image<V>>(&self, alloc: A) -> Result<Page<K, W, A>, AllocError>
         ensures { IfOk result (λ image. image ≡ page_image W.image self.now) }
     {
@@ -19,7 +19,7 @@ impl<K: CopyKey<A> + Drop, V, A: Allocator + Copy> Page<K, V, A> {
     }
 }
 
-/// Copies of the keys. Reserves room for exactly `keys.len()` keys.
+/// Copies of the keys. Reserves capacity for exactly `keys.len()` keys.
 fn copy_keys<K: CopyKey<A> + Drop, A: Allocator + Copy>(
     keys: &[K],
     alloc: A,
@@ -33,7 +33,7 @@ fn copy_keys<K: CopyKey<A> + Drop, A: Allocator + Copy>(
     Ok(copies)
 }
 
-/// The images of the values. An empty value stays empty. Reserves room for exactly `values.len()` images.
+/// The images of the values. An empty value stays empty. Reserves capacity for exactly `values.len()` images.
 pub(crate) fn value_images<V, W: Image<V>, A: Allocator>(
     values: &[Option<V>],
     alloc: A,

@@ -60,8 +60,8 @@ impl<K: Key, V: Value, A: Allocator> Page<K, V, A> {
         Ok(Along { count, next })
     }
 
-    /// Where to look for the slot of a key: at `start`, at one of the next slots, or where a search of the page leads. It is
-    /// mostly at `start`, so only this is looked at in place.
+    /// The slot to look at first for a key: `start`, one of the next slots, or the result of a search of the page. Usually the key
+    /// is at `start`, so only this comparison is inlined.
     #[inline(always)]
     pub(crate) fn guess_near<Q: Query<K, A>>(&self, start: usize, query: Q) -> usize
         requires { IsAscending K.cmp self.now }
@@ -73,7 +73,7 @@ impl<K: Key, V: Value, A: Allocator> Page<K, V, A> {
         self.search_near(start, query)
     }
 
-    /// The same for a key that isn't at `start`. No clause says what it returns, since `guess_near` may return any place then.
+    /// Like `guess_near`, for a key that isn't at `start`. Has no contract, since `guess_near` may return any place then.
     fn search_near<Q: Query<K, A>>(&self, start: usize, query: Q) -> usize
         requires { IsAscending K.cmp self.now }
     {
@@ -88,7 +88,7 @@ impl<K: Key, V: Value, A: Allocator> Page<K, V, A> {
         self.index_of(query)
     }
 
-    /// Compares the key of a slot with the queried key. If there is no slot, the result is `Greater`.
+    /// Compares the key of a slot with the queried key. Returns `Greater` if there is no slot.
     fn order<Q: Query<K, A>>(&self, index: usize, query: Q) -> Ordering
         ensures { result ≡ order_at (λ key. K.cmp key (Q.named query)) (slice_get self.now index) }
     {
@@ -117,7 +117,7 @@ impl<K: Drop, V: Value, A: Allocator + Copy> Page<K, V, A> {
         Ok(page)
     }
 
-    /// A page with no slots, and room for `len` of them.
+    /// A page with no slots, and capacity for `len` of them.
     #[inline]
     fn with_room(alloc: A, len: usize) -> Result<Page<K, V, A>, AllocError>
         ensures { IfOk result (λ page. page ≡ []) }
@@ -157,7 +157,8 @@ impl<K: Drop, V: Value, A: Allocator + Copy> Page<K, V, A> {
         Ok(())
     }
 
-    /// Appends an empty slot for a key to a page with `len` slots, if the key is greater than all others. Returns whether it is.
+    /// Appends an empty slot for a key to a page with `len` slots, if the key is greater than all others. Returns whether the slot
+    /// was appended.
     #[inline]
     fn push_greater<Q: Query<K, A>>(
         &mut self,
@@ -180,7 +181,7 @@ impl<K: Drop, V: Value, A: Allocator + Copy> Page<K, V, A> {
     }
 }
 
-/// Adds an item to the value in its slot of a column. Appends what the addend reports, if anything, to `reports`.
+/// Adds an item to the value in its slot of a column. Appends the addend's report, if any, to `reports`.
 fn add_at<V: Drop, A: Allocator, Q: Copy, N: Drop, M: ReportingAddend<V, N>>(
     column: &mut [Option<V>],
     slot: usize,
@@ -197,7 +198,7 @@ fn add_at<V: Drop, A: Allocator, Q: Copy, N: Drop, M: ReportingAddend<V, N>>(
     push_reports(reports, query, note)
 }
 
-/// Adds an addend to the value in a slot of a column, and returns what the addend reports.
+/// Adds an addend to the value in a slot of a column, and returns the addend's report.
 #[inline]
 fn sum_at<V: Drop, N, M: ReportingAddend<V, N>>(
     column: &mut [Option<V>],

@@ -18,7 +18,7 @@ impl<V, A: Allocator + Copy> StagedColumns<V, A> {
     }
 }
 
-/// The images of the columns, each with the number of its page. Reserves room for exactly `columns.len()` images.
+/// The images of the columns, each with the number of its page. Reserves capacity for exactly `columns.len()` images.
 fn column_images<V, W: Image<V>, A: Allocator + Copy>(
     columns: &[(usize, Vec<Option<V>, A>)],
     alloc: A,

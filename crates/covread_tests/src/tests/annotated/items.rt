@@ -1,4 +1,4 @@
-//! What a gcov text gives, in its order: its sections and their items, a line of text for each.
+//! Prints what is read of gcov's output: a line for each section, and one for each of its items.
 
 use crate::tests::push_line;
 use crate::tests::wrappers::annotated;
@@ -7,7 +7,7 @@ use std::alloc::{AllocError, Global};
 use std::process::Abort;
 use std::test::*;
 
-/// The words of an item. A branch whose block was never executed has a dash in place of its count.
+/// Prints an item. A branch whose block was never executed has a dash instead of its count.
 fn words_of(alloc: Global, item: &Item) -> Result<String, AllocError> {
     match item {
         Item::Line {
@@ -51,7 +51,7 @@ fn put_sect(alloc: Global, sect: &Sect, text: &mut Vec<u8>) -> Result<(), Fail> 
     Ok(())
 }
 
-/// What the text gives as counts of the test `t`, or its fault.
+/// Prints the submission of the text as counts of the test `t`, or the error.
 fn given(alloc: Global, text: &[u8]) -> Result<Vec<u8>, Fail> {
     let mut given = Vec::new(alloc);
     match annotated(alloc, b"t", text) {
@@ -68,7 +68,7 @@ fn given(alloc: Global, text: &[u8]) -> Result<Vec<u8>, Fail> {
     Ok(given)
 }
 
-/// Checks what the text of this name gives.
+/// Checks the printed submission of the example with this name.
 fn check_given(
     rt: &(impl Abort + AllocGlobal),
     name: &[u8],
@@ -84,8 +84,8 @@ fn check_given(
     Ok(())
 }
 
-/// Checks what texts give, one after the other. A line that begins with `> ` is wanted, one that begins with `= ` ends the
-/// example and is its name, and the others are the text.
+/// Checks examples. A line that begins with `> ` is expected output, one that begins with `= ` ends the example and is its name,
+/// and the others are the input.
 pub(super) fn check_all(rt: &(impl Abort + AllocGlobal), examples: &[u8]) -> Result<(), Fail> {
     let mut text = Vec::new(rt.alloc());
     let mut wanted = Vec::new(rt.alloc());

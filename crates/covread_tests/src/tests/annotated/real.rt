@@ -1,10 +1,10 @@
-//! Texts of four small programs, exactly as gcov 12 wrote them. What is wanted was worked out by hand from each text, line by
-//! line. The programs were compiled with `--coverage` and run once. Their sources are in the texts.
+//! Outputs of gcov 12 for four small programs, unchanged. Expected values were worked out by hand, line by line. The programs were
+//! compiled with `--coverage` and run once. The outputs contain their sources.
 
 use super::items::check_all;
 use std::test::*;
 
-/// The line that ends each example has the command that wrote its text.
+/// The line that ends each example has the command that wrote its input.
 #[test]
 fn texts_of_gcov(rt: HostRuntime) -> Result<(), Fail> {
     check_all(

@@ -1,4 +1,4 @@
-//! What a command line asks for.
+//! Parses a session's command lines.
 
 ghost use Rattle.std.specs.Prelude.{◌≡◌, ◌≢◌, ℕ, List, [], codes, option_map};
 ghost use Rattle.covline.specs.Lines.{strip};
@@ -7,7 +7,7 @@ ghost use Rattle.covsession.specs.Command.{before_space, IsNaming, IsWord, IsWor
 use covline::without_returns;
 use memchr::memchr;
 
-/// Which files a pattern chooses.
+/// How a pattern chooses files.
 #[derive(Clone, Copy)]
 pub enum Pick {
     /// `extract`: the files that match the pattern. Without a pattern, no file.
@@ -21,32 +21,32 @@ pub enum Pick {
 pub enum Format<'a> {
     /// A tracefile (geninfo(1) of LCOV 1.x).
     Tracefile,
-    /// gcov's annotated source (gcov(1)), whose counts are of this test.
+    /// gcov's annotated source (gcov(1)). Its counts get this test name.
     Annotated(&'a [u8]),
 }
 
-/// What a command line asks for.
+/// A parsed command line.
 #[derive(Clone, Copy)]
 pub enum Word<'a> {
     /// Nothing: the line is blank.
     Blank,
     /// `report`: the merged tracefile.
     Report,
-    /// `summary`: how much is hit.
+    /// `summary`: the totals of points found and hit.
     Summary,
     /// `extract` or `remove`: a choice of files. If the line has a space, the pattern is what follows the first one.
     Choose(Pick, Option<&'a [u8]>),
-    /// `drop`: the test with this name is dropped.
+    /// `drop`: drops the test with this name.
     Drop(&'a [u8]),
-    /// `rename`: two lines follow, a test's name and the name that it is to have.
+    /// `rename`: two lines follow, the old and the new name of a test.
     Rename,
     /// `trace` or `gcov`: a text of this format follows.
     Text(Format<'a>),
-    /// Something unknown.
+    /// An unknown command.
     Other,
 }
 
-/// What a line asks for.
+/// Parses a command line.
 pub fn word_of(line: &[u8]) -> Word<'_>
     ensures { IsWord (strip line.now) result }
 {
@@ -66,7 +66,7 @@ pub fn word_of(line: &[u8]) -> Word<'_>
     }
 }
 
-/// What a line asks for if it isn't one of the words without an argument.
+/// Parses a command line that isn't a single known word.
 fn word_with_argument(words: &[u8]) -> Word<'_>
     requires some { words.now ≢ [] }
     requires no_report { words.now ≢ codes "report" }
@@ -99,7 +99,7 @@ fn test_named(argument: Option<&[u8]>) -> &[u8]
     }
 }
 
-/// What comes before the first space, and what comes after it. Without a space, the whole line and `None`.
+/// The line before its first space, and after it. Without a space, the whole line and `None`.
 fn split_at_space(words: &[u8]) -> (&[u8], Option<&[u8]>)
     ensures name { result.0.now ≡ before_space words.now }
     ensures whole { IsWordWith words.now result.0.now (option_map (λ p. p.now) result.1) }
