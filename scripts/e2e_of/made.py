@@ -103,7 +103,7 @@ def strange_paths(player, folder):
 def checked_names(player, folder):
     """A name can't make a second line of what check says. What other subcommands say has the names as they are."""
     names = [f"{folder}/{it}" for it in ("a\nb.info", "\x1b[1m\x7f\\é", "none\r\n.info")]
-    shown = [f"{folder}/{it}" for it in (r"a\x0ab.info", r"\x1b[1m\x7f\é", r"none\x0d\x0a.info")]
+    shown = [f"{folder}/{it}" for it in (r"a\x0ab.info", r"\x1b[1m\x7f\\é", r"none\x0d\x0a.info")]
     written(names[0], [TEXT])
     written(names[1], [])
     output = f"{shown[0]}: sections 1 items 2 odd 0 skipped 0\n{shown[1]}: sections 0 items 0 odd 0 skipped 0\n"
@@ -122,9 +122,9 @@ def strict_names(player, folder):
     written(names[1], [b"SF:/a.c\n"])
     written(names[2], [TEXT])
     for words, status, told in (
-        (["merge", names[2], names[0]], 5, f"{folder}/odd\\x0a\\x1b\\é.info: sections 1 items 2 odd 1 skipped 0\n"),
+        (["merge", names[2], names[0]], 5, f"{folder}/odd\\x0a\\x1b\\\\é.info: sections 1 items 2 odd 1 skipped 0\n"),
         (["merge", names[0], names[1]], 4, f"{names[1]}: refused OpenEnd\n"),
-        (["remove", names[2], names[0], "/?.c", "\x7f\n\\["], 5, f"{folder}/odd\\x0a\\x1b\\é.info: matches no file\n\\x7f\\x0a\\[: matches no file\n"),
+        (["remove", names[2], names[0], "/?.c", "\x7f\n\\["], 5, f"{folder}/odd\\x0a\\x1b\\\\é.info: matches no file\n\\x7f\\x0a\\\\[: matches no file\n"),
     ):
         player.call("strict names", folder, ["covcollect", words[0], "--strict", *words[1:]], (status, b"", told.encode()))
 
@@ -166,7 +166,7 @@ def written_names(player, folder):
     written(path, [TEXT])
     player.call("written names", folder, ["covcollect", "merge", path, path, "-o", path], (0, b"", b""))
     player.look_into(path, MERGED)
-    told = f"{folder}/a\\x0ab\\x1b\\é.info/x\\x0d: can't write\n"
+    told = f"{folder}/a\\x0ab\\x1b\\\\é.info/x\\x0d: can't write\n"
     player.call("written names", folder, ["covcollect", "merge", path, "-o", path + "/x\r"], (1, b"", told.encode()))
     # What stands beside the file while it is written has a name of 22 bytes more, and a name has at most 255.
     for length, ending in ((233, (0, b"", b"")), (234, (1, b"", f"{folder}/{'n' * 234}: can't write\n".encode()))):

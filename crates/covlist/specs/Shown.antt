@@ -6,9 +6,16 @@ use Rattle.hex.specs.Hex.{encode_lower}
 abbrev pub is_control : ℕ → Bool
 is_control b = nat_lt b 32 || b == 127
 
--- a control byte as `\x` and two hexadecimal digits, any other byte as it is
+-- a control byte as `\x` and two hexadecimal digits, a backslash twice, any other byte as it is
 abbrev pub shown_byte : ℕ → List ℕ
-shown_byte b = if is_control b then codes "\\x" ++ encode_lower (b ∷ []) else b ∷ []
+shown_byte b = if b == 92 then codes "\\\\" else if is_control b then codes "\\x" ++ encode_lower (b ∷ []) else b ∷ []
 
 abbrev pub shown_name : List ℕ → List ℕ
 shown_name name = flat_map shown_byte name
+
+-- a byte of whole lines: a line feed stays
+abbrev pub shown_in_lines : ℕ → List ℕ
+shown_in_lines b = if b == 10 then b ∷ [] else shown_byte b
+
+abbrev pub shown_lines : List ℕ → List ℕ
+shown_lines lines = flat_map shown_in_lines lines

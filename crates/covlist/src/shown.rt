@@ -1,14 +1,14 @@
-//! Prints names of files in lines of text.
+//! Prints names from outside in lines of text.
 
 ghost use Rattle.std.specs.Prelude.{◌≡◌, ◌++◌, ◌∷◌, [], OnOk};
 ghost use Rattle.hex.specs.Hex.{encode_lower};
-ghost use Rattle.covlist.specs.Shown.{is_control as is_control_byte, shown_byte, shown_name};
+ghost use Rattle.covlist.specs.Shown.{is_control as is_control_byte, shown_byte, shown_in_lines, shown_lines, shown_name};
 
 use covline::{Bytes, Memory};
 use std::alloc::Allocator;
 
-/// Appends a file's name. A control byte (below 32, or 127) is printed as `\x` and two lower-case hexadecimal digits. Any other
-/// byte is unchanged. So the appended text has no line feed and no escape byte.
+/// Appends a file's name. A control byte (below 32, or 127) is printed as `\x` and two lower-case hexadecimal digits, a backslash
+/// is printed twice, and any other byte is unchanged. So the appended text has no line feed and no escape byte.
 ///
 /// # Errors
 ///
@@ -22,10 +22,37 @@ pub fn put_shown_name<A: Allocator>(name: &[u8], text: &mut Bytes<A>) -> Result<
     Ok(())
 }
 
+/// Appends whole lines in which names stand. Each line feed stays, and any other byte is printed as in a name.
+///
+/// # Errors
+///
+/// `Memory` if memory was refused. The text may then end in a part of the lines.
+pub fn put_shown_lines<A: Allocator>(lines: &[u8], text: &mut Bytes<A>) -> Result<(), Memory>
+    ensures { OnOk result (text.new ≡ text.old ++ shown_lines lines.now) }
+{
+    for byte in lines {
+        put_shown_in_lines(*byte, text)?;
+    }
+    Ok(())
+}
+
+/// Appends a byte of whole lines in printed form.
+fn put_shown_in_lines<A: Allocator>(byte: u8, text: &mut Bytes<A>) -> Result<(), Memory>
+    ensures { OnOk result (text.new ≡ text.old ++ shown_in_lines byte) }
+{
+    if byte == b'\n' {
+        return text.append(&[byte]);
+    }
+    put_shown_byte(byte, text)
+}
+
 /// Appends a byte in printed form.
 fn put_shown_byte<A: Allocator>(byte: u8, text: &mut Bytes<A>) -> Result<(), Memory>
     ensures { OnOk result (text.new ≡ text.old ++ shown_byte byte) }
 {
+    if byte == b'\\' {
+        return text.append(b"\\\\");
+    }
     if is_control(byte) {
         text.append(b"\\x")?;
         return put_hexadecimal(byte, text);

@@ -1,6 +1,6 @@
 //! Names as they are shown.
 
-use super::wrappers::put_name;
+use super::wrappers::{put_lines, put_name};
 use super::{check_bytes, made};
 use covline::Bytes;
 use std::process::Abort;
@@ -22,6 +22,14 @@ fn shown_names(rt: HostRuntime) {
     check_name(
         &rt,
         b"a\n\x1b[1m\0\t\x1f\x7f\\.c",
-        b"of a\\x0a\\x1b[1m\\x00\\x09\\x1f\\x7f\\.c",
+        b"of a\\x0a\\x1b[1m\\x00\\x09\\x1f\\x7f\\\\.c",
     );
+    check_name(&rt, b"\\x01\x01", b"of \\\\x01\\x01");
+}
+
+#[test]
+fn shown_lines(rt: HostRuntime) {
+    let mut text = Bytes::new(rt.alloc());
+    made(&rt, put_lines(b"clash a\x1b\\.c 1 x \x7f\n\n\r", &mut text));
+    check_bytes(&rt, text.get(), b"clash a\\x1b\\\\.c 1 x \\x7f\n\n\\x0d");
 }

@@ -33,6 +33,10 @@ pub(super) fn put_name<A: Allocator>(name: &[u8], text: &mut Bytes<A>) -> Result
     covlist::put_shown_name(name, text)
 }
 
+pub(super) fn put_lines<A: Allocator>(lines: &[u8], text: &mut Bytes<A>) -> Result<(), Memory> {
+    covlist::put_shown_lines(lines, text)
+}
+
 fn read<A: Allocator + Copy>(alloc: A, text: &[u8]) -> Result<Submission<A>, ReadFault> {
     read_trace(alloc, text)
 }
