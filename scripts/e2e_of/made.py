@@ -101,7 +101,7 @@ def strange_paths(player, folder):
 
 
 def checked_names(player, folder):
-    """A name can't make a second line of what check says. What other subcommands say has the names as they are."""
+    """A name can't make a second line of what check says. A plain merge has the names as they are."""
     names = [f"{folder}/{it}" for it in ("a\nb.info", "\x1b[1m\x7f\\é", "none\r\n.info")]
     shown = [f"{folder}/{it}" for it in (r"a\x0ab.info", r"\x1b[1m\x7f\\é", r"none\x0d\x0a.info")]
     written(names[0], [TEXT])
@@ -116,17 +116,40 @@ def checked_names(player, folder):
 
 
 def strict_names(player, folder):
-    """Neither does a name or a pattern that a strict call tells of. Refused names are as they are."""
+    """Neither does a name or a pattern that a strict call tells of."""
     names = [f"{folder}/{it}" for it in ("odd\n\x1b\\é.info", "cut\n.info", "fine\r.info")]
     written(names[0], [TEXT.replace(b"LH:1", b"LH:2")])
     written(names[1], [b"SF:/a.c\n"])
     written(names[2], [TEXT])
     for words, status, told in (
         (["merge", names[2], names[0]], 5, f"{folder}/odd\\x0a\\x1b\\\\é.info: sections 1 items 2 odd 1 skipped 0\n"),
-        (["merge", names[0], names[1]], 4, f"{names[1]}: refused OpenEnd\n"),
+        (["merge", names[0], names[1]], 4, f"{folder}/cut\\x0a.info: refused OpenEnd\n"),
         (["remove", names[2], names[0], "/?.c", "\x7f\n\\["], 5, f"{folder}/odd\\x0a\\x1b\\\\é.info: matches no file\n\\x7f\\x0a\\\\[: matches no file\n"),
     ):
         player.call("strict names", folder, ["covcollect", words[0], "--strict", *words[1:]], (status, b"", told.encode()))
+
+
+def told_names(player, folder):
+    """A plain call, as lcov's users make it, tells names and checksums as they are. Every other call shows their control bytes."""
+    first = written(f"{folder}/first.info", [b"SF:/a\x1b\\.c\nDA:1,1,x\nend_of_record\n"])
+    second = written(f"{folder}/second.info", [b"SF:/a\x1b\\.c\nDA:1,1,y\x7f\nend_of_record\n"])
+    missing = f"{folder}/none\x1b\n\\.info"
+    plain = (f"{missing}: can't read\n".encode(), b"clash /a\x1b\\.c 1 x y\x7f\n")
+    shown = (f"{folder}/none\\x1b\\x0a\\\\.info: can't read\n".encode(), b"clash /a\\x1b\\\\.c 1 x y\\x7f\n")
+    written_to = ["-o", f"{folder}/out.info"]
+    for words, (unread, clash) in (
+        (["merge"], plain), (["merge", "--jobs", "1"], plain), (["summary"], plain), (["list"], shown), (["list", "--json"], shown),
+        (["merge", "--lcov2"], shown), (["summary", "--large"], shown), (["merge", "--strict"], shown), (["merge", *written_to], shown),
+        (["summary", "--json"], shown), (["summary", "--fail-under-lines", "1"], shown), (["merge", "--exclude", "*.h"], shown),
+    ):
+        words = ["covcollect", *words]
+        player.call("told names", folder, [*words, missing], (1, b"", unread))
+        player.call("told names", folder, [*words, first, second], (4, b"", clash))
+    for words, (unread, _) in (
+        (["extract", missing, "*"], plain), (["remove", "--strict", missing, "*"], shown),
+        (["gcov", "--test", "t", missing], plain), (["gcov", "--test", "t", *written_to, missing], shown),
+    ):
+        player.call("told names", folder, ["covcollect", *words], (1, b"", unread))
 
 
 def large_file(player, folder):
@@ -211,6 +234,6 @@ def limits_of_patterns(player, folder):
 
 
 JOBS = (
-    large_totals, a_rounded_rate, rounded_rates, strange_paths, checked_names, strict_names, large_file, several_pieces, written_names,
-    a_thousand_files, two_thousand_files, limits_of_patterns,
+    large_totals, a_rounded_rate, rounded_rates, strange_paths, checked_names, strict_names, told_names, large_file, several_pieces,
+    written_names, a_thousand_files, two_thousand_files, limits_of_patterns,
 )

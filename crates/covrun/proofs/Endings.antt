@@ -33,6 +33,9 @@ use Rattle.covrun.specs.declared.work.WorkFault.TheVariants.{Words, Memory}
 use Rattle.covrun.specs.Call.{StopsEarly, AreTextsIn, IsUnreadable, most_submissions, WorkEnds, IsTaskDone, IsCutShort, IsEndingPrinted, IsEndingReported, IsEndingWritten, IsUnwritten, IsWritten}
 use Rattle.covrun.specs.Check.{IsCheck}
 use Rattle.covrun.specs.Folder.{FolderData}
+use Rattle.covrun.specs.Naming.{naming_of, told_lines, told_name}
+use Rattle.covrun.specs.declared.naming.Naming.{Naming}
+use Rattle.covrun.specs.declared.naming.Naming.TheVariants as namings
 use Rattle.covrun.specs.OutputFiles.{OutputFilesData}
 use Rattle.covrun.specs.Streams.{SourceData, SinksData, Complains, PutsOut, sinks}
 use Rattle.covrun.specs.View.{failure_data}
@@ -46,12 +49,12 @@ use Rattle.covrun.specs.declared.work.CheckedFormat.{CheckedFormat}
 use Rattle.covrun.proofs.Reading.{HaveTexts, collected_in, texts_held}
 
 -- the texts were collected, and the call ends as `of_collected` says, or because memory ran out. `count` is the number of files
-pub ends_collected : (folder : FolderData) (work : WorkData) (files : List (List ℕ)) → files ≡ work.files → (outcome : ℕ → OutcomeData TextFault) (count : ℕ) (entries : List EntryData) (refused : List (RefusedInput TextFault)) (ending : EndingData)
+pub ends_collected : (folder : FolderData) (file : Option (List ℕ)) (work : WorkData) (naming : Naming) → naming ≡ naming_of file work → (files : List (List ℕ)) → files ≡ work.files → (outcome : ℕ → OutcomeData TextFault) (count : ℕ) (entries : List EntryData) (refused : List (RefusedInput TextFault)) (ending : EndingData)
     → HaveTexts folder work.format work.strictness files outcome → count ≡ length files → IsText (last_of work.asks)
     → ((last : OpData) → IsText last → (logs : List LogData) × IsCollectedWith outcome count work.jobs last (entries ++ next_entry entries 0 last ∷ []) logs refused)
-    → (ending ≡ Stopped faults.Memory) ⊎ (ending ≡ of_collected files work.strictness work.asks (entries ++ next_entry entries 0 (last_of work.asks) ∷ []) refused) → WorkEnds folder work ending
-ends_collected folder work files named outcome count entries refused ending read long asks collected (inl ran_out) = inl ran_out
-ends_collected folder work files named outcome count entries refused ending (texts, each, are, outcomes) long asks collected (inr is) =
+    → (ending ≡ Stopped faults.Memory) ⊎ (ending ≡ of_collected naming files work.strictness work.asks (entries ++ next_entry entries 0 (last_of work.asks) ∷ []) refused) → WorkEnds folder file work ending
+ends_collected folder file work naming same_naming files named outcome count entries refused ending read long asks collected (inl ran_out) = inl ran_out
+ends_collected folder file work naming same_naming files named outcome count entries refused ending (texts, each, are, outcomes) long asks collected (inr is) =
     let last = collected (last_of work.asks) asks in
     let all = entries ++ next_entry entries 0 (last_of work.asks) ∷ [] in
     let same : count ≡ length texts = long ∙ sym each in
@@ -61,21 +64,28 @@ ends_collected folder work files named outcome count entries refused ending (tex
       subst (λ (fs : List (List ℕ)). AreTextsIn work.format folder fs texts) named are,
       collected_in work.format work.strictness texts work.jobs (last_of work.asks) all last.0 refused outcome outcomes
           (subst (λ (n : ℕ). IsCollectedWith outcome n work.jobs (last_of work.asks) all last.0 refused) same last.1),
-      is ∙ ap (λ (fs : List (List ℕ)). of_collected fs work.strictness work.asks all refused) named,
+      is ∙ (λ k. of_collected (same_naming k) (named k) work.strictness work.asks all refused),
     ))
 
 -- the texts weren't collected, and the call ends with the ending for the fault
-pub ends_uncollected : (folder : FolderData) (work : WorkData) (fault : CollectFault) (ending : EndingData)
-    → (fault ≡ collects.BadJobs → AreJobs work.jobs → ⊥) → MayCome (most_submissions work.format (length work.files)) fault → ending ≡ of_collect fault → WorkEnds folder work ending
-ends_uncollected folder work fault ending bad may is =
+pub ends_uncollected : (folder : FolderData) (file : Option (List ℕ)) (work : WorkData) (fault : CollectFault) (ending : EndingData)
+    → (fault ≡ collects.BadJobs → AreJobs work.jobs → ⊥) → MayCome (most_submissions work.format (length work.files)) fault → ending ≡ of_collect fault → WorkEnds folder file work ending
+ends_uncollected folder file work fault ending bad may is =
     let held = texts_held work.format folder work.files in
     inr (inr (held.0, Err fault, held.1, (bad, may), is))
 
--- a file can't be read, and the call ends with that
-pub ends_unreadable : (folder : FolderData) (work : WorkData) (files : List (List ℕ)) → files ≡ work.files → (name : List ℕ) (ending : EndingData)
-    → IsUnreadable work.format folder files name → ending ≡ Unreadable name → WorkEnds folder work ending
-ends_unreadable folder work files named name ending unread is =
+-- a file can't be read, and the call ends with that, or because memory ran out
+pub ends_unreadable : (folder : FolderData) (file : Option (List ℕ)) (work : WorkData) (files : List (List ℕ)) → files ≡ work.files → (name : List ℕ) (ending : EndingData)
+    → IsUnreadable work.format folder files name → (ending ≡ Stopped faults.Memory) ⊎ (ending ≡ Unreadable (told_name (naming_of file work) name)) → WorkEnds folder file work ending
+ends_unreadable folder file work files named name ending unread (inl ran_out) = inl ran_out
+ends_unreadable folder file work files named name ending unread (inr is) =
     inr (inl (name, is, subst (λ (fs : List (List ℕ)). IsUnreadable work.format folder fs name) named unread))
+
+-- a file that can't be read is told by this name
+pub unreadable_told : (naming shown : Naming) (name found : List ℕ) → naming ≡ shown → name ≡ found → {ending : EndingData}
+    → (ending ≡ Stopped faults.Memory) ⊎ (ending ≡ Unreadable (told_name naming name)) → (ending ≡ Stopped faults.Memory) ⊎ (ending ≡ Unreadable (told_name shown found))
+unreadable_told naming shown name found same is (inl ran_out) = inl ran_out
+unreadable_told naming shown name found same is (inr told) = inr (told ∙ (λ k. Unreadable (told_name (same k) (is k))))
 
 -- ---- what was collected
 
@@ -89,15 +99,19 @@ text_unclashed ops (SubmitOp submission) asks = absurd asks
 text_unclashed ops (DropTestOp test) asks = absurd asks
 text_unclashed ops (RenameOp old new) asks = absurd asks
 
+told_nothing : (naming : Naming) (lines : List ℕ) → lines ≡ [] → told_lines naming lines ≡ []
+told_nothing namings.Plain lines none = none
+told_nothing namings.Shown lines none = ap (told_lines namings.Shown) none
+
 -- the last operation adds no complaint
-complaints_same : (files : List (List ℕ)) (refused : List (RefusedInput TextFault)) (entries : List EntryData) (last : OpData) → IsText last
-    → complaints files refused (entries ++ next_entry entries 0 last ∷ []) ≡ complaints files refused entries
-complaints_same files refused entries last asks =
+complaints_same : (naming : Naming) (files : List (List ℕ)) (refused : List (RefusedInput TextFault)) (entries : List EntryData) (last : OpData) → IsText last
+    → complaints naming files refused (entries ++ next_entry entries 0 last ∷ []) ≡ complaints naming files refused entries
+complaints_same naming files refused entries last asks =
     let entry = next_entry entries 0 last in
-    let clashes = flat_map (λ (e : EntryData). clash_text e.answer) in
-    let none : clash_text entry.answer ≡ [] = text_unclashed (ops_in entries) last asks in
-    ap (λ (lines : List ℕ). flat_map (refusal_line files) refused ++ lines)
-    (sym (flat_map_more (λ (e : EntryData). clash_text e.answer) [] entries entry)
+    let clashes = flat_map (λ (e : EntryData). told_lines naming (clash_text e.answer)) in
+    let none : told_lines naming (clash_text entry.answer) ≡ [] = told_nothing naming _ (text_unclashed (ops_in entries) last asks) in
+    ap (λ (lines : List ℕ). flat_map (refusal_line naming files) refused ++ lines)
+    (sym (flat_map_more (λ (e : EntryData). told_lines naming (clash_text e.answer)) [] entries entry)
     ∙ ap (λ (lines : List ℕ). clashes entries ++ lines) none ∙ append-nil (clashes entries))
 
 -- the last entry is found by its place
@@ -193,45 +207,45 @@ unless_some report [] other some = absurd (some refl)
 unless_some report (b ∷ lines) other some = refl
 
 -- memory didn't run out for an input
-ends_unless : (files : List (List ℕ)) (strictness : Strictness) (asks : QuestionData) (all : List EntryData) (refused : List (RefusedInput TextFault)) (ending : EndingData) → ran_out refused ≡ false
-    → ending ≡ unless_any Refuses (complaints files refused all) (unless_any IsUnclean (strict_lines files strictness asks all refused) (answered asks all))
-    → ending ≡ of_collected files strictness asks all refused
-ends_unless files strictness asks all refused ending ran is =
+ends_unless : (naming : Naming) (files : List (List ℕ)) (strictness : Strictness) (asks : QuestionData) (all : List EntryData) (refused : List (RefusedInput TextFault)) (ending : EndingData) → ran_out refused ≡ false
+    → ending ≡ unless_any Refuses (complaints naming files refused all) (unless_any IsUnclean (strict_lines files strictness asks all refused) (answered asks all))
+    → ending ≡ of_collected naming files strictness asks all refused
+ends_unless naming files strictness asks all refused ending ran is =
     is ∙ ap (λ (b : Bool). if b then Stopped faults.Memory
-    else unless_any Refuses (complaints files refused all) (unless_any IsUnclean (strict_lines files strictness asks all refused) (answered asks all))) (sym ran)
+    else unless_any Refuses (complaints naming files refused all) (unless_any IsUnclean (strict_lines files strictness asks all refused) (answered asks all))) (sym ran)
 
 -- texts have a fault, or something clashed
-pub ends_refused : (files : List (List ℕ)) (strictness : Strictness) (entries : List EntryData) (refused : List (RefusedInput TextFault)) (asks : QuestionData) (lines : List ℕ) → IsText (last_of asks)
-    → ran_out refused ≡ false → lines ≡ complaints files refused entries → (lines ≡ [] → ⊥)
-    → Refuses lines ≡ of_collected files strictness asks (entries ++ next_entry entries 0 (last_of asks) ∷ []) refused
-ends_refused files strictness entries refused asks lines is_text ran are some =
+pub ends_refused : (naming : Naming) (files : List (List ℕ)) (strictness : Strictness) (entries : List EntryData) (refused : List (RefusedInput TextFault)) (asks : QuestionData) (lines : List ℕ) → IsText (last_of asks)
+    → ran_out refused ≡ false → lines ≡ complaints naming files refused entries → (lines ≡ [] → ⊥)
+    → Refuses lines ≡ of_collected naming files strictness asks (entries ++ next_entry entries 0 (last_of asks) ∷ []) refused
+ends_refused naming files strictness entries refused asks lines is_text ran are some =
     let all = entries ++ next_entry entries 0 (last_of asks) ∷ [] in
-    let told : lines ≡ complaints files refused all = are ∙ sym (complaints_same files refused entries (last_of asks) is_text) in
-    ends_unless files strictness asks all refused (Refuses lines) ran
+    let told : lines ≡ complaints naming files refused all = are ∙ sym (complaints_same naming files refused entries (last_of asks) is_text) in
+    ends_unless naming files strictness asks all refused (Refuses lines) ran
     (unless_some Refuses lines (unless_any IsUnclean (strict_lines files strictness asks all refused) (answered asks all)) some
     ∙ ap (λ (ls : List ℕ). unless_any Refuses ls (unless_any IsUnclean (strict_lines files strictness asks all refused) (answered asks all))) told)
 
 -- texts aren't clean, or patterns match no file
-pub ends_unclean : (files : List (List ℕ)) (strictness : Strictness) (entries : List EntryData) (refused : List (RefusedInput TextFault)) (asks : QuestionData) (lines unclean : List ℕ) → IsText (last_of asks)
-    → ran_out refused ≡ false → lines ≡ complaints files refused entries → lines ≡ []
+pub ends_unclean : (naming : Naming) (files : List (List ℕ)) (strictness : Strictness) (entries : List EntryData) (refused : List (RefusedInput TextFault)) (asks : QuestionData) (lines unclean : List ℕ) → IsText (last_of asks)
+    → ran_out refused ≡ false → lines ≡ complaints naming files refused entries → lines ≡ []
     → unclean ≡ strict_lines files strictness asks (entries ++ next_entry entries 0 (last_of asks) ∷ []) refused → (unclean ≡ [] → ⊥)
-    → IsUnclean unclean ≡ of_collected files strictness asks (entries ++ next_entry entries 0 (last_of asks) ∷ []) refused
-ends_unclean files strictness entries refused asks lines unclean is_text ran are none told some =
+    → IsUnclean unclean ≡ of_collected naming files strictness asks (entries ++ next_entry entries 0 (last_of asks) ∷ []) refused
+ends_unclean naming files strictness entries refused asks lines unclean is_text ran are none told some =
     let all = entries ++ next_entry entries 0 (last_of asks) ∷ [] in
-    ends_unless files strictness asks all refused (IsUnclean unclean) ran
-    (unless_none Refuses (complaints files refused all) _ _ (complaints_same files refused entries (last_of asks) is_text ∙ sym are ∙ none)
+    ends_unless naming files strictness asks all refused (IsUnclean unclean) ran
+    (unless_none Refuses (complaints naming files refused all) _ _ (complaints_same naming files refused entries (last_of asks) is_text ∙ sym are ∙ none)
     (unless_some IsUnclean unclean (answered asks all) some ∙ ap (λ (ls : List ℕ). unless_any IsUnclean ls (answered asks all)) told))
 
 -- no input was refused and nothing clashed, so what is asked is answered
-pub ends_with_answer : (files : List (List ℕ)) (strictness : Strictness) (entries : List EntryData) (refused : List (RefusedInput TextFault)) (asks : QuestionData) (lines unclean : List ℕ) (ending : EndingData) → IsText (last_of asks)
-    → ran_out refused ≡ false → lines ≡ complaints files refused entries → lines ≡ []
+pub ends_with_answer : (naming : Naming) (files : List (List ℕ)) (strictness : Strictness) (entries : List EntryData) (refused : List (RefusedInput TextFault)) (asks : QuestionData) (lines unclean : List ℕ) (ending : EndingData) → IsText (last_of asks)
+    → ran_out refused ≡ false → lines ≡ complaints naming files refused entries → lines ≡ []
     → unclean ≡ strict_lines files strictness asks (entries ++ next_entry entries 0 (last_of asks) ∷ []) refused → unclean ≡ []
     → ending ≡ answered asks (entries ++ next_entry entries 0 (last_of asks) ∷ [])
-    → ending ≡ of_collected files strictness asks (entries ++ next_entry entries 0 (last_of asks) ∷ []) refused
-ends_with_answer files strictness entries refused asks lines unclean ending is_text ran are none told clean is =
+    → ending ≡ of_collected naming files strictness asks (entries ++ next_entry entries 0 (last_of asks) ∷ []) refused
+ends_with_answer naming files strictness entries refused asks lines unclean ending is_text ran are none told clean is =
     let all = entries ++ next_entry entries 0 (last_of asks) ∷ [] in
-    ends_unless files strictness asks all refused ending ran
-    (unless_none Refuses (complaints files refused all) _ _ (complaints_same files refused entries (last_of asks) is_text ∙ sym are ∙ none)
+    ends_unless naming files strictness asks all refused ending ran
+    (unless_none Refuses (complaints naming files refused all) _ _ (complaints_same naming files refused entries (last_of asks) is_text ∙ sym are ∙ none)
     (unless_none IsUnclean (strict_lines files strictness asks all refused) _ _ (sym told ∙ clean) is))
 
 -- ---- what the subcommands ask
@@ -277,10 +291,14 @@ asks_text command strictness size work is = subst AsksText (sym is) (asks_text_o
 
 -- if the ending of the work was reported, the task of collecting is done
 pub told_work : (folder : FolderData) (work : WorkData) (task : TaskData) (file named : Option (List ℕ)) (ending : EndingData) (status : ℕ) (before after : SourceData) (old new : SinksData) (files written : OutputFilesData)
-    → after ≡ before → Collects work ≡ task → named ≡ file → WorkEnds folder work ending → IsEndingReported named ending status old new files written → IsTaskDone folder task file status before after old new files written
+    → after ≡ before → Collects work ≡ task → named ≡ file → WorkEnds folder named work ending → IsEndingReported named ending status old new files written → IsTaskDone folder task file status before after old new files written
 told_work folder work task file named ending status before after old new files written unread is same ends told =
-    subst (λ (t : TaskData). IsTaskDone folder t file status before after old new files written) is
-    (unread, ending, ends, subst (λ (f : Option (List ℕ)). IsEndingReported f ending status old new files written) same told)
+    subst (λ (t : TaskData). IsTaskDone folder t file status before after old new files written) is (
+      unread,
+      ending,
+      subst (λ (f : Option (List ℕ)). WorkEnds folder f work ending) same ends,
+      subst (λ (f : Option (List ℕ)). IsEndingReported f ending status old new files written) same told,
+    )
 
 -- if files were checked, the task of a check is done
 pub told_check : (folder : FolderData) (format : CheckedFormat) (strictness : Strictness) (jobs : ℕ) (names named : List (List ℕ)) (task : TaskData) (file : Option (List ℕ)) (status : ℕ) (before after : SourceData) (old new : SinksData) (files : OutputFilesData)
@@ -346,11 +364,11 @@ answer_unwritten name [] text status old new files written unwritten = inr unwri
 answer_unwritten name (b ∷ lines) text status old new files written unwritten = inr unwritten
 
 -- a failure of the work is reported
-pub failure_told : (folder : FolderData) (work : WorkData) (file : Option (List ℕ)) (failure : Failure) (status : ℕ) → WorkEnds folder work (failure_data failure)
+pub failure_told : (folder : FolderData) (work : WorkData) (file : Option (List ℕ)) (failure : Failure) (status : ℕ) → WorkEnds folder file work (failure_data failure)
     → status ≡ status_of (failure_data failure)
     → (output : Option (List ℕ)) (held failed : ℕ) (before after : Option (List ℕ)) (fails fails_after : ℕ)
     → (fails_after ≡ fails → Appends before after (complaint (failure_data failure))) → (files : OutputFilesData)
-    → (ending : EndingData) × WorkEnds folder work ending
+    → (ending : EndingData) × WorkEnds folder file work ending
     × IsEndingReported file ending status (sinks output held failed before fails) (sinks output held failed after fails_after) files files
 failure_told folder work file failure status ends is output held failed before after fails fails_after said files = (
   failure_data failure,
@@ -360,12 +378,12 @@ failure_told folder work file failure status ends is output held failed before a
 
 -- an answer of the work is reported, unless memory runs out
 pub answer_told : (folder : FolderData) (work : WorkData) (file : Option (List ℕ)) (answer : EndingData) (status : ℕ) (old new : SinksData) (files written : OutputFilesData)
-    → WorkEnds folder work answer
+    → WorkEnds folder file work answer
     → (ending : EndingData) × ((ending ≡ Stopped faults.Memory) ⊎ (ending ≡ answer)) × IsEndingReported file ending status old new files written
-    → (ending : EndingData) × WorkEnds folder work ending × IsEndingReported file ending status old new files written
+    → (ending : EndingData) × WorkEnds folder file work ending × IsEndingReported file ending status old new files written
 answer_told folder work file answer status old new files written ends (ending, inl ran_out, told) = (ending, inl ran_out, told)
 answer_told folder work file answer status old new files written ends (ending, inr is, told) =
-    (ending, subst (λ (e : EndingData). WorkEnds folder work e) (sym is) ends, told)
+    (ending, subst (λ (e : EndingData). WorkEnds folder file work e) (sym is) ends, told)
 
 -- the answer of a call that names no file is printed
 pub answer_reported : (file : Option (List ℕ)) → file ≡ None → (lines shown text : List ℕ) → shown ≡ lines → (status : ℕ) (old new : SinksData) (files : OutputFilesData)

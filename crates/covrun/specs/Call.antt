@@ -33,6 +33,7 @@ use Rattle.covsession.specs.Session.{said}
 use Rattle.covsession.specs.declared.session.fault.SessionFault.TheVariants as faults
 use Rattle.covrun.specs.declared.argument_fault.ArgumentFault.{ArgumentFault}
 use Rattle.covrun.specs.Ending.{EndingData, Prints, FallsShort, BadLine, BadWords, Unreadable, Stopped, status_of, complaint, of_collect, of_collected}
+use Rattle.covrun.specs.Naming.{naming_of, told_name}
 use Rattle.covrun.specs.Work.{WorkData, TaskData, Serves, Collects, Checks, last_of, task_of, input_of, AreTaken, AreRefused}
 use Rattle.covrun.specs.Check.{IsCheck}
 use Rattle.covlist.specs.Shown.{shown_name}
@@ -84,18 +85,19 @@ IsAnswer work texts (Ok c) =
 IsAnswer work texts (Err fault) = (fault ≡ collects.BadJobs → AreJobs work.jobs → ⊥) × MayCome (most_submissions work.format (length work.files)) fault
 
 -- the ending of a call whose collecting had this result
-abbrev pub ending_of : WorkData → Result CollectedData CollectFault → EndingData
-ending_of work (Ok c) = of_collected work.files work.strictness work.asks c.entries c.refused
-ending_of work (Err fault) = of_collect fault
+abbrev pub ending_of : (file : Option (List ℕ)) → WorkData → Result CollectedData CollectFault → EndingData
+ending_of file work (Ok c) = of_collected (naming_of file work) work.files work.strictness work.asks c.entries c.refused
+ending_of file work (Err fault) = of_collect fault
 
 -- how a call that collects files ends: memory ran out; or a file can't be read; or the ending is that of collecting texts of the
--- files. If collecting ended in a fault, nothing is said of these texts: some files may not have been read
-abbrev pub WorkEnds : FolderData → WorkData → EndingData → Type 0
-WorkEnds folder work ending =
+-- files. If collecting ended in a fault, nothing is said of these texts: some files may not have been read. `file`: the name of the
+-- file that the call names for its text
+abbrev pub WorkEnds : FolderData → (file : Option (List ℕ)) → WorkData → EndingData → Type 0
+WorkEnds folder file work ending =
     (ending ≡ Stopped faults.Memory)
-    ⊎ (((name : List ℕ) × (ending ≡ Unreadable name) × IsUnreadable work.format folder work.files name)
+    ⊎ (((name : List ℕ) × (ending ≡ Unreadable (told_name (naming_of file work) name)) × IsUnreadable work.format folder work.files name)
     ⊎ ((texts : List (List ℕ)) × (answer : Result CollectedData CollectFault)
-    × AreTextsIn work.format folder work.files texts × IsAnswer work texts answer × (ending ≡ ending_of work answer)))
+    × AreTextsIn work.format folder work.files texts × IsAnswer work texts answer × (ending ≡ ending_of file work answer)))
 
 -- how a call ends before its work begins: memory ran out, or a pattern, a limit or the test's name is refused
 abbrev pub StopsEarly : Command → EndingData → Type 0
@@ -172,7 +174,7 @@ IsTaskDone folder Serves file status before after old new files written =
     (calls before.reads before.failed_reads old.failed_output) (calls after.reads after.failed_reads new.failed_output)
     old.failed_faults new.failed_faults
 IsTaskDone folder (Collects work) file status before after old new files written =
-    (after ≡ before) × (ending : EndingData) × WorkEnds folder work ending × IsEndingReported file ending status old new files written
+    (after ≡ before) × (ending : EndingData) × WorkEnds folder file work ending × IsEndingReported file ending status old new files written
 IsTaskDone folder (Checks format strictness jobs names) file status before after old new files written =
     (after ≡ before) × (written ≡ files) × IsCheck folder format strictness names status old new
 

@@ -29,11 +29,14 @@ use Rattle.covrun.specs.declared.argument_fault.ArgumentFault.TheVariants as arg
 use Rattle.covrun.specs.declared.text_fault.TextFault.{TextFault}
 use Rattle.covrun.specs.declared.text_fault.TextFault.TheVariants.{Faulty, Unclean}
 use Rattle.covrun.specs.Strict.{unmatched_lines}
+use Rattle.covrun.specs.Naming.{told_lines, told_name}
+use Rattle.covrun.specs.declared.naming.Naming.{Naming}
 use Rattle.covrun.specs.Work.{QuestionData, Answer, ChosenReport, ChosenSummary, LimitedTotals, ChosenList}
 
 -- how a call ends. `Prints`: it prints the text that was asked for, help or the version. `FallsShort`: it prints the text that
 -- was asked for, and these lines say which rates are below their limits. `BadLine`: the words don't fit the command line.
--- `BadWords`: the patterns, the limits, the test's name or the number of jobs are refused. `Unreadable`: this file can't be read.
+-- `BadWords`: the patterns, the limits, the test's name or the number of jobs are refused. `Unreadable`: a file can't be read, whose
+-- name is told like this.
 -- `Stopped`: memory ran out, or the history was full. `Ungathered`: collecting ended in `Gather` or `NotLast`, which no run meets.
 -- `Refuses`: texts were refused or clashed, and these lines report them. `IsUnclean`: the call is strict, and these lines report
 -- texts that aren't clean, or patterns that match no file
@@ -106,7 +109,7 @@ abbrev pub name_at : Option (List ℕ) → List ℕ
 name_at (Some name) = name
 name_at None = []
 
--- the line about a text with a fault: its file's name, and the fault
+-- the line about a text with a fault: its file's name as it is told, and the fault
 abbrev pub faulty_line : (name : List ℕ) → TextFault → List ℕ
 faulty_line name (Faulty fault) = name ++ codes ": " ++ refused_text fault
 faulty_line name (Unclean line) = []
@@ -117,15 +120,16 @@ unclean_line name (Faulty fault) = []
 unclean_line name (Unclean line) = shown_name name ++ codes ": " ++ line.items
 
 -- the lines about a refused input
-abbrev pub refusal_line : List (List ℕ) → RefusedInput TextFault → List ℕ
-refusal_line files r = faulty_line (name_at (slice_get files r.index)) r.fault
+abbrev pub refusal_line : Naming → List (List ℕ) → RefusedInput TextFault → List ℕ
+refusal_line naming files r = faulty_line (told_name naming (name_at (slice_get files r.index))) r.fault
 
 abbrev pub strict_line : List (List ℕ) → RefusedInput TextFault → List ℕ
 strict_line files r = unclean_line (name_at (slice_get files r.index)) r.fault
 
 -- the lines of the texts with a fault, in the files' order, and then the lines of the clashes, in the history's order
-abbrev pub complaints : List (List ℕ) → List (RefusedInput TextFault) → List EntryData → List ℕ
-complaints files refused entries = flat_map (refusal_line files) refused ++ flat_map (λ (e : EntryData). clash_text e.answer) entries
+abbrev pub complaints : Naming → List (List ℕ) → List (RefusedInput TextFault) → List EntryData → List ℕ
+complaints naming files refused entries =
+    flat_map (refusal_line naming files) refused ++ flat_map (λ (e : EntryData). told_lines naming (clash_text e.answer)) entries
 
 abbrev pub text_in : AnswerData → List ℕ
 text_in (AcceptedAnswer number items odd) = []
@@ -197,8 +201,8 @@ unless_any report (b ∷ bs) ending = report (b ∷ bs)
 -- how a call ends after collecting its files. If an input was refused because memory ran out, only that is reported. Otherwise texts
 -- with a fault and clashes are reported before texts that aren't clean, and these before patterns that match no file. A text that isn't
 -- clean is in no entry, so nothing in it clashes. Only of a tracefile that is read in pieces all pieces but the last are in entries
-abbrev pub of_collected : List (List ℕ) → Strictness → QuestionData → List EntryData → List (RefusedInput TextFault) → EndingData
-of_collected files strictness asks entries refused =
+abbrev pub of_collected : Naming → List (List ℕ) → Strictness → QuestionData → List EntryData → List (RefusedInput TextFault) → EndingData
+of_collected naming files strictness asks entries refused =
     if ran_out refused then Stopped faults.Memory
-    else unless_any Refuses (complaints files refused entries)
+    else unless_any Refuses (complaints naming files refused entries)
     (unless_any IsUnclean (strict_lines files strictness asks entries refused) (with_shortfalls (asked_shortfalls asks entries) (asked_text asks entries)))

@@ -3,6 +3,7 @@ pub mod Printed
 pub mod Folder
 pub mod OutputFiles
 pub mod Work
+pub mod Naming
 pub mod Strict
 pub mod Large
 pub mod Ending

@@ -33,8 +33,8 @@ ready_data answer = with_shortfalls answer.shortfalls answer.text
 
 abbrev pub failure_data : Failure → EndingData
 failure_data (failures.Words fault) = BadWords fault
-failure_data (failures.Unreadable name) = Unreadable name.now
+failure_data (failures.Unreadable name) = Unreadable name
 failure_data (failures.Stopped fault) = Stopped fault
 failure_data failures.Ungathered = Ungathered
-failure_data (failures.Refused lines) = Refuses lines.items
+failure_data (failures.Refused lines) = Refuses lines
 failure_data (failures.Unclean lines) = IsUnclean lines

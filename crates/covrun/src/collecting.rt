@@ -12,9 +12,10 @@ ghost use Rattle.covsession.specs.declared.session.fault.SessionFault.TheVariant
 ghost use Rattle.covrun.specs.Call.{IsEndingReported, WorkEnds};
 ghost use Rattle.covbook.specs.Step.{ops_in, table_of};
 ghost use Rattle.covstore.specs.Content.{content_at};
-ghost use Rattle.covrun.specs.Ending.{EndingData, Stopped, of_collected, asked_shortfalls, asked_text, complaints, faulty_line, refusal_line, ran_out, name_at, strict_line, strict_lines as strict_lines_of, unclean_line, with_shortfalls};
+ghost use Rattle.covrun.specs.Ending.{EndingData, Stopped, Unreadable, of_collected, asked_shortfalls, asked_text, complaints, faulty_line, refusal_line, ran_out, name_at, strict_line, strict_lines as strict_lines_of, unclean_line, with_shortfalls};
 ghost use Rattle.covrun.specs.Strict.{asked_patterns, unmatched_line, unmatched_lines as unmatched_lines_of};
 ghost use Rattle.covrun.specs.Folder.{folder_data};
+ghost use Rattle.covrun.specs.Naming.{naming_of, told_lines, told_name};
 ghost use Rattle.covrun.specs.OutputFiles.{output_files};
 ghost use Rattle.covrun.specs.Streams.{sinks};
 ghost use Rattle.covrun.specs.View.{failure_data, question_data, ready_data, work_data};
@@ -23,6 +24,7 @@ ghost use Rattle.covrun.specs.Work.{last_of};
 use crate::ending::{Failure, ReadyAnswer, failure_of_collect};
 use crate::file_input::file_inputs;
 use crate::folder::Folder;
+use crate::naming::Naming;
 use crate::output::{report_answer, report_failure};
 use crate::output_folder::OutputFolder;
 use crate::question::Question;
@@ -64,7 +66,7 @@ pub(crate) fn do_work<
     requires output { O.failed_writes output.old < 2 ^ 62 }
     requires faults { E.failed_writes faults.old < 2 ^ 62 }
     ensures { (ending : EndingData)
-        × WorkEnds (folder_data (F.holds folder.now) (F.may_refuse folder.now) (F.may_open folder.now) F.File.left F.File.failed_reads) (work_data work.now) ending
+        × WorkEnds (folder_data (F.holds folder.now) (F.may_refuse folder.now) (F.may_open folder.now) F.File.left F.File.failed_reads) (option_map (λ name. name.now) file.entry) (work_data work.now) ending
         × IsEndingReported (option_map (λ name. name.now) file.entry) ending result
         (sinks (O.written output.old) (O.held output.old) (O.failed_writes output.old) (E.written faults.old) (E.failed_writes faults.old))
         (sinks (O.written output.new) (O.held output.new) (O.failed_writes output.new) (E.written faults.new) (E.failed_writes faults.new))
@@ -72,18 +74,37 @@ pub(crate) fn do_work<
         (output_files (P.finished files.new) (P.begun files.new) (P.failed files.new)) }
 {
     let names = work.files.get();
+    let naming = Naming::of(work, file);
     let Ok(inputs) = file_inputs(folder, alloc, &work.format, work.strictness, names) else {
         return report_failure(Failure::Stopped(SessionFault::Memory), faults);
     };
     match collect_into_book(rt, alloc, inputs, work.jobs, &NoGate) {
-        Ok(collected) => match answer_of(alloc, names, work.strictness, &work.asks, &collected) {
+        Ok(collected) => match answer_of(
+            alloc,
+            naming,
+            names,
+            work.strictness,
+            &work.asks,
+            &collected,
+        ) {
             Ok(answer) => report_answer(alloc, answer, file, files, output, faults),
             Err(failure) => report_failure(failure, faults),
         },
         Err(IntoBookFault::Unread { index }) => {
-            report_failure(Failure::Unreadable(file_name(names, index)), faults)
+            report_failure(unreadable(alloc, naming, file_name(names, index)), faults)
         }
         Err(IntoBookFault::Collect(fault)) => report_failure(failure_of_collect(fault), faults),
+    }
+}
+
+/// Returns why a run has no answer if the file of this name can't be read: `Stopped` if memory runs out.
+fn unreadable(alloc: Global, naming: Naming, name: &str) -> Failure
+    ensures { (failure_data result ≡ Stopped session_faults.Memory) ⊎ (failure_data result ≡ Unreadable (told_name naming name.now)) }
+{
+    let mut told = Bytes::new(alloc);
+    match naming.put_name(name.as_bytes(), &mut told) {
+        Ok(()) => Failure::Unreadable(told),
+        Err(_) => Failure::Stopped(SessionFault::Memory),
     }
 }
 
@@ -91,23 +112,24 @@ pub(crate) fn do_work<
 /// printing is already reserved in the answer.
 fn answer_of<'a>(
     alloc: Global,
+    naming: Naming,
     files: &[String],
     strictness: Strictness,
     asks: &Question,
     collected: &'a CollectedBook<TextFault>,
-) -> Result<ReadyAnswer<'a>, Failure<'a>>
+) -> Result<ReadyAnswer<'a>, Failure>
     requires { IsText (last_of (question_data asks.now)) }
-    ensures answer { IfOk result (λ answer. ready_data answer ≡ of_collected (map string_bytes files.now) strictness (question_data asks.now)
+    ensures answer { IfOk result (λ answer. ready_data answer ≡ of_collected naming (map string_bytes files.now) strictness (question_data asks.now)
         (collected.now.book.entries ++ next_entry collected.now.book.entries 0 (last_of (question_data asks.now)) ∷ []) collected.now.refused) }
     ensures failure { IfErr result (λ failure. (failure_data failure ≡ Stopped session_faults.Memory)
-        ⊎ (failure_data failure ≡ of_collected (map string_bytes files.now) strictness (question_data asks.now)
+        ⊎ (failure_data failure ≡ of_collected naming (map string_bytes files.now) strictness (question_data asks.now)
         (collected.now.book.entries ++ next_entry collected.now.book.entries 0 (last_of (question_data asks.now)) ∷ []) collected.now.refused)) }
 {
     if has_run_out(collected.refused.get()) {
         return Err(Failure::Stopped(SessionFault::Memory));
     }
-    let lines = complaint_lines(alloc, files, collected)?;
-    if !lines.is_empty() {
+    let lines = complaint_lines(alloc, naming, files, collected)?;
+    if !lines.get().is_empty() {
         return Err(Failure::Refused(lines));
     }
     let unclean = strict_lines(alloc, files, strictness, asks, collected)?;
@@ -137,15 +159,16 @@ fn answered<'a>(
 /// The lines about invalid files, followed by those about clashes.
 fn complaint_lines(
     alloc: Global,
+    naming: Naming,
     files: &[String],
     collected: &CollectedBook<TextFault>,
-) -> Result<Vec<u8>, SessionFault>
-    ensures lines { IfOk result (λ lines. lines.items ≡ complaints (map string_bytes files.now) collected.now.refused collected.now.book.entries) }
+) -> Result<Bytes, SessionFault>
+    ensures lines { IfOk result (λ lines. lines ≡ complaints naming (map string_bytes files.now) collected.now.refused collected.now.book.entries) }
     ensures fault { IfErr result (λ fault. fault ≡ session_faults.Memory) }
 {
-    let mut lines = Vec::new(alloc);
-    add_refusals(alloc, files, collected.refused.get(), &mut lines)?;
-    add_clashes(alloc, collected.book.kept(), &mut lines)?;
+    let mut lines = Bytes::new(alloc);
+    add_refusals(alloc, naming, files, collected.refused.get(), &mut lines)?;
+    add_clashes(alloc, naming, collected.book.kept(), &mut lines)?;
     Ok(lines)
 }
 
@@ -164,15 +187,22 @@ fn has_run_out(refused: &[RefusedInput<TextFault>]) -> bool
 /// Appends a line for each invalid file, with the file's name in front.
 fn add_refusals(
     alloc: Global,
+    naming: Naming,
     files: &[String],
     refused: &[RefusedInput<TextFault>],
-    lines: &mut Vec<u8>,
+    lines: &mut Bytes,
 ) -> Result<(), SessionFault>
-    ensures added { OnOk result (lines.new.items ≡ lines.old.items ++ flat_map (refusal_line (map string_bytes files.now)) refused.now) }
+    ensures added { OnOk result (lines.new ≡ lines.old ++ flat_map (refusal_line naming (map string_bytes files.now)) refused.now) }
     ensures fault { IfErr result (λ fault. fault ≡ session_faults.Memory) }
 {
     for input in refused {
-        add_refusal(alloc, file_name(files, input.index), &input.fault, lines)?;
+        add_refusal(
+            alloc,
+            naming,
+            file_name(files, input.index),
+            &input.fault,
+            lines,
+        )?;
     }
     Ok(())
 }
@@ -190,42 +220,53 @@ fn file_name(files: &[String], index: usize) -> &str
 /// Appends the line about the named file if it is invalid.
 fn add_refusal(
     alloc: Global,
+    naming: Naming,
     name: &str,
     fault: &TextFault,
-    lines: &mut Vec<u8>,
+    lines: &mut Bytes,
 ) -> Result<(), SessionFault>
-    ensures added { OnOk result (lines.new.items ≡ lines.old.items ++ faulty_line name.now fault.now) }
+    ensures added { OnOk result (lines.new ≡ lines.old ++ faulty_line (told_name naming name.now) fault.now) }
     ensures fault { IfErr result (λ fault. fault ≡ session_faults.Memory) }
 {
     let TextFault::Faulty(fault) = fault else {
         return Ok(());
     };
-    lines.extend_from_slice(name.as_bytes())?;
-    lines.extend_from_slice(b": ")?;
+    naming.put_name(name.as_bytes(), lines)?;
+    lines.append(b": ")?;
     let line = refused_line(alloc, *fault)?;
-    lines.extend_from_slice(line.as_slice())?;
+    lines.append(line.as_slice())?;
     Ok(())
 }
 
 /// Appends a line for each clash.
-fn add_clashes(alloc: Global, answers: &[Answered], lines: &mut Vec<u8>) -> Result<(), SessionFault>
-    ensures added { OnOk result (lines.new.items ≡ lines.old.items ++ flat_map (λ e. clash_text e.answer)
+fn add_clashes(
+    alloc: Global,
+    naming: Naming,
+    answers: &[Answered],
+    lines: &mut Bytes,
+) -> Result<(), SessionFault>
+    ensures added { OnOk result (lines.new ≡ lines.old ++ flat_map (λ e. told_lines naming (clash_text e.answer))
         (map (λ k. entry_data (record k.entry.value { answer = k.answer })) answers.now)) }
     ensures fault { IfErr result (λ fault. fault ≡ session_faults.Memory) }
 {
     for answered in answers {
-        add_clash(alloc, &answered.answer, lines)?;
+        add_clash(alloc, naming, &answered.answer, lines)?;
     }
     Ok(())
 }
 
 /// Appends the line about a clash. Appends nothing for any other answer.
-fn add_clash(alloc: Global, answer: &Answer, lines: &mut Vec<u8>) -> Result<(), SessionFault>
-    ensures added { OnOk result (lines.new.items ≡ lines.old.items ++ clash_text (answer_data answer.now)) }
+fn add_clash(
+    alloc: Global,
+    naming: Naming,
+    answer: &Answer,
+    lines: &mut Bytes,
+) -> Result<(), SessionFault>
+    ensures added { OnOk result (lines.new ≡ lines.old ++ told_lines naming (clash_text (answer_data answer.now))) }
     ensures fault { IfErr result (λ fault. fault ≡ session_faults.Memory) }
 {
     let text = clash_line(alloc, answer)?;
-    lines.extend_from_slice(text.as_slice())?;
+    naming.put_lines(text.as_slice(), lines)?;
     Ok(())
 }
 

@@ -23,23 +23,23 @@ pub(crate) struct ReadyAnswer<'a> {
 
 /// Why a run has no answer. Decides its exit status and what it writes.
 #[derive(Drop)]
-pub(crate) enum Failure<'a> {
+pub(crate) enum Failure {
     /// The patterns, the thresholds, the test's name or the number of jobs are invalid.
     Words(ArgumentFault),
-    /// This file can't be read.
-    Unreadable(&'a str),
+    /// A file can't be read. This is its name, as it is told.
+    Unreadable(Bytes),
     /// Memory ran out, or the history was full.
     Stopped(SessionFault),
     /// Collecting ended with `Gather` or `NotLast`, which never happens.
     Ungathered,
     /// Files are invalid, or checksums clash. These lines report them.
-    Refused(Vec<u8>),
+    Refused(Bytes),
     /// A strict run found files that aren't clean, or patterns that match no file. These lines report them.
     Unclean(Bytes),
 }
 
 /// Turns an error of collecting into the failure of the run.
-pub(crate) fn failure_of_collect<'a>(fault: CollectFault) -> Failure<'a>
+pub(crate) fn failure_of_collect(fault: CollectFault) -> Failure
     ensures { failure_data result ≡ of_collect fault }
 {
     match fault {
@@ -51,7 +51,7 @@ pub(crate) fn failure_of_collect<'a>(fault: CollectFault) -> Failure<'a>
 }
 
 /// Turns an error that is found before the work begins into the failure of the run.
-pub(crate) fn failure_of_work<'a>(fault: WorkFault) -> Failure<'a>
+pub(crate) fn failure_of_work(fault: WorkFault) -> Failure
     ensures { failure_data result ≡ of_work fault }
 {
     match fault {
@@ -60,14 +60,14 @@ pub(crate) fn failure_of_work<'a>(fault: WorkFault) -> Failure<'a>
     }
 }
 
-impl<'a> From<SessionFault> for Failure<'a> {
+impl From<SessionFault> for Failure {
     ghost use Rattle.std.specs.Prelude.{◌≡◌};
     ghost use Rattle.covrun.specs.Ending.{Stopped};
     ghost use Rattle.covrun.specs.View.{failure_data};
 
     ghost from_gives = { λ fault f. failure_data f ≡ Stopped fault };
 
-    fn from(fault: SessionFault) -> Failure<'a> {
+    fn from(fault: SessionFault) -> Failure {
         Failure::Stopped(fault)
     }
 }

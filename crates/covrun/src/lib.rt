@@ -44,6 +44,7 @@ mod file_report;
 mod files;
 mod folder;
 mod large_input;
+mod naming;
 mod output;
 mod output_folder;
 mod program;

@@ -123,18 +123,18 @@ fn say_shortfalls<E: Sink>(shortfalls: &[u8], faults: &mut E) -> u8
 }
 
 /// Reports why a run has no answer, and returns the exit status.
-pub(crate) fn report_failure<E: Sink>(failure: Failure<'_>, faults: &mut E) -> u8
+pub(crate) fn report_failure<E: Sink>(failure: Failure, faults: &mut E) -> u8
     requires { E.failed_writes faults.old < 2 ^ 62 }
-    ensures status { result ≡ status_of_ending (failure_data failure.entry) }
+    ensures status { result ≡ status_of_ending (failure_data failure) }
     ensures said { E.failed_writes faults.new ≡ E.failed_writes faults.old
-        → Appends (E.written faults.old) (E.written faults.new) (complaint (failure_data failure.entry)) }
+        → Appends (E.written faults.old) (E.written faults.new) (complaint (failure_data failure)) }
 {
     match failure {
         Failure::Words(fault) => complain(b"", fault.line(), 2, faults),
-        Failure::Unreadable(name) => complain(name.as_bytes(), b": can't read\n", 1, faults),
+        Failure::Unreadable(name) => complain(name.get(), b": can't read\n", 1, faults),
         Failure::Stopped(fault) => complain(b"", line_of(fault), status_of(fault), faults),
         Failure::Ungathered => complain(b"", b"gather\n", 3, faults),
-        Failure::Refused(lines) => complain(b"", lines.as_slice(), 4, faults),
+        Failure::Refused(lines) => complain(b"", lines.get(), 4, faults),
         Failure::Unclean(lines) => complain(b"", lines.get(), 5, faults),
     }
 }

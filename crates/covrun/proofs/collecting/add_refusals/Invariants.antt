@@ -6,4 +6,4 @@ use Rattle.covrun.proofs.collecting.add_refusals.Given as goal
 
 -- the lines of the refused inputs so far are appended
 abbrev pub invariant-loop-input : goal.invariant-loop-input
-invariant-loop-input l = l.lines.items ≡ l.initial.lines.items ++ flat_map (refusal_line (map string_bytes l.files)) (take l.input-index l.refused)
+invariant-loop-input l = l.lines ≡ l.initial.lines ++ flat_map (refusal_line l.naming (map string_bytes l.files)) (take l.input-index l.refused)
