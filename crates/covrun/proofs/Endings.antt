@@ -82,10 +82,10 @@ ends_unreadable folder file work files named name ending unread (inr is) =
     inr (inl (name, is, subst (λ (fs : List (List ℕ)). IsUnreadable work.format folder fs name) named unread))
 
 -- a file that can't be read is told by this name
-pub unreadable_told : (naming shown : Naming) (name found : List ℕ) → naming ≡ shown → name ≡ found → {ending : EndingData}
-    → (ending ≡ Stopped faults.Memory) ⊎ (ending ≡ Unreadable (told_name naming name)) → (ending ≡ Stopped faults.Memory) ⊎ (ending ≡ Unreadable (told_name shown found))
-unreadable_told naming shown name found same is (inl ran_out) = inl ran_out
-unreadable_told naming shown name found same is (inr told) = inr (told ∙ (λ k. Unreadable (told_name (same k) (is k))))
+pub unreadable_told : (naming other : Naming) (name found : List ℕ) → naming ≡ other → name ≡ found → {ending : EndingData}
+    → (ending ≡ Stopped faults.Memory) ⊎ (ending ≡ Unreadable (told_name naming name)) → (ending ≡ Stopped faults.Memory) ⊎ (ending ≡ Unreadable (told_name other found))
+unreadable_told naming other name found same is (inl ran_out) = inl ran_out
+unreadable_told naming other name found same is (inr told) = inr (told ∙ (λ k. Unreadable (told_name (same k) (is k))))
 
 -- ---- what was collected
 

@@ -25,7 +25,7 @@ returns-in-Ok-answer_of g c =
     _ collected.0 c.in-Ok.ensures.names c.in-Ok.ensures.own collected.1 in
     answer_told (folder_data (g.F.Folder.holds c.args.folder.now) (g.F.Folder.may_refuse c.args.folder.now) (g.F.Folder.may_open c.args.folder.now) g.F.File.Source.left g.F.File.Source.failed_reads) (work_data c.args.work.now) _ _ _ _ _ _ _
     (ends_collected (folder_data (g.F.Folder.holds c.args.folder.now) (g.F.Folder.may_refuse c.args.folder.now) (g.F.Folder.may_open c.args.folder.now) g.F.File.Source.left g.F.File.Source.failed_reads) _
-    (work_data c.args.work.now) _ c.of.ensures _ c.get-names.ensures collected.0 _ _ _ _ read.0 read.1 c.requires.text collected.2 (inr c.in-Ok-answer_of.ensures.answer))
+    (work_data c.args.work.now) _ c.of-naming.ensures _ c.get-names.ensures collected.0 _ _ _ _ read.0 read.1 c.requires.text collected.2 (inr c.in-Ok-answer_of.ensures.answer))
     c.report_answer.ensures
 
 pub returns-in-Ok-collect_into_book : goal.returns-in-Ok-collect_into_book
@@ -38,7 +38,7 @@ returns-in-Ok-collect_into_book g c =
     _ collected.0 c.in-Ok.ensures.names c.in-Ok.ensures.own collected.1 in
     failure_told (folder_data (g.F.Folder.holds c.args.folder.now) (g.F.Folder.may_refuse c.args.folder.now) (g.F.Folder.may_open c.args.folder.now) g.F.File.Source.left g.F.File.Source.failed_reads) (work_data c.args.work.now) _ c.in-Err.failure _
     (ends_collected (folder_data (g.F.Folder.holds c.args.folder.now) (g.F.Folder.may_refuse c.args.folder.now) (g.F.Folder.may_open c.args.folder.now) g.F.File.Source.left g.F.File.Source.failed_reads) _
-    (work_data c.args.work.now) _ c.of.ensures _ c.get-names.ensures collected.0 _ _ _ _ read.0 read.1 c.requires.text collected.2 c.in-Err.ensures.failure)
+    (work_data c.args.work.now) _ c.of-naming.ensures _ c.get-names.ensures collected.0 _ _ _ _ read.0 read.1 c.requires.text collected.2 c.in-Err.ensures.failure)
     c.report_failure-in-Err.ensures.status _ _ _ _ _ _ _ c.report_failure-in-Err.ensures.said _
 
 pub returns-in-Err-Unread : goal.returns-in-Err-Unread
@@ -51,7 +51,7 @@ returns-in-Err-Unread g c =
     c.args.work.now.format c.args.work.now.strictness
     (λ folder. folder_data (g.F.Folder.holds folder) (g.F.Folder.may_refuse folder) (g.F.Folder.may_open folder) g.F.File.Source.left g.F.File.Source.failed_reads)
     (map string_bytes c.get-names.result.now) c.in-Err-Unread.index _ c.in-Ok.ensures.names c.in-Ok.ensures.own c.in-Err-Unread.field-0-is c.in-Err-Unread.ensures.unread)
-    (unreadable_told _ _ _ _ c.of.ensures (c.file_name.ensures ∙ ap (λ index. name_at (slice_get (map string_bytes c.get-names.result.now) index)) c.in-Err-Unread.index-is) c.unreadable.ensures))
+    (unreadable_told _ _ _ _ c.of-naming.ensures (c.file_name.ensures ∙ ap (λ index. name_at (slice_get (map string_bytes c.get-names.result.now) index)) c.in-Err-Unread.index-is) c.unreadable.ensures))
     c.report_failure-in-Err-Unread.ensures.status _ _ _ _ _ _ _ c.report_failure-in-Err-Unread.ensures.said _
 
 pub returns : goal.returns
