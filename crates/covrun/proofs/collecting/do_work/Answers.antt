@@ -6,7 +6,7 @@ use Rattle.covrun.specs.Ending.{Unreadable, name_at, of_collect}
 use Rattle.covrun.specs.Folder.{folder_data}
 use Rattle.covrun.specs.View.{work_data}
 use Rattle.covrun.specs.declared.ending.Failure.TheVariants as failures
-use Rattle.covrun.proofs.Endings.{answer_told, ends_collected, ends_uncollected, ends_unreadable, failure_told}
+use Rattle.covrun.proofs.Endings.{answer_told, ends_collected, ends_uncollected, ends_unreadable, failure_told, unreadable_told}
 use Rattle.covrun.proofs.Reading.{may_come, texts_read, unreadable_read}
 use Rattle.covrun.proofs.collecting.do_work.Goals as goal
 
