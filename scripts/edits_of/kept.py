@@ -4,18 +4,15 @@ An entry is written under another name and then renamed, so that no run meets ha
 """
 import contextlib
 import functools
-import hashlib
 import json
 import os
 import re
 import tempfile
 import time
 
+from .kit import own_sum, sum_of, sum_of_file
+
 DAYS = 30
-
-
-def sum_of(*parts):
-    return hashlib.sha256(repr(parts).encode()).hexdigest()
 
 
 def sum_of_script():
@@ -35,14 +32,14 @@ SCRIPT = sum_of_script()
 
 def sum_of_crate(rt, crate):
     """A sum of the kit, HANDLES, the crate's text and its line of crates.txt, the libraries below as built, and this script."""
-    below = [(it.name, sum_of_library(rt, it.rlib)) for it in crate.below()]
-    return sum_of(rt.own_sum(crate), below, SCRIPT)
+    below = [(it.name, sum_of_library(it.rlib)) for it in crate.below()]
+    return sum_of(own_sum(rt, crate), below, SCRIPT)
 
 
 @functools.lru_cache(maxsize=None)
-def sum_of_library(rt, folder):
+def sum_of_library(folder):
     files = [f"{at}/{name}" for at, _, names in os.walk(folder) for name in names]
-    return sum_of(*[(os.path.relpath(it, folder), rt.rtlib.sum_of(it)) for it in sorted(files)])
+    return sum_of(*[(os.path.relpath(it, folder), sum_of_file(it)) for it in sorted(files)])
 
 
 class Kept:

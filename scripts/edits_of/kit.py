@@ -1,4 +1,9 @@
-"""The toolchain's `rt` as a module, so that its own rules on edits, its crates and its sums are taken as they are."""
+"""The toolchain's `rt` as a module, so that its own rules on edits and its own list of crates and sources are taken as they are.
+
+Kits differ in what rt has, so only what all of them have is taken from it, and sums are made here.
+"""
+import functools
+import hashlib
 import importlib.machinery
 import importlib.util
 import os
@@ -8,11 +13,20 @@ import sys
 sys.dont_write_bytecode = True
 
 
+def sum_of(*parts):
+    return hashlib.sha256(repr(parts).encode()).hexdigest()
+
+
+def sum_of_file(path):
+    with open(path, "rb") as file:
+        return hashlib.sha256(file.read()).hexdigest()
+
+
 def folder():
     """The folder of the toolchain's commands."""
     found = shutil.which("rt")
     if not found:
-        sys.exit("edits: the toolchain's command rt isn't on PATH")
+        sys.exit(f"{os.path.basename(sys.argv[0])}: the toolchain's command rt isn't on PATH")
     return os.path.dirname(os.path.realpath(found))
 
 
@@ -35,3 +49,30 @@ def crates(rt, top, libraries):
     for it in found.values():
         it.rlib = f"{libraries}/crates/{it.name}/out/rlib/{it.name}.rlib"
     return found
+
+
+@functools.lru_cache(maxsize=None)
+def kit_sum():
+    """A sum of the kit's own names for itself and its parts: its version and the sums of its compiler and its logic."""
+    kit = os.path.dirname(folder())
+    return sum_of(*[sum_of_file(f"{kit}/{it}") for it in sorted(os.listdir(kit)) if it == "KIT-ID" or it.startswith("WHAT")])
+
+
+def files_of(rt, crate):
+    """The crate's own text, crates.txt and HANDLES."""
+    above = os.path.dirname(os.path.dirname(crate.folder))
+    return [*sorted(rt.rtlib.files_of(crate.folder)), f"{above}/crates.txt", f"{above}/HANDLES"]
+
+
+def own_sum(rt, crate):
+    """A sum of the kit, HANDLES, the crate's text and its line of crates.txt."""
+    *texts, listed, handles = files_of(rt, crate)
+    with open(listed, encoding="utf-8") as file:
+        lines = [it for it in file if it.split(":")[0].split()[:1] == [crate.name]]
+    return sum_of(kit_sum(), sum_of_file(handles), lines, [(os.path.relpath(it, crate.folder), sum_of_file(it)) for it in texts])
+
+
+def touched(rt, crate):
+    """What tells whether one of these files was changed meanwhile."""
+    found = [(it, os.stat(it)) for it in files_of(rt, crate)]
+    return [(path, it.st_ino, it.st_mtime_ns, it.st_size) for path, it in found]

@@ -4,11 +4,12 @@ import os
 from . import edit as verdicts
 from .checks import Checks
 from .functions import Functions
-from .kept import SCRIPT, sum_of
+from .kept import SCRIPT
+from .kit import kit_sum, sum_of
 
-# The verdicts of rt on an edit that it tried alone.
+# How rt's verdict on an edit that it tried alone begins. Any other says that it couldn't be tried.
 OF_RT = {
-    "refused": verdicts.REFUSED, "limit": verdicts.REFUSED, "missed": verdicts.NOT_REFUSED, "bad": verdicts.BAD, "unsure": verdicts.NOT_TRIED,
+    "refused, as it must be": verdicts.REFUSED, "NOT REFUSED": verdicts.NOT_REFUSED, "NOT TRIED": verdicts.NOT_TRIED,
 }
 # How many edits a batch has, as far as there are so many: each check loads the libraries first, and takes more memory for more functions.
 LEAST, MOST = 8, 24
@@ -80,7 +81,7 @@ class Tries:
     def control(self, edits):
         """Checks the functions of the edits as they stand, if this script hasn't seen them without an open goal. An edit of one that has is not tried."""
         functions = list(dict.fromkeys(it for edit in edits for it in edit.functions))
-        names = {it: sum_of("control", self.rt.kit_sum(), SCRIPT, self.crate.name, it.name) for it in functions}
+        names = {it: sum_of("control", kit_sum(), SCRIPT, self.crate.name, it.name) for it in functions}
         new = [it for it in functions if not self.kept.read(names[it])]
         if not new:
             return
@@ -158,8 +159,7 @@ class Tries:
     def try_alone(self, edit):
         """Tries the edit in a whole check from nothing, by rt's own rules."""
         self.alone += 1
-        kind, text = self.rt.must_fail(self.crate, edit.file, ["--jobs", "1"])
+        _, text = self.rt.must_fail(self.crate, edit.file, ["--jobs", "1"])
         text = text.removeprefix(f"must-fail {self.crate.name}/{os.path.basename(edit.file)}: ")
-        for word in ("refused, as it must be: ", "refused, as it must be ", "NOT REFUSED: ", "BAD EDIT: ", "NOT TRIED: "):
-            text = text.removeprefix(word)
-        self.settle(edit, OF_RT[kind], f"alone: {' '.join(text.split())}")
+        begun = next((it for it in OF_RT if text.startswith(it)), "BAD EDIT")
+        self.settle(edit, OF_RT.get(begun, verdicts.BAD), f"alone: {' '.join(text.removeprefix(begun).removeprefix(':').split())}")
