@@ -90,7 +90,9 @@ class Tries:
         for part, said in zip(parts, self.lanes.run([lambda begun, part=it: self.check_twice({}, part, begun) for it in parts])):
             self.judge_control(part, said)
         for it in new:
-            if it not in self.broken:
+            if it in self.broken:
+                self.kept.remove(names[it])
+            else:
                 self.kept.write(names[it], True)
         if self.broken:
             self.settle_broken(edits)
