@@ -7,10 +7,13 @@ import hashlib
 import importlib.machinery
 import importlib.util
 import os
+import re
 import shutil
 import sys
 
 sys.dont_write_bytecode = True
+# A line of a source that is a comment and nothing else: no proof rests on it.
+COMMENT = re.compile(rb"^[ \t]*//.*(?:\n|\Z)", re.M)
 
 
 def sum_of(*parts):
@@ -20,6 +23,13 @@ def sum_of(*parts):
 def sum_of_file(path):
     with open(path, "rb") as file:
         return hashlib.sha256(file.read()).hexdigest()
+
+
+def sum_of_source(path):
+    """A sum of a file. Of a source it is one of the file without its comments' lines."""
+    with open(path, "rb") as file:
+        text = file.read()
+    return hashlib.sha256(COMMENT.sub(b"", text) if path.endswith(".rt") else text).hexdigest()
 
 
 def folder():
@@ -65,11 +75,11 @@ def files_of(rt, crate):
 
 
 def own_sum(rt, crate):
-    """A sum of the kit, HANDLES, the crate's text and its line of crates.txt."""
+    """A sum of the kit, HANDLES, the crate's text without comments, and its line of crates.txt."""
     *texts, listed, handles = files_of(rt, crate)
     with open(listed, encoding="utf-8") as file:
         lines = [it for it in file if it.split(":")[0].split()[:1] == [crate.name]]
-    return sum_of(kit_sum(), sum_of_file(handles), lines, [(os.path.relpath(it, crate.folder), sum_of_file(it)) for it in texts])
+    return sum_of(kit_sum(), sum_of_file(handles), lines, [(os.path.relpath(it, crate.folder), sum_of_source(it)) for it in texts])
 
 
 def touched(rt, crate):
