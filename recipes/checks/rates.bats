@@ -131,7 +131,9 @@ END
     told_alone 5 'README: with --strict so has a pattern that matches nothing' '/usr/*: matches no file'
     same before.info all.info 'README: and all.info is still as it was then'
     # 70 sources of a function each, with a name of 1,000,000 bytes.
-    awk 'BEGIN { name = sprintf("%01000000d", 0); for (i = 1; i <= 70; i++) print "SF:/src/" i ".c\nFN:1," name "\nFNDA:1," name "\nDA:1,1\nend_of_record" }' >jobs/5.info
+    # mawk has no room for such a name.
+    name=$(printf '%01000000d' 0)
+    for i in {1..70}; do printf 'SF:/src/%d.c\nFN:1,%s\nFNDA:1,%s\nDA:1,1\nend_of_record\n' "$i" "$name" "$name"; done >jobs/5.info
     holds 'README: a tracefile above 64 MiB' [ "$(stat -c %s jobs/5.info)" -gt 67108864 ]
     script 80
     ended 0 'README: is read like the others'
