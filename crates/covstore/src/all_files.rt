@@ -26,7 +26,8 @@ pub(crate) fn drop_from_files<K: Ord + Drop, A: Allocator + Copy>(
     ensures committed { (name : K → List ℕ) → AreWithoutTest test.now (files_committed name files.old.entries) (files_committed name files.new.entries) }
     ensures settled { (name : K → List ℕ) (touched : List (List ℕ × List ℕ)) → AreSettledBut name touched files.old.entries → AreSettledBut name touched files.new.entries }
 {
-    // The closure keeps every file. `retain` is used because its contract says how each file changes; that of a plain walk doesn't.
+    // The closure keeps every file. `retain` is used because its contract, unlike the contract of a plain walk, says how each file
+    // changes.
     files.retain(
         |_, file|
             requires { IsConsistentFile (file_committed file.old) }
@@ -40,7 +41,8 @@ pub(crate) fn drop_from_files<K: Ord + Drop, A: Allocator + Copy>(
     );
 }
 
-/// The number of files in which the test has points, and the totals of all files without the test. Never allocates.
+/// Returns the number of files in which the test has points, and the totals that all files would have if the test were dropped.
+/// Never allocates.
 pub(crate) fn count_without<A: Allocator + Copy>(
     files: &BTreeMap<Path<A>, Boxed<File<A>, A>, A>,
     test: &[u8],

@@ -6,8 +6,8 @@ ghost use Rattle.std.specs.Borrow.{sem};
 use std::alloc::{AllocError, Allocator};
 use std::marker::Model;
 
-/// A boxed value. A map node has capacity for fifteen values and is half full on average, so boxes waste less memory. Contracts see
-/// the value.
+/// A boxed value. A map node has capacity for fifteen values and is half full on average, so a map of boxes wastes less memory than
+/// a map of values. Contracts see the value.
 #[derive(Drop)]
 pub(crate) struct Boxed<T, A: Allocator> {
     value: Box<T, A>,

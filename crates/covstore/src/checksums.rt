@@ -1,4 +1,4 @@
-//! The checksums of a file's lines. A line has at most one checksum, however many tests hold it.
+//! The checksums of a file's lines. A line has at most one checksum, however many tests hold this checksum.
 
 ghost use Rattle.std.specs.Prelude.{◌≡◌, ◌≤◌, ◌^◌, [], true, Some, None, is_some, option_map, IfErr, IfSome, OnOk};
 ghost use Rattle.covstore.specs.Checksums.{IsReportedClash, IsHeldToo, KeepsTexts, StayTexts, held_more};
@@ -16,8 +16,8 @@ use covmap::{SlotIndex, StagedMap};
 use std::alloc::Allocator;
 use std::marker::Model;
 
-/// For each line, its checksum, and the committed and the staged number of tests that hold it. A checksum without holders may stay
-/// stored until another one replaces it. Contracts see the numbers of tests and the checksums.
+/// The checksum of each line, and the committed and staged numbers of tests that hold the checksum. A checksum without holders may
+/// stay stored until another one replaces it. Contracts see the numbers of tests and the checksums.
 #[derive(Drop)]
 pub(crate) struct Checksums<A: Allocator> {
     holders: StagedMap<u64, PackedU64, A>,
@@ -35,7 +35,7 @@ impl<A: Allocator> Model for Checksums<A> {
 }
 
 impl<A: Allocator + Copy> Checksums<A> {
-    /// No checksums.
+    /// Returns an empty set of checksums.
     pub(crate) fn new(alloc: A) -> Checksums<A>
         ensures committed { result.committed ≡ [] }
         ensures staged { result.staged ≡ [] }
@@ -47,12 +47,13 @@ impl<A: Allocator + Copy> Checksums<A> {
         }
     }
 
-    /// Stages that a test holds this checksum of a line. If `is_held`, the test already holds the line's checksum and isn't counted
-    /// again.
+    /// Stages `text` as the checksum of `line`, held by one more test. If `is_held`, the test holds the line's checksum already and
+    /// isn't counted again.
     ///
     /// # Errors
     ///
-    /// `Clash` if the line's held checksum differs, `Memory` if an allocation failed. Either may discard what is staged.
+    /// `Clash` if the line's held checksum differs, `Memory` if an allocation failed. A failed allocation may discard the staged
+    /// values.
     pub(crate) fn hold(
         &mut self,
         alloc: A,
@@ -79,7 +80,7 @@ impl<A: Allocator + Copy> Checksums<A> {
         self.set_holders(alloc, line, tests.get() + 1)
     }
 
-    /// Stages that a first test holds a checksum of a line, which becomes `text`. A failed allocation may discard what is staged.
+    /// Stages `text` as the checksum of `line`, held by a first test. A failed allocation may discard the staged values.
     fn hold_first(&mut self, alloc: A, line: u64, text: &[u8]) -> Result<(), StageFault<A>>
         requires { value_of nat_cmp line self.old.staged ≡ None }
         ensures committed { self.new.committed ≡ self.old.committed }
@@ -96,8 +97,8 @@ impl<A: Allocator + Copy> Checksums<A> {
         self.set_holders(alloc, line, 1)
     }
 
-    /// Stages how many tests hold the checksum of a line. The line must have a text. A failed allocation may discard what is
-    /// staged.
+    /// Stages `tests` as the number of tests that hold the checksum of `line`. The line must have a checksum. A failed allocation
+    /// discards the staged values.
     fn set_holders(&mut self, alloc: A, line: u64, tests: u64) -> Result<(), StageFault<A>>
         requires { is_some (value_of nat_cmp line self.old.texts) ≡ true }
         ensures committed { self.new.committed ≡ self.old.committed }
@@ -116,7 +117,7 @@ impl<A: Allocator + Copy> Checksums<A> {
         Ok(())
     }
 
-    /// Compares the checksum `text` with the held checksum of the line. Returns a clash if they differ.
+    /// Returns `Clash` if `text` differs from the held checksum of `line`. The line must have a held checksum.
     fn refuse_clash(&self, alloc: A, line: u64, text: &[u8]) -> Result<(), StageFault<A>>
         requires held { is_some (value_of nat_cmp line self.now.staged) ≡ true }
         requires kept { is_some (value_of nat_cmp line self.now.texts) ≡ true }
@@ -146,7 +147,8 @@ impl<A: Allocator + Copy> Checksums<A> {
         self.texts.commit();
     }
 
-    /// Discards the staged numbers of tests. Keeps all checksums: one without holders may be replaced later. Never allocates.
+    /// Discards the staged numbers of tests, but keeps all checksums. A checksum without holders may be replaced later. Never
+    /// allocates.
     pub(crate) fn rollback(&mut self)
         ensures committed { self.new.committed ≡ self.old.committed }
         ensures staged { self.new.staged ≡ self.old.committed }
@@ -157,7 +159,8 @@ impl<A: Allocator + Copy> Checksums<A> {
 }
 
 impl<A: Allocator> Checksums<A> {
-    /// Removes one of the holders of a line's checksum, and discards what is staged. Never allocates.
+    /// Removes one of the holders of a line's checksum, and discards the staged values. The checksum must have a holder. Never
+    /// allocates.
     pub(crate) fn release(&mut self, line: u64)
         requires { is_some (value_of nat_cmp line self.old.committed) ≡ true }
         ensures committed { self.new.committed ≡ held_less line self.old.committed }
@@ -178,7 +181,7 @@ impl<A: Allocator> Checksums<A> {
         self.text_at(line, self.holders.cursor()).0
     }
 
-    /// Returns the stored checksum of a line, and the guess for the next line's slot. `guess` is the slot to look at first.
+    /// Returns the stored checksum of a line, and the guess for the next line's slot. `guess` is the slot that is tried first.
     pub(crate) fn text_at(&self, line: u64, guess: SlotIndex) -> (Option<&[u8]>, SlotIndex)
         ensures { option_map (λ text. text.now) result.0 ≡ value_of nat_cmp line self.now.texts }
     {
@@ -186,7 +189,7 @@ impl<A: Allocator> Checksums<A> {
     }
 }
 
-/// One test fewer. Returns `None` if no test is left.
+/// Returns `tests` minus one, or `None` if no test is left.
 fn one_less(tests: u64) -> Option<PackedU64>
     ensures { result ≡ one_less tests }
 {

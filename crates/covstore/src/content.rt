@@ -1,4 +1,4 @@
-//! Iterators over the sections of a store, and over the points of a section. They never allocate.
+//! Iterators over the sections of a store, and over the points of a section. The iterators never allocate.
 
 ghost use Rattle.std.specs.Iterator.{YieldsFirstBy};
 ghost use Rattle.covstore.specs.ContentView.{or_none};
@@ -62,7 +62,7 @@ impl<'a, A: Allocator> Iterator for FileSections<'a, A> {
     }
 }
 
-/// The points of a file and a test. Contracts see them with their values.
+/// The points of one test in one file. Contracts see the points with their values.
 #[derive(Drop)]
 pub struct Section<'a, A: Allocator = Global> {
     file: &'a [u8],
@@ -131,7 +131,7 @@ impl<'a, A: Allocator> FileSections<'a, A> {
     ghost use Rattle.std.specs.List.{AllByRecursion};
     ghost use Rattle.covstore.specs.ContentView.{IsFewOf, tests_seen};
 
-    /// An iterator over the sections of a file. `file` is the file's name, `index` its index, and `tests` are its tests.
+    /// Returns an iterator over the sections of the file `file`, which has this index and these tests.
     pub(crate) fn of(
         file: &'a [u8],
         index: &'a FileIndex<A>,
@@ -171,7 +171,7 @@ impl<'a, A: Allocator> Sections<'a, A> {
     ghost use Rattle.covstore.specs.ContentView.{IsFewOf};
     ghost use Rattle.covstore.specs.State.{sections_of};
 
-    /// An iterator over the sections of these files.
+    /// Returns an iterator over the sections of `files`.
     pub(crate) fn of(files: Iter<'a, Path<A>, Boxed<File<A>, A>>) -> Sections<'a, A>
         requires { AllByRecursion IsFewOf (sections_of (files_committed (λ name. name.items) files)) }
         ensures { result ≡ sections_of (files_committed (λ name. name.items) files.entry) }

@@ -18,9 +18,9 @@ use std::alloc::Allocator;
 use std::marker::Model;
 use std::mem;
 
-/// The tests of a file with their points, and the file's index. The index doesn't count points before a second test is added: it
-/// follows the only test. From then on, it counts the points of all tests, even if only one test is left. Contracts see the tests
-/// and the index.
+/// The tests of a file with their points, and the file's index. Before a second test is added, the index follows the only test and
+/// stores no counts of points. From then on, the index counts the points of all tests, even if only one test is left. Contracts see
+/// the tests and the index.
 #[derive(Drop)]
 pub(crate) struct File<A: Allocator> {
     tests: Tests<A>,
@@ -85,7 +85,7 @@ impl<A: Allocator + Copy> File<A> {
         }
     }
 
-    /// Stages the items of a test, up to the first that clashes. Adds the test if the file doesn't have it.
+    /// Stages `items` for `test`, up to the first item that clashes. Adds the test if the file doesn't have it.
     fn add(&mut self, alloc: A, test: &[u8], items: &PackedItems<'_>) -> Result<(), StageFault<A>>
         requires { HasRoomIn items.now (file_staged self.old) }
         ensures committed { KeepsIn (file_committed self.old) (file_committed self.new) }
@@ -97,7 +97,7 @@ impl<A: Allocator + Copy> File<A> {
         self.stage_in(alloc, test, items)
     }
 
-    /// Stages the items of an existing test, up to the first that clashes.
+    /// Stages `items` for `test`, up to the first item that clashes. The file must have the test.
     fn stage_in(
         &mut self,
         alloc: A,
@@ -111,7 +111,7 @@ impl<A: Allocator + Copy> File<A> {
         ensures clash { IfErr result (ClashesIn items.now test.now (file_staged self.old)) }
         ensures settled { (tests : List (List ℕ)) → list_any (λ name. bytes_eq name test.now) tests ≡ true → IsSettledBut tests self.old → IsSettledBut tests self.new }
     {
-        // Proof only: the contract of `len` says that there are fewer than 2^63 tests.
+        // Proof only: the contract of `len` says that the file has fewer than 2^63 tests.
         self.tests.len();
         let Some(points) = self.tests.get_mut(test) else {
             unreachable!();
@@ -119,7 +119,8 @@ impl<A: Allocator + Copy> File<A> {
         stage_items(points.get_mut(), &mut self.index, alloc, items)
     }
 
-    /// Stages the items of a test, and returns the file's staged totals before and after. `file` is the file's name.
+    /// Stages `items` for `test`. Returns the file's staged totals before and after the call. `file` is the file's name, for the
+    /// report of a clash.
     pub(crate) fn stage_section(
         &mut self,
         alloc: A,
@@ -147,7 +148,7 @@ impl<A: Allocator + Copy> File<A> {
         }
     }
 
-    /// Stages the values of the test `old` as items of the test `new`. Adds `new` if the file doesn't have it.
+    /// Stages the values of the test `old` as items of the test `new`. Adds the test `new` if the file doesn't have it.
     pub(crate) fn copy_test(&mut self, alloc: A, old: &[u8], new: &[u8]) -> Result<(), Memory>
         requires apart { old.now ≢ new.now }
         requires room { HasRoomToCopyIn old.now (file_staged self.old) }
@@ -160,8 +161,8 @@ impl<A: Allocator + Copy> File<A> {
         self.copy_points(alloc, old, new)
     }
 
-    /// Adds an empty test, unless the file has a test of this name. If an allocation fails, contracts see the file unchanged. The
-    /// index can't follow two tests, so it starts to count the points before a second test is added.
+    /// Adds an empty test, unless the file has a test of this name. The index can follow only one test, so it starts to count
+    /// points before a second test is added. If an allocation fails, contracts see the file unchanged.
     fn open(&mut self, alloc: A, test: &[u8]) -> Result<(), Memory>
         ensures committed { OnOk result (file_committed self.new ≡ with_test test.now (file_committed self.old)) }
         ensures staged { OnOk result (file_staged self.new ≡ with_test test.now (file_staged self.old)) }
@@ -180,7 +181,7 @@ impl<A: Allocator + Copy> File<A> {
         Ok(())
     }
 
-    /// Makes the index count the points of the file's test, if there is one. Then another test can be added.
+    /// Makes the index count points, if the file has a test. Then a second test can be added.
     fn start_counting(&mut self, alloc: A) -> Result<(), Memory>
         ensures same { self.new.tests ≡ self.old.tests }
         ensures committed { index_committed self.new.index ≡ index_committed self.old.index }
@@ -193,7 +194,7 @@ impl<A: Allocator + Copy> File<A> {
         Ok(())
     }
 
-    /// Stages the values of the test `old` as items of the test `new`. The file has both tests.
+    /// Stages the values of the test `old` as items of the test `new`. The file must have both tests.
     fn copy_points(&mut self, alloc: A, old: &[u8], new: &[u8]) -> Result<(), Memory>
         requires apart { old.now ≢ new.now }
         requires room { HasRoomToCopyIn old.now (file_staged self.old) }
@@ -204,12 +205,12 @@ impl<A: Allocator + Copy> File<A> {
         ensures settled { (tests : List (List ℕ)) → list_any (λ name. bytes_eq name new.now) tests ≡ true → IsSettledBut tests self.old → IsSettledBut tests self.new }
     {
         let empty = Boxed::new(alloc, Test::new(alloc))?;
-        // Proof only: the contract of `len` says that there are fewer than 2^63 tests.
+        // Proof only: the contract of `len` says that the file has fewer than 2^63 tests.
         self.tests.len();
         let Some(place) = self.tests.get_mut(new) else {
             unreachable!();
         };
-        // The new test is removed while it changes, since the old one stays borrowed from the file.
+        // The test `new` is taken out of the file while it changes, since the test `old` stays borrowed from the file.
         let mut points = mem::replace(place, empty);
         let Some(source) = self.tests.get(old) else {
             unreachable!();
@@ -222,7 +223,7 @@ impl<A: Allocator + Copy> File<A> {
         added
     }
 
-    /// Commits what is staged in a test and in the file's index.
+    /// Commits the staged values of `test` and of the file's index.
     pub(crate) fn commit(&mut self, test: &[u8])
         ensures staged { file_staged self.new ≡ file_staged self.old }
         ensures settled { (tests : List (List ℕ)) → IsSettledBut (tests ++ test.now ∷ []) self.old → IsSettledBut tests self.new }
@@ -236,7 +237,7 @@ impl<A: Allocator + Copy> File<A> {
         self.index.commit(points);
     }
 
-    /// Discards what is staged in a test and in the file's index.
+    /// Discards the staged values of `test` and of the file's index.
     pub(crate) fn rollback(&mut self, test: &[u8])
         ensures committed { file_committed self.new ≡ file_committed self.old }
         ensures settled { (tests : List (List ℕ)) → IsSettledBut (tests ++ test.now ∷ []) self.old → IsSettledBut tests self.new }
@@ -285,7 +286,7 @@ impl<A: Allocator + Copy> File<A> {
         }
     }
 
-    /// Whether the test has committed points, and the file's committed totals without the test.
+    /// Returns whether `test` has committed points, and the committed totals that the file would have without the test.
     pub(crate) fn without_test(&self, test: &[u8]) -> (bool, Totals)
         requires { IsConsistentFile (file_committed self.now) }
         ensures has_points { result.0 ≡ has_points_of test.now (file_committed self.now) }

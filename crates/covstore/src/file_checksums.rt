@@ -1,4 +1,4 @@
-//! The checksums of a file, which use no memory before the first one.
+//! The checksums of a file, without an allocation before the first checksum.
 
 ghost use Rattle.std.specs.Prelude.{◌≡◌, ◌≤◌, ◌^◌, [], true, is_some, option_map, IfErr, IfSome, OnOk};
 ghost use Rattle.covmap.specs.Puts.{value_of};
@@ -13,8 +13,8 @@ use covmap::SlotIndex;
 use std::alloc::Allocator;
 use std::marker::Model;
 
-/// The checksums of a file's lines. Most files have none, so they are in a box, which is allocated for the first one and then
-/// stays. Contracts see what they see of `Checksums`.
+/// The checksums of a file's lines. Most files have no checksums, so a box for them is allocated with the first checksum, and then
+/// stays. Contracts see the same as of `Checksums`.
 #[derive(Drop)]
 pub(crate) struct FileChecksums<A: Allocator> {
     held: Option<Boxed<Checksums<A>, A>>,
@@ -30,7 +30,7 @@ impl<A: Allocator> Model for FileChecksums<A> {
 }
 
 impl<A: Allocator + Copy> FileChecksums<A> {
-    /// No checksums. Never allocates.
+    /// Returns an empty set of checksums. Never allocates.
     pub(crate) fn new() -> FileChecksums<A>
         ensures committed { result.committed ≡ [] }
         ensures staged { result.staged ≡ [] }
@@ -39,7 +39,7 @@ impl<A: Allocator + Copy> FileChecksums<A> {
         FileChecksums { held: None }
     }
 
-    /// Like `Checksums::hold`. Fails also if the box can't be allocated.
+    /// Like `Checksums::hold`. Also fails with `Memory` if the box can't be allocated.
     pub(crate) fn hold(
         &mut self,
         alloc: A,

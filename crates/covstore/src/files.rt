@@ -1,4 +1,4 @@
-//! An iterator over the files of a store, each with its totals. It never allocates.
+//! An iterator over the files of a store, each with its totals. The iterator never allocates.
 
 use crate::boxed::Boxed;
 use crate::file::File;
@@ -17,7 +17,7 @@ pub struct FileTotals<'a> {
     pub totals: Totals,
 }
 
-/// An iterator over the files with a row, ascending by path, each with its totals. Contracts see the files that are left.
+/// An iterator over the files that have points, ascending by path, each with its totals. Contracts see the files that are left.
 #[derive(Drop)]
 pub struct Files<'a, A: Allocator = Global> {
     files: Iter<'a, Path<A>, Boxed<File<A>, A>>,
@@ -39,7 +39,7 @@ impl<'a, A: Allocator> Files<'a, A> {
     ghost use Rattle.covstore.specs.FilesView.{files_with_points};
     ghost use Rattle.covstore.specs.StoreView.{files_committed};
 
-    /// An iterator over the files in `files` that have points.
+    /// Returns an iterator over the files in `files` that have points.
     pub(crate) fn of(files: Iter<'a, Path<A>, Boxed<File<A>, A>>) -> Files<'a, A>
         ensures { result ≡ files_with_points (files_committed (λ name. name.items) files.entry) }
     {

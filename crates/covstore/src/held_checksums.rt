@@ -1,4 +1,4 @@
-//! Stages that a test holds the checksums of a section's items, before the items' sums are staged.
+//! Stages the checksums of a section's items as held by the test, before the items' sums are staged.
 
 ghost use Rattle.std.specs.Prelude.{◌≡◌, List, ◌++◌, ◌∷◌, IfErr, IfSome, IsTrue, OnOk, ℕ};
 ghost use Rattle.std.specs.List.Sorted.{IsStrictlySortedBy};
@@ -18,7 +18,7 @@ use crate::test::Test;
 use covpacked::{ItemRef, PackedItems};
 use std::alloc::Allocator;
 
-/// Whether the lines of the items with a checksum strictly ascend, and none of them is the greatest `u64`.
+/// Whether the lines of the items with a checksum strictly ascend, and all these lines are below the greatest `u64`.
 pub(crate) fn checked_lines_ascend(items: &PackedItems<'_>) -> bool
     ensures { IsTrue result → IsStrictlySortedBy nat_cmp (checked_lines items.now) }
 {
@@ -32,8 +32,8 @@ pub(crate) fn checked_lines_ascend(items: &PackedItems<'_>) -> bool
     true
 }
 
-/// The lower bound for the line of the next item with a checksum. Returns `None` if this item has a checksum and its line is below
-/// `least` or is the greatest `u64`.
+/// Returns the least line that the next item with a checksum may have. Returns `None` if `item` has a checksum of a line that is
+/// below `least` or is the greatest `u64`.
 fn least_after(item: &ItemRef<'_>, least: u64) -> Option<u64>
     ensures { IfSome result (λ next. (lines : List ℕ) → AscendFrom next lines → AscendFrom least (checked_line (item_ref_data item.now) ++ lines)) }
 {
@@ -49,7 +49,7 @@ fn least_after(item: &ItemRef<'_>, least: u64) -> Option<u64>
     }
 }
 
-/// One more than the line. Returns `None` if the line is below `least`, or is the greatest `u64`.
+/// Returns the number after `line`, or `None` if `line` is below `least` or is the greatest `u64`.
 fn line_after(line: u64, least: u64) -> Option<u64>
     ensures { IfSome result (λ next. (lines : List ℕ) → AscendFrom next lines → AscendFrom least (line ∷ lines)) }
 {
@@ -59,8 +59,8 @@ fn line_after(line: u64, least: u64) -> Option<u64>
     Some(line + 1)
 }
 
-/// Stages that the test holds the checksums of the items, up to the first item that clashes. The lines of the items with a checksum
-/// strictly ascend, so no line comes twice. Therefore earlier items don't change whether the test holds the checksum of an item's
+/// Stages the items' checksums as held by the test, up to the first item that clashes. The lines of the items with a checksum must
+/// strictly ascend, so that no line comes twice. Then no item changes whether the test already holds the checksum of a later item's
 /// line.
 pub(crate) fn hold_checksums<A: Allocator + Copy>(
     test: &mut Test<A>,
@@ -83,7 +83,7 @@ pub(crate) fn hold_checksums<A: Allocator + Copy>(
     Ok(())
 }
 
-/// Stages that the test holds the checksum of an item, if the item has one.
+/// Stages an item's checksum, if it has one, as held by the test.
 fn hold_checksum<A: Allocator + Copy>(
     test: &mut Test<A>,
     index: &mut FileIndex<A>,

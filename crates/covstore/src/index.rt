@@ -1,4 +1,4 @@
-//! The index of a file: how many of its tests have each point, and the checksums of its lines.
+//! The index of a file: how many tests have each point, and the checksums of the lines.
 
 ghost use Rattle.std.specs.Prelude.{◌≡◌, OnOk};
 ghost use Rattle.covstore.specs.PointIndexDrops.{totals_by};
@@ -18,8 +18,9 @@ use crate::test::Test;
 use crate::totals::Totals;
 use std::alloc::{AllocError, Allocator};
 
-/// For each point of a file, how many tests have it, and how many have it with a value above 0; and the checksums of the file's
-/// lines. The index doesn't count points before a second test is added: it follows the file's only test.
+/// The index of a file. Counts for each point how many tests have the point, and how many tests hit the point (value above 0). Also
+/// stores the checksums of the file's lines. Before a second test is added, the index follows the file's only test and stores no
+/// counts.
 #[derive(Drop)]
 pub(crate) struct FileIndex<A: Allocator> {
     pub lines: KindIndex<u64, LineSum, A>,
@@ -51,7 +52,7 @@ impl<A: Allocator + Copy> FileIndex<A> {
         }
     }
 
-    /// Counts the points of the test that the index follows, if it follows one.
+    /// Makes the index count points, unless it does so already. If the index follows a test, `test` must be that test.
     ///
     /// # Errors
     ///
@@ -94,7 +95,7 @@ impl<A: Allocator + Copy> FileIndex<A> {
         self.checksums.rollback();
     }
 
-    /// Commits the staged checksums, and the staged counts of each kind of points unless they follow a test.
+    /// Commits the staged checksums. For each kind of points whose counts don't follow a test, also commits the staged counts.
     pub(crate) fn commit_counts(&mut self)
         ensures staged { index_staged self.new ≡ index_staged self.old }
         ensures same { FollowsTheSame self.old self.new }
@@ -106,7 +107,7 @@ impl<A: Allocator + Copy> FileIndex<A> {
         self.checksums.commit();
     }
 
-    /// Discards the staged checksums, and the staged counts of each kind of points unless they follow a test.
+    /// Discards the staged checksums. For each kind of points whose counts don't follow a test, also discards the staged counts.
     pub(crate) fn rollback_counts(&mut self)
         ensures committed { index_committed self.new ≡ index_committed self.old }
         ensures same { FollowsTheSame self.old self.new }
@@ -129,8 +130,8 @@ impl<A: Allocator + Copy> FileIndex<A> {
         )
     }
 
-    /// Removes the test with these points from the counts. Nothing is staged afterwards. If the index follows a test, `points` must
-    /// be that test.
+    /// Removes the test whose points are `points` from the counts, and discards all staged values. If the index follows a test,
+    /// `points` must be that test.
     pub(crate) fn uncount_test(&mut self, points: &Test<A>)
         requires follows { Follows points.now self.old }
         requires counted { (others : List TestData) × IsIndexOf (test_committed points.now ∷ others) (index_committed self.old) }
@@ -156,7 +157,8 @@ impl<A: Allocator + Copy> FileIndex<A> {
         )
     }
 
-    /// The file's committed totals without the test that has these points. If the index follows a test, `points` must be that test.
+    /// Returns the committed totals that the file would have without the test whose points are `points`. If the index follows a
+    /// test, `points` must be that test.
     pub(crate) fn totals_without(&self, points: &Test<A>) -> Totals
         requires follows { Follows points.now self.now }
         requires counted { (others : List TestData) × IsIndexOf (test_committed points.now ∷ others) (index_committed self.now) }
@@ -170,7 +172,7 @@ impl<A: Allocator + Copy> FileIndex<A> {
     }
 }
 
-/// The totals of a file, from the tally of each kind of points.
+/// Combines the tallies of the three kinds of points into a file's totals.
 fn totals_of(lines: KindTally, functions: KindTally, branches: KindTally) -> Totals
     ensures { result ≡ totals_by lines functions branches }
 {

@@ -11,9 +11,9 @@ use covmap::{SlotIndex, StagedMap};
 use std::alloc::{AllocError, Allocator};
 use std::marker::Model;
 
-/// A list of the checksums' texts. Each line with a text has its own index in the list. Indexes are staged: a failed allocation
-/// removes those that aren't committed, and their texts. Contracts see two lists of lines with their texts, each ascending by line:
-/// the texts that remain after a failed allocation, and all texts.
+/// A list of the checksums' texts. Each line with a text has its own index in the list. A new index is staged until the next
+/// commit. A failed allocation removes staged indexes and their texts. Contracts see two lists of lines with their texts, each
+/// ascending by line: the texts that remain after a failed allocation, and all texts.
 #[derive(Drop)]
 pub(crate) struct KeptTexts<A: Allocator> {
     places: StagedMap<u64, PackedU64, A>,
@@ -33,7 +33,7 @@ impl<A: Allocator> Model for KeptTexts<A> {
 }
 
 impl<A: Allocator + Copy> KeptTexts<A> {
-    /// No texts. Never allocates.
+    /// Returns an empty list of texts. Never allocates.
     pub(crate) fn new(alloc: A) -> KeptTexts<A>
         ensures committed { result.committed ≡ [] }
         ensures staged { result.staged ≡ [] }
@@ -45,12 +45,12 @@ impl<A: Allocator + Copy> KeptTexts<A> {
         }
     }
 
-    /// Stores the text of a line. Replacing an older text of the line never allocates. Proofs also learn that the committed texts
-    /// are among all texts (`among`).
+    /// Stores `text` as the text of `line`. Replacing an older text of the line never allocates. By the clause `among`, the
+    /// committed texts are among all texts.
     ///
     /// # Errors
     ///
-    /// `AllocError` if an allocation failed. Then only the texts at committed indexes remain.
+    /// `AllocError` if an allocation failed. After that, only the texts at committed indexes remain.
     pub(crate) fn set(&mut self, alloc: A, line: u64, text: ShortText<A>) -> Result<(), AllocError>
         ensures committed { StillHave self.old.committed self.new.committed }
         ensures ok { OnOk result (self.new.staged ≡ put nat_cmp line text self.old.staged) }
@@ -66,7 +66,8 @@ impl<A: Allocator + Copy> KeptTexts<A> {
         }
     }
 
-    /// Adds the text of a line that has none. If an allocation fails, only the texts at committed indexes remain.
+    /// Adds `text` as the text of `line`, which must have no text. If an allocation fails, only the texts at committed indexes
+    /// remain.
     fn add(&mut self, alloc: A, line: u64, text: ShortText<A>) -> Result<(), AllocError>
         requires { value_of nat_cmp line self.old.staged ≡ None }
         ensures committed { self.new.committed ≡ self.old.committed }
@@ -74,8 +75,8 @@ impl<A: Allocator + Copy> KeptTexts<A> {
         ensures err { OnErr result (self.new.staged ≡ self.old.committed) }
     {
         if let Err(refused) = push(&mut self.places, &mut self.texts, alloc, line, text) {
-            // The indexes of new texts are discarded, so no line could find these texts. If they stayed in the list, each failed
-            // allocation would leave more of them.
+            // The rollback discards the indexes of new texts, so no look-up would find these texts. If the texts stayed in the
+            // list, each failed allocation would leave more of them.
             self.places.rollback();
             self.texts.truncate(self.committed);
             return Err(refused);
@@ -94,7 +95,7 @@ impl<A: Allocator + Copy> KeptTexts<A> {
 }
 
 impl<A: Allocator> KeptTexts<A> {
-    /// Returns the text of a line, and the guess for the next line's slot. `guess` is the slot to look at first.
+    /// Returns the text of a line, and the guess for the next line's slot. `guess` is the slot that is tried first.
     pub(crate) fn text_at(&self, line: u64, guess: SlotIndex) -> (Option<&[u8]>, SlotIndex)
         ensures { option_map (λ text. text.now) result.0 ≡ value_of nat_cmp line self.now.staged }
     {
@@ -106,7 +107,8 @@ impl<A: Allocator> KeptTexts<A> {
     }
 }
 
-/// Appends a text, and stages its index as that of the line's text. If only staging fails, the text stays in the list.
+/// Appends `text` to `texts`, and stages the text's index as the index of `line`. If only the staging fails, the text stays in the
+/// list.
 fn push<A: Allocator + Copy>(
     places: &mut StagedMap<u64, PackedU64, A>,
     texts: &mut Vec<ShortText<A>, A>,

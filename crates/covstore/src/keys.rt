@@ -18,10 +18,10 @@ use std::marker::Model;
 
 /// A key of a map of points, such as the number of a line.
 pub(crate) trait PointKey<'a, A: Allocator>: Key {
-    /// The type of queries for keys of this type.
+    /// The type of the queries that look up keys of this type.
     type Name: Query<Self, A>;
 
-    /// The query for this key.
+    /// Returns the query that looks up this key.
     fn name(&'a self) -> Self::Name
         ensures { Self.Name.named result ≡ self.now };
 }

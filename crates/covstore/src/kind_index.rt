@@ -1,5 +1,5 @@
-//! The index of a file's points of one kind: how many tests have each point. While the counts follow the file's only test, the
-//! index stores only tallies.
+//! The index of a file's points of one kind: how many tests have each point. Before the file gets a second test, the index stores
+//! only tallies.
 
 ghost use Rattle.std.specs.Prelude.{◌≡◌, None, IfSome, OnOk};
 ghost use Rattle.covstore.specs.KindData.{empty_kind};
@@ -17,15 +17,15 @@ use std::marker::Model;
 /// The counts of a kind of points, in one of two forms.
 #[derive(Drop)]
 pub(crate) enum Counts<K: Key, S: PointSum, A: Allocator> {
-    /// The file has at most one test, and the counts follow it. Each of its points counts once.
+    /// The file has at most one test, which the counts follow. Each point of the test counts once.
     OfOneTest(SoleTest<K, S, A>),
-    /// The points of all tests are counted. Boxed, since few files have several tests.
+    /// The points of all tests are counted. The counts are boxed, since few files have several tests.
     OfTests(Boxed<PointIndex<K, A>, A>),
 }
 
-/// For each point of a kind, how many tests of a file have it, and how many have it with a value above 0. Most files have only one
-/// test, whose points imply both numbers. So points aren't counted until the file gets a second test. Contracts see the counts, and
-/// the points of the only test while the counts follow it.
+/// For each point of one kind, how many tests of a file have the point, and how many tests hit the point (value above 0). Most
+/// files have only one test, whose points imply both numbers. So points aren't counted until the file gets a second test. Contracts
+/// see the counts and, while the counts follow the only test, the test's points.
 #[derive(Drop)]
 pub(crate) struct KindIndex<K: Key, S: PointSum, A: Allocator> {
     pub counts: Counts<K, S, A>,
@@ -51,7 +51,7 @@ impl<K: Key + Drop, S: PointSum, A: Allocator + Copy> KindIndex<K, S, A> {
         }
     }
 
-    /// The staged tally: how many points are found, and how many of them are hit.
+    /// The staged tally: how many points are found, and how many are hit.
     pub(crate) fn staged(&self) -> KindTally
         ensures found { result.found ≡ found_of self.now.staged }
         ensures hit { result.hit ≡ hit_of self.now.staged }
@@ -62,7 +62,7 @@ impl<K: Key + Drop, S: PointSum, A: Allocator + Copy> KindIndex<K, S, A> {
         }
     }
 
-    /// The committed tally: how many points are found, and how many of them are hit.
+    /// The committed tally: how many points are found, and how many are hit.
     pub(crate) fn committed(&self) -> KindTally
         ensures found { result.found ≡ found_of self.now.committed }
         ensures hit { result.hit ≡ hit_of self.now.committed }
@@ -125,7 +125,7 @@ impl<K: Key + Drop, S: PointSum, A: Allocator + Copy> KindIndex<K, S, A> {
 }
 
 impl<K: CopyKey<A> + Drop, S: PointSum, A: Allocator + Copy> KindIndex<K, S, A> {
-    /// Counts the points, unless they are counted already. If the counts follow a test, `points` must be that test's points.
+    /// Makes the index count points, unless it does so already. If the counts follow a test, `points` must be that test's points.
     ///
     /// # Errors
     ///

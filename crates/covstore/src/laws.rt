@@ -1,4 +1,4 @@
-//! Laws of the definitions that this crate's contracts cite. The functions do nothing: the contract is the law.
+//! Laws about the definitions that this crate's contracts cite. Each function does nothing: its contract is the law.
 
 ghost use Rattle.std.specs.Prelude.{◌≡◌, ◌↔◌, List, [], ◌∷◌, ◌++◌, ℕ, Some, None, map};
 ghost use Rattle.std.specs.Cmp.Lexicographic.{slice_cmp};
@@ -17,21 +17,21 @@ ghost use Rattle.covstore.specs.TotalsSteps.{totals_over};
 ghost use Rattle.covstore.specs.Without.{without_test};
 ghost use Rattle.covstore.specs.Value.{Key, key_cmp, key_of_row, keys_of, lines_in, names_in, branch_cmp, branches_in};
 
-/// The sections of a store are in strictly ascending order, one for each file and test with a row.
+/// The sections of a store are in strictly ascending order. There is one section for each file and test with a row.
 pub fn keys_stand_in_order()
     ensures { (rows : List Row) → IsAscendingOf key_cmp (map key_of_row rows) (keys_of rows) }
 {}
 
 /// The functions, branches and lines of a section are each in strictly ascending order. Functions ascend by the bytes of their
-/// names, branches by line, block and number, and lines by number. Each point of the section's items is there once.
+/// names, branches by line, block and number, and lines by number. Each point of the section's items occurs once.
 pub fn points_stand_in_order()
     ensures functions { (items : List ItemData) → IsAscendingOf (slice_cmp nat_cmp) (func_points items) (names_in items) }
     ensures branches { (items : List ItemData) → IsAscendingOf branch_cmp (branch_points items) (branches_in items) }
     ensures lines { (items : List ItemData) → IsAscendingOf nat_cmp (line_points items) (lines_in items) }
 {}
 
-/// There is at most one strictly ascending list of given elements. The elements are keys of sections, functions ordered by the
-/// bytes of their names, branches, or lines.
+/// Two strictly ascending lists of the same elements are equal. The elements are keys of sections, functions ordered by the bytes
+/// of their names, branches, or lines.
 pub fn order_is_unique()
     ensures keys { (all some others : List Key) → IsAscendingOf key_cmp all some → IsAscendingOf key_cmp all others → some ≡ others }
     ensures functions { (all some others : List (List ℕ)) → IsAscendingOf (slice_cmp nat_cmp) all some → IsAscendingOf (slice_cmp nat_cmp) all others → some ≡ others }
@@ -39,9 +39,9 @@ pub fn order_is_unique()
     ensures lines { (all some others : List ℕ) → IsAscendingOf nat_cmp all some → IsAscendingOf nat_cmp all others → some ≡ others }
 {}
 
-/// `first_clash` finds the first clash, provided that the held checksums agree with each other. The first clash is that of the
-/// first given checksum that differs from a held one or from an earlier given one. `first_clash` gives `None` if and only if all
-/// held and given checksums agree with each other.
+/// If the checksums of `held` agree with each other, `first_clash` returns the first clash. This is the clash of the first checksum
+/// of `given` that differs from a checksum of `held` or from an earlier checksum of `given`. `first_clash` returns `None` if and
+/// only if all these checksums agree with each other.
 pub fn the_first_clash_is_told()
     ensures first { (held given : List Checksum) (clash : ClashData) → Agree held → first_clash held given ≡ Some clash ↔ IsFirstClash held given clash }
     ensures none { (held given : List Checksum) → Agree held → first_clash held given ≡ None ↔ Agree (held ++ given) }
@@ -56,33 +56,33 @@ pub fn accepted_rows_agree()
     ensures dropped { (table : Table) (test : List ℕ) → Agree (checksums_in (all_rows table)) → Agree (checksums_in (all_rows (without_test test table))) }
 {}
 
-/// For each kind of points, the totals have two numbers. The points found are the different points of that kind in all rows.
-/// Points of different files are different. The points hit are those of them that some test has with a value above 0.
+/// The totals have two numbers for each kind of points. The points found are the different points of that kind in all rows. Points
+/// of different files are different. The points hit are the found points that have a value above 0 in some test.
 pub fn totals_count_different_points()
     ensures lines { (rows : List Row) → ((totals_of (content_of rows)).lf ≡ found lines rows) × ((totals_of (content_of rows)).lh ≡ hit lines rows) }
     ensures functions { (rows : List Row) → ((totals_of (content_of rows)).ff ≡ found functions rows) × ((totals_of (content_of rows)).fh ≡ hit functions rows) }
     ensures branches { (rows : List Row) → ((totals_of (content_of rows)).bf ≡ found branches rows) × ((totals_of (content_of rows)).bh ≡ hit branches rows) }
 {}
 
-/// For each kind of points, no more points are hit than found. This holds for any sections, and so for those of any rows.
+/// No more points are hit than found, for each kind of points. This holds for any sections, and so for the sections of any rows.
 pub fn no_more_are_hit_than_found()
     ensures sections { (sections : List SectionData) → AreTotals (totals_of sections) }
     ensures rows { (rows : List Row) → AreTotals (totals_of (content_of rows)) }
 {}
 
-/// The totals of the sections of some rows can be counted from the rows themselves. For each file, the points found are the
-/// distinct points of its rows, over all tests. A point is hit if some row gives it a count above 0.
+/// Totals can be counted from the rows themselves, without adding up their counts. For each file, the points found are the distinct
+/// points of the file's rows, over all tests. A point is hit if some row of the point has a count above 0.
 pub fn totals_count_the_rows()
     ensures { (rows : List Row) → totals_of (content_of rows) ≡ totals_over rows }
 {}
 
-/// The sum of rows doesn't depend on their order, if their checksums agree.
+/// The sum of rows whose checksums agree doesn't depend on the order of the rows.
 pub fn order_of_rows_does_not_matter()
     ensures content { (rows others : List Row) → IsPermutation rows others → Agree (checksums_in rows) → content_of rows ≡ content_of others }
     ensures agree { (rows others : List Row) → IsPermutation rows others → Agree (checksums_in rows) → Agree (checksums_in others) }
 {}
 
-/// The sum of a table doesn't depend on the order of its submissions, if their checksums agree.
+/// The sum of a table whose checksums agree doesn't depend on the order of the table's submissions.
 pub fn order_of_submissions_does_not_matter()
     ensures content { (table others : Table) → IsPermutation table others → Agree (checksums_in (all_rows table)) → content_at table ≡ content_at others }
     ensures agree { (table others : Table) → IsPermutation table others → Agree (checksums_in (all_rows table)) → Agree (checksums_in (all_rows others)) }

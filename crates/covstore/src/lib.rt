@@ -1,20 +1,21 @@
-//! A store holds the merged execution counts of all its submissions. Counts of a point are added up if they have the same test and
-//! the same file (lcov(1), --add-tracefile). A sum saturates at 2^128 - 1. A submission is rejected if one of its checksums differs
-//! from the one that the store or an earlier record of the submission has for the same line of a file. Lines without a checksum are
-//! never compared.
+//! A store holds the merged execution counts of all its submissions. A point is a line, a function or a branch of a source file.
+//! The counts of a point that come from the same test are added up (lcov(1), --add-tracefile). A sum saturates at 2^128 - 1.
+//! `prepare` rejects a submission if one of its checksums differs from the checksum that the store, or an earlier record of the
+//! submission, has for the same line of the same file. Lines without a checksum are never compared.
 //!
-//! A submission is added in two steps. `prepare` checks for clashes, allocates all memory and returns a plan. `commit` adds the
-//! submission and never allocates. Between the two steps, the caller can allocate memory of its own, and can drop the plan if that
-//! fails. A test is renamed in two such steps, `prepare_rename` and `commit_rename`. A test is dropped in one step, `drop_test`,
-//! which never allocates.
+//! A submission is added in two steps. `prepare` compares checksums, allocates all memory and returns a plan. `commit` adds the
+//! submission and never allocates. Between the two steps, the caller can make allocations of its own, and can drop the plan if one
+//! of them fails. Renaming a test also takes two steps, `prepare_rename` and `commit_rename`. Dropping a test takes one step,
+//! `drop_test`, which never allocates.
 //!
 //! A store consists of nested ordered maps: for each file its tests, and for each test its points. If a file has several tests, the
-//! store also counts how many tests have each of its points, and how many have it with a value above 0. The store keeps its totals
-//! too. `prepare` stages values beside the committed values, and `commit` replaces the committed values by the staged ones.
+//! store also counts for each point how many tests have the point, and how many tests hit the point (value above 0). The store also
+//! keeps its totals. `prepare` stages values beside the committed values, and `commit` replaces the committed values by the staged
+//! ones.
 //!
-//! The following example is proved and run in `covuses`. It returns the store of two submissions. It returns `Refuse::Clash` if the
-//! submissions have two different checksums of one line of a file, and `Refuse::Memory` if an allocation failed. `Store::sections`,
-//! `Store::files` and `Store::totals` show what the store holds.
+//! The following example, which `covuses` proves and runs, returns the store of two submissions. The example fails with
+//! `Refuse::Clash` if the submissions have different checksums of one line of a file, and with `Refuse::Memory` if an allocation
+//! failed. `Store::sections`, `Store::files` and `Store::totals` return the content of a store.
 //!
 //! ```text
 //! pub fn merged(alloc: Global, first: &Submission, second: &Submission) -> Result<Store, Refuse> {

@@ -14,7 +14,7 @@ pub(crate) enum Left<'a, A: Allocator> {
     None,
     /// One test.
     One(&'a OnlyTest<A>),
-    /// The rest of a map.
+    /// The tests that are left in a map.
     Many(Iter<'a, Vec<u8, A>, Boxed<Test<A>, A>>),
 }
 
@@ -38,7 +38,7 @@ impl<'a, A: Allocator> NamedTests<'a, A> {
     ghost use Rattle.std.specs.Prelude.{◌≡◌};
     ghost use Rattle.covstore.specs.TestsLeft.{tests_left};
 
-    /// An iterator over these tests.
+    /// Returns an iterator over the tests in `left`.
     pub(crate) fn of(left: Left<'a, A>) -> NamedTests<'a, A>
         ensures { result ≡ tests_left left.entry }
     {

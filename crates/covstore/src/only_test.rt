@@ -16,7 +16,7 @@ use std::alloc::Allocator;
 use std::collections::BTreeMap;
 use std::marker::Model;
 
-/// The only test of a file, with its name. Contracts see it as a list of one test.
+/// The only test of a file, with its name. Contracts see a list of one test.
 #[derive(Drop)]
 pub(crate) struct OnlyTest<A: Allocator> {
     name: Vec<u8, A>,
@@ -33,7 +33,7 @@ impl<A: Allocator> Model for OnlyTest<A> {
 }
 
 impl<A: Allocator> OnlyTest<A> {
-    /// A test with this name.
+    /// Makes the only test of a file from the test's name and points.
     pub(crate) fn of(name: Vec<u8, A>, points: Boxed<Test<A>, A>) -> OnlyTest<A>
         ensures { result.entries ≡ (name, points) ∷ [] }
     {
@@ -64,7 +64,7 @@ impl<A: Allocator> OnlyTest<A> {
         None
     }
 
-    /// The test, mutable, if it has this name. Proofs also learn that the names ascend (`ordered`).
+    /// The test, mutable, if it has this name. By the clause `ordered`, the names ascend.
     pub(crate) fn get_mut(&mut self, name: &[u8]) -> Option<&mut Boxed<Test<A>, A>>
         ensures* writes_back { sem 𝓛 (lends_only A.row A.Allocator self.entry name.now result) }
         ensures value { option_map (λ points. points.now) result ≡ lookup (is_at (λ other. slice_cmp nat_cmp name.now other.items)) self.old.entries }

@@ -1,4 +1,4 @@
-//! How often a branch was taken, or `None`, in 17 bytes. An `Option<u128>` needs 32 bytes, and an option of that 48.
+//! How often a branch was taken, or `None`, in 17 bytes. An `Option<u128>` needs 32 bytes.
 
 ghost use Rattle.std.specs.Prelude.{◌≡◌, None};
 ghost use Rattle.covstore.specs.Sums.{sum_taken};
@@ -39,7 +39,7 @@ impl PackedTaken {
         }
     }
 
-    /// A copy.
+    /// Copies the number or `None`.
     pub(crate) fn copy(&self) -> PackedTaken
         ensures { result ≡ self.now }
     {
@@ -49,7 +49,7 @@ impl PackedTaken {
         }
     }
 
-    /// The sum of this number and `times`. If one of them is `None`, the sum is the other one. Saturates at 2^128 - 1.
+    /// Returns the sum of this number and `times`. If one of the two is `None`, returns the other. Saturates at 2^128 - 1.
     pub(crate) fn plus(&self, times: Option<u128>) -> PackedTaken
         ensures { result ≡ sum_taken self.now times }
     {
@@ -65,7 +65,7 @@ impl PackedTaken {
         }
     }
 
-    /// Whether there is a number above 0.
+    /// Whether this is a number above 0, and not `None`.
     pub(crate) fn is_above(&self) -> bool
         ensures { result ≡ is_taken self.now }
     {

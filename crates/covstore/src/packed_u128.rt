@@ -1,4 +1,4 @@
-//! A number of 128 bits in sixteen bytes. A struct of bytes needs no padding; a struct with a `u128` is aligned to sixteen bytes.
+//! A number of 128 bits in sixteen bytes, without padding. A struct with a `u128` would be padded to a multiple of sixteen bytes.
 
 ghost use Rattle.std.specs.Prelude.{◌≡◌, ◌+◌, nat_lt};
 ghost use Rattle.covstore.specs.Value.{bounded};
@@ -33,7 +33,7 @@ impl PackedU128 {
         }
     }
 
-    /// A copy.
+    /// Copies the number.
     pub(crate) fn copy(&self) -> PackedU128
         ensures { result ≡ self.now }
     {

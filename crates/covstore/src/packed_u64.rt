@@ -1,5 +1,5 @@
-//! A number of 64 bits in eight bytes. A struct of bytes needs no padding, so an option of it is one byte longer. An option of a
-//! `u64` is 8 bytes longer than the `u64`.
+//! A number of 64 bits in eight bytes, without alignment. So an option of such a number is only one byte longer than the number. An
+//! option of a `u64` is eight bytes longer than the `u64`.
 
 ghost use Rattle.std.specs.Prelude.{◌≡◌};
 

@@ -26,7 +26,7 @@ impl<A: Allocator> Model for Path<A> {
 }
 
 impl<A: Allocator> Path<A> {
-    /// A path of these bytes.
+    /// Copies the bytes into a new path.
     pub(crate) fn from_slice(alloc: A, bytes: &[u8]) -> Result<Path<A>, AllocError>
         ensures items { IfOk result (λ path. path.items ≡ bytes.now) }
     {
@@ -34,7 +34,7 @@ impl<A: Allocator> Path<A> {
         Ok(Path { bytes })
     }
 
-    /// The bytes.
+    /// The bytes of the path.
     pub(crate) fn as_slice(&self) -> &[u8]
         ensures value { result.now ≡ self.now.items }
     {
@@ -80,8 +80,8 @@ impl<A: Allocator> Ord for Path<A> {
     }
 }
 
-/// Compares two paths or names byte by byte. Paths of one source tree begin alike, and so do names of functions; so this compares
-/// eight bytes at a time, as one number.
+/// Compares two paths or function names by their bytes. Takes eight bytes at a time, as one number, since paths of a source tree
+/// often begin alike, and so do function names.
 pub(crate) fn order_bytes(a: &[u8], b: &[u8]) -> Ordering
     ensures { result ≡ slice_cmp nat_cmp a.now b.now }
 {
@@ -98,12 +98,12 @@ pub(crate) fn order_bytes(a: &[u8], b: &[u8]) -> Ordering
     order_rest(a, b, at)
 }
 
-/// The number whose digits in base 256 are the eight bytes from index `at` on, the highest digit first.
+/// Reads the eight bytes from index `at` on as one big-endian number. `bytes` must have that many.
 fn word_at(bytes: &[u8], at: usize) -> u64
     requires { at + 8 ≤ length bytes.now }
     ensures { result ≡ from_be_bytes w64 (take 8 (drop at bytes.now)) }
 {
-    // The compiler knows that this slice has eight bytes, so it reads them at once.
+    // The constant length of this slice lets the compiler load all eight bytes at once.
     let word = &bytes[at..at + 8];
     u64::from_be_bytes([
         word[0], word[1], word[2], word[3], word[4], word[5], word[6], word[7],

@@ -3,8 +3,8 @@
 use crate::totals::Totals;
 use std::marker::Model;
 
-/// The totals that a store will have after the prepared commit. The values to commit are staged in the store itself. Contracts see
-/// the totals.
+/// A submission that a store is prepared to add. The plan has the totals after the commit. The values to commit are staged in the
+/// store itself. Contracts see the totals.
 #[derive(Drop)]
 pub struct Plan {
     after: Totals,
@@ -33,7 +33,7 @@ impl Plan {
         Plan { after }
     }
 
-    /// The totals after the commit.
+    /// The totals of the store after the commit.
     pub fn after(&self) -> Totals
         ensures value { result ≡ self.now.after }
         ensures bounds { AreTotals result }

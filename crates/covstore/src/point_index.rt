@@ -1,5 +1,5 @@
-//! For each point of a kind, how many tests of a file have it, and how many have it with a value above 0; and the tally of all
-//! points.
+//! The counts of a kind of points: how many tests of a file have each point, and how many tests hit the point (value above 0). Also
+//! the tally of all points.
 
 ghost use Rattle.std.specs.Prelude.{◌≡◌, ◌+◌, ◌<◌, ◌≤◌, ◌^◌, IfSome, OnOk, length};
 ghost use Rattle.covstore.specs.PointIndex.{changed};
@@ -12,7 +12,7 @@ use covmap::{Key, Query, SlotIndex, StagedMap};
 use std::alloc::{AllocError, Allocator};
 use std::marker::Model;
 
-/// How many points are found, and how many of them are hit.
+/// How many points are found, and how many are hit.
 #[derive(Clone, Copy)]
 pub(crate) struct KindTally {
     pub found: u64,
@@ -25,8 +25,8 @@ impl KindTally {
     ghost use Rattle.covstore.specs.PointIndexDrops.{CanBeLess, IsLess};
     ghost use Rattle.covstore.specs.SoleTest.{found_by, hit_by};
 
-    /// The tally after a point's numbers grow. The point is newly found if it had no numbers before, and newly hit if it is hit now
-    /// and wasn't before.
+    /// Returns the tally after a point's counts grow from `before` to `after`. The point is newly found if `before` is `None`. The
+    /// point is newly hit if some test hits it in `after` but none in `before`.
     fn more(self, before: &Option<TestCounts>, after: &TestCounts) -> KindTally
         requires found { self.found < 2 ^ 63 }
         requires hit { self.hit < 2 ^ 63 }
@@ -42,7 +42,7 @@ impl KindTally {
         }
     }
 
-    /// The tally after a point is newly found, newly hit, or both. `None` changes nothing.
+    /// Returns the tally after a point is newly found, newly hit, or both. `None` changes nothing.
     pub(crate) fn with_change(self, change: Option<TestsAddend>) -> KindTally
         requires found { self.found < 2 ^ 63 }
         requires hit { self.hit < 2 ^ 63 }
@@ -58,7 +58,8 @@ impl KindTally {
         }
     }
 
-    /// The tally after the numbers of a run of points grow. `reports` lists the points that are newly found, newly hit, or both.
+    /// Returns the tally after the counts of several points grow. `reports` lists the points that are newly found, newly hit, or
+    /// both.
     pub(crate) fn with_reports<Q>(self, reports: &[(Q, TestsAddend)]) -> KindTally
         requires found { self.found + length reports.now ≤ 2 ^ 63 }
         requires hit { self.hit + length reports.now ≤ 2 ^ 63 }
@@ -73,14 +74,14 @@ impl KindTally {
         tally
     }
 
-    /// The tally after a point's numbers fall. If no test has the point any more, one point fewer is found. If the point was
-    /// hit and isn't hit any more, one point fewer is hit.
+    /// Returns the tally after a point's counts fall from `before` to `after`. If no test has the point any more, one point fewer
+    /// is found. If the point was hit and isn't hit any more, one point fewer is hit.
     fn less(self, before: &TestCounts, after: &Option<TestCounts>) -> KindTally
         requires { CanBeLess self before.now after.now }
         ensures { IsLess self before.now after.now result }
     {
-        // A point never becomes hit when its numbers fall. So if `stays_hit` is false, the point was hit before and isn't hit
-        // any more.
+        // A point never becomes hit when its counts fall. So if `stays_hit` is false, the point was hit before and isn't hit any
+        // more.
         let stays = after.is_some();
         let stays_hit = (before.hit.get() > 0) == TestCounts::is_hit(after);
         KindTally {
@@ -90,16 +91,16 @@ impl KindTally {
     }
 }
 
-/// A walk over the points of a test. `tally` is the tally without the test's points that the walk has passed. `place` is the slot
-/// to look at first for the next point.
+/// A walk over the points of a test. `tally` is the tally without this test's share in the points that the walk has passed. `place`
+/// is the slot that is tried first for the next point.
 #[derive(Clone, Copy)]
 pub(crate) struct TallyWalk {
     pub tally: KindTally,
     place: SlotIndex,
 }
 
-/// For each point of a kind, how many tests of a file have it, and how many have it with a value above 0. Both numbers are
-/// committed and staged. Contracts see the points with these numbers.
+/// The counts of a kind of points: how many tests of a file have each point, and how many tests hit the point (value above 0). Both
+/// counts of a point have a committed and a staged value. Contracts see the points with their counts.
 #[derive(Drop)]
 pub(crate) struct PointIndex<K: Key, A: Allocator> {
     counts: StagedMap<K, TestCounts, A>,
@@ -122,7 +123,8 @@ impl<K: Key, A: Allocator> Model for PointIndex<K, A> {
 impl<K: Key + Drop, A: Allocator + Copy> PointIndex<K, A> {
     ghost use Rattle.covstore.specs.PointIndex.{IsTallyOf};
 
-    /// An index of these counts. `totals` is the tally of the committed counts, and `staged_totals` the tally of the staged ones.
+    /// Makes an index of `counts`. `totals` is the tally of the committed counts, and `staged_totals` the tally of the staged
+    /// counts.
     pub(crate) fn of(
         counts: StagedMap<K, TestCounts, A>,
         totals: KindTally,
@@ -139,9 +141,8 @@ impl<K: Key + Drop, A: Allocator + Copy> PointIndex<K, A> {
         }
     }
 
-    /// Stages a test's change of a point's numbers. `None` changes nothing. `guess` is the point's slot in the test's map. The call
-    /// costs no search if the point has the same slot in this index. That is usual if the test has all points of the file, since
-    /// both maps then have the same keys.
+    /// Stages a test's change of a point's counts. `None` changes nothing. `guess` is the point's slot in the test's map. The point
+    /// is found without a search if it has the same slot in this index, as is usual if the test has all points of the file.
     pub(crate) fn add<Q: Query<K, A>>(
         &mut self,
         alloc: A,
@@ -169,7 +170,7 @@ impl<K: Key + Drop, A: Allocator + Copy> PointIndex<K, A> {
         Ok(())
     }
 
-    /// Stages a batch of changes to the counts of tests per point. Changes nothing that is staged if an allocation fails.
+    /// Stages a batch of changes to the counts of several points. A failed allocation may discard the staged values.
     pub(crate) fn add_run<Q: Query<K, A>>(
         &mut self,
         alloc: A,
@@ -212,7 +213,7 @@ impl<K: Key + Drop, A: Allocator + Copy> PointIndex<K, A> {
         self.staged_totals = self.totals;
     }
 
-    /// The staged tally: how many points are found, and how many of them are hit.
+    /// The staged tally: how many points are found, and how many are hit.
     pub(crate) fn staged(&self) -> KindTally
         ensures found { result.found ≡ found_of self.now.staged }
         ensures hit { result.hit ≡ hit_of self.now.staged }
@@ -220,7 +221,7 @@ impl<K: Key + Drop, A: Allocator + Copy> PointIndex<K, A> {
         self.staged_totals
     }
 
-    /// The committed tally: how many points are found, and how many of them are hit.
+    /// The committed tally: how many points are found, and how many are hit.
     pub(crate) fn committed(&self) -> KindTally
         ensures found { result.found ≡ found_of self.now.committed }
         ensures hit { result.hit ≡ hit_of self.now.committed }
@@ -235,8 +236,8 @@ impl<K: Key, A: Allocator> PointIndex<K, A> {
     ghost use Rattle.covstore.specs.PointIndex.{IsTallyOf};
     ghost use Rattle.covstore.specs.PointIndexDrops.{CanLose, IsTallyAt, counts_without};
 
-    /// Removes one test from a point's committed numbers. `was_above` says whether that test has the point above 0. Discards what
-    /// was staged.
+    /// Removes one test from the committed counts of a point, and discards the staged values. `was_above` says whether that test
+    /// hits the point. The index must have the point.
     pub(crate) fn take_test_off<Q: Query<K, A>>(&mut self, query: Q, was_above: bool)
         requires { CanLose was_above (value_of K.cmp (Q.named query) self.old.committed) }
         ensures committed { self.new.committed ≡ counts_without K.cmp (Q.named query) was_above self.old.committed }
@@ -250,7 +251,7 @@ impl<K: Key, A: Allocator> PointIndex<K, A> {
         }
     }
 
-    /// A walk that hasn't passed any point. Its tally is the committed one.
+    /// Returns a walk that hasn't passed any point. The walk's tally is the committed tally.
     pub(crate) fn walk(&self) -> TallyWalk
         ensures { IsTallyOf self.now.committed result.tally }
     {
@@ -260,7 +261,8 @@ impl<K: Key, A: Allocator> PointIndex<K, A> {
         }
     }
 
-    /// Passes a point. The returned walk's tally no longer counts one of the tests with the point. The index itself doesn't change.
+    /// Returns `walk` after one more point. The new tally counts one test fewer at that point. `was_above` says whether the test
+    /// hits the point. The index doesn't change.
     pub(crate) fn walk_without<Q: Query<K, A>>(
         &self,
         walk: TallyWalk,

@@ -6,8 +6,8 @@ use std::alloc::{AllocError, AllocFailed, Allocator, Global};
 /// Why a store rejects a submission.
 #[derive(Drop)]
 pub enum Refuse<A: Allocator = Global> {
-    /// Refusal 1: the submission has a checksum for this line of this file that differs from the held one, or from an earlier one
-    /// of the submission. So the two checksums come from two versions of the source file.
+    /// Refusal 1: for `line` of `file`, the submission has a checksum `given` that differs from the checksum `held` of the store or
+    /// of an earlier record. So the two checksums come from two versions of the source file.
     Clash {
         file: Bytes<A>,
         line: u64,

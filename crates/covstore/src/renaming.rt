@@ -1,4 +1,4 @@
-//! A rename that a store is prepared to do.
+//! A rename that a store is prepared to perform.
 
 use std::alloc::{Allocator, Global};
 use std::marker::Model;
@@ -23,7 +23,8 @@ impl<A: Allocator> Model for Renaming<A> {
 impl<A: Allocator> Renaming<A> {
     ghost use Rattle.std.specs.Prelude.{◌≡◌, Some, None, option_map};
 
-    /// A rename that changes nothing, since the old test has no row, or both names are the same.
+    /// Returns a rename that changes nothing, since both names are equal, or no file has points of the old test. `sections` is the
+    /// number of sections of the old test.
     pub(crate) fn none(sections: u64) -> Renaming<A>
         ensures sections { result.sections ≡ sections }
         ensures leaves { result.leaves ≡ None }
@@ -34,7 +35,7 @@ impl<A: Allocator> Renaming<A> {
         }
     }
 
-    /// A rename whose commit drops the old test. `leaves` is the old test's name. After the commit, the test's values are under
+    /// Returns a rename whose commit drops the old test. `leaves` is the old test's name. The test's values must be staged under
     /// the new name.
     pub(crate) fn of(sections: u64, leaves: Vec<u8, A>) -> Renaming<A>
         ensures sections { result.sections ≡ sections }

@@ -82,7 +82,7 @@ impl<'a, A: Allocator + Copy> Runs<'a, A> {
     }
 }
 
-/// Splits these items into runs.
+/// Splits `items` by kind into runs.
 pub(crate) fn runs_in<'a, A: Allocator + Copy>(
     alloc: A,
     items: &PackedItems<'a>,
@@ -96,7 +96,7 @@ pub(crate) fn runs_in<'a, A: Allocator + Copy>(
     Ok(runs)
 }
 
-/// Stages runs, each at the points of its kind.
+/// Stages the run of each kind of points, in the test and in the file's index.
 pub(crate) fn stage_runs<'a, A: Allocator + Copy>(
     test: &mut Test<A>,
     index: &mut FileIndex<A>,
@@ -113,8 +113,7 @@ pub(crate) fn stage_runs<'a, A: Allocator + Copy>(
     ensures held { OnOk result (KeepsHeld (index_staged index.old) (index_staged index.new)) }
 {
     stage_whole_run(&mut test.lines, &mut index.lines, alloc, &runs.lines)?;
-    // A tracefile usually has functions in the order of their lines, and the map in the order of their names. So staging functions
-    // one by one is faster.
+    // A tracefile usually lists functions by line, but the map orders them by name. So staging functions one by one is faster.
     stage_one_by_one(
         &mut test.functions,
         &mut index.functions,
@@ -130,7 +129,7 @@ pub(crate) fn stage_runs<'a, A: Allocator + Copy>(
     Ok(())
 }
 
-/// Stages items without checksums, in the section's order.
+/// Stages items in the section's order. No item may have a checksum.
 pub(crate) fn stage_as_they_are<A: Allocator + Copy>(
     test: &mut Test<A>,
     index: &mut FileIndex<A>,

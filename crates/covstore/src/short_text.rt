@@ -1,4 +1,4 @@
-//! A text that usually needs no memory besides the value itself.
+//! Texts. A short text is stored in place, without an allocation.
 
 ghost use Rattle.std.specs.Prelude.{◌≡◌, ◌≤◌, IfOk, length};
 
@@ -6,10 +6,10 @@ use covline::{Bytes, Memory};
 use std::alloc::Allocator;
 use std::marker::Model;
 
-/// How many bytes fit in place. A checksum of geninfo(1) has 22.
+/// The length of the longest text that is stored in place. A checksum of geninfo(1) has 22 bytes.
 const ROOM: usize = 23;
 
-/// At most 23 bytes. Contracts see the bytes.
+/// A text of at most 23 bytes, stored in place. Contracts see the bytes.
 #[derive(Drop)]
 struct InPlace {
     bytes: [u8; ROOM],
@@ -26,7 +26,7 @@ impl Model for InPlace {
 }
 
 impl InPlace {
-    /// A copy of the slice.
+    /// Copies `text`.
     fn of(text: &[u8]) -> InPlace
         requires { length text.now ≤ 23 }
         ensures { result ≡ text.now }
@@ -39,7 +39,7 @@ impl InPlace {
         }
     }
 
-    /// The bytes.
+    /// The bytes of the text.
     fn get(&self) -> &[u8]
         ensures { result.now ≡ self.now }
     {
@@ -52,11 +52,11 @@ impl InPlace {
 enum Form<A: Allocator> {
     /// In place.
     Short(InPlace),
-    /// In memory of their own.
+    /// In an allocation of their own.
     Long(Bytes<A>),
 }
 
-/// A text that owns its bytes. Up to 23 bytes are stored in place, without further memory. Contracts see the bytes.
+/// A text that owns its bytes. Up to 23 bytes are stored in place, without an allocation. Contracts see the bytes.
 #[derive(Drop)]
 pub(crate) struct ShortText<A: Allocator> {
     form: Form<A>,
@@ -72,7 +72,7 @@ impl<A: Allocator> Model for ShortText<A> {
 }
 
 impl<A: Allocator> ShortText<A> {
-    /// A copy of the slice.
+    /// Copies `text`.
     pub(crate) fn of(alloc: A, text: &[u8]) -> Result<ShortText<A>, Memory>
         ensures { IfOk result (λ copy. copy ≡ text.now) }
     {
@@ -86,7 +86,7 @@ impl<A: Allocator> ShortText<A> {
         })
     }
 
-    /// The bytes.
+    /// The bytes of the text.
     pub(crate) fn get(&self) -> &[u8]
         ensures { result.now ≡ self.now }
     {
@@ -97,5 +97,5 @@ impl<A: Allocator> ShortText<A> {
     }
 }
 
-// As long as `Bytes`, so both forms have the same size.
+// An `InPlace` is as large as a `Bytes`, so both forms have the same size.
 const _: () = prove!(size_of::<InPlace>() <= 24);

@@ -1,4 +1,4 @@
-//! The tallies of a kind of points while their file has at most one test.
+//! The tallies of a kind of points in a file that has at most one test.
 
 ghost use Rattle.std.specs.Prelude.{◌≡◌, ◌+◌, ◌<◌, ◌≤◌, ◌^◌, length, count_by, IfOk};
 ghost use Rattle.covstore.specs.PointIndexCounts.{found_of, hit_of};
@@ -11,8 +11,8 @@ use std::alloc::{AllocError, Allocator};
 use std::marker::Model;
 use std::snapshot::Snapshot;
 
-/// The tallies of a kind of points of a file that has at most one test. The points and their counts aren't stored: the test has the
-/// points, and each of them counts once. Contracts see the test's points as of the last `follow`, `follow_run`, `commit` or
+/// The tallies of a kind of points in a file that has at most one test. The points are stored only in the test, and no counts are
+/// stored, since each point counts once. Contracts see the test's points as of the last `follow`, `follow_run`, `commit` or
 /// `rollback`.
 #[derive(Drop)]
 pub(crate) struct SoleTest<K: Key, S: PointSum, A: Allocator> {
@@ -49,8 +49,8 @@ impl<K: Key, S: PointSum, A: Allocator> SoleTest<K, S, A> {
         }
     }
 
-    /// Follows the test after an item was staged at one of its points. `change` is the change of the point's numbers; `None` is no
-    /// change.
+    /// Updates the staged tally after an item was staged in the test. `points` are the test's points. `change` is the change of the
+    /// item's point; `None` changes nothing.
     pub(crate) fn follow(&mut self, points: &StagedMap<K, S, A>, change: Option<TestsAddend>)
         requires few { length (counts_of S.above self.old.staged) < 2 ^ 63 }
         requires committed { points.now.committed ≡ self.old.committed }
@@ -62,7 +62,8 @@ impl<K: Key, S: PointSum, A: Allocator> SoleTest<K, S, A> {
         self.staged_totals = self.staged_totals.with_change(change);
     }
 
-    /// Follows the test after a run of items was staged at its points. `changes` are the changes of the points' numbers.
+    /// Updates the staged tally after a run of items was staged in the test. `points` are the test's points. `changes` are the
+    /// changes of the items' points.
     pub(crate) fn follow_run<Q>(
         &mut self,
         points: &StagedMap<K, S, A>,
@@ -78,7 +79,7 @@ impl<K: Key, S: PointSum, A: Allocator> SoleTest<K, S, A> {
         self.staged_totals = self.staged_totals.with_reports(changes);
     }
 
-    /// Follows the test after its points were committed.
+    /// Commits the staged tally after the test's points were committed.
     pub(crate) fn commit(&mut self, points: &StagedMap<K, S, A>)
         requires { points.now ≡ after_commit self.old }
         ensures { self.new ≡ points.now }
@@ -87,7 +88,7 @@ impl<K: Key, S: PointSum, A: Allocator> SoleTest<K, S, A> {
         self.totals = self.staged_totals;
     }
 
-    /// Follows the test after its points were rolled back.
+    /// Discards the staged tally after the test's points were rolled back.
     pub(crate) fn rollback(&mut self, points: &StagedMap<K, S, A>)
         requires { points.now ≡ after_rollback self.old }
         ensures { self.new ≡ points.now }
@@ -114,7 +115,7 @@ impl<K: Key, S: PointSum, A: Allocator> SoleTest<K, S, A> {
 }
 
 impl<K: CopyKey<A> + Drop, S: PointSum, A: Allocator + Copy> SoleTest<K, S, A> {
-    /// An index of the points of the test, each counted once.
+    /// Makes an index in which each of the test's points counts once. `points` must be the test's points as of the last update.
     ///
     /// # Errors
     ///

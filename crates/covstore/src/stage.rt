@@ -1,4 +1,4 @@
-//! Stages the items of a section beside the committed values, in their test and in the file's index.
+//! Stages the items of a section beside the committed values, in the section's test and in the file's index.
 
 mod by_line;
 pub(crate) mod copied;

@@ -28,7 +28,7 @@ use std::alloc::{Allocator, Global};
 use std::collections::BTreeMap;
 use std::marker::Model;
 
-/// A test in which something is staged, and the test's file.
+/// A test with staged values, and the test's file.
 #[derive(Drop)]
 pub(crate) struct Touched<A: Allocator> {
     file: Path<A>,
@@ -39,7 +39,7 @@ impl<A: Allocator + Copy> Touched<A> {
     ghost use Rattle.std.specs.Prelude.{◌≡◌, ◌≢◌, ℕ, List, ◌++◌, [], ◌∷◌, OnErr, OnOk};
     ghost use Rattle.covstore.specs.StoreView.{touched_data};
 
-    /// Appends a test to the list of tests in which something is staged.
+    /// Appends the test `test` of `file` to `touched`, the list of tests with staged values.
     fn push(
         touched: &mut Vec<Touched<A>, A>,
         alloc: A,
@@ -57,7 +57,7 @@ impl<A: Allocator + Copy> Touched<A> {
         Ok(())
     }
 
-    /// The file of the last of these tests.
+    /// Returns the file of the last test in `touched`, which must not be empty.
     fn last_file(touched: &[Touched<A>]) -> &Path<A>
         requires { touched.now ≢ [] }
         ensures { (front : List (List ℕ × List ℕ)) (file test : List ℕ) → touched_data touched.now ≡ front ++ (file, test) ∷ [] → result.now.items ≡ file }
@@ -69,7 +69,7 @@ impl<A: Allocator + Copy> Touched<A> {
     }
 }
 
-/// Commits what is staged in each of these tests and in their files' indexes, and empties the list of tests.
+/// Commits the staged values of the tests in `touched` and of their files' indexes, and empties `touched`.
 fn commit_staged<A: Allocator + Copy>(
     files: &mut BTreeMap<Path<A>, Boxed<File<A>, A>, A>,
     touched: &mut Vec<Touched<A>, A>,
@@ -87,8 +87,8 @@ fn commit_staged<A: Allocator + Copy>(
     }
 }
 
-/// Stages the items of a test of a file, and returns the file's staged totals before and after. Looks the file up once, and
-/// adds the file if the store doesn't have it.
+/// Stages `items` for the test `test` of `file`. Returns the file's staged totals before and after the call. Adds the file if the
+/// store doesn't have it.
 fn stage_in_files<A: Allocator + Copy>(
     files: &mut BTreeMap<Path<A>, Boxed<File<A>, A>, A>,
     alloc: A,
@@ -110,8 +110,8 @@ fn stage_in_files<A: Allocator + Copy>(
     stage_in_new_file(files, alloc, name, test, items)
 }
 
-/// Stages the items of a test of a file that the store doesn't have, and adds the file. Returns the file's staged totals before
-/// and after.
+/// Adds `file`, which the store must not have yet, and stages `items` for its test `test`. Returns the file's staged totals before
+/// and after the call.
 fn stage_in_new_file<A: Allocator + Copy>(
     files: &mut BTreeMap<Path<A>, Boxed<File<A>, A>, A>,
     alloc: A,
@@ -133,10 +133,9 @@ fn stage_in_new_file<A: Allocator + Copy>(
     Ok(totals)
 }
 
-/// A store of submissions, with their merged counts: for each file and each of its tests, the value of every line, function and
-/// branch. A store has at most 1,048,576 submissions. Dropping or renaming a test changes its rows in all submissions. Contracts
-/// see the committed values as sections, the number of submissions, the committed files, and the files and totals after the next
-/// commit.
+/// The merged counts of at most 1,048,576 submissions: for each file and each test of the file, the value of every line, function
+/// and branch. Dropping or renaming a test changes the test's points in all submissions. Contracts see the committed values as
+/// sections, the number of submissions, the committed files, and the files and totals after the next commit.
 #[derive(Drop)]
 pub struct Store<A: Allocator = Global> {
     files: BTreeMap<Path<A>, Boxed<File<A>, A>, A>,
@@ -177,7 +176,7 @@ impl<A: Allocator + Copy> Store<A> {
     ghost use Rattle.covstore.specs.Totals.{AreTotals, totals_of};
     ghost use Rattle.covstore.specs.Without.{sections_of_test, without_test};
 
-    /// An empty store. Never allocates.
+    /// Returns an empty store. Never allocates.
     pub fn new(alloc: A) -> Store<A>
         ensures { StandsFor result [] }
     {
@@ -190,15 +189,15 @@ impl<A: Allocator + Copy> Store<A> {
         }
     }
 
-    /// Prepares to add the submission. The content of the store doesn't change. The parts of a plan are private. The caller knows
-    /// that the submission clashes with no table that the store represents, which totals the store will have, and that the plan is
-    /// made for the store as this call leaves it, which `commit` requires.
+    /// Prepares to add `submission`, and returns a plan for `commit`. The content of the store doesn't change. By the contract of
+    /// `Ok`, no checksum of the submission clashes, the plan has the totals that the store will have after `commit`, and the plan
+    /// belongs to the store as this call leaves it.
     ///
     /// # Errors
     ///
-    /// `Clash` with the first checksum of the submission that differs from the held one of its line, or from an earlier one of the
-    /// submission. `Memory` if an allocation failed. No contract can promise that memory suffices, so a clashing submission may
-    /// also fail with `Memory`. A submission without a row always succeeds, since it allocates nothing.
+    /// `Clash` with the first checksum of the submission that differs from the checksum that the store, or an earlier record of the
+    /// submission, has for the same line. `Memory` if an allocation failed, even if the submission also clashes. A submission
+    /// without items always succeeds, since it allocates nothing.
     pub fn prepare(&mut self, alloc: A, submission: &Submission<A>) -> Result<Plan, Refuse<A>>
         requires { self.old.members < max_members }
         ensures content { SameContent self.old self.new }
@@ -209,7 +208,7 @@ impl<A: Allocator + Copy> Store<A> {
         ensures some { OnErr result (rows_of submission.now ≢ []) }
     {
         if submission.items() == 0 {
-            // Packs nothing, so nothing is allocated.
+            // `pack` might allocate, so a submission without items isn't packed.
             let nothing = PackedSubmission::of_lawful(PackedSects::new(alloc), 0);
             return self.prepare_packed(alloc, &nothing);
         }
@@ -237,7 +236,7 @@ impl<A: Allocator + Copy> Store<A> {
     {
         // Proof only: the contract of `kept` bounds the number of committed rows.
         self.kept();
-        // A dropped plan or renaming may have left values staged.
+        // A plan or renaming that was never committed may have left staged values.
         self.rollback();
         let added = self.add_all(alloc, submission.sects());
         match added {
@@ -249,7 +248,7 @@ impl<A: Allocator + Copy> Store<A> {
         }
     }
 
-    /// Adds the planned submission. The store must be as `prepare` left it. Never allocates.
+    /// Adds the submission of `plan`. The store must be as `prepare` left it. Never allocates.
     pub fn commit(&mut self, plan: Plan)
         requires { (s : SubmissionData) × IsPlanOf self.old s plan }
         ensures stands { (s : SubmissionData) (table : Table) → IsPlanOf self.old s plan → StandsFor self.old table → StandsFor self.new (table ++ rows_of s ∷ []) }
@@ -260,11 +259,11 @@ impl<A: Allocator + Copy> Store<A> {
         self.members += 1;
     }
 
-    /// Prepares to give the rows of the test `old` the name `new`, which may be the name of another test. The content of the store
-    /// doesn't change. The parts of a renaming are private. The caller knows the number of sections of the old test, and that the
-    /// renaming is made for the store as this call leaves it, which `commit_rename` requires. The rename does nothing if the old
-    /// test has no row, or if both names are the same. Otherwise, the call stages each of the old test's points, after looking the
-    /// test up in each file.
+    /// Prepares to rename the test `old` to `new`, and returns a renaming for `commit_rename`. The content of the store doesn't
+    /// change. If another test is named `new`, the commit will merge both tests. If no file has points of `old`, or if both names
+    /// are equal, the commit will change nothing. The call looks `old` up in each file, and stages all points that the commit will
+    /// move. By the contract of `Ok`, the renaming has the number of sections of `old`, and belongs to the store as this call
+    /// leaves it.
     ///
     /// # Errors
     ///
@@ -281,7 +280,7 @@ impl<A: Allocator + Copy> Store<A> {
         ensures apart { OnErr result (old.now ≢ new.now) }
         ensures some { OnErr result ((table : Table) → StandsFor self.old table → sections_of_test old.now table ≢ 0) }
     {
-        // A dropped plan or renaming may have left values staged.
+        // A plan or renaming that was never committed may have left staged values.
         self.rollback();
         if old == new {
             return Ok(Renaming::none(count_sections(&self.files, old)));
@@ -300,8 +299,8 @@ impl<A: Allocator + Copy> Store<A> {
         }
     }
 
-    /// Gives the rows of the old test their new name. The store must be as `prepare_rename` left it. A point with rows of both
-    /// names gets the sum of all these rows as its value. The totals don't change. Never allocates.
+    /// Performs the prepared rename. The store must be as `prepare_rename` left it. If both tests have a point, the two values are
+    /// added up. The totals don't change. Never allocates.
     pub fn commit_rename(&mut self, renaming: Renaming<A>)
         requires { (old new : List ℕ) × IsRenamingOf self.old old new renaming }
         ensures stands { (old new : List ℕ) (table : Table) → IsRenamingOf self.old old new renaming → StandsFor self.old table → StandsFor self.new (renamed old new table) }
@@ -312,14 +311,14 @@ impl<A: Allocator + Copy> Store<A> {
         }
     }
 
-    /// The committed totals. The contract says that the committed files are the state of the rows of some table.
+    /// Returns the committed totals. Proofs use the contract: the committed files are the state of the rows of some table.
     fn kept(&self) -> Totals
         ensures { IsKept self.now result }
     {
         self.totals
     }
 
-    /// The staged totals: those after the next commit.
+    /// Returns the staged totals, which are the totals after the next commit.
     fn after(&self) -> Totals
         ensures { result ≡ self.now.after }
     {
@@ -370,7 +369,7 @@ impl<A: Allocator + Copy> Store<A> {
         self.stage_items(alloc, sect.file, sect.test, &sect.items)
     }
 
-    /// Stages the items of a test of a file, and lists the test as one in which something is staged.
+    /// Stages `items` for the test `test` of `file`, and appends this test to the list of tests with staged values.
     fn stage_items(
         &mut self,
         alloc: A,
@@ -390,8 +389,8 @@ impl<A: Allocator + Copy> Store<A> {
         Ok(())
     }
 
-    /// Stages the values of the test `old` as items of the test `new`, in each of the files `names`. These are the files in which
-    /// `old` has points.
+    /// Stages the values of the test `old` as items of the test `new`, in each file of `names`. `names` must be the files with
+    /// points of `old`.
     fn copy_all(
         &mut self,
         alloc: A,
@@ -413,8 +412,8 @@ impl<A: Allocator + Copy> Store<A> {
         Ok(())
     }
 
-    /// Stages the values of the test `old` as items of the test `new`, in a file in which `old` has points. Lists `new` as a test
-    /// in which something is staged.
+    /// Stages the values of the test `old` as items of the test `new` in `file`, and appends `new` to the list of tests with staged
+    /// values. The file must have points of `old`.
     fn copy_file(&mut self, alloc: A, file: &[u8], old: &[u8], new: &[u8]) -> Result<(), Memory>
         requires apart { old.now ≢ new.now }
         requires room { HasRoomToCopy file.now old.now self.old }
@@ -429,8 +428,8 @@ impl<A: Allocator + Copy> Store<A> {
         opened.get_mut().copy_test(alloc, old, new)
     }
 
-    /// Whether the store has a section, and so a row, of this test. Looks the test up in one file after another, up to the first
-    /// file in which it has points. Never allocates.
+    /// Whether the store has a section of this test. Looks the test up in one file after another, up to the first file in which the
+    /// test has points. Never allocates.
     pub fn has_test(&self, test: &[u8]) -> bool
         ensures value { result ≡ list_any (λ s. bytes_eq s.key.test test.now) self.now.sections }
         ensures rows { (table : Table) → StandsFor self.now table → result ≡ list_any (λ row. bytes_eq row.test test.now) (all_rows table) }
@@ -438,7 +437,7 @@ impl<A: Allocator + Copy> Store<A> {
         self.files.values().any(|file| file.get().has_test(test))
     }
 
-    /// The number of sections of the test, and the totals that the store would have after `drop_test`. Never allocates.
+    /// Returns the number of sections of the test, and the totals that the store would have after `drop_test`. Never allocates.
     pub fn after_drop(&self, test: &[u8]) -> (u64, Totals)
         ensures sections { (table : Table) → StandsFor self.now table → result.0 ≡ sections_of_test test.now table }
         ensures totals { (table : Table) → StandsFor self.now table → result.1 ≡ totals_of (content_at (without_test test.now table)) }
@@ -447,12 +446,13 @@ impl<A: Allocator + Copy> Store<A> {
         count_without(&self.files, test)
     }
 
-    /// Drops all rows of a test. The points of other tests stay. Returns the number of sections that the test had. Never allocates.
+    /// Drops a test with its points. Other tests keep their points. Returns the number of sections that the dropped test had. Never
+    /// allocates.
     pub fn drop_test(&mut self, test: &[u8]) -> u64
         ensures sections { (table : Table) → StandsFor self.old table → result ≡ sections_of_test test.now table }
         ensures stands { (table : Table) → StandsFor self.old table → StandsFor self.new (without_test test.now table) }
     {
-        // A dropped plan or renaming may have left values staged.
+        // A plan or renaming that was never committed may have left staged values.
         self.rollback();
         let sections = count_sections(&self.files, test);
         drop_from_files(&mut self.files, test);
@@ -470,14 +470,16 @@ impl<A: Allocator + Copy> Store<A> {
         self.totals
     }
 
-    /// The files with a row, ascending by path, each with its totals over all tests. Never allocates.
+    /// Returns an iterator over the files that have points, ascending by path, each with its totals over all tests. Never
+    /// allocates.
     pub fn files(&self) -> Files<'_, A>
         ensures { result ≡ files_with_totals self.now.sections }
     {
         Files::of(self.files.iter())
     }
 
-    /// The sections of the files and tests with a row, ascending by file and then by test. Never allocates.
+    /// Returns an iterator over the sections, ascending by file and then by test. A section is a test of a file, with at least one
+    /// point. Never allocates.
     pub fn sections(&self) -> Sections<'_, A>
         ensures { result ≡ self.now.sections }
     {

@@ -1,4 +1,5 @@
-//! The sum of a test's items at a point of a file, and how many tests of the file have the point. A sum saturates at 2^128 - 1.
+//! The values of a point of a file: the sum of a test's items at the point, and how many tests have the point. A sum saturates at
+//! 2^128 - 1.
 
 ghost use Rattle.std.specs.Prelude.{◌≡◌, Bool, true, Option};
 ghost use Rattle.std.proofs.Common.{refl};
@@ -14,7 +15,7 @@ use crate::packed_u64::PackedU64;
 use crate::packed_u128::PackedU128;
 use covmap::{Addend, Image, ReportingAddend, Value};
 
-/// A value of a point: either the sum of a test's items there, or how many tests have the point (`TestCounts`).
+/// A value of a point: either the sum of a test's items at the point, or how many tests have the point (`TestCounts`).
 pub(crate) trait PointSum: Value {
     ghost above: { Self → Bool };
 
@@ -23,8 +24,8 @@ pub(crate) trait PointSum: Value {
         ensures { result ≡ above self.now };
 }
 
-/// The amount that an item adds to the sum at a point. A sum above 0 stays above 0. The report is the change of the point's numbers
-/// in the index.
+/// The amount that an item adds to the sum at a point. A sum above 0 stays above 0. `report` returns the change of the point's
+/// counts in the index.
 pub(crate) trait PointAddend<S: PointSum>: ReportingAddend<S, TestsAddend> {
     ghost always_fits: { (more : Self) (before : Option S) → Self.fits more before };
 
@@ -33,7 +34,7 @@ pub(crate) trait PointAddend<S: PointSum>: ReportingAddend<S, TestsAddend> {
     ghost tells: { (more : Self) (before : Option S) (after : S) → Self.reports more before after ≡ change_of S.above before after };
 }
 
-/// Whether there is a sum, and it is above 0.
+/// Whether `value` is a sum above 0.
 fn is_hit<S: PointSum>(value: &Option<S>) -> bool
     ensures { result ≡ is_above_at S.above value.now }
 {
@@ -196,8 +197,8 @@ impl PointAddend<BranchSum> for BranchAddend {
     ghost tells = { λ more before after. refl };
 }
 
-/// One test's change of a point's numbers of tests. `is_new`: one more test has the point. `is_hit`: one more test has it with a
-/// value above 0.
+/// A test's change of a point's `TestCounts`. `is_new`: one more test has the point. `is_hit`: one more test hits the point (value
+/// above 0).
 #[derive(Clone, Copy)]
 pub(crate) struct TestsAddend {
     pub is_new: bool,
@@ -205,8 +206,8 @@ pub(crate) struct TestsAddend {
 }
 
 impl TestsAddend {
-    /// The change of a point's numbers when a test's sum there changes from `before` to `after`. Returns `None` if neither number
-    /// changes.
+    /// Returns the change of a point's `TestCounts` when a test's sum at the point changes from `before` to `after`, or `None` if
+    /// they don't change.
     pub(crate) fn of<S: PointSum>(before: &Option<S>, after: &S) -> Option<TestsAddend>
         ensures { result ≡ change_of S.above before.now after.now }
     {
@@ -240,7 +241,7 @@ impl Addend<TestCounts> for TestsAddend {
     }
 }
 
-/// Reports whether the point is new in the file, and whether some test has it above 0 for the first time.
+/// Reports whether the point is new in the file, and whether a test hits the point for the first time.
 impl ReportingAddend<TestCounts, TestsAddend> for TestsAddend {
     ghost reports = { λ more before after. change_of is_hit_by_some before after };
 
@@ -249,7 +250,7 @@ impl ReportingAddend<TestCounts, TestsAddend> for TestsAddend {
     }
 }
 
-/// How many tests of a file have a point, and how many have it above 0.
+/// How many tests of a file have a point, and how many tests hit the point (value above 0).
 #[derive(Drop)]
 pub(crate) struct TestCounts {
     pub tests: PackedU64,
@@ -259,7 +260,7 @@ pub(crate) struct TestCounts {
 impl TestCounts {
     ghost use Rattle.covstore.specs.PointIndexDrops.{HaveOne, fewer_tests, is_hit};
 
-    /// Whether some test has the point above 0.
+    /// Whether some test hits the point.
     pub(crate) fn is_hit(value: &Option<TestCounts>) -> bool
         ensures { result ≡ is_hit value.now }
     {
@@ -269,8 +270,8 @@ impl TestCounts {
         }
     }
 
-    /// The numbers without one test. Returns `None` if that test was the only one. `was_above` says whether it had the point above
-    /// 0.
+    /// Returns the counts without one test, or `None` if that test was the only one. `was_above` says whether that test hit the
+    /// point.
     pub(crate) fn fewer(&self, was_above: bool) -> Option<TestCounts>
         requires { HaveOne was_above self.now }
         ensures { result ≡ fewer_tests was_above self.now }
@@ -329,7 +330,7 @@ impl Value for TestCounts {
     }
 }
 
-/// Makes the numbers of a point that only one test has, from the sum that the test has there.
+/// Makes the counts of a point that only one test has, from that test's sum at the point.
 impl<S: PointSum> Image<S> for TestCounts {
     ghost image = { λ sum. count_of_one S.above sum };
 
@@ -376,7 +377,7 @@ impl PointSum for TestCounts {
 }
 
 impl LineSum {
-    /// Whether the line has a sum, and the sum has a checksum.
+    /// Whether `value` is a sum that has a checksum.
     pub(crate) fn is_checked(value: &Option<LineSum>) -> bool
         ensures { result ≡ is_above_at has_checksum value.now }
     {

@@ -1,4 +1,4 @@
-//! A test of a file: its points of each kind, each with the sum of the test's items there.
+//! A test of a file: its points of each kind. The value of a point is the sum of the test's items at the point.
 
 ghost use Rattle.std.specs.Prelude.{◌≡◌, []};
 
@@ -7,7 +7,7 @@ use crate::sums::{BranchSum, FunctionSum, LineSum};
 use covmap::StagedMap;
 use std::alloc::Allocator;
 
-/// The points of a test of a file, committed and staged.
+/// The committed and staged points of a test of a file.
 #[derive(Drop)]
 pub(crate) struct Test<A: Allocator> {
     pub lines: StagedMap<u64, LineSum, A>,

@@ -26,12 +26,12 @@ pub(crate) enum Held<A: Allocator> {
     None,
     /// One test.
     One(OnlyTest<A>),
-    /// Tests by their names. A file that had two tests keeps its map, so there may be one test here, or none.
+    /// Tests by name. A file that once had two tests keeps its map, so the map may have one test, or none.
     Many(BTreeMap<Vec<u8, A>, Boxed<Test<A>, A>, A>),
 }
 
 /// The tests of a file, by name. Most files have one test, and a map node has capacity for fifteen. So the first test is stored in
-/// place until a second one is added. Contracts see the tests with their names, ascending.
+/// place until a second one is added. Contracts see the tests with their names, in ascending order of the names.
 #[derive(Drop)]
 pub(crate) struct Tests<A: Allocator> {
     held: Held<A>,
@@ -47,7 +47,7 @@ impl<A: Allocator> Model for Tests<A> {
 }
 
 impl<A: Allocator> Tests<A> {
-    /// No tests. Never allocates.
+    /// Returns an empty set of tests. Never allocates.
     pub(crate) fn new() -> Tests<A>
         ensures { result.entries ≡ [] }
     {
@@ -103,7 +103,7 @@ impl<A: Allocator> Tests<A> {
         }
     }
 
-    /// The test of this name, mutable. Proofs also learn that the names ascend (`ordered`).
+    /// The test of this name, mutable. By the clause `ordered`, the names ascend.
     pub(crate) fn get_mut(&mut self, name: &[u8]) -> Option<&mut Boxed<Test<A>, A>>
         ensures* writes_back { sem 𝓛 (lends_test A.row A.Allocator self.entry name.now result) }
         ensures value { option_map (λ points. points.now) result ≡ lookup (is_at (λ other. slice_cmp nat_cmp name.now other.items)) self.old.entries }
@@ -144,7 +144,7 @@ impl<A: Allocator + Copy> Tests<A> {
         }
     }
 
-    /// Replaces the content by `tests` and one more test. If an allocation fails, the content is `tests` alone.
+    /// Replaces all tests by `tests` and the test `name`. If an allocation fails, only `tests` remain.
     fn hold_with(
         &mut self,
         mut tests: BTreeMap<Vec<u8, A>, Boxed<Test<A>, A>, A>,

@@ -1,11 +1,11 @@
-//! How many lines, functions and branches there are in all files, and how many of them are hit.
+//! Totals: how many lines, functions and branches are found, and how many are hit.
 
 ghost use Rattle.std.specs.Prelude.{◌≡◌};
 ghost use Rattle.covstore.specs.FilesView.{finds_nothing};
 ghost use Rattle.covstore.specs.TotalsExchanged.{FitTogether, IsAmong, exchanged, no_totals, together};
 
-/// The totals of a store (geninfo(1): `LF:`, `LH:`, `FNF:`, `FNH:`, `BRF:`, `BRH:`). A point of a file is counted once, however
-/// many tests have it. The point is hit if some test has it with a value above 0.
+/// The totals of a store or a file (geninfo(1): `LF:`, `LH:`, `FNF:`, `FNH:`, `BRF:`, `BRH:`). A point of a file is counted once,
+/// however many tests have it. A point is hit if its value in some test is above 0.
 #[derive(Clone, Copy, Debug, Default, PartialEq, Eq)]
 pub struct Totals {
     /// Lines found.
@@ -23,7 +23,7 @@ pub struct Totals {
 }
 
 impl Totals {
-    /// The totals of nothing: all 0.
+    /// Returns totals that are all 0.
     pub(crate) fn none() -> Totals
         ensures { result ≡ no_totals }
     {
@@ -44,7 +44,7 @@ impl Totals {
         self.lf == 0 && self.ff == 0 && self.bf == 0
     }
 
-    /// Replaces the part `before` of these totals by `after`.
+    /// Returns these totals with the part `before` replaced by `after`.
     pub(crate) fn exchanged(self, before: Totals, after: Totals) -> Totals
         requires part { IsAmong before self }
         requires fits { FitTogether after self }
@@ -60,7 +60,7 @@ impl Totals {
         }
     }
 
-    /// The sum of these totals and others.
+    /// Returns the sum of these totals and `more`.
     pub(crate) fn plus(self, more: Totals) -> Totals
         requires { FitTogether more self }
         ensures { result ≡ together self more }

@@ -1,5 +1,5 @@
-//! The points of a section, each with its value: the sum of all rows of the section's file and test there. A sum saturates at 2^128
-//! - 1.
+//! The points of a section, each with its value. A value is the sum of the point's items in the section's file and test, and
+//! saturates at 2^128 - 1.
 
 /// A function with its least start line and the sum of its execution counts (geninfo(1): `FN:`, `FNDA:`).
 #[derive(Clone, Copy)]
@@ -18,7 +18,7 @@ pub struct BranchValue {
     pub taken: Option<u128>,
 }
 
-/// A line with the sum of its execution counts, and the checksum of its text if a row has one (geninfo(1): `DA:`).
+/// A line with the sum of its execution counts, and the line's checksum if some item has one (geninfo(1): `DA:`).
 #[derive(Clone, Copy)]
 pub struct LineValue<'a> {
     pub line: u64,

@@ -1,5 +1,5 @@
-//! Tests of the store, of its map, and of printing it (covstore, covmap, covreport): their public calls with ample memory, and what
-//! no session reaches. This crate has nothing but its tests.
+//! Tests of the store, of its map and of its reports (covstore, covmap, covreport): public calls with ample memory, and cases that
+//! no session reaches. This crate has only tests.
 #![tactic(auto)]
 
 #[cfg(test)]

@@ -1,4 +1,4 @@
-//! The store and its texts. Expected values were worked out by hand from the formats.
+//! The store and its reports. Expected values were worked out by hand from the formats.
 
 use std::process::Abort;
 use std::test::*;
@@ -18,8 +18,8 @@ mod shuffled;
 mod texts;
 mod wrappers;
 
-/// Checks that the bytes are as expected. The tests call this, since a comparison in a test's own body would be a part of that
-/// test's proof.
+/// Checks that `given` equals `wanted`. The tests call this, since a comparison in a test's own body would be a part of that test's
+/// proof.
 fn check_bytes(rt: &impl Abort, given: &[u8], wanted: &[u8]) {
     assert_eq!(rt; given, wanted);
 }

@@ -8,7 +8,7 @@ use covmap::{Entries, SlotIndex};
 use std::alloc::{Allocator, Global};
 use std::marker::Model;
 
-/// An iterator over the functions of a section, ascending by the bytes of their names. Contracts see those that are left.
+/// An iterator over the functions of a section, ascending by the bytes of their names. Contracts see the functions that are left.
 #[derive(Drop)]
 pub struct Functions<'a, A: Allocator = Global> {
     rest: Entries<'a, FunctionName<A>, FunctionSum, A>,
@@ -28,7 +28,7 @@ impl<'a, A: Allocator> Functions<'a, A> {
     ghost use Rattle.std.specs.Prelude.{◌≡◌, map};
     ghost use Rattle.covstore.specs.State.{function_seen};
 
-    /// An iterator over these functions.
+    /// Returns an iterator over the functions in `rest`.
     pub(super) fn of(rest: Entries<'a, FunctionName<A>, FunctionSum, A>) -> Functions<'a, A>
         ensures { result ≡ map function_seen rest.entry }
     {
@@ -56,7 +56,7 @@ impl<'a, A: Allocator> Iterator for Functions<'a, A> {
     }
 }
 
-/// An iterator over the branches of a section, ascending by line, block and number. Contracts see those that are left.
+/// An iterator over the branches of a section, ascending by line, block and number. Contracts see the branches that are left.
 #[derive(Drop)]
 pub struct Branches<'a, A: Allocator = Global> {
     rest: Entries<'a, Branch, BranchSum, A>,
@@ -76,7 +76,7 @@ impl<'a, A: Allocator> Branches<'a, A> {
     ghost use Rattle.std.specs.Prelude.{◌≡◌, map};
     ghost use Rattle.covstore.specs.State.{branch_seen};
 
-    /// An iterator over these branches.
+    /// Returns an iterator over the branches in `rest`.
     pub(super) fn of(rest: Entries<'a, Branch, BranchSum, A>) -> Branches<'a, A>
         ensures { result ≡ map branch_seen rest.entry }
     {
@@ -106,12 +106,12 @@ impl<'a, A: Allocator> Iterator for Branches<'a, A> {
     }
 }
 
-/// An iterator over the lines of a section, ascending by number. Contracts see those that are left.
+/// An iterator over the lines of a section, ascending by number. Contracts see the lines that are left.
 #[derive(Drop)]
 pub struct Lines<'a, A: Allocator = Global> {
     rest: Entries<'a, u64, LineSum, A>,
     checksums: &'a FileChecksums<A>,
-    /// The slot to look at first for the next checksum.
+    /// The slot that is tried first for the next checksum.
     guess: SlotIndex,
 }
 
@@ -129,7 +129,7 @@ impl<'a, A: Allocator> Lines<'a, A> {
     ghost use Rattle.std.specs.Prelude.{◌≡◌, map};
     ghost use Rattle.covstore.specs.State.{line_seen};
 
-    /// An iterator over these lines. `checksums` are those of the file's lines.
+    /// Returns an iterator over the lines in `rest`. `checksums` are the checksums of the file.
     pub(super) fn of(
         rest: Entries<'a, u64, LineSum, A>,
         checksums: &'a FileChecksums<A>,

@@ -1,5 +1,5 @@
-//! Removes a test from a file's index. If the index counts several tests, this walks over the removed test's points. Each kind of
-//! points has its own function with a contract in its own terms, because calls of the generic function are expensive to prove.
+//! Removes a test from a file's index, or computes the totals without a test. If the index counts points, this takes a walk over
+//! the test's points. Each kind of points has functions of its own, because calls of the generic functions are expensive to prove.
 
 ghost use Rattle.std.specs.Prelude.{◌≡◌, None, IfSome};
 ghost use Rattle.std.specs.Cmp.Lexicographic.{slice_cmp};
@@ -18,8 +18,8 @@ use crate::sums::{BranchSum, FunctionSum, LineSum, PointSum};
 use covmap::StagedMap;
 use std::alloc::Allocator;
 
-/// Removes the test with these points of one kind from the counts. Nothing is staged afterwards. If the counts follow a test,
-/// `points` must be that test's points.
+/// Removes the test whose points of one kind are `points` from the counts `kept`, and discards the staged counts. If the counts
+/// follow a test, `points` must be that test's points.
 fn uncount_kind<'a, K: PointKey<'a, A> + Drop, S: PointSum, A: Allocator + Copy>(
     kept: &mut KindIndex<K, S, A>,
     points: &'a StagedMap<K, S, A>,
@@ -85,7 +85,7 @@ pub(super) fn uncount_branches<A: Allocator + Copy>(
     uncount_kind(kept, points);
 }
 
-/// Removes the test with these points from the counts. Nothing is staged afterwards.
+/// Removes the test whose points are `points` from the counts `kept`, and discards the staged counts.
 fn drop_counted<'a, K: PointKey<'a, A> + Drop, S: PointSum, A: Allocator + Copy>(
     kept: &mut PointIndex<K, A>,
     points: &'a StagedMap<K, S, A>,
@@ -101,7 +101,7 @@ fn drop_counted<'a, K: PointKey<'a, A> + Drop, S: PointSum, A: Allocator + Copy>
     }
 }
 
-/// Removes the test with these lines from the holders of their checksums. Nothing is staged afterwards.
+/// Removes the test whose lines are `lines` from the holders of the lines' checksums, and discards the staged holders.
 pub(super) fn release_checksums<A: Allocator + Copy>(
     checksums: &mut FileChecksums<A>,
     lines: &StagedMap<u64, LineSum, A>,
@@ -120,8 +120,8 @@ pub(super) fn release_checksums<A: Allocator + Copy>(
     }
 }
 
-/// The tally of a kind of points without the test that has these points. If the counts follow a test, `points` must be that test's
-/// points.
+/// Returns the committed tally that `kept` would have without the test whose points are `points`. If the counts follow a test,
+/// `points` must be that test's points.
 fn tally_without<'a, K: PointKey<'a, A>, S: PointSum, A: Allocator>(
     kept: &KindIndex<K, S, A>,
     points: &'a StagedMap<K, S, A>,
@@ -175,7 +175,7 @@ pub(super) fn branches_without<A: Allocator>(
     tally_without(kept, points)
 }
 
-/// The tally of counted points without the test that has these points.
+/// Returns the committed tally that `kept` would have without the test whose points are `points`.
 fn tally_without_counted<'a, K: PointKey<'a, A>, S: PointSum, A: Allocator>(
     kept: &PointIndex<K, A>,
     points: &'a StagedMap<K, S, A>,

@@ -1,5 +1,5 @@
-//! Stages items without checksums. If their lines often fall from one item to the next, the items are staged in the order of their
-//! lines. In that order, points are found without a search, and appending a new last point moves no other point.
+//! Stages items without checksums. If line numbers often fall from one item to the next, the items are sorted by line first. In
+//! that order, points are found without a search, and appending a new last point moves no other point.
 
 ghost use Rattle.std.specs.Prelude.{◌≡◌, ◌↔◌, IfOk, IsTrue, OnOk};
 ghost use Rattle.std.specs.List.{All};
@@ -21,21 +21,21 @@ use std::alloc::{AllocError, Allocator};
 /// A section with fewer items than this isn't sorted.
 const MIN_SORTED: usize = 1024;
 
-/// One in this many items is sampled to decide whether lines often fall.
+/// One in this many items is sampled to decide whether line numbers often fall.
 const SAMPLE_STRIDE: usize = 16;
 
 /// Items are sorted if more than one in this many samples has a lower line than the sample before it.
 const SAMPLES_PER_FALL: usize = 4;
 
-/// The line of an item, and the item's index in its section. Spots ascend by line, and spots of the same line ascend by index.
+/// The line of an item, and the item's index in its section. Spots are ordered by line, and spots of the same line by index.
 #[derive(PartialEq, Eq, PartialOrd, Ord, Drop)]
 struct Spot {
     line: u64,
     index: usize,
 }
 
-/// Stages items without checksums: in the order of their lines if there are at least `MIN_SORTED` items and their lines often fall,
-/// otherwise in the section's order.
+/// Stages items, none of which may have a checksum. Sorts the items by line if there are at least `MIN_SORTED` of them and their
+/// line numbers often fall. Otherwise, keeps the section's order.
 pub(crate) fn stage_without_checksums<A: Allocator + Copy>(
     test: &mut Test<A>,
     index: &mut FileIndex<A>,
@@ -56,8 +56,8 @@ pub(crate) fn stage_without_checksums<A: Allocator + Copy>(
     stage_as_they_are(test, index, alloc, items)
 }
 
-/// Whether the lines of the items often fall: more than one in `SAMPLES_PER_FALL` samples has a lower line than the sample before
-/// it.
+/// Whether the line numbers of the items often fall: more than one in `SAMPLES_PER_FALL` samples has a lower line than the sample
+/// before it.
 fn falls_often(items: &PackedItems<'_>) -> bool {
     let most = items.len() / SAMPLE_STRIDE / SAMPLES_PER_FALL;
     let mut falls = 0;
@@ -105,7 +105,7 @@ fn line_of(item: &ItemRef<'_>) -> u64 {
     }
 }
 
-/// Stages items without checksums, in the order of their lines.
+/// Stages items in the order of their lines. No item may have a checksum.
 fn stage_in_order<A: Allocator + Copy>(
     test: &mut Test<A>,
     index: &mut FileIndex<A>,
@@ -125,7 +125,7 @@ fn stage_in_order<A: Allocator + Copy>(
     Ok(())
 }
 
-/// Stages the items at these spots, in the order of the spots.
+/// Stages the items at `spots`, in the order of the spots. No item may have a checksum.
 fn stage_at<A: Allocator + Copy>(
     test: &mut Test<A>,
     index: &mut FileIndex<A>,
@@ -148,7 +148,7 @@ fn stage_at<A: Allocator + Copy>(
     Ok(())
 }
 
-/// The runs of the items at these spots.
+/// Splits the items at `spots` by kind into runs.
 fn runs_at<'a, A: Allocator + Copy>(
     alloc: A,
     items: &PackedItems<'a>,

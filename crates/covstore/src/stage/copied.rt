@@ -20,7 +20,7 @@ use covline::Memory;
 use covmap::StagedMap;
 use std::alloc::Allocator;
 
-/// Stages one test's values as items of another test. Both tests are of the index's file.
+/// Stages the values of `source` as items of `test`. Both tests must belong to the file of `index`.
 pub(crate) fn stage_values<A: Allocator + Copy>(
     test: &mut Test<A>,
     index: &mut FileIndex<A>,
@@ -40,7 +40,7 @@ pub(crate) fn stage_values<A: Allocator + Copy>(
     add_branches(test, index, alloc, &source.branches)
 }
 
-/// Stages the values of lines.
+/// Stages the values of `lines` as items of `test`.
 fn add_lines<A: Allocator + Copy>(
     test: &mut Test<A>,
     index: &mut FileIndex<A>,
@@ -63,8 +63,8 @@ fn add_lines<A: Allocator + Copy>(
     Ok(())
 }
 
-/// Stages the value of a line. Copies the line's checksum into `text` first, since the checksum can't be borrowed from the
-/// index while the index is changed.
+/// Stages the value `sum` of `line` as an item of `test`. Copies the line's checksum into `text` first, since the index can't lend
+/// the checksum while the index changes.
 fn add_line_value<A: Allocator + Copy>(
     test: &mut Test<A>,
     index: &mut FileIndex<A>,
@@ -111,7 +111,7 @@ fn copied_text<'t, A: Allocator>(
     Ok(Some(text.as_slice()))
 }
 
-/// Stages the values of functions.
+/// Stages the values of `functions` as items of `test`.
 fn add_functions<A: Allocator + Copy>(
     test: &mut Test<A>,
     index: &mut FileIndex<A>,
@@ -135,7 +135,7 @@ fn add_functions<A: Allocator + Copy>(
     Ok(())
 }
 
-/// Stages the values of branches.
+/// Stages the values of `branches` as items of `test`.
 fn add_branches<A: Allocator + Copy>(
     test: &mut Test<A>,
     index: &mut FileIndex<A>,

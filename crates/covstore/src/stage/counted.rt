@@ -1,4 +1,4 @@
-//! Stages items of one kind in their test and in an index that counts points (not one that follows a test).
+//! Stages items of one kind, in their test and in an index that counts points instead of following a test.
 
 ghost use Rattle.std.specs.Prelude.{◌≡◌, ◌+◌, ◌≤◌, length, IfOk, OnOk};
 ghost use Rattle.covmap.specs.Puts.{put, value_of};
@@ -10,8 +10,8 @@ use crate::sums::{PointAddend, PointSum};
 use covmap::{Key, Query, StagedMap};
 use std::alloc::{AllocError, Allocator};
 
-/// Stages what an item adds to a point of a kind. Returns the test's earlier sum at the point, or `None` if the test didn't have
-/// the point.
+/// Adds `addend` to the test's staged sum at a point, and stages the change of the point's counts in the index. Returns the test's
+/// earlier sum at the point, or `None` if the test didn't have the point.
 pub(crate) fn stage_counted_addend<
     K: Key + Drop,
     S: PointSum,
@@ -39,7 +39,7 @@ pub(crate) fn stage_counted_addend<
     Ok(added.before)
 }
 
-/// Stages a run of items.
+/// Stages a run of items in the test and in the index.
 pub(crate) fn stage_counted_run<
     K: Key + Drop,
     S: PointSum,

@@ -6,7 +6,7 @@ use std::alloc::{AllocError, AllocFailed, Allocator};
 /// Why the items of a section can't be staged.
 #[derive(Drop)]
 pub(crate) enum StageFault<A: Allocator> {
-    /// An item has a checksum for this line that differs from the held one, or from an earlier one of the submission.
+    /// For `line`, an item has a checksum `given` that differs from the checksum `held` of the store or of an earlier item.
     Clash {
         line: u64,
         held: Bytes<A>,

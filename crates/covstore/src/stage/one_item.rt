@@ -159,8 +159,8 @@ pub(crate) fn stage_branch<A: Allocator + Copy>(
     Ok(())
 }
 
-/// Stages what an item adds to a point of a kind, in the item's test and in the file's index. Returns the test's earlier sum at the
-/// point, or `None` if the test didn't have the point.
+/// Adds `addend` to the test's staged sum at a point, and stages the change in the file's index. Returns the test's earlier sum at
+/// the point, or `None` if the test didn't have the point.
 pub(crate) fn stage_addend<
     K: Key + Drop,
     S: PointSum,

@@ -20,7 +20,7 @@ use covpacked::PackedItems;
 use std::alloc::Allocator;
 
 /// Stages the items of a section, up to the first that clashes, in batches of at most `MAX_STAGED_AT_ONCE` items. Sorts a long
-/// section by line first if none of its items has a checksum and the lines often fall.
+/// section by line first if no item has a checksum and the line numbers often fall.
 pub(crate) fn stage_items<A: Allocator + Copy>(
     test: &mut Test<A>,
     index: &mut FileIndex<A>,
@@ -48,8 +48,8 @@ pub(crate) fn stage_items<A: Allocator + Copy>(
     Ok(())
 }
 
-/// Stages some of a section's items, up to the first that clashes. Stages them at once if the lines of the items with a checksum
-/// ascend, as in the tracefiles of geninfo; otherwise one by one.
+/// Stages a batch of a section's items. Fails with the first clash. Stages the whole batch at once if the lines of its items with a
+/// checksum ascend, as in the tracefiles of geninfo. Otherwise, stages the items one by one.
 fn stage_some<A: Allocator + Copy>(
     test: &mut Test<A>,
     index: &mut FileIndex<A>,
@@ -70,7 +70,8 @@ fn stage_some<A: Allocator + Copy>(
     stage_each(test, index, alloc, items)
 }
 
-/// Stages the items' checksums, and then the items as runs. Returns the first clash without staging runs.
+/// Stages the items' checksums, and then the items as runs. Returns the first clash without staging runs. The lines of the items
+/// with a checksum must strictly ascend.
 fn stage_at_once<A: Allocator + Copy>(
     test: &mut Test<A>,
     index: &mut FileIndex<A>,
@@ -92,7 +93,7 @@ fn stage_at_once<A: Allocator + Copy>(
     Ok(())
 }
 
-/// Stages items one by one, up to the first that clashes.
+/// Stages items one by one, up to the first item that clashes.
 fn stage_each<A: Allocator + Copy>(
     test: &mut Test<A>,
     index: &mut FileIndex<A>,

@@ -11,8 +11,8 @@ use crate::sums::{PointAddend, PointSum};
 use covmap::{Key, Query, StagedMap};
 use std::alloc::{AllocError, Allocator};
 
-/// Stages what an item adds to a point of a kind. Returns the test's earlier sum at the point, or `None` if the test didn't have
-/// the point. A failed allocation keeps committed points, but may discard staged ones.
+/// Adds `addend` to the test's staged sum at a point, and to the staged tally `sole`. Returns the test's earlier sum at the point,
+/// or `None` if the test didn't have the point. A failed allocation keeps the committed points, but discards the staged ones.
 pub(crate) fn stage_sole_addend<
     K: Key + Drop,
     S: PointSum,
@@ -48,7 +48,8 @@ pub(crate) fn stage_sole_addend<
     Ok(added.before)
 }
 
-/// Stages a run of items. A failed allocation keeps committed points, but may discard staged ones.
+/// Stages a run of items in the test and in the tally `sole`. A failed allocation keeps the committed points, but may discard the
+/// staged ones.
 pub(crate) fn stage_sole_run<
     K: Key + Drop,
     S: PointSum,

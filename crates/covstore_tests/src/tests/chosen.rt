@@ -8,7 +8,7 @@ use covstore::{Store, Totals};
 use std::process::Abort;
 use std::test::*;
 
-/// Two files. The first has two tests.
+/// A tracefile of two files. The first file has two tests.
 const GIVEN: &[u8] =
     b"TN:t\nSF:/a.c\nFN:3,f\nFN:7,g\nFNDA:2,f\nFNDA:0,g\nBRDA:3,0,0,1\nBRDA:3,0,1,-\nDA:3,2\nDA:4,0\nDA:7,0\nend_of_record\n\
     SF:/b.c\nFN:1,h\nFNDA:0,h\nDA:1,0\nDA:2,5\nend_of_record\n\

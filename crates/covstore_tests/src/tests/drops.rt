@@ -12,7 +12,7 @@ pub(super) const SHARED: &[u8] =
     SF:/b.c\nDA:1,1\nend_of_record\n\
     TN:u\nSF:/a.c\nFN:3,f\nFNDA:0,f\nBRDA:1,0,0,-\nDA:1,1,k\nDA:2,0\nend_of_record\n";
 
-/// The number of sections of a test, and the totals after dropping it.
+/// The number of sections of a test, and the totals that the store would have without the test.
 fn after(store: &Store, test: &[u8]) -> (u64, Totals) {
     store.after_drop(test)
 }
@@ -22,7 +22,8 @@ pub(super) fn dropped(store: &mut Store, test: &[u8]) -> u64 {
     store.drop_test(test)
 }
 
-/// Points of other tests stay: a point that another test hits stays hit, and one that it has but doesn't hit stays found.
+/// Dropping a test keeps the points of other tests: a point that another test hits stays hit, and a point that another test has but
+/// doesn't hit stays found.
 #[test]
 fn a_test_is_dropped(rt: HostRuntime) -> Result<(), Fail> {
     let mut store = store_of(&rt, SHARED)?;

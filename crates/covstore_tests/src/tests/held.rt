@@ -1,4 +1,4 @@
-//! The content of a store, and what it rejects.
+//! The content of a store, and the submissions that a store rejects.
 
 ghost use Rattle.std.specs.Prelude.{◌<◌, IfOk};
 ghost use Rattle.covstore.specs.Store.{max_members};
@@ -76,7 +76,7 @@ fn a_plan_that_is_dropped(rt: HostRuntime) -> Result<(), Fail> {
     Ok(())
 }
 
-/// A store that holds the text alone, and has capacity for another one.
+/// A store with `text` as its only submission. The store has capacity for another submission.
 pub(super) fn store_of(rt: &(impl Abort + AllocGlobal), text: &[u8]) -> Result<Store, Fail>
     ensures { IfOk result (λ store. store.members < max_members) }
 {
@@ -147,7 +147,7 @@ fn put_section(section: &Section<'_>, text: &mut Bytes) -> Result<(), Memory> {
     put_lines(section, text)
 }
 
-/// Prints the content of the store.
+/// Returns the content of the store as text.
 pub(super) fn held(alloc: Global, store: &Store) -> Result<Bytes, Memory> {
     let mut text = Bytes::new(alloc);
     for section in store.sections() {
@@ -172,7 +172,7 @@ fn what_is_held(rt: HostRuntime) -> Result<(), Fail> {
     Ok(())
 }
 
-/// Appends an error: the file, the line and the two checksums of a clash.
+/// Appends an error: a clash with its file, line and two checksums, or `memory`.
 fn put_refusal(alloc: Global, refuse: &Refuse, text: &mut Vec<u8>) -> Result<(), Fail> {
     match refuse {
         Refuse::Clash {
@@ -192,7 +192,8 @@ fn put_refusal(alloc: Global, refuse: &Refuse, text: &mut Vec<u8>) -> Result<(),
     }
 }
 
-/// Prints the result of preparing the submission in an empty store: `a plan` or the error. Then `empty`, if the store still is.
+/// Prepares the submission in an empty store. Returns the result as text: `a plan` or the error, and then `empty` if the store is
+/// still empty.
 pub(super) fn refused(
     rt: &(impl Abort + AllocGlobal),
     given: &Submission,

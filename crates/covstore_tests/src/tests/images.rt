@@ -1,10 +1,10 @@
-//! Makes maps of the images of another map's values, and looks up staged values from a guess.
+//! Makes maps of the images of another map's values, and looks up staged values by a guessed slot.
 
 use covmap::{Image, SlotIndex, StagedMap, Value};
 use std::alloc::Global;
 use std::test::*;
 
-/// The image of a number, which is the number itself.
+/// The image of a number: a struct with the same number.
 #[derive(Clone, Copy)]
 struct Wrapped {
     number: u64,
@@ -24,7 +24,7 @@ impl Image<u64> for Wrapped {
     }
 }
 
-/// The number of an image.
+/// The number in an image, if there is an image.
 fn number(image: Option<Wrapped>) -> Option<u64> {
     match image {
         Some(image) => Some(image.number),
@@ -41,8 +41,8 @@ fn entry_count(map: &StagedMap<u64, Wrapped, Global>) -> usize {
     count
 }
 
-/// A map with more keys than fit on a page: the keys 0 to 599, each with ten times itself as its value. Values are staged for the
-/// keys 4 and 1000; the map has no committed 1000.
+/// A map with more keys than fit on a page. The keys 0 to 599 have ten times the key as their committed value. Values are staged
+/// for the keys 4 and 1000, so the key 1000 has no committed value.
 fn two_staged(alloc: Global) -> Result<StagedMap<u64, u64, Global>, Fail> {
     let mut map = StagedMap::new(alloc);
     for key in 0u64..600 {
@@ -54,7 +54,7 @@ fn two_staged(alloc: Global) -> Result<StagedMap<u64, u64, Global>, Fail> {
     Ok(map)
 }
 
-/// The images have the same keys, committed and staged, and don't change with the first map.
+/// A map of images has the same committed and staged keys as the first map, and doesn't change when the first map does.
 #[test]
 fn images_of_committed_and_staged_values(rt: HostRuntime) -> Result<(), Fail> {
     let alloc = rt.alloc();

@@ -25,7 +25,7 @@ impl Addend<u64> for Newest {
     }
 }
 
-/// The committed entries, each a line: its key, a space and its value.
+/// Returns the committed entries as text, each on a line: the key, a space and the value.
 fn printed(alloc: Global, map: &StagedMap<u64, u64, Global>) -> Result<Vec<u8>, Fail> {
     let mut text = Vec::new(alloc);
     for (key, value) in map.entries() {
@@ -35,7 +35,8 @@ fn printed(alloc: Global, map: &StagedMap<u64, u64, Global>) -> Result<Vec<u8>, 
     Ok(text)
 }
 
-/// Only `lookup_staged` sees staged values. A commit makes them committed, and a rollback discards them.
+/// Only `lookup_staged` sees staged values. A commit turns staged values into committed values, and a rollback discards staged
+/// values.
 #[test]
 fn staged_values(rt: HostRuntime) -> Result<(), Fail> {
     let mut map = StagedMap::new(rt.alloc());
@@ -53,7 +54,7 @@ fn staged_values(rt: HostRuntime) -> Result<(), Fail> {
     Ok(())
 }
 
-/// A sum is staged, and its place is the guess for the next one. A committed value is replaced or removed without a commit.
+/// Stages a sum, and then another with the first sum's place as the guess. Replaces and removes committed values without a commit.
 #[test]
 fn sums_and_replaced_values(rt: HostRuntime) -> Result<(), Fail> {
     let mut map = StagedMap::new(rt.alloc());

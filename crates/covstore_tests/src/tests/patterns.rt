@@ -6,7 +6,8 @@ use std::alloc::Global;
 use std::process::Abort;
 use std::test::*;
 
-/// Patterns that match the empty path. No session tests this, since the paths of its files aren't empty.
+/// Patterns that match the empty path, and patterns that don't. No session tests these, since no file in a session has an empty
+/// path.
 #[test]
 fn empty_paths(rt: HostRuntime) {
     for pattern in b"|*|**".split(|byte| *byte == b'|') {
@@ -28,8 +29,8 @@ fn is_refused(alloc: Global, patterns: &mut Patterns, pattern: &[u8], fault: Pat
     add(alloc, patterns, pattern) == Err(fault)
 }
 
-/// Checks the number of patterns of the list, and which paths it matches. `paths` are separated by bars; those that it doesn't
-/// match begin with a minus.
+/// Checks that the list has `count` patterns, and which of the `paths` it matches. Bars separate the paths. A minus stands before
+/// each path that the list must not match.
 fn check_list(rt: &impl Abort, patterns: &Patterns, count: usize, paths: &[u8]) {
     assert_eq!(rt; patterns.get().len(), count);
     for path in paths.split(|byte| *byte == b'|') {

@@ -55,7 +55,7 @@ DA:3,2,abcdefghijklmnopqrstuvwx
 DA:4,2,abcdefghijklmnopqrstuvwxyz0123456789abcdefghijklmnopqrstuvwxyz01234567
 ";
 
-/// Checks that the text clashes at this line.
+/// Checks that submitting `text` to the store clashes at line `wanted`.
 fn check_clash(
     rt: &(impl Abort + AllocGlobal),
     mut store: Store,
@@ -85,7 +85,7 @@ fn given_twice(rt: &(impl Abort + AllocGlobal), text: &[u8], wanted: &[u8]) -> R
     Ok(store)
 }
 
-/// A packed submission is prepared like any other. A dropped plan of it leaves nothing visible.
+/// Prepares a packed submission twice. The first plan is dropped and leaves nothing visible.
 #[test]
 fn a_packed_submission(rt: HostRuntime) -> Result<(), Fail> {
     let given = read_packed(rt.alloc(), SMALL)?;
@@ -134,15 +134,15 @@ fn a_packed_clash(rt: HostRuntime) -> Result<(), Fail> {
     Ok(())
 }
 
-/// Checksums of 22 to 24 bytes, and one of 70; up to 23 fit in place. Each is printed unchanged, and agrees with itself when it is
-/// submitted again.
+/// Each of `CHECKSUMS` is printed unchanged, and agrees with itself when it is submitted again. Checksums of up to 23 bytes are
+/// stored in place.
 #[test]
 fn checksums_in_place_and_longer(rt: HostRuntime) -> Result<(), Fail> {
     given_twice(&rt, CHECKSUMS, CHECKSUMS_TWICE)?;
     Ok(())
 }
 
-/// Checksums that differ only in their last byte clash, in place and longer.
+/// Checksums that differ only in their last byte clash, whether or not they are stored in place.
 #[test]
 fn checksums_that_differ_at_the_end(rt: HostRuntime) -> Result<(), Fail> {
     let store = store_of(&rt, CHECKSUMS)?;
@@ -168,7 +168,7 @@ fn checksums_that_differ_at_the_end(rt: HostRuntime) -> Result<(), Fail> {
     )
 }
 
-/// A section of a million lines. Totals with quadratic running time wouldn't end in time.
+/// Adds a section of a million lines. If totals took quadratic time, the test wouldn't end in time.
 #[test]
 fn a_million_lines(rt: HostRuntime) -> Result<(), Fail> {
     let mut text = Vec::from_slice(rt.alloc(), b"SF:/m\n")?;
@@ -192,8 +192,8 @@ fn a_million_lines(rt: HostRuntime) -> Result<(), Fail> {
     Ok(())
 }
 
-/// Branches whose line, block or number is just below 2^32, just above, or the largest, alone and together. They aren't in the
-/// order of printing.
+/// Branches whose line, block or number is 2^32 - 1, 2^32 or 2^64 - 1, alone or together. The branches aren't in the order of
+/// printing.
 const WIDE_BRANCHES: &[u8] = b"\
 TN:t
 SF:/a.c
@@ -208,7 +208,7 @@ BRDA:1,0,4294967295,8
 end_of_record
 ";
 
-/// The report of `WIDE_BRANCHES` submitted twice, in the order of the numbers.
+/// The report of `WIDE_BRANCHES` submitted twice, in ascending order.
 const WIDE_BRANCHES_TWICE: &[u8] = b"\
 TN:t
 SF:/a.c

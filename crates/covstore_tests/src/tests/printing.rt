@@ -45,7 +45,7 @@ fn printer(alloc: Global, most: usize) -> Pieces {
     }
 }
 
-/// Prints the chosen files until the printer has `most` bytes.
+/// Prints the chosen files to a printer that wants no more after `most` bytes.
 fn printed(alloc: Global, store: &Store, choice: Choice, most: usize) -> Result<Pieces, Memory> {
     let printing = Printing::of_store(alloc, store, choice)?;
     let mut pieces = printer(alloc, most);
@@ -53,7 +53,7 @@ fn printed(alloc: Global, store: &Store, choice: Choice, most: usize) -> Result<
     Ok(pieces)
 }
 
-/// Checks the printed text of the chosen files, up to `most` bytes.
+/// Checks the text of the chosen files in a printer that wants no more after `most` bytes.
 fn check_printed(
     rt: &(impl Abort + AllocGlobal),
     store: &Store,
@@ -66,7 +66,7 @@ fn check_printed(
     Ok(())
 }
 
-/// Two files. The second has fewer functions than the first.
+/// A tracefile of two files. The second file has fewer functions than the first.
 const GIVEN: &[u8] =
     b"TN:t\nSF:/a.c\nFN:9,f\nFN:2,g\nFNDA:0,f\nFNDA:3,g\nBRDA:4,0,0,-\nBRDA:4,0,1,2\nDA:4,1,sum\nDA:5,0\nend_of_record\nTN:t\nSF:/b.c\nFN:7,h\nFNDA:340282366920938463463374607431768211455,h\nDA:7,18446744073709551616\nend_of_record\n";
 
@@ -104,7 +104,8 @@ fn a_text_that_is_there(rt: HostRuntime) -> Result<(), Fail> {
     Ok(())
 }
 
-/// Includes choose the files that match them, or all files if there are none; excludes remove files from these.
+/// Without includes, all files are chosen. Otherwise, the files are chosen that match one of the includes. Excludes then remove the
+/// files that match one of the excludes.
 #[test]
 fn included_and_excluded_files(rt: HostRuntime) -> Result<(), Fail> {
     let store = store_of(&rt, GIVEN)?;

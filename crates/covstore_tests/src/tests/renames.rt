@@ -69,7 +69,7 @@ fn a_test_is_renamed(rt: HostRuntime) -> Result<(), Fail> {
     check_held(&rt, &store, JOINED)
 }
 
-/// A prepared and dropped rename leaves nothing visible, and doesn't affect the next rename.
+/// A rename that is prepared but not committed leaves nothing visible, and doesn't affect the next rename.
 #[test]
 fn a_rename_that_is_dropped(rt: HostRuntime) -> Result<(), Fail> {
     let mut store = store_of(&rt, SHARED)?;
@@ -84,7 +84,7 @@ fn a_rename_that_is_dropped(rt: HostRuntime) -> Result<(), Fail> {
     check_held(&rt, &store, wanted)
 }
 
-/// A test of 10,000 files is renamed. 5,000 of these files have a test of the new name already. Then it is renamed back.
+/// Renames a test of 10,000 files, of which 5,000 already have a test of the new name. Then renames the test back.
 #[test]
 fn ten_thousand_files(rt: HostRuntime) -> Result<(), Fail> {
     let mut text = Vec::new(rt.alloc());

@@ -1,4 +1,4 @@
-//! Runs of items, each a key and its addend, that are staged at once into a map.
+//! Stages runs into a map. A run is a list of items that are staged at once, each a key and an addend.
 
 use super::{check_bytes, push_line};
 use covmap::{Addend, ReportingAddend, StagedMap};
@@ -52,7 +52,7 @@ fn stage(
     map.stage_run(alloc, run, reports)
 }
 
-/// A run of `count` keys with the same flags. The first key is 0, and each other one is `step` above the one before.
+/// A run of `count` keys: 0 and the next multiples of `step`. All keys have the same flags.
 fn run_of(
     alloc: Global,
     count: u64,
@@ -66,7 +66,7 @@ fn run_of(
     Ok(run)
 }
 
-/// Keys with values, each a line: the key, a space and the value.
+/// Returns keys with values as text, each pair on a line: the key, a space and the value.
 fn printed(alloc: Global, pairs: &[(u64, u64)]) -> Result<Vec<u8>, Fail> {
     let mut text = Vec::new(alloc);
     for (key, value) in pairs {
@@ -88,8 +88,8 @@ fn committed(
     Ok(pairs)
 }
 
-/// A run whose keys don't ascend, and which has one key twice. Committed values don't change until the commit, and reports are
-/// appended to those that are there.
+/// Stages a run whose keys don't ascend, and which has one key twice. Committed values don't change until the commit. New reports
+/// are appended to an earlier report.
 #[test]
 fn a_run_in_any_order(rt: HostRuntime) -> Result<(), Fail> {
     let alloc = rt.alloc();
@@ -122,8 +122,7 @@ fn a_run_in_any_order(rt: HostRuntime) -> Result<(), Fail> {
     Ok(())
 }
 
-/// Whether the committed keys are the `count` numbers from 0 on, the even ones with the first value and the odd ones with
-/// the second.
+/// Whether the committed keys are the `count` numbers from 0 on. Even keys must have the value `even`, odd keys the value `odd`.
 fn alternate(map: &StagedMap<u64, u64, Global>, count: u64, even: u64, odd: u64) -> bool {
     let mut next = 0;
     for (key, value) in map.entries() {
@@ -136,8 +135,8 @@ fn alternate(map: &StagedMap<u64, u64, Global>, count: u64, even: u64, odd: u64)
     next == count
 }
 
-/// Runs of more keys than fit on a page. All keys of the first run are new. In the second, new keys come between keys that are
-/// there, and after all of them. All keys of the last two runs are there.
+/// Stages runs of more keys than fit on a page. All keys of the first run are new. In the second run, new keys come between keys of
+/// the map, and after all of them. The last two runs have no new keys.
 #[test]
 fn runs_over_pages(rt: HostRuntime) -> Result<(), Fail> {
     let alloc = rt.alloc();

@@ -5,17 +5,17 @@ use super::held::{held, refused, store_of};
 use super::wrappers::read;
 use std::test::*;
 
-/// The number of lines of the section. It is a prime, so the first 2,003 multiples of 1,000 have different remainders.
+/// The number of lines of the section. This is a prime, so the first 2,003 multiples of 1,000 have different remainders.
 const LINES: u64 = 2003;
 
-/// Appends a branch of a line, and the line.
+/// Appends the records of a branch of `line` and of `line` itself.
 fn push_points(rt: &impl AllocGlobal, text: &mut Vec<u8>, line: u64) -> Result<(), Fail> {
     let points = format!(in rt.alloc(); "BRDA:{line},0,1,{line}\nDA:{line},{line}\n")?;
     text.extend_from_slice(points.as_bytes())?;
     Ok(())
 }
 
-/// The section's points in two orders, neither of them ascending.
+/// A tracefile with two sections of the same points, in different orders. Neither order is ascending.
 fn given(rt: &impl AllocGlobal) -> Result<Vec<u8>, Fail> {
     let mut text = Vec::from_slice(rt.alloc(), b"TN:t\nSF:/m\n")?;
     for index in 0..LINES {
@@ -29,7 +29,7 @@ fn given(rt: &impl AllocGlobal) -> Result<Vec<u8>, Fail> {
     Ok(text)
 }
 
-/// Each branch and each line, ascending. Their counts are twice the line number.
+/// The expected content: each branch and each line, ascending, with twice the line number as its count.
 fn wanted(rt: &impl AllocGlobal) -> Result<Vec<u8>, Fail> {
     let mut text = Vec::from_slice(rt.alloc(), b"TN:t\nSF:/m\n")?;
     for line in 1..LINES + 1 {
@@ -54,7 +54,7 @@ fn shuffled_sections(rt: HostRuntime) -> Result<(), Fail> {
     Ok(())
 }
 
-/// Two clashes in a long section, the one at the greater line first.
+/// A tracefile with two clashes in a long section. The clash at the greater line comes first.
 fn clashing(rt: &impl AllocGlobal) -> Result<Vec<u8>, Fail> {
     let mut text = Vec::from_slice(rt.alloc(), b"TN:t\nSF:/m\nDA:1000,1,x\nDA:1000,1,y\n")?;
     for index in 0..LINES {
@@ -64,7 +64,7 @@ fn clashing(rt: &impl AllocGlobal) -> Result<Vec<u8>, Fail> {
     Ok(text)
 }
 
-/// Items of a section with checksums aren't sorted, so the first clash of the text is reported.
+/// A section with checksums isn't sorted by line, so the first clash of the text is reported.
 #[test]
 fn a_clash_in_a_shuffled_section(rt: HostRuntime) -> Result<(), Fail> {
     let given = read(rt.alloc(), &clashing(&rt)?)?;

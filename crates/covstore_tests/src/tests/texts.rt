@@ -63,7 +63,7 @@ fn choices(rt: HostRuntime) -> Result<(), Fail> {
     Ok(())
 }
 
-/// The rate of `hit` points of `found`, in tenths of a percent. Panics without points.
+/// The rate of `hit` points out of `found`, in tenths of a percent. Panics if `found` is 0 or less than `hit`.
 fn rate(rt: &impl Abort, hit: u64, found: u64) -> u32 {
     assert!(rt; found > 0);
     assert!(rt; hit <= found);
@@ -76,7 +76,7 @@ fn rates(rt: HostRuntime) {
     assert_eq!(rt; rate(&rt, u64::MAX, u64::MAX), 1_000);
 }
 
-/// The summary of `found` lines, of which `hit` are hit, and of no functions and branches.
+/// The summary of totals with `found` lines, `hit` lines hit, and no functions or branches. Panics if `found` is less than `hit`.
 fn summary(rt: &(impl Abort + AllocGlobal), hit: u64, found: u64) -> Result<Bytes, Memory> {
     assert!(rt; hit <= found);
     let totals = Totals {

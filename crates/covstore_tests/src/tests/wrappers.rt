@@ -1,5 +1,5 @@
-//! Calls of the crates below, in functions without contracts. A test looks only at values, and its proof is faster without
-//! contracts.
+//! Wrappers without contracts around functions of other crates. A test looks only at values, and without contracts its proof is
+//! faster.
 
 use covline::{Bytes, Memory, Submission, TraceLine};
 use covpacked::PackedSubmission;
@@ -40,7 +40,7 @@ pub(super) fn any_matches(patterns: &Patterns, path: &[u8]) -> bool {
     patterns.any_matches(path)
 }
 
-/// The list of the patterns, which have bars between them.
+/// Makes a list of `patterns`, which are separated by bars.
 pub(super) fn list_of(alloc: Global, patterns: &[u8]) -> Result<Patterns, PatternFault> {
     let mut list = Patterns::new(alloc);
     for pattern in patterns.split(|byte| *byte == b'|') {
@@ -49,7 +49,7 @@ pub(super) fn list_of(alloc: Global, patterns: &[u8]) -> Result<Patterns, Patter
     Ok(list)
 }
 
-/// The bytes, `times` times.
+/// Returns `times` copies of `bytes`, one after another.
 pub(super) fn repeated(alloc: Global, bytes: &[u8], times: usize) -> Result<Vec<u8>, Fail> {
     let mut all = Vec::new(alloc);
     for _time in 0..times {
