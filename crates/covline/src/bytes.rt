@@ -4,7 +4,7 @@ use crate::memory::Memory;
 use std::alloc::{Allocator, Global};
 use std::marker::Model;
 
-/// Bytes that own their memory: a name, a path, a checksum or a whole text. Contracts see the list of these bytes.
+/// An owned byte string: a name, a path, a checksum or a whole text. Contracts see the list of bytes.
 #[derive(Drop)]
 pub struct Bytes<A: Allocator = Global> {
     text: Vec<u8, A>,
@@ -28,7 +28,7 @@ impl<A: Allocator> Bytes<A> {
         }
     }
 
-    /// The empty text, with capacity for `bytes` bytes. Appending up to that length never allocates. A capacity of 0 never fails.
+    /// The empty text, with capacity for `bytes` bytes. Appending within the capacity never allocates. Never fails if `bytes` is 0.
     pub fn with_room(alloc: A, bytes: usize) -> Result<Bytes<A>, Memory>
         ensures empty { IfOk result (λ b. b ≡ []) }
         ensures nothing { bytes ≡ 0 → IsOk result }
@@ -54,14 +54,14 @@ impl<A: Allocator> Bytes<A> {
         self.text.as_slice()
     }
 
-    /// How many bytes there are.
+    /// The number of bytes.
     pub(crate) fn len(&self) -> usize
         ensures { result ≡ length self.now }
     {
         self.text.len()
     }
 
-    /// Appends the bytes. On `Memory`, the text is unchanged. Appending an empty slice never fails.
+    /// Appends the bytes of `more`. Leaves the text unchanged on `Memory`. Never fails if `more` is empty.
     pub fn append(&mut self, more: &[u8]) -> Result<(), Memory>
         ensures ok { OnOk result (self.new ≡ self.old ++ more.now) }
         ensures err { OnErr result (self.new ≡ self.old) }

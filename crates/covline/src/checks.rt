@@ -1,4 +1,4 @@
-//! The checks that sections pass before they become a submission.
+//! The checks that sections must pass to become a submission.
 
 ghost use Rattle.std.specs.Prelude.{◌≡◌, ◌<◌, ◌≤◌, ◌↔◌, IsTrue, IsSome, MatchOption, All, map};
 ghost use Rattle.std.specs.List.{AllByRecursion};
@@ -11,10 +11,10 @@ use crate::names::{good_checksum, good_name, good_test};
 use crate::sect::Sect;
 use std::alloc::Allocator;
 
-/// The greatest number of items of a submission.
+/// The largest number of items in a submission.
 const MAX_ITEMS: u64 = 67_108_864;
 
-/// The number of items in the sections. Returns `None` if there are too many.
+/// Counts the items in the sections. Returns `None` if there are more than `MAX_ITEMS` items.
 pub fn count_items<A: Allocator>(sects: &[Sect<A>]) -> Option<u64>
     ensures count { let all = map sect_data sects.now in
         MatchOption result (max_items < items_in all) (λ n. (n ≡ items_in all) × (n ≤ max_items)) }
@@ -31,7 +31,7 @@ pub fn count_items<A: Allocator>(sects: &[Sect<A>]) -> Option<u64>
     Some(items)
 }
 
-/// The index of the first section with an unlawful name or checksum. Returns `None` if all are lawful.
+/// Returns the index of the first section with an unlawful name or checksum, or `None` if all names and checksums are lawful.
 pub fn first_unlawful<A: Allocator>(sects: &[Sect<A>]) -> Option<usize>
     ensures { let all = map sect_data sects.now in
         MatchOption result (All IsLawfulSect all) (IsFirstUnlawful all) }
@@ -58,7 +58,7 @@ fn are_lawful<A: Allocator>(items: &[Item<A>]) -> bool
     items.iter().all(|item| is_lawful_item(item))
 }
 
-/// Whether the item's name or checksum is lawful. True for an item that has neither.
+/// Whether the item's name or checksum, if the item has one, is lawful.
 fn is_lawful_item<A: Allocator>(item: &Item<A>) -> bool
     ensures { IsTrue result ↔ IsLawfulItem (item_data item.now) }
 {

@@ -1,4 +1,4 @@
-//! Parses the fields of a line, for readers of similar formats: numbers at the front of a text, and what follows them.
+//! Parsers of a line's fields, exported for readers of similar formats.
 
 pub use crate::reader::{
     Number, after_feed, front_taken, read_any, read_count, read_field, read_number, read_taken,

@@ -1,4 +1,4 @@
-//! Items, and the list of them.
+//! Items and lists of items.
 
 ghost use Rattle.std.specs.Prelude.{◌≡◌, ◌↔◌, IsTrue};
 
@@ -11,21 +11,21 @@ use std::marker::Model;
 /// One count of a source file (geninfo(1), section FILES).
 #[derive(Drop)]
 pub enum Item<A: Allocator = Global> {
-    /// The execution count of an instrumented line, with the checksum of its text if the collector wrote one (`DA:`). A
+    /// The execution count of an instrumented line, with the checksum of the line's text if the record has one (`DA:`). A lawful
     /// checksum is one or more bytes without comma, space, tab, carriage return and line feed.
     Line {
         line: u64,
         count: u128,
         checksum: Option<Bytes<A>>,
     },
-    /// The execution count of a function and the line that it starts at (`FN:`, `FNDA:`). A name isn't empty and
-    /// fits into a line.
+    /// A function's execution count and start line (`FNDA:`, `FN:`). A lawful name isn't empty, has no line feed and doesn't end in
+    /// a carriage return.
     Func {
         name: Bytes<A>,
         line: u64,
         count: u128,
     },
-    /// How often a branch of a line was taken; `None` if its block was never executed (`BRDA:`).
+    /// How often a branch was taken (`BRDA:`). `taken` is `None` if the branch's block was never executed.
     Branch {
         line: u64,
         block: u64,
@@ -40,7 +40,7 @@ impl<A: Allocator> Item<A> {
     ghost use Rattle.covline.specs.Points.{line_point, branch_point, is_hit};
     ghost use Rattle.covline.specs.PointView.{branch_point_data};
 
-    /// The line of the item. Returns `None` for an item of another kind.
+    /// The line of a `Line` item. Returns `None` for an item of another kind.
     pub fn line_point(&self) -> Option<u64>
         ensures { option_to_list result ≡ line_point (item_data self.now) }
     {
@@ -50,7 +50,7 @@ impl<A: Allocator> Item<A> {
         }
     }
 
-    /// The branch of the item. Returns `None` for an item of another kind.
+    /// The branch of a `Branch` item. Returns `None` for an item of another kind.
     pub fn branch_point(&self) -> Option<BranchPoint>
         ensures { option_to_list (option_map branch_point_data result) ≡ branch_point (item_data self.now) }
     {
@@ -104,7 +104,7 @@ impl<A: Allocator> Item<A> {
         }
     }
 
-    /// Whether this is the item of this line, with this count and checksum.
+    /// Whether `self` is the item of the line `line`, with this count and checksum.
     fn is_line(&self, line: u64, count: u128, checksum: &Option<Bytes<A>>) -> bool
         ensures { IsTrue result ↔ (LineItem line count checksum.now ≡ item_data self.now) }
     {
@@ -120,7 +120,7 @@ impl<A: Allocator> Item<A> {
         }
     }
 
-    /// Whether this is the item of this function, with this start line and count.
+    /// Whether `self` is the item of the function `name`, with this start line and count.
     fn is_function(&self, name: &Bytes<A>, line: u64, count: u128) -> bool
         ensures { IsTrue result ↔ (FuncItem name.now line count ≡ item_data self.now) }
     {
@@ -134,7 +134,7 @@ impl<A: Allocator> Item<A> {
         }
     }
 
-    /// Whether this is the item of this branch, with the same `taken`.
+    /// Whether `self` is the item of the branch `branch` of this line and block, with this `taken`.
     fn is_branch(&self, line: u64, block: u64, branch: u64, taken: Option<u128>) -> bool
         ensures { IsTrue result ↔ (BranchItem line block branch taken ≡ item_data self.now) }
     {
@@ -279,7 +279,7 @@ impl<A: Allocator> Items<A> {
         Ok(())
     }
 
-    /// Replaces the start line of the function's item at this index. Doesn't change an item of another kind.
+    /// Sets the start line of the item at index `at` to `line`, if that item is a function's. `at` must be in range.
     pub fn set_start(&mut self, at: usize, line: u64)
         requires { at < length self.old }
         ensures { (before after : List ItemData) (item : ItemData) → self.old ≡ before ++ item ∷ after → at ≡ length before → self.new ≡ before ++ with_start line item ∷ after }
@@ -289,7 +289,7 @@ impl<A: Allocator> Items<A> {
         }
     }
 
-    /// How many items there are.
+    /// The number of items.
     pub fn len(&self) -> usize
         ensures { result ≡ length self.now }
     {
@@ -313,7 +313,7 @@ impl<A: Allocator> Items<A> {
         true
     }
 
-    /// Frees the list's unused capacity. Called after the last item is appended.
+    /// Frees the list's unused capacity. Meant for a finished list.
     pub fn shrink(&mut self)
         ensures { self.new ≡ self.old }
     {

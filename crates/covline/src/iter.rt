@@ -1,10 +1,10 @@
-//! The iterator over the lines of a text. It has its own module, because names in one module may not differ only in case, as
-//! `Lines` and the function `lines` do.
+//! The iterator over a text's lines. The type `Lines` and the function `lines` differ only in case, so the two can't share a
+//! module.
 
 use crate::text_lines::first_line;
 use std::marker::Model;
 
-/// An iterator over the lines of a text. Contracts see the bytes that are left.
+/// An iterator over the lines of a text. Contracts see the rest of the text.
 #[derive(Drop)]
 pub struct Lines<'a> {
     rest: &'a [u8],
@@ -21,7 +21,7 @@ impl<'a> Model for Lines<'a> {
 impl<'a> Lines<'a> {
     ghost use Rattle.std.specs.Prelude.{◌≡◌};
 
-    /// The iterator at the front of the text.
+    /// Returns an iterator that starts at the front of the text.
     pub(crate) fn of(text: &'a [u8]) -> Lines<'a>
         ensures { result ≡ text.now }
     {

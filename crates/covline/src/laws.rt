@@ -5,11 +5,11 @@ ghost use Rattle.covline.specs.declared.trace_line.LineFault.{LineFault};
 ghost use Rattle.covline.specs.Spells.{LineData, Spells, HasFault};
 ghost use Rattle.covline.specs.LineLaws.{JoinedAgain, GoodLines, GoodRest, FewLines, FewBytes, OnlyReturnsOff, OneAfterOther, MadeOfLines, PrintedSpells};
 
-/// The lines of a text make up the text. The text is cut after each line feed; joining the pieces gives the text. A line is a piece
-/// without its line feed and the carriage returns before that. No line, nor any end of a line (such as the name after a key), has a
-/// line feed or ends in a carriage return. There are at most as many lines as bytes, and together they have at most as many bytes
-/// as the text. A text that follows one with a final line feed adds its lines after those of the first. And lines without line
-/// feeds and final carriage returns are exactly the lines of the text that has each of them with a line feed after it.
+/// A text consists of its lines. Joining the pieces of a text, cut after each line feed, gives the text. A line is such a piece
+/// without its line feed and the carriage returns at its end. No line, nor any end of a line (such as the name after a key), has a
+/// line feed or ends in a carriage return. A text has at most as many lines as bytes, and the lines together have at most as many
+/// bytes as the text. A text appended after a line feed adds exactly its own lines. Lines without line feeds and final carriage
+/// returns, each followed by a line feed, make a text with exactly these lines.
 pub fn lines_are_the_text()
     ensures joined { JoinedAgain }
     ensures good_lines { GoodLines }
@@ -21,7 +21,7 @@ pub fn lines_are_the_text()
     ensures made_of_lines { MadeOfLines }
 {}
 
-/// Each line has exactly one meaning, or exactly one error.
+/// Each line has either exactly one meaning or exactly one error.
 pub fn each_line_has_one_meaning()
     ensures one_meaning { (line : List ℕ) (x y : LineData) → Spells line x → Spells line y → x ≡ y }
     ensures no_fault_beside { (line : List ℕ) (says : LineData) (fault : LineFault) → Spells line says → ¬ HasFault line fault }
@@ -29,7 +29,8 @@ pub fn each_line_has_one_meaning()
     ensures some { (line : List ℕ) → ((says : LineData) × Spells line says) ⊎ ((fault : LineFault) × HasFault line fault) }
 {}
 
-/// A printed record reads back: a record with lawful names and small enough numbers is printed as one line with this meaning.
+/// A printed record parses back: a record with lawful names and small enough numbers is printed as one line with the record's
+/// meaning.
 pub fn printed_records_spell()
     ensures { PrintedSpells }
 {}

@@ -1,11 +1,11 @@
-//! Lines of lcov tracefiles (geninfo(1) of LCOV 1.x, section FILES), and their meaning: records, items, sections and submissions.
+//! Lines of lcov tracefiles (geninfo(1) of LCOV 1.x, section FILES) and what the lines mean: records, items, sections, submissions.
 //!
-//! A text is cut into lines, and each line is parsed by itself. A line is printed so that it reads back. A section (of a test and a
-//! source file) has items (the counts of lines, functions and branches). Sections with lawful names and checksums make a
-//! submission.
+//! The crate cuts a text into lines and parses each line separately. A printed record parses back to the same record. A section
+//! holds the items (the counts of lines, functions and branches) of one test and one source file. Sections with lawful names and
+//! checksums make a submission.
 //!
-//! An example, proved and run in `covuses`: prints the counted lines of a tracefile again. `PrintFault` is the caller's own, made
-//! of a line's error or of `Memory`.
+//! An example, proved and run in `covuses`, prints the `DA:` lines of a tracefile again. `PrintFault` is the caller's own error
+//! type, made from a `LineFault` or from `Memory`.
 //!
 //! ```text
 //! pub fn counted_lines(alloc: Global, text: &[u8]) -> Result<Bytes, PrintFault> {

@@ -12,7 +12,8 @@ use crate::tail::Tail;
 use crate::trace_line::{TotalKind, TraceLine};
 use std::alloc::Allocator;
 
-/// Appends the record as a line with a line feed. For `Skip`, appends nothing and never fails. On `Memory`, the text is unchanged.
+/// Appends the record to `text`, as a line with a line feed. Leaves `text` unchanged on `Memory`. Appends nothing for `Skip`, and
+/// then never fails.
 pub fn put_line<A: Allocator>(line: &TraceLine<'_>, text: &mut Bytes<A>) -> Result<(), Memory>
     ensures ok { OnOk result (text.new ≡ text.old ++ printed (line_data line.now)) }
     ensures err { OnErr result (text.new ≡ text.old) }
@@ -29,8 +30,8 @@ pub fn put_line<A: Allocator>(line: &TraceLine<'_>, text: &mut Bytes<A>) -> Resu
     put
 }
 
-/// Appends the record as a line with a line feed. On `Memory`, the text may end with a part of it, as also after `append_text`,
-/// `append_named` and `append_line_count`.
+/// Appends the record to `text`, as a line with a line feed. `append_record`, `append_text`, `append_named` and `append_line_count`
+/// may leave part of the line in `text` on `Memory`.
 fn append_record<A: Allocator>(line: &TraceLine<'_>, text: &mut Bytes<A>) -> Result<(), Memory>
     ensures ok { OnOk result (text.new ≡ text.old ++ printed (line_data line.now)) }
     ensures err { OnErr result ((more : List ℕ) × (text.new ≡ text.old ++ more)) }
@@ -65,7 +66,7 @@ fn append_record<A: Allocator>(line: &TraceLine<'_>, text: &mut Bytes<A>) -> Res
     }
 }
 
-/// Appends a key, a text and a line feed.
+/// Appends `key`, `field` and a line feed to `text`.
 fn append_text<A: Allocator>(key: &[u8], field: &[u8], text: &mut Bytes<A>) -> Result<(), Memory>
     ensures ok { OnOk result (text.new ≡ text.old ++ (key.now ++ field.now ++ line_feed ∷ [])) }
     ensures err { OnErr result ((more : List ℕ) × (text.new ≡ text.old ++ more)) }
@@ -75,7 +76,7 @@ fn append_text<A: Allocator>(key: &[u8], field: &[u8], text: &mut Bytes<A>) -> R
     text.append(b"\n")
 }
 
-/// Appends the record of a function: a key, a number and a name.
+/// Appends a function's record: `key`, `number`, a comma and `name`.
 fn append_named<A: Allocator>(
     key: &[u8],
     number: u128,
@@ -114,7 +115,7 @@ fn append_branch<A: Allocator>(
     text.append(line.get())
 }
 
-/// Prepends how often a branch was taken to the rest of its line.
+/// Prepends how often a branch was taken (`-` for `None`) to `line`.
 #[inline]
 fn put_taken(taken: Option<u128>, line: &mut Tail)
     requires { length line.old + 39 ≤ 168 }
@@ -144,7 +145,7 @@ fn append_line_count<A: Allocator>(
     }
 }
 
-/// The front of an instrumented line's record: the key, the line, the count and the byte `end` after the count.
+/// Returns the front of an instrumented line's record: `DA:`, the line, a comma, the count and the byte `end`.
 #[inline]
 fn line_count_front(line: u64, count: u128, end: u8) -> Tail
     ensures { result ≡ codes "DA:" ++ decimal line ++ comma ∷ decimal count ++ end ∷ [] }
@@ -157,7 +158,7 @@ fn line_count_front(line: u64, count: u128, end: u8) -> Tail
     front
 }
 
-/// Appends the record of a total: its key and a number.
+/// Appends the record of a total: the key of `kind`, and `value`.
 fn append_total<A: Allocator>(
     kind: TotalKind,
     value: u64,

@@ -1,5 +1,5 @@
-//! Parses one line of a tracefile. The first bytes decide the line's key. Then a function for this key parses its fields from left
-//! to right. Copies nothing.
+//! Parses one line of a tracefile, without copying. The line's first bytes tell its key. The key's own function then parses the
+//! fields from left to right.
 
 ghost use Rattle.std.specs.Prelude.{◌≡◌, ◌≤◌, ◌+◌, ◌*◌, ◌-◌, ◌++◌, ◌∷◌, ℕ, All, List, Option, [], None, Some, Ok, codes, option_map, Err, MatchOption, MatchResult, IfOk, IfErr, IfSome};
 ghost use Rattle.covline.specs.declared.trace_line.LineFault.{LineFault};
@@ -14,19 +14,19 @@ use crate::names::{good_checksum, is_checksum_byte};
 use crate::point::BranchPoint;
 use crate::trace_line::{LineFault, TotalKind, TraceLine};
 
-/// A parsed number. The variant shows how large it is.
+/// A parsed number, in the variant for its size.
 #[derive(Clone, Copy)]
 pub enum Number {
-    /// A number below 2^64. Most numbers are.
+    /// A number below 2^64, the common case.
     Value(u64),
     /// A number of at least 2^64 and below 2^128.
     U128(u128),
-    /// 2^128 or more.
+    /// A number of 2^128 or more.
     TooLarge,
 }
 
 impl Number {
-    /// The number, in the variant of its size.
+    /// Returns `value` in the variant for its size.
     fn of(value: u128) -> Number
         ensures { result ≡ sized_number value }
     {
@@ -57,7 +57,7 @@ impl Number {
         }
     }
 
-    /// The number if it fits into 64 bits, else `None`: for callers that leave larger numbers to `read_line`.
+    /// The number if it fits into 64 bits, else `None`. Callers leave the whole line to `read_line` on `None`.
     fn small(self) -> Option<u64>
         ensures { result ≡ small_of self }
     {
@@ -68,7 +68,7 @@ impl Number {
     }
 }
 
-/// The number followed by one more digit.
+/// Returns `number` with the ASCII digit `digit` appended.
 fn push_digit(number: Number, digit: u8) -> Number
     requires { 48 ≤ digit }
     ensures { result ≡ with_digit number digit }
@@ -80,7 +80,7 @@ fn push_digit(number: Number, digit: u8) -> Number
     }
 }
 
-/// A number of 128 bits followed by one more digit.
+/// Returns the 128-bit number `value` with the ASCII digit `digit` appended.
 fn push_wide(value: u128, digit: u8) -> Number
     requires { 48 ≤ digit }
     ensures { result ≡ sized_number (value * 10 + (digit - 48)) }
@@ -92,11 +92,11 @@ fn push_wide(value: u128, digit: u8) -> Number
     }
 }
 
-/// The largest number that stays below 2^64 with any further digit. Numbers of 18 digits are below it, so up to 19 digits are read
-/// without overflow checks.
+/// The largest number that stays below 2^64 whatever digit is appended. Every 18-digit number is smaller, so 19 digits never need
+/// an overflow check.
 const LARGEST_EXTENDABLE: u64 = 1_844_674_407_370_955_160;
 
-/// The number made of the digits at the front of the text, and what follows them. The number is 0 if there are none.
+/// Parses the digits at the front of the text. Returns their number (0 if the text begins with no digit) and the rest of the text.
 fn read_digits(text: &[u8]) -> (Number, &[u8])
     ensures value { result.0 ≡ (digits_from (Number.Value 0) text.now).0 }
     ensures rest { result.1.now ≡ (digits_from (Number.Value 0) text.now).1 }
@@ -116,7 +116,8 @@ fn read_digits(text: &[u8]) -> (Number, &[u8])
     (Number::Value(value), rest)
 }
 
-/// The number with the digits at the front of the text appended, each with an overflow check, and what follows them.
+/// Appends the digits at the front of the text to the number `front`, with overflow checks. Returns the number and the rest of the
+/// text.
 #[cold]
 fn read_more_digits(front: Number, text: &[u8]) -> (Number, &[u8])
     ensures value { result.0 ≡ (digits_from front text.now).0 }
@@ -134,7 +135,7 @@ fn read_more_digits(front: Number, text: &[u8]) -> (Number, &[u8])
     (number, rest)
 }
 
-/// The number at the front of the text, and what follows it. Returns `None` if the text doesn't begin with a digit.
+/// Parses the number at the front of the text. Returns the number and the rest, or `None` if the text doesn't begin with a digit.
 pub fn read_number(text: &[u8]) -> Option<(Number, &[u8])>
     ensures { option_map (λ front. (front.0, front.1.now)) result ≡ number_at text.now }
 {
@@ -144,7 +145,7 @@ pub fn read_number(text: &[u8]) -> Option<(Number, &[u8])>
     }
 }
 
-/// Parses the whole text as a number. Returns `None` if it isn't one or more digits.
+/// Parses the whole text as a number. Returns `None` unless the text is one or more digits.
 pub fn read_whole(text: &[u8]) -> Option<Number>
     ensures { result ≡ number_of text.now }
 {
@@ -154,7 +155,8 @@ pub fn read_whole(text: &[u8]) -> Option<Number>
     }
 }
 
-/// The execution count at the front of the text, and what follows it. A count with a minus is 0, whatever its digits.
+/// Parses the execution count at the front of the text. Returns the count and the rest of the text. A minus and digits are the
+/// count 0.
 #[inline]
 pub fn read_count(text: &[u8]) -> Option<(Number, &[u8])>
     ensures { option_map (λ front. (front.0, front.1.now)) result ≡ count_at text.now }
@@ -166,7 +168,7 @@ pub fn read_count(text: &[u8]) -> Option<(Number, &[u8])>
     Some((Number::Value(0), rest))
 }
 
-/// The number, and what follows the comma at the front of `rest`. Returns `None` if `rest` doesn't begin with a comma.
+/// Returns `number` and the text after the comma that `rest` begins with, or `None` if `rest` doesn't begin with a comma.
 pub fn split_comma(number: Number, rest: &[u8]) -> Option<(Number, &[u8])>
     ensures { option_map (λ front. (front.0, front.1.now)) result ≡ before_comma number rest.now }
 {
@@ -176,7 +178,7 @@ pub fn split_comma(number: Number, rest: &[u8]) -> Option<(Number, &[u8])>
     }
 }
 
-/// The number at the front of the text, and what follows the comma after it.
+/// Parses a number and a comma at the front of the text. Returns the number and the rest of the text.
 pub fn read_field(text: &[u8]) -> Option<(Number, &[u8])>
     ensures { option_map (λ front. (front.0, front.1.now)) result ≡ field_at text.now }
 {
@@ -194,15 +196,15 @@ pub fn read_taken(text: &[u8]) -> Option<Option<Number>>
     }
 }
 
-/// Returns the text if it is a checksum.
+/// Returns the text if it is a checksum, else `None`.
 fn whole_checksum(text: &[u8]) -> Option<&[u8]>
     ensures { option_map (λ c. c.now) result ≡ only_checksum text.now }
 {
     good_checksum(text).then_some(text)
 }
 
-/// Parses the checksum after a line's count. Returns `Some(None)` if the text is empty, and `None` if it is anything but a comma
-/// and a checksum.
+/// Parses the optional checksum after a line's count. Returns `Some(None)` for an empty text, the checksum for a comma and a
+/// checksum, and `None` for any other text.
 fn read_checksum(text: &[u8]) -> Option<Option<&[u8]>>
     ensures { option_map (option_map (λ c. c.now)) result ≡ checksum_of text.now }
 {
@@ -257,7 +259,7 @@ fn branch_record(fields: &[u8]) -> Result<TraceLine<'_>, LineFault>
     }
 }
 
-/// The record of a branch, if its numbers fit.
+/// Returns the branch's record if all numbers fit, else `NumberTooLarge`.
 fn fit_branch<'a>(
     line: Number,
     block: Number,
@@ -314,7 +316,7 @@ fn total_record(kind: TotalKind, field: &[u8]) -> Result<TraceLine<'_>, LineFaul
     Ok(TraceLine::Total { kind, value })
 }
 
-/// Parses the field after `SF:`, which may not be empty.
+/// Parses the path after `SF:`. Returns `EmptyPath` if the path is empty.
 fn path_record(path: &[u8]) -> Result<TraceLine<'_>, LineFault>
     ensures { Gives result (path_fields path.now) }
 {
@@ -324,7 +326,7 @@ fn path_record(path: &[u8]) -> Result<TraceLine<'_>, LineFault>
     Ok(TraceLine::Path(path))
 }
 
-/// Parses a line after its first byte `B`: a key of branches, or an unknown key.
+/// Parses `rest`, a line without its first byte `B`. The line's key is `BRDA:`, `BRF:`, `BRH:` or unknown.
 #[tactic(auto, unfolding(crate::specs::Reading::read_of))]
 fn branch_key(rest: &[u8]) -> Result<TraceLine<'_>, LineFault>
     ensures { Gives result (read_of (codes "B" ++ rest.now)) }
@@ -341,7 +343,7 @@ fn branch_key(rest: &[u8]) -> Result<TraceLine<'_>, LineFault>
     Ok(TraceLine::Skip)
 }
 
-/// Parses a line after its first byte `F`: a key of functions, or an unknown key.
+/// Parses `rest`, a line without its first byte `F`. The line's key is `FN:`, `FNDA:`, `FNF:`, `FNH:` or unknown.
 #[tactic(auto, unfolding(crate::specs::Reading::read_of))]
 fn function_key(rest: &[u8]) -> Result<TraceLine<'_>, LineFault>
     ensures { Gives result (read_of (codes "F" ++ rest.now)) }
@@ -361,7 +363,7 @@ fn function_key(rest: &[u8]) -> Result<TraceLine<'_>, LineFault>
     Ok(TraceLine::Skip)
 }
 
-/// Parses a line after its first byte `L`: a total of lines, or an unknown key.
+/// Parses `rest`, a line without its first byte `L`. The line's key is `LF:`, `LH:` or unknown.
 #[tactic(auto, unfolding(crate::specs::Reading::read_of))]
 fn line_total(rest: &[u8]) -> Result<TraceLine<'_>, LineFault>
     ensures { Gives result (read_of (codes "L" ++ rest.now)) }
@@ -375,7 +377,7 @@ fn line_total(rest: &[u8]) -> Result<TraceLine<'_>, LineFault>
     Ok(TraceLine::Skip)
 }
 
-/// The text after this key. Returns `None` if the text doesn't begin with the key.
+/// Returns the text after `key`, or `None` if the text doesn't begin with `key`.
 pub fn strip_key<'a>(text: &'a [u8], key: &[u8]) -> Option<&'a [u8]>
     ensures { option_map (λ rest. rest.now) result ≡ after_key key.now text.now }
 {
@@ -391,7 +393,7 @@ pub fn strip_key<'a>(text: &'a [u8], key: &[u8]) -> Option<&'a [u8]>
     Some(rest)
 }
 
-/// Parses a line after its first byte `e`: the end of a section, or an unknown key.
+/// Parses `rest`, a line without its first byte `e`: the end of a section, or an unknown key.
 #[tactic(auto, unfolding(crate::specs::Reading::read_of))]
 fn end_key(rest: &[u8]) -> TraceLine<'_>
     ensures { read_of (codes "e" ++ rest.now) ≡ Ok (line_data result) }
@@ -402,7 +404,7 @@ fn end_key(rest: &[u8]) -> TraceLine<'_>
     }
 }
 
-/// Parses a line after its first byte `D`: the key of a counted line, or an unknown key.
+/// Parses `rest`, a line without its first byte `D`. The line's key is `DA:` or unknown.
 #[tactic(auto, unfolding(crate::specs::Reading::read_of))]
 fn line_key(rest: &[u8]) -> Result<TraceLine<'_>, LineFault>
     ensures { Gives result (read_of (codes "D" ++ rest.now)) }
@@ -413,7 +415,7 @@ fn line_key(rest: &[u8]) -> Result<TraceLine<'_>, LineFault>
     Ok(TraceLine::Skip)
 }
 
-/// Parses a line after its first byte `S`: the key of a path, or an unknown key.
+/// Parses `rest`, a line without its first byte `S`. The line's key is `SF:` or unknown.
 #[tactic(auto, unfolding(crate::specs::Reading::read_of))]
 fn path_key(rest: &[u8]) -> Result<TraceLine<'_>, LineFault>
     ensures { Gives result (read_of (codes "S" ++ rest.now)) }
@@ -424,7 +426,7 @@ fn path_key(rest: &[u8]) -> Result<TraceLine<'_>, LineFault>
     Ok(TraceLine::Skip)
 }
 
-/// Parses a line after its first byte `T`: the key of a test, or an unknown key.
+/// Parses `rest`, a line without its first byte `T`. The line's key is `TN:` or unknown.
 #[tactic(auto, unfolding(crate::specs::Reading::read_of))]
 fn test_key(rest: &[u8]) -> TraceLine<'_>
     ensures { read_of (codes "T" ++ rest.now) ≡ Ok (line_data result) }
@@ -435,7 +437,7 @@ fn test_key(rest: &[u8]) -> TraceLine<'_>
     }
 }
 
-/// Parses a line, given as its first byte and the rest.
+/// Parses the line that consists of the byte `first` and then `rest`.
 #[tactic(auto, unfolding(crate::specs::Reading::read_of))]
 fn read_after(first: u8, rest: &[u8]) -> Result<TraceLine<'_>, LineFault>
     ensures { Gives result (read_of (first ∷ rest.now)) }
@@ -463,9 +465,9 @@ pub fn read_any(line: &[u8]) -> Result<TraceLine<'_>, LineFault>
     }
 }
 
-/// Parses one line of a tracefile (geninfo(1), section FILES), given without its line feed and the carriage returns before it.
-/// Names are slices of the line. Errors of a line with a known key: `BadLine` if it doesn't have the key's form, which is checked
-/// first; `NumberTooLarge` if a count is 2^128 or more, or another number 2^64 or more; `EmptyPath` for `SF:` alone.
+/// Parses one line of a tracefile (geninfo(1), section FILES), as cut by `lines`: without line feed and final carriage returns.
+/// Names in the record are slices of the line. Only a line with a known key can fail: `BadLine` for malformed fields, which is
+/// checked first; `NumberTooLarge` for a count of 2^128 or more, or another number of 2^64 or more; `EmptyPath` for `SF:` alone.
 pub fn read_line(line: &[u8]) -> Result<TraceLine<'_>, LineFault>
     ensures ok { IfOk result (λ t. Spells line.now (line_data t)) }
     ensures err { IfErr result (λ f. HasFault line.now f) }
@@ -475,7 +477,7 @@ pub fn read_line(line: &[u8]) -> Result<TraceLine<'_>, LineFault>
     read_any(line)
 }
 
-/// The text after `DA:`. Returns `None` if the text doesn't begin with `DA:`.
+/// Returns the text after `DA:`, or `None` if the text doesn't begin with `DA:`.
 fn after_count_key(text: &[u8]) -> Option<&[u8]>
     ensures { option_map (λ rest. rest.now) result ≡ after_key (codes "DA:") text.now }
 {
@@ -485,7 +487,7 @@ fn after_count_key(text: &[u8]) -> Option<&[u8]>
     }
 }
 
-/// The text after its first byte, a line feed. Returns `None` if the text doesn't begin with one.
+/// Returns what follows the line feed at the front of the text, or `None` if the text doesn't begin with a line feed.
 pub fn after_feed(text: &[u8]) -> Option<&[u8]>
     ensures { option_map (λ rest. rest.now) result ≡ after_key (line_feed ∷ []) text.now }
 {
@@ -495,20 +497,20 @@ pub fn after_feed(text: &[u8]) -> Option<&[u8]>
     }
 }
 
-/// The meaning of a text's first line, a `DA:` line, and the rest of the text.
+/// A `DA:` line, parsed from the front of a text, and the rest of the text.
 #[derive(Clone, Copy)]
 pub struct LineCount<'a> {
-    /// The line of the source file.
+    /// The line's number in the source file.
     pub line: u64,
-    /// Its execution count.
+    /// The line's execution count.
     pub count: u64,
-    /// The checksum of its text, if it has one.
+    /// The checksum of the line's text, if the record has one.
     pub checksum: Option<&'a [u8]>,
     /// The text after the first line.
     pub rest: &'a [u8],
 }
 
-/// The text without the bytes at its front that a checksum may have.
+/// Skips the bytes at the front of the text that a checksum may contain. Returns the rest.
 fn after_checksum(text: &[u8]) -> &[u8]
     ensures { result.now ≡ after_checksum text.now }
 {
@@ -522,7 +524,8 @@ fn after_checksum(text: &[u8]) -> &[u8]
     rest
 }
 
-/// The checksum at the front of the text, and what follows it. Returns `None` if there is no checksum.
+/// Splits off the checksum at the front of the text. Returns the checksum and the rest, or `None` if the text begins with no
+/// checksum.
 fn front_checksum(text: &[u8]) -> Option<(&[u8], &[u8])>
     ensures { option_map (λ front. (front.0.now, front.1.now)) result ≡ checksum_front text.now }
 {
@@ -534,8 +537,8 @@ fn front_checksum(text: &[u8]) -> Option<(&[u8], &[u8])>
     Some((checksum, rest))
 }
 
-/// The optional checksum after a line's count, and what follows the line feed. Returns `None` unless the count is followed by a
-/// line feed, or by a comma, a checksum and a line feed.
+/// Parses the end of a `DA:` line after the count: a line feed, or a comma, a checksum and a line feed. Returns the optional
+/// checksum and the rest of the text, or `None` if the text begins otherwise.
 fn split_count_end(text: &[u8]) -> Option<(Option<&[u8]>, &[u8])>
     ensures { option_map (λ end. (option_map (λ c. c.now) end.0, end.1.now)) result ≡ count_end text.now }
 {
@@ -546,9 +549,9 @@ fn split_count_end(text: &[u8]) -> Option<(Option<&[u8]>, &[u8])>
     Some((None, after_feed(text)?))
 }
 
-/// Parses the first line of the text in one pass if it is `DA:<line>,<count>` or `DA:<line>,<count>,<checksum>`, ends in a line
-/// feed, and has only digits below 2^64 as numbers. Most lines of a tracefile are such lines. Returns `None` for any other first
-/// line, which the caller then cuts off and parses.
+/// Parses the text's first line in one pass if the line is `DA:<line>,<count>` or `DA:<line>,<count>,<checksum>`, ends in a line
+/// feed, and has only numbers below 2^64 without a minus. Most lines of a tracefile are such lines. Returns `None` for any other
+/// first line, which the caller must cut off and parse by `read_line`.
 #[inline(always)]
 pub fn try_line_count(text: &[u8]) -> Option<LineCount<'_>>
     ensures says { IfSome result (λ f. BeginsWithLine text.now (Line f.line f.count (option_map (λ c. c.now) f.checksum)) f.rest.now) }
@@ -574,18 +577,18 @@ fn front_counted(text: &[u8]) -> Option<LineCount<'_>>
     })
 }
 
-/// The meaning of a text's first line, a `BRDA:` line, and the rest of the text.
+/// A `BRDA:` line, parsed from the front of a text, and the rest of the text.
 #[derive(Clone, Copy)]
 pub struct BranchLine<'a> {
     /// The branch.
     pub point: BranchPoint,
-    /// How often it was taken; `None` if its block was never executed.
+    /// How often the branch was taken, or `None` if the branch's block was never executed.
     pub taken: Option<u64>,
     /// The text after the first line.
     pub rest: &'a [u8],
 }
 
-/// The number at the front of the text, and what follows the comma after it. Returns `None` if the number isn't below 2^64.
+/// Does what `read_field` does, but also returns `None` for a number of 2^64 or more.
 pub fn small_field(text: &[u8]) -> Option<(u64, &[u8])>
     ensures { option_map (λ front. (front.0, front.1.now)) result ≡ small_front (field_at text.now) }
 {
@@ -593,7 +596,7 @@ pub fn small_field(text: &[u8]) -> Option<(u64, &[u8])>
     Some((number.small()?, rest))
 }
 
-/// The number at the front of the text, and what follows it. Returns `None` if the number isn't below 2^64.
+/// Does what `read_number` does, but also returns `None` for a number of 2^64 or more.
 pub fn small_number(text: &[u8]) -> Option<(u64, &[u8])>
     ensures { option_map (λ front. (front.0, front.1.now)) result ≡ small_front (number_at text.now) }
 {
@@ -601,8 +604,8 @@ pub fn small_number(text: &[u8]) -> Option<(u64, &[u8])>
     Some((number.small()?, rest))
 }
 
-/// Parses the field at the front of the text, which says how often a branch was taken. The field is `-`, which gives `None`, or a
-/// number below 2^64. Returns it with what follows it.
+/// Parses how often a branch was taken, at the front of the text. The field is a number below 2^64, or `-` for `None`. Returns the
+/// field's value and the rest of the text, or `None` if the text doesn't begin with such a field.
 #[inline(always)]
 pub fn front_taken(text: &[u8]) -> Option<(Option<u64>, &[u8])>
     ensures { option_map (λ front. (front.0, front.1.now)) result ≡ taken_front text.now }
@@ -614,9 +617,9 @@ pub fn front_taken(text: &[u8]) -> Option<(Option<u64>, &[u8])>
     Some((Some(taken), rest))
 }
 
-/// Parses the first line of the text in one pass if it is `BRDA:<line>,<block>,<branch>,<taken>`, ends in a line feed, and has only
-/// digits below 2^64 as numbers; the last may also be `-`. Returns `None` for any other first line, which the caller then cuts off
-/// and parses.
+/// Parses the text's first line in one pass if the line is `BRDA:<line>,<block>,<branch>,<taken>`, ends in a line feed, and has
+/// only numbers below 2^64; `<taken>` may also be `-`. Returns `None` for any other first line, which the caller must cut off and
+/// parse by `read_line`.
 #[inline(always)]
 pub fn try_branch_line(text: &[u8]) -> Option<BranchLine<'_>>
     ensures says { IfSome result (λ f. BeginsWithLine text.now (Branch f.point.line f.point.block f.point.branch f.taken) f.rest.now) }

@@ -1,4 +1,4 @@
-//! Sections, and the list of them.
+//! Sections and lists of sections.
 
 use crate::bytes::Bytes;
 use crate::item::Items;
@@ -127,7 +127,7 @@ impl<A: Allocator> Sects<A> {
         true
     }
 
-    /// Frees the list's own unused capacity, not that inside its sections. Called after the last section is appended.
+    /// Frees the list's own unused capacity, but none inside its sections. Meant for a finished list.
     pub fn shrink(&mut self)
         ensures { self.new ≡ self.old }
     {

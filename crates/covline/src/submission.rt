@@ -10,10 +10,10 @@ use thiserror::Error;
 /// Why sections don't make a submission.
 #[derive(Clone, Copy, Debug, PartialEq, Eq, Error)]
 pub enum BadSubmission {
-    /// Fault 1: there are more than 67,108,864 items.
+    /// Error 1: the sections have more than 67,108,864 items.
     #[error("TooMany")]
     TooMany,
-    /// Fault 2: the section with this number, counted from 0, is the first with an unlawful name or checksum.
+    /// Error 2: the section at index `sect` is the first with an unlawful name or checksum.
     #[error("BadText")]
     BadText { sect: usize },
 }
@@ -33,8 +33,8 @@ impl BadSubmission {
     }
 }
 
-/// The content of one input: its sections and its number of inconsistent lines (`odd`), which don't fit their section. The sections
-/// have at most 67,108,864 items in all, and lawful names and checksums. Contracts see the sections and the number.
+/// The content of one input: its sections, and its number of inconsistent lines (`odd`), which contradict their section. The
+/// sections have lawful names and checksums, and together at most 67,108,864 items. Contracts see the sections and `odd`.
 #[derive(Drop)]
 pub struct Submission<A: Allocator = Global> {
     sects: Sects<A>,
@@ -75,8 +75,8 @@ impl<A: Allocator> Submission<A> {
     ghost use Rattle.covline.specs.SectView.{sect_data};
     ghost use Rattle.covline.specs.Lawful.{IsLawful, IsRefusedAs};
 
-    /// Makes a submission of these sections, with the number of inconsistent lines of their input. Returns the sections with the
-    /// error if they have too many items, or an unlawful name or checksum.
+    /// Makes a submission of the sections. `odd` is the number of inconsistent lines in their input. Returns the sections with the
+    /// error if there are too many items, or an unlawful name or checksum.
     pub fn of(sects: Sects<A>, odd: u64) -> Result<Submission<A>, (Sects<A>, BadSubmission)>
         ensures ok { IfOk result (λ s. s ≡ record { sects = sects; odd = odd }) }
         ensures lawful { IsOk result ↔ IsLawful (record { sects = sects; odd = odd }) }
@@ -92,8 +92,8 @@ impl<A: Allocator> Submission<A> {
         Ok(Submission { sects, items, odd })
     }
 
-    /// Makes a submission of sections that are known to be lawful, with the number of inconsistent lines of their input. Doesn't
-    /// check the names and checksums again.
+    /// Makes a submission of sections that must be lawful, and doesn't check names and checksums again. `odd` is the number of
+    /// inconsistent lines in their input.
     pub fn of_lawful(sects: Sects<A>, odd: u64) -> Submission<A>
         requires { IsLawful (record { sects = sects; odd = odd }) }
         ensures { result ≡ record { sects = sects; odd = odd } }
@@ -125,8 +125,8 @@ impl<A: Allocator> Submission<A> {
         self.items
     }
 
-    /// The number of inconsistent lines of the input. Such a line counts a function without a start line, or states a total that
-    /// isn't the section's own.
+    /// The number of inconsistent lines in the input. An inconsistent line counts a function without a start line, or states a
+    /// total that differs from its section's.
     pub fn odd(&self) -> u64
         ensures { result ≡ self.now.odd }
     {

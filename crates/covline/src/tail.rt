@@ -1,4 +1,4 @@
-//! Builds the end of a line, from its last byte to its first.
+//! Builds the end of a line backwards, starting with the last byte.
 
 ghost use Rattle.std.specs.Prelude.{◌≡◌, ◌+◌, ◌<◌, ◌≤◌, ◌++◌, [], ◌∷◌, decimal, length};
 ghost use Rattle.covline.specs.Spells.{comma};
@@ -6,11 +6,10 @@ ghost use Rattle.covline.specs.Spells.{comma};
 use itoa::{Buffer, write_digits};
 use std::marker::Model;
 
-/// The capacity in bytes. A line has at most a key of 5 bytes, four numbers of up to 39 digits, a comma after each, and a line
-/// feed.
+/// The capacity in bytes: enough for a key of 5 bytes, four numbers of 39 digits with a comma each, and a line feed.
 const ROOM: usize = 168;
 
-/// The end of a line of numbers, which is built from its last byte to its first. Contracts see its bytes.
+/// The end of a line of numbers, built backwards from the last byte. Contracts see the bytes.
 #[derive(Drop)]
 pub(crate) struct Tail {
     bytes: [u8; ROOM],
@@ -90,7 +89,7 @@ impl Tail {
         self.start = write_digits(number, &mut self.bytes, self.start);
     }
 
-    /// Prepends a number and a comma.
+    /// Prepends a number followed by a comma.
     #[inline]
     pub(crate) fn put_field(&mut self, number: u128)
         requires { length self.old + 40 ≤ 168 }

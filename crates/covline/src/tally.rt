@@ -1,8 +1,8 @@
-//! Tallies of points.
+//! Tallies of coverage points.
 
 ghost use Rattle.std.specs.Prelude.{◌≡◌, ◌+◌, ◌<◌, ◌≤◌, ◌^◌, if◌then◌else◌};
 
-/// How many points of a kind (functions, branches or lines) there are, and how many have an execution count above 0.
+/// The number of coverage points of one kind (functions, branches or lines), and how many of these points have a count above 0.
 #[derive(Clone, Copy, Debug, PartialEq, Eq)]
 pub struct Tally {
     /// The number of points.
@@ -16,7 +16,7 @@ impl Tally {
     /// The tally of no points.
     pub const NONE: Tally = Tally { found: 0, hit: 0 };
 
-    /// The tally with one more point, hit or not.
+    /// The tally with one more point, which is hit if `is_hit` is true.
     pub fn and(self, is_hit: bool) -> Tally
         requires { self.found + 1 < 2 ^ 64 }
         ensures found { result.found ≡ self.found + 1 }

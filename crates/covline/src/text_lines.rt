@@ -6,8 +6,8 @@ ghost use Rattle.covline.specs.Lines.{lines_of, strip, IsFirstCut};
 use crate::iter::Lines;
 use memchr::memchr;
 
-/// The lines of the text in order, blank ones too, without their line feeds and without the carriage returns
-/// before these. The last line feed may be missing.
+/// Returns an iterator over the text's lines in order, blank lines included. A line comes without its line feed and the carriage
+/// returns at its end. The last line needs no line feed.
 pub fn lines(text: &[u8]) -> Lines<'_>
     ensures value { result ≡ text.now }
     ensures few { length (lines_of text.now) ≤ length text.now }
@@ -15,7 +15,7 @@ pub fn lines(text: &[u8]) -> Lines<'_>
     Lines::of(text)
 }
 
-/// The first line, and the text after its line feed.
+/// The first line of `text`, and the text after the line feed. `text` must not be empty.
 pub fn first_line(text: &[u8]) -> (&[u8], &[u8])
     requires { 0 < length text.now }
     ensures lines { lines_of text.now ≡ result.0.now ∷ lines_of result.1.now }

@@ -8,24 +8,24 @@ use thiserror::Error;
 /// The totals that a line can state about a section.
 #[derive(Clone, Copy, Debug, PartialEq, Eq)]
 pub enum TotalKind {
-    /// `FNF:`, the functions with a start line.
+    /// `FNF:`, the number of functions with a start line.
     FuncFound,
-    /// `FNH:`, those of them with an execution count above 0.
+    /// `FNH:`, the number of functions with a start line and an execution count above 0.
     FuncHit,
-    /// `BRF:`, the branches.
+    /// `BRF:`, the number of branches.
     BranchFound,
-    /// `BRH:`, those of them that were taken.
+    /// `BRH:`, the number of branches that were taken.
     BranchHit,
-    /// `LF:`, the instrumented lines.
+    /// `LF:`, the number of instrumented lines.
     LineFound,
-    /// `LH:`, the lines with an execution count above 0.
+    /// `LH:`, the number of instrumented lines with an execution count above 0.
     LineHit,
 }
 
 /// The meaning of one line (a record). Names, paths and checksums are slices of the line.
 #[derive(Clone, Copy)]
 pub enum TraceLine<'a> {
-    /// `TN:<name>`, the test name of the sections that follow. It may be empty.
+    /// `TN:<name>`, the test name, possibly empty, of the sections that follow.
     Test(&'a [u8]),
     /// `SF:<path>`, the beginning of a source file's section.
     Path(&'a [u8]),
@@ -39,8 +39,8 @@ pub enum TraceLine<'a> {
         count: u128,
         name: &'a [u8],
     },
-    /// `BRDA:<line>,<block>,<branch>,<taken>`, how often a branch was taken: `None` for `-`, which means that its block was never
-    /// executed.
+    /// `BRDA:<line>,<block>,<branch>,<taken>`, how often a branch was taken. `taken` is `None` for `-`: the branch's block was
+    /// never executed.
     Branch {
         line: u64,
         block: u64,
@@ -61,17 +61,17 @@ pub enum TraceLine<'a> {
     },
     /// `end_of_record`, the end of a section.
     End,
-    /// Any other line, which has no meaning here.
+    /// Any other line, which stays unparsed.
     Skip,
 }
 
 /// Why a line can't be parsed.
 #[derive(Clone, Copy, Debug, PartialEq, Eq, Error)]
 pub enum LineFault {
-    /// The line has a known key, but not the key's form.
+    /// The line begins with a known key, but the fields after the key are malformed.
     #[error("BadLine")]
     BadLine = 1,
-    /// The form is right, but a number is too large: a count of 2^128 or more, or another number of 2^64 or more.
+    /// The fields are well formed, but a number is too large: a count of 2^128 or more, or another number of 2^64 or more.
     #[error("NumberTooLarge")]
     NumberTooLarge = 2,
     /// `SF:` with nothing after it.

@@ -1,10 +1,10 @@
-//! An iterator over the filled slots, in order.
+//! The iterator over a map's entries, in ascending order of keys.
 
 use crate::slots::page::{Page, Rest};
 use std::alloc::Allocator;
 use std::marker::Model;
 
-/// An iterator over the filled slots of pages. Contracts see the keys that are left, each with its value.
+/// An iterator over the slots that have a value, page by page. Contracts see the remaining keys, each with its value.
 #[derive(Drop)]
 pub struct Entries<'a, K, V, A: Allocator> {
     pages: &'a [Page<K, V, A>],
@@ -24,7 +24,7 @@ impl<'a, K, V, A: Allocator> Entries<'a, K, V, A> {
     ghost use Rattle.std.specs.Prelude.{◌≡◌};
     ghost use Rattle.covmap.specs.Slots.{filled, slots_of};
 
-    /// The filled slots of all pages.
+    /// Returns an iterator over all slots of `pages` that have a value.
     pub(crate) fn of(pages: &'a [Page<K, V, A>]) -> Entries<'a, K, V, A>
         ensures { result ≡ filled (slots_of pages.now) }
     {

@@ -11,13 +11,13 @@ use crate::slots::{SlotIndex, Slots};
 use std::alloc::{AllocError, Allocator};
 use std::marker::Model;
 
-/// A finite map with committed and staged values. If nothing is staged for a key, its staged value is the committed one.
+/// A finite map with committed and staged values. The staged value of a key is its committed value, until another value is staged.
 ///
-/// Contracts see two lists of entries, ascending by their keys: the committed entries and the staged entries. A commit replaces
-/// the committed entries with the staged ones.
+/// Contracts see two lists of entries, the committed and the staged entries, each in ascending order of keys. A commit replaces the
+/// committed entries with the staged entries.
 ///
-/// A look-up needs no search if its key comes right after the key that was looked up last. A look-up of the same key again
-/// needs no search either, unless a run was staged in between.
+/// A look-up costs no search if its key comes right after the key of the last look-up. Repeating the last look-up costs no search
+/// either, unless a run was staged in between.
 #[derive(Drop)]
 pub struct StagedMap<K: Key, V, A: Allocator> {
     slots: Slots<K, V, A>,
@@ -74,7 +74,7 @@ impl<K: Key, V, A: Allocator> StagedMap<K, V, A> {
         self.slots.entries()
     }
 
-    /// Proof only: the keys of the committed entries ascend.
+    /// Does nothing, but proves that the keys of the committed entries ascend.
     pub fn ascends(&self)
         ensures { ArePairs K.cmp self.now.committed }
     {
@@ -89,7 +89,7 @@ impl<K: Key, V, A: Allocator> StagedMap<K, V, A> {
         entries.next().is_none()
     }
 
-    /// The guess for the next look-up: the place of the key that was looked up last, or the place right after it.
+    /// The guess for the next look-up: a place at, or right after, the last key that was looked up or staged.
     pub fn cursor(&self) -> SlotIndex {
         self.cursor
     }
@@ -164,7 +164,8 @@ impl<K: Key, V: Value, A: Allocator> StagedMap<K, V, A> {
         value
     }
 
-    /// Replaces the committed value of a key that has one. `None` removes it. Rolls back what is staged. Never allocates.
+    /// Replaces the committed value of a key, which must have one. `None` removes the entry. Discards all staged values. Never
+    /// allocates.
     pub fn replace<Q: Query<K, A>>(&mut self, query: Q, value: Option<V>)
         requires { is_some (value_of K.cmp (Q.named query) self.old.committed) ≡ true }
         ensures committed { self.new.committed ≡ assigned K.cmp (Q.named query) value self.old.committed }
@@ -192,11 +193,11 @@ impl<K: Key + Drop, V: Value, A: Allocator + Copy> StagedMap<K, V, A> {
     ghost use Rattle.std.specs.Prelude.{◌≡◌, IfOk, OnOk};
     ghost use Rattle.covmap.specs.Puts.{ArePairs, put, value_of};
 
-    /// Stages a value of a key.
+    /// Stages a value for a key.
     ///
     /// # Errors
     ///
-    /// `AllocError` if an allocation failed. Anything may be staged then, so roll it back.
+    /// `AllocError` if an allocation failed. The staged values are then unspecified, so call `rollback`.
     pub fn stage<Q: Query<K, A>>(&mut self, alloc: A, query: Q, value: V) -> Result<(), AllocError>
         ensures committed { self.new.committed ≡ self.old.committed }
         ensures ok { OnOk result (self.new.staged ≡ put K.cmp (Q.named query) value self.old.staged) }
@@ -207,12 +208,12 @@ impl<K: Key + Drop, V: Value, A: Allocator + Copy> StagedMap<K, V, A> {
         self.staged.put(alloc, &self.slots, place, value)
     }
 
-    /// Stages the sum of a key's staged value and an addend. Looks up the key only once. The look-up costs no search if `guess`
-    /// is the key's place, or the place right before it.
+    /// Stages the sum of a key's staged value and an addend. Looks up the key only once. The look-up costs no search if `guess` is
+    /// the place of the key, or of the key right before.
     ///
     /// # Errors
     ///
-    /// `AllocError` if an allocation failed. Anything may be staged then, so roll it back.
+    /// `AllocError` if an allocation failed. The staged values are then unspecified, so call `rollback`.
     pub fn stage_sum<Q: Query<K, A>, M: Addend<V>>(
         &mut self,
         alloc: A,

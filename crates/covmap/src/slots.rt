@@ -1,8 +1,8 @@
-//! Slots in ascending order of their keys. Each slot has a committed value or is empty.
+//! Slots in ascending order of keys. A slot has a key, and either a committed value or none (an empty slot).
 //!
-//! The slots are split into pages of at most 256, so inserting a key moves only few others. A binary search finds a page by its
-//! last key, and then a slot on it. Looking up all keys in order costs no search if each place is the guess for the next look-up.
-//! Contracts see the pages, but a caller needs only the list of all slots and the places of keys.
+//! A page holds at most 256 slots, so inserting a key moves only a few others. One binary search finds a page by the pages' last
+//! keys, and another finds a slot on this page. Looking up all keys in order costs no search if each returned place is the guess
+//! for the next look-up. Contracts see the pages, but a caller needs only the list of all slots and the places of keys.
 
 ghost use Rattle.std.specs.Prelude.{◌≡◌, ◌+◌, ◌^◌, ◌<◌, None, [], ◌∷◌, ◌++◌, IfErr, IfNone, IfOk, IfSome, OnErr, OnOk, true, is_some, length, option_map};
 ghost use Rattle.std.specs.declared.cmp.Ordering.TheVariants.{Less};
@@ -25,10 +25,10 @@ use std::alloc::{AllocError, Allocator};
 use std::cmp::Ordering;
 use std::marker::Model;
 
-/// How many slots fit on a page.
+/// The largest number of slots on a page.
 const PAGE_SLOTS: usize = 256;
 
-/// How many slots a full page keeps when it is split.
+/// The number of slots that a full page keeps when it is split.
 const HALF: usize = 128;
 
 /// The place of a key: the number of its page, and the number of its slot on this page.
@@ -64,7 +64,7 @@ impl<K: Key, V, A: Allocator> Model for Slots<K, V, A> {
 }
 
 impl<K: Key, V, A: Allocator> Slots<K, V, A> {
-    /// No slots.
+    /// An empty list of slots.
     pub(crate) fn new(alloc: A) -> Slots<K, V, A>
         ensures { result ≡ [] }
     {
@@ -73,7 +73,7 @@ impl<K: Key, V, A: Allocator> Slots<K, V, A> {
         }
     }
 
-    /// The number of the first page whose last key doesn't come before the queried key.
+    /// The number of the first page whose last key isn't less than the queried key.
     fn page_of<Q: Query<K, A>>(&self, query: Q) -> usize
         ensures { result ≡ lead (ends_before (λ key. K.cmp key (Q.named query))) self.now }
     {
@@ -92,7 +92,7 @@ impl<K: Key, V, A: Allocator> Slots<K, V, A> {
 }
 
 impl<K: Key, V, A: Allocator> Slots<K, V, A> {
-    /// The place where the queried key would be. All keys before this place, and no others, come before the queried key.
+    /// The place where the queried key is, or would be inserted. Exactly the keys before this place are less than the queried key.
     fn cut<Q: Query<K, A>>(&self, query: Q) -> SlotIndex
         ensures cut { IsCut (λ key. K.cmp key (Q.named query)) self.now (at result) }
         ensures whole { AreSlots K.cmp self.now }
@@ -105,9 +105,9 @@ impl<K: Key, V, A: Allocator> Slots<K, V, A> {
         SlotIndex { page, index }
     }
 
-    /// The place of the queried key, or as an error, the place where the key would be inserted. Costs no search if the key is
-    /// at the guess or right after it, or would be inserted right after it. A key that would be inserted right before the guess
-    /// costs a search only if the guess is the first slot of a page.
+    /// Returns the place of the queried key, or `Err` with the place where this key would be inserted. Costs no search if the key
+    /// is at `guess`, or if the returned place is right after `guess`. A key to be inserted at `guess` costs a search only if
+    /// `guess` is the first slot of a page.
     pub(crate) fn find<Q: Query<K, A>>(
         &self,
         query: Q,
@@ -124,8 +124,8 @@ impl<K: Key, V, A: Allocator> Slots<K, V, A> {
         }
     }
 
-    /// Like `find`, for a key before the guess. First looks right after the slot before the guess. Searches all slots only if the
-    /// key is neither there nor would be inserted there, or if the guess is the first slot of its page.
+    /// Like `find`, for a key before `guess`. Looks right after the slot before `guess` if that slot is on the same page and has a
+    /// smaller key. Searches all slots otherwise.
     fn find_before<Q: Query<K, A>>(
         &self,
         query: Q,
@@ -146,7 +146,7 @@ impl<K: Key, V, A: Allocator> Slots<K, V, A> {
         self.search(query)
     }
 
-    /// Like `find`, for a key after the one at `place`.
+    /// Like `find`, for a key that must be greater than the key at `place`.
     fn find_after<Q: Query<K, A>>(&self, query: Q, place: SlotIndex) -> Result<SlotIndex, SlotIndex>
         requires { order_at (λ key. K.cmp key (Q.named query)) (slot_at self.now (at place)) ≡ Less }
         ensures found { IfOk result (λ place. IsPlace (λ key. K.cmp key (Q.named query)) self.now (at place)) }
@@ -172,7 +172,7 @@ impl<K: Key, V, A: Allocator> Slots<K, V, A> {
         Err(place)
     }
 
-    /// Compares the key at a place with the queried key. Returns `Greater` if there is no slot.
+    /// Compares the key at `place` with the queried key. Returns `Greater` if `place` has no slot.
     fn compare_at<Q: Query<K, A>>(&self, place: SlotIndex, query: Q) -> Ordering
         ensures order { result ≡ order_at (λ key. K.cmp key (Q.named query)) (slot_at self.now (at place)) }
         ensures whole { AreSlots K.cmp self.now }
@@ -183,7 +183,7 @@ impl<K: Key, V, A: Allocator> Slots<K, V, A> {
         }
     }
 
-    /// The place right after that of a slot: the next slot of its page, or the first slot of the next page.
+    /// The place right after `place`, which must have a slot: the next slot of the same page, or the first slot of the next page.
     fn following(&self, place: SlotIndex) -> SlotIndex
         requires { place.index < length (page_at self.now place.page) }
         ensures next { at result ≡ following self.now (at place) }
@@ -203,7 +203,7 @@ impl<K: Key, V, A: Allocator> Slots<K, V, A> {
         }
     }
 
-    /// The key of the slot at a place.
+    /// The key of the slot at `place`, or `None` if `place` has no slot.
     fn key_at(&self, place: SlotIndex) -> Option<&K>
         ensures key { option_map (λ key. key.now) result ≡ option_map (λ slot. slot.0) (slot_at self.now (at place)) }
         ensures whole { AreSlots K.cmp self.now }
@@ -214,21 +214,21 @@ impl<K: Key, V, A: Allocator> Slots<K, V, A> {
         }
     }
 
-    /// Proof only: each page has from 1 to 256 slots, and all keys ascend.
+    /// Does nothing, but proves that each page has 1 to 256 slots and that all keys ascend.
     pub(crate) fn are_whole(&self)
         ensures { AreSlots K.cmp self.now }
     {
         let _ = &self.pages;
     }
 
-    /// How many pages there are.
+    /// The number of pages.
     fn count(&self) -> usize
         ensures { result ≡ length self.now }
     {
         self.pages.len()
     }
 
-    /// How many slots the page of this number has; 0 if it doesn't exist.
+    /// The number of slots on page `number`, or 0 if this page doesn't exist.
     pub(crate) fn len_of(&self, number: usize) -> usize
         ensures long { result ≡ length (page_at self.now number) }
         ensures whole { AreSlots K.cmp self.now }
@@ -240,7 +240,7 @@ impl<K: Key, V, A: Allocator> Slots<K, V, A> {
         }
     }
 
-    /// The page of this number.
+    /// The page `number`, or `None` if this page doesn't exist.
     fn page(&self, number: usize) -> Option<&Page<K, V, A>>
         ensures some { IfSome result (λ page. page_at self.now number ≡ page.now) }
         ensures none { IfNone result (page_at self.now number ≡ []) }
@@ -253,7 +253,7 @@ impl<K: Key, V, A: Allocator> Slots<K, V, A> {
 }
 
 impl<K: Key, V, A: Allocator> Slots<K, V, A> {
-    /// The filled slots in order, each key with its value.
+    /// Returns an iterator over the slots that have a value, in order.
     pub(crate) fn entries(&self) -> Entries<'_, K, V, A>
         ensures { result ≡ filled (slots_of self.now) }
     {
@@ -262,7 +262,7 @@ impl<K: Key, V, A: Allocator> Slots<K, V, A> {
 }
 
 impl<K: Key, V: Value, A: Allocator> Slots<K, V, A> {
-    /// The value in the slot at a place.
+    /// The value in the slot at `place`, if any.
     pub(crate) fn value_at(&self, place: SlotIndex) -> Option<V>
         ensures { result ≡ value_at self.now (at place) }
     {
@@ -272,7 +272,7 @@ impl<K: Key, V: Value, A: Allocator> Slots<K, V, A> {
         }
     }
 
-    /// A copy of the values of a page.
+    /// Copies the values of page `number`, one for each slot.
     fn column(&self, alloc: A, number: usize) -> Result<Vec<Option<V>, A>, AllocError>
         ensures { IfOk result (λ column. column.items ≡ column_of (page_at self.now number)) }
     {
@@ -282,7 +282,7 @@ impl<K: Key, V: Value, A: Allocator> Slots<K, V, A> {
         }
     }
 
-    /// Replaces the values of a page with the values of `column`.
+    /// Replaces the values of page `number` with `column`, one value for each slot.
     pub(crate) fn fill(&mut self, number: usize, column: Vec<Option<V>, A>)
         requires there { number < length self.old }
         requires fits { length column.items ≡ length (page_at self.old number) }
@@ -291,7 +291,7 @@ impl<K: Key, V: Value, A: Allocator> Slots<K, V, A> {
         self.pages[number].fill(column);
     }
 
-    /// Replaces the value in the slot at a place. `None` empties the slot. The slot must have a value.
+    /// Replaces the value in the slot at `place`, which must have a value. `None` empties the slot.
     pub(crate) fn write(&mut self, place: SlotIndex, value: Option<V>)
         requires page { place.page < length self.old }
         requires slot { is_some (value_at self.old (at place)) ≡ true }
@@ -302,7 +302,7 @@ impl<K: Key, V: Value, A: Allocator> Slots<K, V, A> {
 }
 
 impl<K: Key + Drop, V: Value, A: Allocator + Copy> Slots<K, V, A> {
-    /// Inserts an empty slot on a page that isn't full.
+    /// Inserts an empty slot for `key` at `place`, on a page that must have room.
     fn insert(&mut self, place: SlotIndex, key: K) -> Result<(), AllocError>
         requires there { place.page < length self.old }
         requires room { length (page_at self.old place.page) < 256 }
@@ -313,7 +313,7 @@ impl<K: Key + Drop, V: Value, A: Allocator + Copy> Slots<K, V, A> {
         self.pages[place.page].insert(place.index, key)
     }
 
-    /// Appends a page with an empty slot.
+    /// Appends a page with an empty slot for `key`, which must be the greatest key.
     fn push_page(&mut self, alloc: A, key: K) -> Result<(), AllocError>
         requires { AllByRecursion (λ slot. K.cmp slot.0 key ≡ Less) (slots_of self.old) }
         ensures ok { OnOk result (self.new ≡ self.old ++ ((key, None) ∷ []) ∷ []) }
@@ -324,7 +324,7 @@ impl<K: Key + Drop, V: Value, A: Allocator + Copy> Slots<K, V, A> {
         Ok(())
     }
 
-    /// Splits a full page: moves its second half to a new page after it.
+    /// Moves the second half of page `number`, which must be full, to a new page right after this page.
     fn split(&mut self, alloc: A, number: usize) -> Result<(), AllocError>
         requires there { number < length self.old }
         requires full { length (page_at self.old number) ≡ 256 }
@@ -339,7 +339,7 @@ impl<K: Key + Drop, V: Value, A: Allocator + Copy> Slots<K, V, A> {
     }
 }
 
-/// Appends an item. The first item reserves capacity for itself only, since most lists of pages have one item.
+/// Appends an item. Reserves capacity for only one item if the list is empty, since most lists of pages have one page.
 fn push<T: Drop, A: Allocator>(list: &mut Vec<T, A>, item: T) -> Result<(), AllocError>
     ensures ok { OnOk result (list.new.items ≡ list.old.items ++ item ∷ []) }
     ensures err { OnErr result (list.new.items ≡ list.old.items) }

@@ -28,7 +28,7 @@ pub fn pack<A: Allocator + Copy>(
     Ok(PackedSubmission::of_lawful(sects, submission.odd()))
 }
 
-/// Appends a section.
+/// Packs a section into `sects`, whose open section must be empty.
 fn pack_sect<A: Allocator + Copy>(sects: &mut PackedSects<A>, sect: &Sect<A>) -> Result<(), Memory>
     requires { sects.old.items ≡ [] }
     ensures sects { OnOk result (sects.new.sects ≡ sects.old.sects ++ sect_data sect.now ∷ []) }
@@ -52,7 +52,7 @@ fn pack_items<A: Allocator + Copy>(
     Ok(())
 }
 
-/// Borrows the item.
+/// Borrows the item as an `ItemRef`.
 pub(crate) fn borrowed<A: Allocator>(item: &Item<A>) -> ItemRef<'_>
     ensures { item_ref_data result ≡ item_data item.now }
 {
@@ -110,7 +110,7 @@ pub fn unpack<A: Allocator + Copy>(
     Ok(Submission::of_lawful(sects, packed.odd()))
 }
 
-/// Copies the section into an unpacked one.
+/// Unpacks a section.
 fn unpacked_sect<A: Allocator + Copy>(alloc: A, sect: PackedSect<'_>) -> Result<Sect<A>, Memory>
     ensures { IfOk result (λ own. sect_data own ≡ packed_sect_data sect.entry) }
 {
@@ -121,7 +121,7 @@ fn unpacked_sect<A: Allocator + Copy>(alloc: A, sect: PackedSect<'_>) -> Result<
     })
 }
 
-/// Copies the items into an unpacked list.
+/// Unpacks a list of items.
 fn unpacked_items<A: Allocator + Copy>(
     alloc: A,
     packed: PackedItems<'_>,
@@ -136,7 +136,7 @@ fn unpacked_items<A: Allocator + Copy>(
     Ok(items)
 }
 
-/// Copies the item into an unpacked one.
+/// Unpacks an item.
 fn owned<A: Allocator + Copy>(alloc: A, item: ItemRef<'_>) -> Result<Item<A>, Memory>
     ensures { IfOk result (λ own. item_data own ≡ item_ref_data item.entry) }
 {

@@ -1,4 +1,4 @@
-//! Items of a packed list.
+//! Items with borrowed names and checksums.
 
 ghost use Rattle.std.specs.Prelude.{◌≡◌, option_map, option_to_list};
 ghost use Rattle.covline.specs.PointView.{branch_point_data};
@@ -10,19 +10,19 @@ use covline::BranchPoint;
 /// One count of a source file, like covline's `Item`, but with a borrowed name or checksum (geninfo(1), section FILES).
 #[derive(Clone, Copy)]
 pub enum ItemRef<'a> {
-    /// The execution count of an instrumented line, with the checksum of its text if there is one (`DA:`).
+    /// The execution count of an instrumented line, with the checksum of the line's text if the record has one (`DA:`).
     Line {
         line: u64,
         count: u128,
         checksum: Option<&'a [u8]>,
     },
-    /// The execution count of a function and the line that it starts at (`FN:`, `FNDA:`).
+    /// A function's execution count and start line (`FNDA:`, `FN:`).
     Func {
         name: &'a [u8],
         line: u64,
         count: u128,
     },
-    /// How often a branch of a line was taken; `None` if its block was never executed (`BRDA:`).
+    /// How often a branch was taken (`BRDA:`). `taken` is `None` if the branch's block was never executed.
     Branch {
         line: u64,
         block: u64,
@@ -32,7 +32,7 @@ pub enum ItemRef<'a> {
 }
 
 impl<'a> ItemRef<'a> {
-    /// The line of the item. Returns `None` for an item of another kind.
+    /// The line of a `Line` item. Returns `None` for an item of another kind.
     pub fn line_point(&self) -> Option<u64>
         ensures { option_to_list result ≡ line_point (item_ref_data self.now) }
     {
@@ -42,7 +42,7 @@ impl<'a> ItemRef<'a> {
         }
     }
 
-    /// The branch of the item. Returns `None` for an item of another kind.
+    /// The branch of a `Branch` item. Returns `None` for an item of another kind.
     pub fn branch_point(&self) -> Option<BranchPoint>
         ensures { option_to_list (option_map branch_point_data result) ≡ branch_point (item_ref_data self.now) }
     {

@@ -1,4 +1,4 @@
-//! The items of a section, packed.
+//! The packed items of a section.
 
 ghost use Rattle.std.specs.Prelude.{◌≡◌};
 ghost use Rattle.covline.specs.Row.{BranchItem};
@@ -9,7 +9,7 @@ use crate::item_ref::ItemRef;
 use crate::parts::{Kind, Parts, parts_of};
 use std::marker::Model;
 
-/// The items of a section, in order, borrowed from packed sections. Contracts see the items; those that are left, for an iterator.
+/// A section's items in order, borrowed from packed sections. Also an iterator over these items. Contracts see the remaining items.
 #[derive(Drop)]
 pub struct PackedItems<'a> {
     words: &'a [u64],
@@ -33,7 +33,7 @@ impl<'a> PackedItems<'a> {
     ghost use Rattle.covpacked.specs.PackedView.{items_of};
     ghost use Rattle.covpacked.specs.Words.{item_of_parts, text_at};
 
-    /// The items of these words.
+    /// The items packed into `words`, `numbers` and `texts`.
     pub(crate) fn of(words: &'a [u64], numbers: &'a [u64], texts: &'a [u8]) -> PackedItems<'a>
         ensures { result ≡ items_of numbers.now texts.now words.now }
     {
@@ -55,7 +55,7 @@ impl<'a> PackedItems<'a> {
         }
     }
 
-    /// How many items there are.
+    /// The number of items.
     pub fn len(&self) -> usize
         ensures { result ≡ length self.now }
     {
@@ -69,7 +69,7 @@ impl<'a> PackedItems<'a> {
         self.words.is_empty()
     }
 
-    /// The item at this index. Returns `None` if the index is too large.
+    /// The item at `index`, or `None` if `index` is too large.
     #[inline(always)]
     pub fn get(&self, index: usize) -> Option<ItemRef<'a>>
         ensures { option_map item_ref_data result ≡ slice_get self.now index }
@@ -80,7 +80,7 @@ impl<'a> PackedItems<'a> {
         }
     }
 
-    /// The first `mid` items, and the others.
+    /// The first `mid` items, which must exist, and the others.
     pub fn split_at(&self, mid: usize) -> (PackedItems<'a>, PackedItems<'a>)
         requires { mid ≤ length self.now }
         ensures first { result.0 ≡ take mid self.now }
@@ -112,7 +112,7 @@ impl<'a> Iterator for PackedItems<'a> {
     }
 }
 
-/// The item with these parts.
+/// Makes the item of `parts`, with its text borrowed from `texts`.
 #[inline(always)]
 fn item_of<'a>(texts: &'a [u8], parts: Parts) -> ItemRef<'a>
     ensures { item_ref_data result ≡ item_of_parts texts.now parts }
@@ -158,7 +158,7 @@ fn branch_of<'a>(line: u64, block: u64, branch: u64, taken: Option<u128>) -> Ite
     }
 }
 
-/// The `bytes` bytes of the texts from the index `begin` on.
+/// The `bytes` bytes of `texts` from index `begin` on, or fewer if `texts` ends before.
 pub(crate) fn text_at(texts: &[u8], begin: u64, bytes: u64) -> &[u8]
     ensures { result.now ≡ text_at texts.now begin bytes }
 {

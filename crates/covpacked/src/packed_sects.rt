@@ -1,4 +1,4 @@
-//! Packed sections, with the items of an open one.
+//! Packed sections: the closed sections, and the items of the open section.
 
 ghost use Rattle.std.specs.Prelude.{◌≡◌, ◌↔◌, ◌∷◌, ◌≤◌, ◌++◌, false, drop, length, take, IfOk, IfSome, IsTrue, MatchOption};
 ghost use Rattle.std.specs.List.{AllByRecursion};
@@ -15,27 +15,27 @@ use covline::{BranchPoint, Memory};
 use std::alloc::{Allocator, Global};
 use std::marker::Model;
 
-/// The location of a text in the list of texts.
+/// The location of a text in `texts`, the bytes of all texts.
 #[derive(Clone, Copy, Drop)]
 pub(crate) struct TextPlace {
-    /// The index of its first byte.
+    /// The index of the text's first byte.
     pub begin: u64,
-    /// How many bytes it has.
+    /// The number of bytes of the text.
     pub bytes: u64,
 }
 
-/// A finished section: where its names lie, and how many items it has.
+/// A closed section: the locations of its names, and its number of items.
 #[derive(Clone, Copy, Drop)]
 pub(crate) struct ClosedSect {
-    /// Where the test's name lies.
+    /// The location of the test's name.
     pub test: TextPlace,
-    /// Where the source file's path lies.
+    /// The location of the source file's path.
     pub file: TextPlace,
-    /// How many items the section has. They follow those of the section before it.
+    /// The number of items. The items follow those of the previous section.
     pub items: usize,
 }
 
-/// The packed content of an input so far: its closed sections, and the items of the open one. Contracts see these.
+/// The packed content of an input so far. Contracts see the closed sections and the items of the open section.
 #[derive(Drop)]
 pub struct PackedSects<A: Allocator = Global> {
     words: Vec<u64, A>,
@@ -58,7 +58,7 @@ impl<A: Allocator> Model for PackedSects<A> {
 impl<A: Allocator + Copy> PackedSects<A> {
     ghost use Rattle.std.specs.Prelude.{◌≡◌, []};
 
-    /// No sections, and no items in the open one. Never allocates.
+    /// No closed sections, and an open section without items. Never allocates.
     pub fn new(alloc: A) -> PackedSects<A>
         ensures sects { result.sects ≡ [] }
         ensures items { result.items ≡ [] }
@@ -81,7 +81,7 @@ impl<A: Allocator> PackedSects<A> {
     ghost use Rattle.covpacked.specs.OpenItems.{left, start_set};
     ghost use Rattle.covpacked.specs.Words.{HasItsText, HasNoText, item_of_parts, item_with_text};
 
-    /// Appends the count of a line to the open section. On `Memory`, nothing changes.
+    /// Appends a line's item to the open section. Leaves the items unchanged on `Memory`.
     #[inline(always)]
     pub fn push_line(
         &mut self,
@@ -105,7 +105,7 @@ impl<A: Allocator> PackedSects<A> {
         }
     }
 
-    /// Appends the count of a function to the open section. On `Memory`, nothing changes.
+    /// Appends a function's item to the open section. Leaves the items unchanged on `Memory`.
     pub fn push_function(&mut self, name: &[u8], line: u64, count: u128) -> Result<(), Memory>
         ensures sects { self.new.sects ≡ self.old.sects }
         ensures ok { OnOk result (self.new.items ≡ self.old.items ++ FuncItem name.now line count ∷ []) }
@@ -114,7 +114,7 @@ impl<A: Allocator> PackedSects<A> {
         self.push_with_text(Kind::Function, line, count, name)
     }
 
-    /// Appends how often a branch was taken to the open section. On `Memory`, nothing changes.
+    /// Appends a branch's item to the open section. Leaves the items unchanged on `Memory`.
     #[inline(always)]
     pub fn push_branch(&mut self, point: BranchPoint, taken: Option<u128>) -> Result<(), Memory>
         ensures sects { self.new.sects ≡ self.old.sects }
@@ -144,7 +144,7 @@ impl<A: Allocator> PackedSects<A> {
         }
     }
 
-    /// Appends an item to the open section. On `Memory`, nothing changes.
+    /// Appends `item` to the open section. Leaves the items unchanged on `Memory`.
     pub fn push_item(&mut self, item: ItemRef<'_>) -> Result<(), Memory>
         ensures sects { self.new.sects ≡ self.old.sects }
         ensures ok { OnOk result (self.new.items ≡ self.old.items ++ item_ref_data item.entry ∷ []) }
@@ -173,7 +173,7 @@ impl<A: Allocator> PackedSects<A> {
         }
     }
 
-    /// Appends an item that has no text.
+    /// Appends the item of `parts`, which must have no text.
     #[inline(always)]
     fn push_plain(&mut self, parts: Parts) -> Result<(), Memory>
         requires { HasNoText parts.kind }
@@ -184,7 +184,7 @@ impl<A: Allocator> PackedSects<A> {
         append(&mut self.words, &mut self.numbers, parts)
     }
 
-    /// Appends an item with its text.
+    /// Appends an item with its text: a function's name or a line's checksum.
     fn push_with_text(
         &mut self,
         kind: Kind,
@@ -220,14 +220,14 @@ impl<A: Allocator> PackedSects<A> {
         PackedItems::of(words, self.numbers.as_slice(), self.texts.as_slice())
     }
 
-    /// How many items the open section has.
+    /// The number of items in the open section.
     pub fn open_len(&self) -> usize
         ensures { result ≡ length self.now.items }
     {
         self.words.len() - self.closed
     }
 
-    /// Replaces the start line of the function's item at this index in the open section. Doesn't change an item of another kind.
+    /// Sets the start line of the open section's item at index `at` to `line`, if that item is a function's. `at` must be in range.
     pub fn set_start(&mut self, at: usize, line: u64)
         requires { at < length self.old.items }
         ensures sects { self.new.sects ≡ self.old.sects }
@@ -237,7 +237,7 @@ impl<A: Allocator> PackedSects<A> {
         set_line(&mut self.numbers, word, line);
     }
 
-    /// Removes the open section's items at these indices, which must ascend. Never allocates.
+    /// Removes the open section's items at the indices `places`, which must ascend. Never allocates.
     pub fn remove(&mut self, places: &[usize])
         ensures sects { self.new.sects ≡ self.old.sects }
         ensures items { self.new.items ≡ left 0 places.now self.old.items }
@@ -253,7 +253,7 @@ impl<A: Allocator> PackedSects<A> {
         self.words.truncate(self.closed);
     }
 
-    /// Closes the open section, as a section of this test and source file. On `Memory`, nothing changes.
+    /// Closes the open section, with this test name and source file. Leaves the sections and items unchanged on `Memory`.
     pub fn close(&mut self, test: &[u8], file: &[u8]) -> Result<(), Memory>
         ensures sects { OnOk result (self.new.sects ≡ self.old.sects ++ record { test = test.now; file = file.now; items = self.old.items } ∷ []) }
         ensures items { OnOk result (self.new.items ≡ []) }
@@ -267,21 +267,21 @@ impl<A: Allocator> PackedSects<A> {
         Ok(())
     }
 
-    /// How many items the closed sections have.
+    /// The number of items in the closed sections.
     pub(crate) fn closed_len(&self) -> usize
         ensures { result ≡ items_in self.now.sects }
     {
         self.closed
     }
 
-    /// How many sections are closed.
+    /// The number of closed sections.
     pub fn closed_sects(&self) -> usize
         ensures { result ≡ length self.now.sects }
     {
         self.sects.len()
     }
 
-    /// The test name of the last closed section. Returns `None` if no section is closed.
+    /// The test name of the last closed section, or `None` if no section is closed.
     pub fn last_test(&self) -> Option<&[u8]>
         ensures { MatchOption result (self.now.sects ≡ []) (λ test. IsLastTest self.now.sects test.now) }
     {
@@ -302,7 +302,7 @@ impl<A: Allocator> PackedSects<A> {
     }
 }
 
-/// Removes the words at these indices, which are relative to `from` and ascend.
+/// Removes the words at the indices `places`, which must ascend and are counted from index `from`.
 fn remove_words<A: Allocator>(words: &mut Vec<u64, A>, from: usize, places: &[usize])
     requires { from ≤ length words.old.items }
     ensures { words.new.items ≡ take from words.old.items ++ left 0 places.now (drop from words.old.items) }
@@ -321,7 +321,7 @@ fn remove_words<A: Allocator>(words: &mut Vec<u64, A>, from: usize, places: &[us
     words.truncate(kept);
 }
 
-/// The places without the first, if that is this one. Returns `None` otherwise.
+/// Returns `places` without the first place if that place is `at`, else `None`.
 fn skip_place(places: &[usize], at: usize) -> Option<&[usize]>
     ensures { MatchOption result (starts_with at places.entry.now ≡ false) (λ rest. places.entry.now ≡ at ∷ rest.now) }
 {
@@ -334,14 +334,14 @@ fn skip_place(places: &[usize], at: usize) -> Option<&[usize]>
 /// The locations of a section's names.
 #[derive(Clone, Copy, Drop)]
 struct NamePlaces {
-    /// Where the test's name lies.
+    /// The location of the test's name.
     test: TextPlace,
-    /// Where the source file's path lies.
+    /// The location of the source file's path.
     file: TextPlace,
 }
 
-/// Appends the names of a section to the texts, and returns their locations. Reuses the name of the last section's test if it is
-/// the same, so the sections of one test share its name.
+/// Appends a section's names to `texts`, and returns the names' locations. Doesn't append a test name that equals the last
+/// section's, so consecutive sections of one test share one name.
 fn place_names<A: Allocator>(
     sects: &Vec<ClosedSect, A>,
     texts: &mut Vec<u8, A>,
@@ -361,7 +361,8 @@ fn place_names<A: Allocator>(
     Ok(NamePlaces { test, file })
 }
 
-/// The location of the last section's test name, if it is the same name. So the sections of one test share its name.
+/// The location of the last section's test name if that name is `test`, else `None`. So consecutive sections of one test share one
+/// name.
 fn last_test<A: Allocator>(
     sects: &Vec<ClosedSect, A>,
     texts: &Vec<u8, A>,
@@ -378,14 +379,14 @@ fn last_test<A: Allocator>(
     None
 }
 
-/// Whether the bytes at this location are the text.
+/// Whether the bytes at `place` in `texts` are `text`.
 fn is_text_at(texts: &[u8], place: TextPlace, text: &[u8]) -> bool
     ensures { IsTrue result ↔ (text_at texts.now place.begin place.bytes ≡ text.now) }
 {
     text_at(texts, place.begin, place.bytes) == text
 }
 
-/// Appends a text to the texts, and returns its location. On `Memory`, the texts are unchanged.
+/// Appends `text` to `texts`, and returns the location of `text`. Leaves `texts` unchanged on `Memory`.
 fn append_text<A: Allocator>(texts: &mut Vec<u8, A>, text: &[u8]) -> Result<TextPlace, Memory>
     ensures ok { IfOk result (λ place. IsTextAt texts.new.items text.now place) }
     ensures grows { BeginWith texts.new.items texts.old.items }

@@ -7,8 +7,8 @@ use covline::Submission;
 use std::alloc::{Allocator, Global};
 use std::marker::Model;
 
-/// The packed content of one input: its sections and its number of inconsistent lines (`odd`), like covline's `Submission`. The
-/// sections have at most 67,108,864 items in all, and lawful names and checksums. Contracts see the sections and the number.
+/// The packed content of one input: its sections, and its number of inconsistent lines (`odd`), like covline's `Submission`. The
+/// sections have lawful names and checksums, and together at most 67,108,864 items. Contracts see the sections and `odd`.
 #[derive(Drop)]
 pub struct PackedSubmission<A: Allocator = Global> {
     sects: PackedSects<A>,
@@ -32,8 +32,8 @@ impl<A: Allocator> PackedSubmission<A> {
     ghost use Rattle.covpacked.specs.ReadTexts.{IsLastTest};
     ghost use Rattle.covline.specs.Lawful.{IsLawful};
 
-    /// Makes a submission of closed sections that are known to be lawful, with the number of inconsistent lines of their input.
-    /// Drops the items of an open section.
+    /// Makes a submission of the closed sections, which must be lawful. `odd` is the number of inconsistent lines in their input.
+    /// Drops the items of the open section.
     pub fn of_lawful(sects: PackedSects<A>, odd: u64) -> PackedSubmission<A>
         requires lawful { IsLawful (record { sects = sects.sects; odd = odd }) }
         ensures { result ≡ record { sects = sects.sects; odd = odd } }
@@ -48,7 +48,7 @@ impl<A: Allocator> PackedSubmission<A> {
         self.odd == other.odd && same_sects(self.sects(), other.sects())
     }
 
-    /// Whether this equals a submission that isn't packed. Never allocates.
+    /// Whether `self` equals the unpacked submission `other`. Never allocates.
     pub fn is_same_as(&self, other: &Submission<A>) -> bool
         ensures { IsTrue result ↔ (self.now ≡ other.now) }
     {
@@ -63,7 +63,7 @@ impl<A: Allocator> PackedSubmission<A> {
         self.sects.sects()
     }
 
-    /// How many sections there are.
+    /// The number of sections.
     pub fn sections(&self) -> u64
         ensures { result ≡ length self.now.sects }
     {
@@ -85,8 +85,8 @@ impl<A: Allocator> PackedSubmission<A> {
         self.sects.closed_len() as u64
     }
 
-    /// The number of inconsistent lines of the input. Such a line counts a function without a start line, or states a total that
-    /// isn't the section's own.
+    /// The number of inconsistent lines in the input. An inconsistent line counts a function without a start line, or states a
+    /// total that differs from its section's.
     pub fn odd(&self) -> u64
         ensures { result ≡ self.now.odd }
     {

@@ -33,26 +33,26 @@ pub(crate) struct Parts {
     pub count: u128,
     /// A branch's block, or the index of the first byte of the item's text.
     pub first: u64,
-    /// A branch's number in its block, or how many bytes the item's text has.
+    /// A branch's number in its block, or the number of bytes of the item's text.
     pub second: u64,
 }
 
-/// The least word that isn't a short word.
+/// 2^63, the smallest word that isn't a short word.
 const LONG_WORD: u64 = 9_223_372_036_854_775_808;
 
-/// The lines below this one fit into a short word.
+/// 2^30: only smaller lines fit into a short word.
 const LINES: u64 = 1_073_741_824;
 
-/// The upper half of a short word is below this number.
+/// 2^31: the upper half of a short word is smaller.
 const UPPER: u64 = 2_147_483_648;
 
-/// Numbers of 16 bits are below this one.
+/// 2^16: numbers of 16 bits are smaller.
 const QUARTER: u64 = 65_536;
 
-/// Numbers of 32 bits are below this one.
+/// 2^32: numbers of 32 bits are smaller.
 const HALF: u64 = 4_294_967_296;
 
-/// Numbers of 64 bits are below this one.
+/// 2^64: numbers of 64 bits are smaller.
 const WHOLE: u128 = 18_446_744_073_709_551_616;
 
 impl Kind {
@@ -69,7 +69,7 @@ impl Kind {
         }
     }
 
-    /// The kind with this number.
+    /// The kind with this number. Any number above 3 is a function's.
     #[inline(always)]
     fn of(number: u64) -> Kind
         ensures { result ≡ kind_of number }
@@ -99,7 +99,7 @@ fn number_at(numbers: &[u64], index: u64) -> u64
     }
 }
 
-/// The parts of a word.
+/// Unpacks an item's parts from `word` and `numbers`.
 #[inline(always)]
 pub(crate) fn parts_of(numbers: &[u64], word: u64) -> Parts
     ensures { result ≡ parts_of numbers.now word }
@@ -110,7 +110,7 @@ pub(crate) fn parts_of(numbers: &[u64], word: u64) -> Parts
     long_parts(numbers, word - LONG_WORD)
 }
 
-/// The parts of a short word.
+/// Unpacks the parts of a short word that has this line, upper half and kind.
 #[inline(always)]
 fn short_parts(numbers: &[u64], line: u64, upper: u64, kind: Kind) -> Parts
     requires { upper < 4294967296 }
@@ -141,7 +141,7 @@ fn short_parts(numbers: &[u64], line: u64, upper: u64, kind: Kind) -> Parts
     }
 }
 
-/// The parts stored as six numbers from an index on.
+/// Unpacks the parts of a long word: six numbers from index `begin` on.
 fn long_parts(numbers: &[u64], begin: u64) -> Parts
     requires { begin < long_word }
     ensures { result ≡ long_parts numbers.now begin }
@@ -156,7 +156,7 @@ fn long_parts(numbers: &[u64], begin: u64) -> Parts
     }
 }
 
-/// Replaces the line of the function with this word. Does nothing if the word isn't that of a function.
+/// Sets the line of the item with this word to `line`, if the item is a function's.
 pub(crate) fn set_line<A: Allocator>(numbers: &mut Vec<u64, A>, word: u64, line: u64)
     requires { begin_of 0 word + room_of word ≤ length numbers.old.items }
     ensures { numbers.new.items ≡ with_line word line numbers.old.items }
@@ -171,8 +171,8 @@ pub(crate) fn set_line<A: Allocator>(numbers: &mut Vec<u64, A>, word: u64, line:
     }
 }
 
-/// Packs the parts into a word, which is returned, and appends to the numbers what doesn't fit into it. On `Memory`, the numbers
-/// are unchanged.
+/// Packs `parts` into a word, and returns this word. Appends to `numbers` what doesn't fit into the word. Leaves `numbers`
+/// unchanged on `Memory`.
 #[inline(always)]
 pub(crate) fn pack<A: Allocator>(numbers: &mut Vec<u64, A>, parts: Parts) -> Result<u64, Memory>
     ensures ok { IfOk result (λ word. IsPackedAs parts word numbers.old.items numbers.new.items) }
@@ -187,7 +187,7 @@ pub(crate) fn pack<A: Allocator>(numbers: &mut Vec<u64, A>, parts: Parts) -> Res
     }
 }
 
-/// Packs the parts of an item, and appends their word to the words. On `Memory`, the words are unchanged.
+/// Packs `parts`, and appends the resulting word to `words`. Leaves `words` unchanged on `Memory`.
 #[inline(always)]
 pub(crate) fn append<A: Allocator>(
     words: &mut Vec<u64, A>,
@@ -203,7 +203,7 @@ pub(crate) fn append<A: Allocator>(
     Ok(())
 }
 
-/// The short word with these parts.
+/// The short word with this kind, line and upper half.
 #[inline(always)]
 fn short_word(kind: Kind, line: u64, upper: u64) -> u64
     requires kind { kind_number kind < 4 }
@@ -264,7 +264,7 @@ fn pack_branch<A: Allocator>(numbers: &mut Vec<u64, A>, parts: Parts) -> Result<
     pack_long(numbers, parts)
 }
 
-/// Packs parts into a long word and six numbers.
+/// Packs `parts` into a long word and six numbers.
 fn pack_long<A: Allocator>(numbers: &mut Vec<u64, A>, parts: Parts) -> Result<u64, Memory>
     ensures ok { IfOk result (λ word. IsPackedAs parts word numbers.old.items numbers.new.items) }
     ensures err { OnErr result (numbers.new.items ≡ numbers.old.items) }

@@ -10,18 +10,18 @@ pub trait ReadText {
     ghost use Rattle.covline.specs.Row.{SubmissionData, items_in};
     ghost use Rattle.covpacked.specs.ReadTexts.{IsLastTest};
 
-    // The submission.
+    // The submission, as contracts see it.
     ghost says: { Self → SubmissionData };
 
-    /// How many sections it has.
+    /// The number of sections in the submission.
     fn count_sections(&self) -> u64
         ensures { result ≡ length (says self.now).sects };
 
-    /// How many items its sections have.
+    /// The number of items in all sections.
     fn count_items(&self) -> u64
         ensures { result ≡ items_in (says self.now).sects };
 
-    /// How many inconsistent lines its input has.
+    /// The number of inconsistent lines in the input.
     fn count_odd(&self) -> u64
         ensures { result ≡ (says self.now).odd };
 

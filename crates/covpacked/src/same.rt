@@ -1,4 +1,4 @@
-//! Compares items and sections. Nothing here allocates.
+//! Compares items and sections, without allocating.
 
 ghost use Rattle.std.specs.Prelude.{◌≡◌, ◌↔◌, ◌∷◌, IsTrue, drop, map, option_map};
 ghost use Rattle.covline.specs.Row.{BranchItem, FuncItem, LineItem};
@@ -13,7 +13,7 @@ use crate::sect_iter::{PackedSect, PackedSectsIter};
 use covline::{Items, Sect};
 use std::alloc::Allocator;
 
-/// Whether the sections are equal, in the same order.
+/// Whether both iterators return equal sections in the same order.
 pub(crate) fn same_sects(first: PackedSectsIter<'_>, second: PackedSectsIter<'_>) -> bool
     ensures { IsTrue result ↔ (first.entry ≡ second.entry) }
 {
@@ -36,7 +36,7 @@ fn same_sect(first: PackedSect<'_>, second: PackedSect<'_>) -> bool
     first.test == second.test && first.file == second.file && same_items(first.items, second.items)
 }
 
-/// Whether the sections are equal to those that aren't packed, in the same order.
+/// Whether the packed sections `first` equal the unpacked sections `second`, in the same order.
 pub(crate) fn same_sects_as<A: Allocator>(first: PackedSectsIter<'_>, second: &[Sect<A>]) -> bool
     ensures { IsTrue result ↔ (first.entry ≡ map sect_data second.now) }
 {
@@ -52,7 +52,7 @@ pub(crate) fn same_sects_as<A: Allocator>(first: PackedSectsIter<'_>, second: &[
     packed.next().is_none()
 }
 
-/// Whether the section is equal to one that isn't packed.
+/// Whether the packed section `first` equals the unpacked section `second`.
 fn same_sect_as<A: Allocator>(first: PackedSect<'_>, second: &Sect<A>) -> bool
     ensures { IsTrue result ↔ (packed_sect_data first.entry ≡ sect_data second.now) }
 {
@@ -61,7 +61,7 @@ fn same_sect_as<A: Allocator>(first: PackedSect<'_>, second: &Sect<A>) -> bool
         && same_items_as(first.items, &second.items)
 }
 
-/// Whether the items are equal, in the same order.
+/// Whether both lists have equal items in the same order.
 fn same_items(first: PackedItems<'_>, second: PackedItems<'_>) -> bool
     ensures { IsTrue result ↔ (first.entry ≡ second.entry) }
 {
@@ -77,7 +77,7 @@ fn same_items(first: PackedItems<'_>, second: PackedItems<'_>) -> bool
     true
 }
 
-/// Whether the items are equal to those that aren't packed, in the same order.
+/// Whether the packed items `first` equal the unpacked items `second`, in the same order.
 fn same_items_as<A: Allocator>(first: PackedItems<'_>, second: &Items<A>) -> bool
     ensures { IsTrue result ↔ (first.entry ≡ second.now) }
 {
@@ -125,7 +125,7 @@ fn same_item(first: &ItemRef<'_>, second: &ItemRef<'_>) -> bool
     }
 }
 
-/// Whether this is the item of this line, with this count and checksum.
+/// Whether `item` is the item of the line `line`, with this count and checksum.
 fn is_line(item: &ItemRef<'_>, line: u64, count: u128, checksum: Option<&[u8]>) -> bool
     ensures { IsTrue result ↔ (LineItem line count (option_map (λ text. text.now) checksum.entry) ≡ item_ref_data item.now) }
 {
@@ -149,7 +149,7 @@ fn same_checksum(first: Option<&[u8]>, second: Option<&[u8]>) -> bool
     }
 }
 
-/// Whether this is the item of this function, with this start line and count.
+/// Whether `item` is the item of the function `name`, with this start line and count.
 fn is_function(item: &ItemRef<'_>, name: &[u8], line: u64, count: u128) -> bool
     ensures { IsTrue result ↔ (FuncItem name.now line count ≡ item_ref_data item.now) }
 {
@@ -163,7 +163,7 @@ fn is_function(item: &ItemRef<'_>, name: &[u8], line: u64, count: u128) -> bool
     }
 }
 
-/// Whether this is the item of this branch, with the same `taken`.
+/// Whether `item` is the item of the branch `branch` of this line and block, with this `taken`.
 fn is_branch(item: &ItemRef<'_>, line: u64, block: u64, branch: u64, taken: Option<u128>) -> bool
     ensures { IsTrue result ↔ (BranchItem line block branch taken ≡ item_ref_data item.now) }
 {

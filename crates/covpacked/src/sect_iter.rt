@@ -15,7 +15,7 @@ pub struct PackedSect<'a> {
     pub items: PackedItems<'a>,
 }
 
-/// An iterator over packed sections. Contracts see the sections that are left.
+/// An iterator over packed sections. Contracts see the remaining sections.
 #[derive(Drop)]
 pub struct PackedSectsIter<'a> {
     words: &'a [u64],
@@ -38,7 +38,7 @@ impl<'a> PackedSectsIter<'a> {
     ghost use Rattle.std.specs.Prelude.{◌≡◌};
     ghost use Rattle.covpacked.specs.PackedView.{items_of, sects_of};
 
-    /// The sections in these lists.
+    /// Returns an iterator over the sections in these lists.
     pub(crate) fn of(
         words: &'a [u64],
         numbers: &'a [u64],

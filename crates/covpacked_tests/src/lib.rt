@@ -1,5 +1,5 @@
-//! Tests of packed items, sections and submissions (covpacked), and of the memory that they use. This is a crate of its own, so
-//! that covpacked is proved once.
+//! Tests of covpacked's packed items, sections and submissions, and of the memory that these use. The tests are a separate crate,
+//! so that covpacked is proved only once.
 #![tactic(auto)]
 
 #[cfg(test)]

@@ -1,4 +1,4 @@
-//! Packed items, sections and submissions. Expected values were written by hand.
+//! Tests of packed items, sections and submissions, with expected values written by hand.
 
 use std::process::Abort;
 use std::test::*;
@@ -20,7 +20,7 @@ mod sections;
 mod starts;
 mod wrappers;
 
-/// The result of a call with ample memory. Panics if the call failed.
+/// Returns the value of a call with ample memory. Panics if the call failed.
 fn made<T, E: Drop>(rt: &impl Abort, given: Result<T, E>) -> T {
     match given {
         Ok(value) => value,

@@ -1,4 +1,4 @@
-//! A map with the same keys and other values.
+//! Makes a map with the same keys and other values.
 
 ghost use Rattle.std.specs.Prelude.{◌≡◌, IfOk, map};
 
@@ -7,10 +7,10 @@ use crate::map::StagedMap;
 use std::alloc::{AllocError, Allocator};
 
 impl<K: CopyKey<A> + Drop, V, A: Allocator + Copy> StagedMap<K, V, A> {
-    /// Makes a map with the same keys and the images of the values, committed and staged.
+    /// Makes a map with the same keys, and with the images of the committed and staged values.
     ///
-    /// Copies pages and columns as they are, so it looks up no key and stages nothing anew. The new map uses no more memory than
-    /// its keys and values need.
+    /// Copies whole pages and columns, so it looks up no key and stages nothing anew. The new map uses no more memory than its keys
+    /// and values need.
     ///
     /// # Errors
     ///

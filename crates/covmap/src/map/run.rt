@@ -1,4 +1,4 @@
-//! A run of keys with addends, staged at once.
+//! Stages a run: a list of keys with addends.
 
 ghost use Rattle.std.specs.Prelude.{◌≡◌, ◌<◌, ◌≤◌, ◌++◌, IfOk, OnOk, length, take};
 ghost use Rattle.covmap.specs.Run.{FitRun, summed, reports_run};
@@ -9,15 +9,15 @@ use crate::slots::run::make_slots;
 use std::alloc::{AllocError, Allocator};
 
 impl<K: Key + Drop, V: Value, A: Allocator + Copy> StagedMap<K, V, A> {
-    /// Stages, for each item in turn, the sum of its key's staged value and its addend. Appends the addends' reports to `reports`.
-    /// Keys may come in any order and more than once.
+    /// Adds each item's addend to the staged value of the item's key, in the order of `run`, and stages the sums. Appends the
+    /// addends' reports to `reports`. Keys may come in any order and may repeat.
     ///
-    /// Ascending keys with slots cost one look-up per page. New keys above all others begin a new page together, unless fewer than
-    /// 32 items are left and the last page isn't full. Any other new key is inserted by itself.
+    /// Ascending keys that have slots cost one look-up per page. New keys above all existing keys begin a new page together, unless
+    /// fewer than 32 items are left and the last page isn't full. Any other new key is inserted separately.
     ///
     /// # Errors
     ///
-    /// `AllocError` if an allocation failed. Anything may be staged then, so roll it back.
+    /// `AllocError` if an allocation failed. The staged values are then unspecified, so call `rollback`.
     pub fn stage_run<Q: Query<K, A>, N: Drop, M: ReportingAddend<V, N>>(
         &mut self,
         alloc: A,
@@ -37,7 +37,7 @@ impl<K: Key + Drop, V: Value, A: Allocator + Copy> StagedMap<K, V, A> {
         Ok(())
     }
 
-    /// Stages one or more items at the front of a run, and returns their number.
+    /// Stages one or more items at the front of a run, which must not be empty. Returns the number of items staged.
     fn stage_some<Q: Query<K, A>, N: Drop, M: ReportingAddend<V, N>>(
         &mut self,
         alloc: A,

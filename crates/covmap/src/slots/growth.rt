@@ -1,6 +1,6 @@
-//! Inserts a slot, even while values are staged. The columns of staged values are then changed in the same way as the pages.
+//! Inserts slots while values may be staged. Each change of a page also changes the page's column of staged values.
 //!
-//! A failed allocation keeps committed values, but may discard staged ones.
+//! A failed allocation keeps all committed values, but may discard staged values.
 
 ghost use Rattle.std.specs.Prelude.{◌≡◌, ◌+◌, ◌^◌, ◌<◌, IfOk, OnOk, length};
 ghost use Rattle.std.specs.declared.cmp.Ordering.TheVariants.{Less};
@@ -14,7 +14,7 @@ use crate::slots::staged::StagedColumns;
 use crate::slots::{HALF, PAGE_SLOTS, SlotIndex, Slots};
 use std::alloc::{AllocError, Allocator};
 
-/// Returns the place of the queried key. If the key has no slot, inserts an empty one first.
+/// Returns the place of the queried key. Inserts an empty slot first if the key has no slot.
 pub(crate) fn make_slot<K: Key + Drop, V: Value, A: Allocator + Copy, Q: Query<K, A>>(
     slots: &mut Slots<K, V, A>,
     staged: &mut StagedColumns<V, A>,
@@ -37,7 +37,7 @@ pub(crate) fn make_slot<K: Key + Drop, V: Value, A: Allocator + Copy, Q: Query<K
     }
 }
 
-/// Inserts an empty slot for a key at the place where it belongs.
+/// Inserts an empty slot for `key` at `place`, where `key` must belong. Returns the new slot's place.
 fn put_slot<K: Key + Drop, V: Value, A: Allocator + Copy>(
     slots: &mut Slots<K, V, A>,
     staged: &mut StagedColumns<V, A>,
@@ -58,7 +58,7 @@ fn put_slot<K: Key + Drop, V: Value, A: Allocator + Copy>(
     put_after(slots, staged, alloc, key)
 }
 
-/// Inserts an empty slot on an existing page.
+/// Like `put_slot`, on a page that must exist. Splits a full page first.
 fn put_within<K: Key + Drop, V: Value, A: Allocator + Copy>(
     slots: &mut Slots<K, V, A>,
     staged: &mut StagedColumns<V, A>,
@@ -88,7 +88,7 @@ fn put_within<K: Key + Drop, V: Value, A: Allocator + Copy>(
     put_at(slots, staged, place, key)
 }
 
-/// Appends an empty slot for a key that is greater than all others.
+/// Like `put_slot`, for a key that must be greater than all others.
 fn put_after<K: Key + Drop, V: Value, A: Allocator + Copy>(
     slots: &mut Slots<K, V, A>,
     staged: &mut StagedColumns<V, A>,
@@ -117,7 +117,7 @@ fn put_after<K: Key + Drop, V: Value, A: Allocator + Copy>(
     })
 }
 
-/// Inserts an empty slot on a page that isn't full.
+/// Like `put_slot`, on a page that must exist and have room.
 fn put_at<K: Key + Drop, V: Value, A: Allocator + Copy>(
     slots: &mut Slots<K, V, A>,
     staged: &mut StagedColumns<V, A>,
@@ -143,7 +143,7 @@ fn put_at<K: Key + Drop, V: Value, A: Allocator + Copy>(
     }
 }
 
-/// Splits a full page in two.
+/// Splits page `number`, which must be full, along with the page's column.
 fn split<K: Key + Drop, V: Value, A: Allocator + Copy>(
     slots: &mut Slots<K, V, A>,
     staged: &mut StagedColumns<V, A>,

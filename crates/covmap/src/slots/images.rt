@@ -1,4 +1,4 @@
-//! Slots with the same keys and other values.
+//! Makes slots with the same keys and other values.
 
 ghost use Rattle.std.specs.Prelude.{◌≡◌, IfOk, map};
 ghost use Rattle.covmap.specs.Images.{page_image};
@@ -9,8 +9,7 @@ use crate::slots::page::Page;
 use std::alloc::{AllocError, Allocator};
 
 impl<K: CopyKey<A> + Drop, V, A: Allocator + Copy> Slots<K, V, A> {
-    /// Slots with the same keys and the images of the values, on pages that are split at the same keys. So each key has the same
-    /// place.
+    /// Makes slots with the same keys at the same places, and with the images of the values.
     pub(crate) fn images<W: Image<V>>(&self, alloc: A) -> Result<Slots<K, W, A>, AllocError>
         ensures { IfOk result (λ images. images ≡ map (page_image W.image) self.now) }
     {

@@ -1,7 +1,7 @@
-//! A page of slots: a list of ascending keys, and a list of their values, which may be shorter.
+//! A page of slots: a list of ascending keys, and a list of the keys' values. The second list may be shorter.
 //!
-//! The lists are separate, so that a search reads only keys, and a commit replaces all values of a page at once. Slots past the end
-//! of the list of values are empty, so a page without committed values uses memory only for its keys.
+//! The lists are separate, so that a search reads only keys, and a commit replaces all values of a page at once. A slot past the
+//! end of the list of values is empty, so a page without committed values uses memory only for its keys.
 
 ghost use Rattle.std.specs.Prelude.{◌≡◌, ◌<◌, ◌≤◌, ◌-◌, ◌++◌, None, [], ◌∷◌, IfNone, IfOk, IfSome, OnErr, OnOk, true, is_some, length, map, drop, option_map, slice_get, slice_set, take};
 ghost use Rattle.std.specs.List.{insert};
@@ -16,7 +16,7 @@ use crate::slots::HALF;
 use std::alloc::{AllocError, Allocator};
 use std::marker::Model;
 
-/// A page of slots. Contracts see each key with its value, or with none.
+/// A page of slots. Contracts see each key with its optional value.
 #[derive(Drop)]
 pub(crate) struct Page<K, V, A: Allocator> {
     keys: Vec<K, A>,
@@ -34,7 +34,7 @@ impl<K, V, A: Allocator> Model for Page<K, V, A> {
     ghost invariant = { λ page. length page.values.items ≤ length page.keys.items };
 }
 
-/// The slots of a page, from some slot on. Contracts see each key with its value, or with none.
+/// The slots of a page from a certain slot on. Contracts see each key with its optional value.
 #[derive(Drop)]
 pub(crate) struct Rest<'a, K, V> {
     keys: &'a [K],
@@ -51,7 +51,7 @@ impl<'a, K, V> Model for Rest<'a, K, V> {
 }
 
 impl<K, V, A: Allocator> Page<K, V, A> {
-    /// A page with one empty slot, and no capacity for more.
+    /// A page with one empty slot, for `key`, and without capacity for more slots.
     pub(crate) fn of(alloc: A, key: K) -> Result<Page<K, V, A>, AllocError>
     where
         K: Drop,
@@ -67,21 +67,21 @@ impl<K, V, A: Allocator> Page<K, V, A> {
         })
     }
 
-    /// How many slots there are.
+    /// The number of slots.
     pub(crate) fn len(&self) -> usize
         ensures { result ≡ length self.now }
     {
         self.keys.len()
     }
 
-    /// The key of a slot.
+    /// The key of slot `index`, if this slot exists.
     pub(crate) fn key(&self, index: usize) -> Option<&K>
         ensures { option_map (λ key. key.now) result ≡ option_map (λ slot. slot.0) (slice_get self.now index) }
     {
         self.keys.get(index)
     }
 
-    /// All slots.
+    /// All slots of the page.
     pub(crate) fn slots(&self) -> Rest<'_, K, V>
         ensures { result ≡ self.now }
     {
@@ -93,7 +93,7 @@ impl<K, V, A: Allocator> Page<K, V, A> {
 }
 
 impl<'a, K, V> Rest<'a, K, V> {
-    /// No slots.
+    /// An empty list of slots.
     pub(crate) fn none() -> Rest<'a, K, V>
         ensures { result ≡ [] }
     {
@@ -103,7 +103,7 @@ impl<'a, K, V> Rest<'a, K, V> {
         }
     }
 
-    /// The first slot, and those after it.
+    /// The first slot's key and value, and the other slots. Returns `None` if no slot is left.
     pub(crate) fn split_first(&self) -> Option<(&'a K, Option<&'a V>, Rest<'a, K, V>)>
         ensures some { IfSome result (λ parts. self.now ≡ (parts.0.now, option_map (λ value. value.now) parts.1) ∷ parts.2) }
         ensures none { IfNone result (self.now ≡ []) }
@@ -117,7 +117,7 @@ impl<'a, K, V> Rest<'a, K, V> {
 }
 
 impl<K: Key, V, A: Allocator> Page<K, V, A> {
-    /// Whether the last key comes before the queried key.
+    /// Whether the last key of the page is less than the queried key.
     pub(crate) fn ends_before<Q: Query<K, A>>(&self, query: Q) -> bool
         ensures { result ≡ ends_before (λ key. K.cmp key (Q.named query)) self.now }
     {
@@ -127,7 +127,7 @@ impl<K: Key, V, A: Allocator> Page<K, V, A> {
         }
     }
 
-    /// The number of the first slot whose key doesn't come before the queried key.
+    /// The index of the first slot whose key isn't less than the queried key.
     pub(crate) fn index_of<Q: Query<K, A>>(&self, query: Q) -> usize
         requires { IsAscending K.cmp self.now }
         ensures { result ≡ lead (is_before (λ key. K.cmp key (Q.named query))) self.now }
@@ -147,7 +147,7 @@ impl<K: Key, V, A: Allocator> Page<K, V, A> {
 }
 
 impl<K, V: Value, A: Allocator> Page<K, V, A> {
-    /// The value in a slot.
+    /// The value in slot `index`, if any.
     pub(crate) fn value(&self, index: usize) -> Option<V>
         ensures { result ≡ value_in (option_map (λ slot. slot.1) (slice_get self.now index)) }
     {
@@ -166,7 +166,7 @@ impl<K, V: Value, A: Allocator> Page<K, V, A> {
         Ok(column)
     }
 
-    /// Replaces the values of the page with the values of `column`.
+    /// Replaces the values of the page with `column`, which must have one value for each slot.
     pub(crate) fn fill(&mut self, column: Vec<Option<V>, A>)
         requires { length column.items ≡ length self.old }
         ensures { self.new ≡ with_column self.old column.items }
@@ -174,7 +174,7 @@ impl<K, V: Value, A: Allocator> Page<K, V, A> {
         self.values = column;
     }
 
-    /// Replaces the value in a slot. `None` empties the slot. The slot must have a value.
+    /// Replaces the value in slot `index`, which must have a value. `None` empties the slot.
     pub(crate) fn write(&mut self, index: usize, value: Option<V>)
         requires { is_some (value_in (option_map (λ slot. slot.1) (slice_get self.old index))) ≡ true }
         ensures { self.new ≡ with_column self.old (slice_set (column_of self.old) index value) }
@@ -184,7 +184,7 @@ impl<K, V: Value, A: Allocator> Page<K, V, A> {
 }
 
 impl<K: Drop, V: Value, A: Allocator + Copy> Page<K, V, A> {
-    /// Inserts an empty slot. Usually it comes after all others.
+    /// Inserts an empty slot for `key` at `index`, which is usually the page's end.
     #[inline(always)]
     pub(crate) fn insert(&mut self, index: usize, key: K) -> Result<(), AllocError>
         requires { index ≤ length self.old }
@@ -198,7 +198,7 @@ impl<K: Drop, V: Value, A: Allocator + Copy> Page<K, V, A> {
         self.insert_before(index, key)
     }
 
-    /// Inserts an empty slot before another one.
+    /// Inserts an empty slot for `key` before slot `index`, which must exist.
     fn insert_before(&mut self, index: usize, key: K) -> Result<(), AllocError>
         requires { index < length self.old }
         ensures ok { OnOk result (self.new ≡ insert self.old index (key, None)) }
@@ -215,7 +215,7 @@ impl<K: Drop, V: Value, A: Allocator + Copy> Page<K, V, A> {
         Ok(())
     }
 
-    /// Splits a full page: moves its second half to a new page, which is returned.
+    /// Moves the second half of the page, which must be full, to a new page. Returns the new page.
     pub(crate) fn split(&mut self, alloc: A) -> Result<Page<K, V, A>, AllocError>
         requires { length self.old ≡ 256 }
         ensures front { OnOk result (self.new ≡ take 128 self.old) }
@@ -230,7 +230,7 @@ impl<K: Drop, V: Value, A: Allocator + Copy> Page<K, V, A> {
 }
 
 impl<K, V: Value, A: Allocator> Page<K, V, A> {
-    /// Copies the values from a slot on. Slots past the end of the list of values are empty.
+    /// Copies the list of values from slot `start` on. Slots past the end of the list are empty.
     fn values_from(&self, alloc: A, start: usize) -> Result<Vec<Option<V>, A>, AllocError>
         ensures values { IfOk result (λ values. beside (drop start (map (λ slot. slot.0) self.now)) values.items ≡ drop start self.now) }
         ensures fits { IfOk result (λ values. length values.items ≤ length self.now - start) }
@@ -242,7 +242,7 @@ impl<K, V: Value, A: Allocator> Page<K, V, A> {
     }
 }
 
-/// Appends empty values until the column has `len` values. Reserves no more capacity than that.
+/// Appends empty values until the column has `len` values. Reserves capacity for no more than `len` values.
 fn fill_up<V: Drop, A: Allocator>(
     column: &mut Vec<Option<V>, A>,
     len: usize,
@@ -256,7 +256,7 @@ fn fill_up<V: Drop, A: Allocator>(
     Ok(())
 }
 
-/// A copy of values.
+/// Copies the values.
 fn copies<V: Value, A: Allocator>(
     values: &[Option<V>],
     alloc: A,

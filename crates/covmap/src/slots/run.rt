@@ -1,4 +1,4 @@
-//! Slots for the keys of a run.
+//! Makes slots for the keys of a run.
 
 ghost use Rattle.std.specs.Prelude.{◌≡◌, ◌<◌, ◌≤◌, Some, IfOk, OnErr, OnOk, false, length, slice_get};
 ghost use Rattle.covmap.specs.RunPage.{AreBefore, FirstHere, IsGrown};
@@ -13,12 +13,12 @@ use crate::slots::staged::StagedColumns;
 use crate::slots::{PAGE_SLOTS, SlotIndex, Slots, push};
 use std::alloc::{AllocError, Allocator};
 
-/// A run is short if fewer items than this are left. A new key above all others goes to the last page if the run is short and that
-/// page isn't full. Otherwise the key begins a new page.
+/// The number of items below which the rest of a run is short. A new key above all others goes to the last page if the run is short
+/// and the last page isn't full. Otherwise the key begins a new page.
 const SHORT_RUN: usize = 32;
 
 impl SlotIndex {
-    /// The place of another slot of the same page.
+    /// The place of slot `index` on the same page.
     pub(crate) fn at(self, index: usize) -> SlotIndex {
         SlotIndex {
             page: self.page,
@@ -28,7 +28,7 @@ impl SlotIndex {
 }
 
 impl<K: Key, V, A: Allocator> Slots<K, V, A> {
-    /// Whether the last page isn't full.
+    /// Whether the last page exists and isn't full.
     fn has_room(&self) -> bool {
         match self.pages.last() {
             Some(page) => page.len() < PAGE_SLOTS,
@@ -36,7 +36,7 @@ impl<K: Key, V, A: Allocator> Slots<K, V, A> {
         }
     }
 
-    /// Whether a new key at a place goes on an existing page, if `len` items of its run are left.
+    /// Whether a new key that belongs at `place` goes to an existing page. `len` is the number of items left in the run.
     #[inline]
     fn takes(&self, place: SlotIndex, len: usize) -> bool
         ensures { result ≡ false → length self.now ≤ place.page }
@@ -44,11 +44,11 @@ impl<K: Key, V, A: Allocator> Slots<K, V, A> {
         if place.page < self.count() {
             return true;
         }
-        // A short run fills the last page first, so that short runs don't leave short pages.
+        // A short run fills the last page first, so that short runs don't leave nearly empty pages.
         self.has_room() && len < SHORT_RUN
     }
 
-    /// A place on the page of the guess at which to look for a key first. Searches only that page.
+    /// The place, on the page of `guess`, at which to look for a key first. Searches only this page.
     fn guess_near<Q: Query<K, A>>(&self, query: Q, guess: SlotIndex) -> SlotIndex
     where
         V: Value,
@@ -59,7 +59,7 @@ impl<K: Key, V, A: Allocator> Slots<K, V, A> {
         }
     }
 
-    /// The page of this number, which exists.
+    /// The page `number`, which must exist.
     pub(crate) fn page_there(&self, number: usize) -> &Page<K, V, A>
         requires { number < length self.now }
         ensures page { result.now ≡ page_at self.now number }
@@ -70,7 +70,7 @@ impl<K: Key, V, A: Allocator> Slots<K, V, A> {
 }
 
 impl<K: Key + Drop, V: Value, A: Allocator + Copy> Slots<K, V, A> {
-    /// Appends a page with empty slots for the keys at the front of a run.
+    /// Appends a page with empty slots for the keys at the front of `run`, which must exceed all existing keys.
     fn push_run<Q: Query<K, A>, M: Addend<V>>(
         &mut self,
         alloc: A,
@@ -87,8 +87,8 @@ impl<K: Key + Drop, V: Value, A: Allocator + Copy> Slots<K, V, A> {
     }
 }
 
-/// Returns the place of the first key of a run. A key without a slot gets an empty one, and so do the following keys of the run
-/// that ascend and belong to the same page.
+/// Returns the place of the run's first key. Inserts empty slots first if this key has no slot: one for this key, and one for each
+/// following key that is greater than the key before and belongs to the same page.
 pub(crate) fn make_slots<
     K: Key + Drop,
     V: Value,
@@ -139,7 +139,7 @@ fn make_absent<K: Key + Drop, V: Value, A: Allocator + Copy, Q: Query<K, A>, M: 
     put_run(slots, staged, alloc, run)
 }
 
-/// Like `make_absent`, but never appends new pages for a part of the run.
+/// Like `make_absent`, but inserts each slot separately instead of appending a page for many keys.
 #[inline]
 fn make_within<K: Key + Drop, V: Value, A: Allocator + Copy, Q: Query<K, A>, M: Addend<V>>(
     slots: &mut Slots<K, V, A>,
@@ -160,9 +160,9 @@ fn make_within<K: Key + Drop, V: Value, A: Allocator + Copy, Q: Query<K, A>, M: 
     make_slot(slots, staged, alloc, query, place)
 }
 
-/// Inserts empty slots for the keys at the front of a run. Stops when the page is full, or after the first key that belongs to
-/// another page or isn't greater than the key before it. If the page has no column of staged values, it gets all these slots
-/// before it gets a column. Later, each new slot would have to be inserted into the column too.
+/// Inserts empty slots for the keys at the front of `run`. Stops when the page is full, or after the first key that belongs to
+/// another page or isn't greater than the run's preceding key. Making these slots ahead saves work: once the page has a column of
+/// staged values, each new slot must be inserted into the column too.
 fn make_ahead<K: Key + Drop, V: Value, A: Allocator + Copy, Q: Query<K, A>, M: Addend<V>>(
     slots: &mut Slots<K, V, A>,
     staged: &mut StagedColumns<V, A>,
@@ -193,7 +193,7 @@ fn make_ahead<K: Key + Drop, V: Value, A: Allocator + Copy, Q: Query<K, A>, M: A
     Ok(())
 }
 
-/// Appends empty slots for the keys at the front of a run, and returns the place of the first one.
+/// Appends a page with empty slots for the keys at the front of `run`. Returns the place of the first slot.
 fn put_run<K: Key + Drop, V: Value, A: Allocator + Copy, Q: Query<K, A>, M: Addend<V>>(
     slots: &mut Slots<K, V, A>,
     staged: &mut StagedColumns<V, A>,

@@ -1,4 +1,4 @@
-//! Staged values, stored beside the slots until they are committed.
+//! Staged values, stored beside the slots until a commit or a rollback.
 
 ghost use Rattle.std.specs.Prelude.{◌≡◌, ◌↔◌, ◌+◌, ◌^◌, ◌<◌, ◌≤◌, nat_lt, None, [], ◌∷◌, ◌++◌, IfNone, IfOk, IfSome, IsTrue, OnErr, OnOk, length, map, option_map, slice_get};
 ghost use Rattle.std.specs.List.{AllByRecursion, insert};
@@ -16,8 +16,8 @@ use crate::slots::{HALF, SlotIndex, Slots};
 use std::alloc::{AllocError, Allocator};
 use std::marker::Model;
 
-/// The columns of staged values, each with the number of its page. A page on which nothing is staged has no column. Contracts see
-/// the numbers and the columns.
+/// The columns of staged values, each with the number of its page. A column has an optional value for each slot. A page on which
+/// nothing is staged has no column. Contracts see the numbers and the columns.
 #[derive(Drop)]
 pub(crate) struct StagedColumns<V, A: Allocator> {
     columns: Vec<(usize, Vec<Option<V>, A>), A>,
@@ -35,7 +35,7 @@ impl<V, A: Allocator> Model for StagedColumns<V, A> {
 }
 
 impl<V, A: Allocator> StagedColumns<V, A> {
-    /// No columns, so nothing is staged. Never allocates.
+    /// An empty list of columns, so nothing is staged. Never allocates.
     pub(crate) fn new(alloc: A) -> StagedColumns<V, A>
         ensures { result ≡ [] }
     {
@@ -44,7 +44,8 @@ impl<V, A: Allocator> StagedColumns<V, A> {
         }
     }
 
-    /// Removes and returns the column with the greatest number. Frees the list's memory if the list is empty.
+    /// Removes and returns the column with the greatest page number. Returns `None` and frees the list's memory if the list is
+    /// empty.
     pub(crate) fn pop(&mut self) -> Option<(usize, Vec<Option<V>, A>)>
         ensures some { IfSome result (λ column. self.old ≡ self.new ++ (column.0, column.1.items) ∷ []) }
         ensures none { IfNone result (self.new ≡ []) }
@@ -54,7 +55,7 @@ impl<V, A: Allocator> StagedColumns<V, A> {
         pop_last(&mut self.columns)
     }
 
-    /// How many columns have a smaller number than this page. Costs no search if the last column is that of this page.
+    /// The number of columns that belong to pages before `page`. Costs no search if the last column belongs to `page`.
     fn index_of(&self, page: usize) -> usize
         ensures { result ≡ lead (λ column. nat_lt column.0 page) self.now }
     {
@@ -82,7 +83,7 @@ impl<V, A: Allocator> StagedColumns<V, A> {
         low
     }
 
-    /// Whether the column at this index is that of this page.
+    /// Whether the column at `index` exists and belongs to `page`.
     fn has(&self, index: usize, page: usize) -> bool
         ensures there { IsTrue result ↔ (option_map (λ column. column.0) (slice_get self.now index) ≡ Some page) }
         ensures ascending { AreAscending self.now }
@@ -105,7 +106,7 @@ impl<V: Drop, A: Allocator> StagedColumns<V, A> {
 }
 
 impl<V: Value, A: Allocator> StagedColumns<V, A> {
-    /// Returns the index of a page's column, and makes a column if the page has none. Staged values stay the same.
+    /// Returns the index of the column of `page`. Makes this column first, with the committed values, if the page has no column.
     fn touch<K: Key>(
         &mut self,
         alloc: A,
@@ -131,7 +132,7 @@ impl<V: Value, A: Allocator> StagedColumns<V, A> {
         Ok(index)
     }
 
-    /// Stages a value at the place of a slot.
+    /// Stages `value` in the slot at `place`, which must exist.
     pub(crate) fn put<K: Key>(
         &mut self,
         alloc: A,
@@ -151,7 +152,7 @@ impl<V: Value, A: Allocator> StagedColumns<V, A> {
         Ok(())
     }
 
-    /// Adds to the staged value at the place of a slot, and returns the value before and after.
+    /// Adds `addend` to the staged value of the slot at `place`, which must exist. Returns the value before and after.
     pub(crate) fn add<K: Key, M: Addend<V>>(
         &mut self,
         alloc: A,
@@ -180,7 +181,7 @@ impl<V: Value, A: Allocator> StagedColumns<V, A> {
         })
     }
 
-    /// The staged value at the place of a slot.
+    /// The staged value of the slot at `place`, if any.
     pub(crate) fn value_at<K: Key>(&self, slots: &Slots<K, V, A>, place: SlotIndex) -> Option<V>
         requires page { place.page < length slots.now }
         requires columns { AreColumnsOf slots.now self.now }
@@ -208,8 +209,8 @@ impl<V: Value, A: Allocator> StagedColumns<V, A> {
 }
 
 impl<V: Value, A: Allocator + Copy> StagedColumns<V, A> {
-    /// Updates the columns for an empty slot that was inserted at a place. If the page has a column, inserts an empty value at
-    /// the index of the slot.
+    /// Updates the columns after an empty slot was inserted at `place`. Inserts an empty value into the page's column, if the page
+    /// has one.
     pub(crate) fn insert_empty(&mut self, place: SlotIndex) -> Result<(), AllocError>
         requires { AllByRecursion (λ column. column.0 ≡ place.page → place.index ≤ length column.1) self.old }
         ensures ok { OnOk result (IsWidened place.page place.index self.old self.new) }
@@ -222,8 +223,8 @@ impl<V: Value, A: Allocator + Copy> StagedColumns<V, A> {
         Ok(())
     }
 
-    /// Updates the columns for a page that was split in two. Each column of a later page gets the next number, and the page's
-    /// own column, if it has one, is split in two.
+    /// Updates the columns after page `page` was split in two. Adds 1 to the number of each later page's column. Splits the page's
+    /// own column, if the page has one.
     pub(crate) fn split(&mut self, page: usize) -> Result<(), AllocError>
         requires numbers { AllByRecursion (λ column. column.0 + 1 < 2 ^ 64) self.old }
         requires full { AllByRecursion (λ column. column.0 ≡ page → length column.1 ≡ 256) self.old }
@@ -241,7 +242,7 @@ impl<V: Value, A: Allocator + Copy> StagedColumns<V, A> {
         Ok(())
     }
 
-    /// Adds 1 to the page number of each column of a later page.
+    /// Adds 1 to the page number of each column that belongs to a page after `page`.
     fn renumber(&mut self, page: usize)
         requires { AllByRecursion (λ column. column.0 + 1 < 2 ^ 64) self.old }
         ensures { self.new ≡ map (moved page) self.old }
@@ -250,7 +251,7 @@ impl<V: Value, A: Allocator + Copy> StagedColumns<V, A> {
     }
 }
 
-/// Removes and returns the last item. Frees the list's memory if the list is empty.
+/// Removes and returns the last item. Returns `None` and frees the list's memory if the list is empty.
 fn pop_last<T, A: Allocator>(list: &mut Vec<T, A>) -> Option<T>
     ensures items { list.old.items ≡ list.new.items ++ option_to_list result }
     ensures some { IfSome result (λ last. list.old.items ≡ list.new.items ++ last ∷ []) }
@@ -263,7 +264,8 @@ fn pop_last<T, A: Allocator>(list: &mut Vec<T, A>) -> Option<T>
     list.pop()
 }
 
-/// Inserts an item. The first item reserves capacity for itself only, since most lists of columns have one item.
+/// Inserts `item` at `index`. Reserves capacity for only one item if the list is empty, since most lists of columns have one
+/// column.
 fn insert_first<T: Drop, A: Allocator>(
     list: &mut Vec<T, A>,
     index: usize,
@@ -280,7 +282,7 @@ fn insert_first<T: Drop, A: Allocator>(
     Ok(())
 }
 
-/// Inserts an empty value.
+/// Inserts an empty value at `index`.
 fn insert_empty<V: Drop, A: Allocator>(
     column: &mut Vec<Option<V>, A>,
     index: usize,
@@ -297,7 +299,7 @@ fn insert_empty<V: Drop, A: Allocator>(
     Ok(())
 }
 
-/// Adds 1 to the page number of each column of a later page.
+/// Adds 1 to the page number of each column that belongs to a page after `page`.
 fn renumber<V, A: Allocator>(columns: &mut [(usize, Vec<Option<V>, A>)], page: usize)
     requires { AllByRecursion (λ column. column.0 + 1 < 2 ^ 64) columns.old }
     ensures { columns.new ≡ map (λ column. (number_after page column.0, column.1)) columns.old }
@@ -307,7 +309,7 @@ fn renumber<V, A: Allocator>(columns: &mut [(usize, Vec<Option<V>, A>)], page: u
     }
 }
 
-/// The new number of the page `number` when `page` is split in two.
+/// The number that page `number` gets when page `page` is split in two.
 fn number_after(page: usize, number: usize) -> usize
     requires { number + 1 < 2 ^ 64 }
     ensures { result ≡ number_after page number }

@@ -8,7 +8,7 @@ use covpacked::PackedSects;
 use std::process::Abort;
 use std::test::*;
 
-/// Closes a section of this test and source file with the items of these numbers.
+/// Pushes the sample items numbered `numbers`, and closes the section with this test and source file.
 fn push_sect(
     rt: &impl Abort,
     sects: &mut PackedSects,
@@ -27,7 +27,7 @@ fn none(rt: HostRuntime) {
     assert!(rt; sects.sects().next().is_none());
 }
 
-/// A section is among the others only after it is closed.
+/// A section isn't listed before it is closed.
 #[test]
 fn an_open_section(rt: HostRuntime) {
     let mut sects = PackedSects::new(rt.alloc());
@@ -51,7 +51,7 @@ fn six_sections(rt: HostRuntime) {
     }
 }
 
-/// One test's name comes twice in a row, and again after another one. Names that only begin like it stay apart.
+/// A test name comes twice in a row, and again after another name. Names that share only a prefix stay distinct.
 #[test]
 fn names_of_tests(rt: HostRuntime) {
     let mut sects = PackedSects::new(rt.alloc());
@@ -71,7 +71,7 @@ fn names_of_tests(rt: HostRuntime) {
     assert!(rt; closed.next().is_none());
 }
 
-/// Empty names come first, between others and twice.
+/// Empty names are kept: as the first name, as a repeated name and after other names.
 #[test]
 fn empty_names(rt: HostRuntime) {
     let mut sects = PackedSects::new(rt.alloc());
@@ -87,7 +87,7 @@ fn empty_names(rt: HostRuntime) {
     assert!(rt; closed.next().is_none());
 }
 
-/// Sections without items come first, between others and last.
+/// Sections without items are kept: at the front, between other sections and at the end.
 #[test]
 fn sections_without_items(rt: HostRuntime) {
     let mut sects = PackedSects::new(rt.alloc());
@@ -107,7 +107,7 @@ fn sections_without_items(rt: HostRuntime) {
     assert!(rt; closed.next().is_none());
 }
 
-/// Names keep all their bytes, also those that no tracefile can have.
+/// Names keep all bytes, even bytes that no name in a tracefile can have.
 #[test]
 fn odd_bytes(rt: HostRuntime) {
     let mut sects = PackedSects::new(rt.alloc());

@@ -38,7 +38,7 @@ const COUNTS: [u128; 11] = [
 /// Blocks and numbers of branches at the edges of 16 and 64 bits.
 const QUARTERS: [u64; 5] = [0, 1, 65_535, 65_536, 18_446_744_073_709_551_615];
 
-/// How often branches are taken, at the edges of 32 and 128 bits.
+/// Values of `taken` at the edges of 32 and 128 bits.
 const TAKEN: [Option<u128>; 6] = [
     None,
     Some(0),
@@ -53,7 +53,7 @@ fn check_end(rt: &impl Abort, items: &mut PackedItems<'_>) {
     assert!(rt; items.next().is_none(), "there is one more item");
 }
 
-/// Pushes a line with each number and count, and reads them back.
+/// Checks that lines with each number and count are read back as they were pushed.
 fn check_lines(rt: &(impl Abort + AllocGlobal), checksum: Option<&[u8]>) {
     let mut sects = PackedSects::new(rt.alloc());
     for line in LINES {
@@ -75,7 +75,7 @@ fn check_lines(rt: &(impl Abort + AllocGlobal), checksum: Option<&[u8]>) {
     check_end(rt, &mut items);
 }
 
-/// Pushes a function with each start line and count, and reads them back.
+/// Checks that functions with each start line and count are read back as they were pushed.
 fn check_functions(rt: &(impl Abort + AllocGlobal), name: &[u8]) {
     let mut sects = PackedSects::new(rt.alloc());
     for line in LINES {
@@ -97,7 +97,7 @@ fn check_functions(rt: &(impl Abort + AllocGlobal), name: &[u8]) {
     check_end(rt, &mut items);
 }
 
-/// Pushes a branch with each block, number in the block and `taken`, and reads them back.
+/// Checks that branches with each block, number in the block and `taken` are read back as they were pushed.
 fn check_branches(rt: &(impl Abort + AllocGlobal), line: u64) {
     let mut sects = PackedSects::new(rt.alloc());
     for block in QUARTERS {
@@ -135,7 +135,7 @@ fn lines_with_checksums(rt: HostRuntime) {
     check_lines(&rt, Some(b"1B2M2Y8AsgTpgAmY7PhCfg=="));
 }
 
-/// An empty checksum isn't a missing one.
+/// An empty checksum differs from a missing checksum.
 #[test]
 fn lines_with_empty_checksums(rt: HostRuntime) {
     check_lines(&rt, Some(b""));

@@ -1,4 +1,4 @@
-//! Ten items of all kinds, short ones beside long ones.
+//! Ten sample items of all kinds, packed into short and into long words.
 
 use super::made;
 use super::same::check_item;
@@ -8,10 +8,10 @@ use std::alloc::Allocator;
 use std::process::Abort;
 use std::test::*;
 
-/// How many items there are.
+/// The number of sample items.
 pub(super) const ALL: usize = 10;
 
-/// The item with this number, counted from 0.
+/// The sample item with this number, counted from 0.
 pub(super) fn item(number: usize) -> ItemRef<'static> {
     match number {
         0 => line_of(1, 7, None),
@@ -56,7 +56,7 @@ pub(super) fn branch_of(
     }
 }
 
-/// Pushes the items with these numbers.
+/// Pushes the sample items with these numbers.
 pub(super) fn push_numbers<A: Allocator>(
     rt: &impl Abort,
     sects: &mut PackedSects<A>,
@@ -67,14 +67,14 @@ pub(super) fn push_numbers<A: Allocator>(
     }
 }
 
-/// Pushes all items.
+/// Pushes all sample items.
 pub(super) fn push_all<A: Allocator>(rt: &impl Abort, sects: &mut PackedSects<A>) {
     for number in 0..ALL {
         made(rt, push(sects, item(number)));
     }
 }
 
-/// Checks that these are the items with these numbers.
+/// Checks that `items` are the sample items with these numbers.
 pub(super) fn check_numbers(rt: &impl Abort, items: PackedItems<'_>, numbers: &[usize]) {
     assert_eq!(rt; items.len(), numbers.len());
     let mut items = items;
@@ -84,7 +84,7 @@ pub(super) fn check_numbers(rt: &impl Abort, items: PackedItems<'_>, numbers: &[
     assert!(rt; items.next().is_none(), "there is one more item");
 }
 
-/// Checks that these are the items from `first` on, up to `end`.
+/// Checks that `items` are the sample items `first` to `end - 1`.
 pub(super) fn check_range(rt: &impl Abort, items: PackedItems<'_>, first: usize, end: usize) {
     assert_eq!(rt; items.len(), end.wrapping_sub(first));
     let mut items = items;

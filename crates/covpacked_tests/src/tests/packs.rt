@@ -1,4 +1,4 @@
-//! Submissions are packed and unpacked.
+//! Packs and unpacks submissions.
 
 use super::made;
 use super::mixed::item;
@@ -10,7 +10,7 @@ use std::alloc::Allocator;
 use std::process::Abort;
 use std::test::*;
 
-/// The checksum, if there is one.
+/// Copies the optional checksum.
 fn checksum_of<A: Allocator>(
     rt: &impl Abort,
     alloc: A,
@@ -22,7 +22,7 @@ fn checksum_of<A: Allocator>(
     }
 }
 
-/// The item, in memory of its own.
+/// Returns an owned copy of the item.
 pub(super) fn owned<A: Allocator>(rt: &impl Abort, alloc: A, item: ItemRef<'_>) -> Item<A> {
     match item {
         ItemRef::Line {
@@ -53,7 +53,7 @@ pub(super) fn owned<A: Allocator>(rt: &impl Abort, alloc: A, item: ItemRef<'_>) 
     }
 }
 
-/// The items with these numbers.
+/// The sample items with these numbers.
 fn items_of<A: Allocator + Copy>(rt: &impl Abort, alloc: A, numbers: &[usize]) -> Items<A> {
     let mut items = Items::new(alloc);
     for number in numbers {
@@ -62,7 +62,7 @@ fn items_of<A: Allocator + Copy>(rt: &impl Abort, alloc: A, numbers: &[usize]) -
     items
 }
 
-/// The section with this number.
+/// The sample section with this number.
 fn sect_of<A: Allocator + Copy>(rt: &impl Abort, alloc: A, number: usize) -> Sect<A> {
     let Section {
         test,
@@ -76,7 +76,7 @@ fn sect_of<A: Allocator + Copy>(rt: &impl Abort, alloc: A, number: usize) -> Sec
     }
 }
 
-/// The submission of the first `count` sections, with this number of inconsistent lines.
+/// A submission of the first `count` sample sections, with `odd` inconsistent lines.
 pub(super) fn submission_of<A: Allocator + Copy>(
     rt: &impl Abort,
     alloc: A,
@@ -90,7 +90,7 @@ pub(super) fn submission_of<A: Allocator + Copy>(
     made(rt, Submission::of(sects, odd))
 }
 
-/// Checks that the first `count` sections are packed, with so many items and inconsistent lines.
+/// Checks that `packed` has the first `count` sample sections, `items` items and `odd` inconsistent lines.
 pub(super) fn check_packed<A: Allocator>(
     rt: &impl Abort,
     packed: &PackedSubmission<A>,
@@ -103,7 +103,7 @@ pub(super) fn check_packed<A: Allocator>(
     assert_eq!(rt; packed.odd(), odd);
 }
 
-/// Packs the first `count` sections, unpacks them and packs them again. Checks that they have `items` items.
+/// Packs, unpacks and packs again a submission of the first `count` sample sections. Checks each result.
 fn check(rt: &(impl Abort + AllocGlobal), count: usize, items: u64, odd: u64) {
     let given = submission_of(rt, rt.alloc(), count, odd);
     let first = made(rt, packed(rt.alloc(), &given));

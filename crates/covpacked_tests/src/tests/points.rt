@@ -1,4 +1,4 @@
-//! The points of items, and whether they are hit.
+//! Tests an item's line or branch, and whether the item is hit.
 
 use super::mixed::{ALL, item};
 use covline::BranchPoint;
@@ -6,12 +6,12 @@ use covpacked::ItemRef;
 use std::process::Abort;
 use std::test::*;
 
-/// Checks the line of the item with this number.
+/// Checks the line of the sample item with this number.
 fn check_line(rt: &impl Abort, number: usize, wanted: Option<u64>) {
     assert_eq!(rt; item(number).line_point(), wanted);
 }
 
-/// Checks the branch of the item with this number.
+/// Checks the branch of the sample item with this number.
 fn check_branch(rt: &impl Abort, number: usize, line: u64, block: u64, branch: u64) {
     let wanted = BranchPoint {
         line,
@@ -41,7 +41,7 @@ fn branches(rt: HostRuntime) {
     assert!(rt; item(3).branch_point().is_none());
 }
 
-/// A count above 0 is a hit, but a branch of a block that was never executed isn't one.
+/// A count above 0 is a hit. A count of 0, or a branch whose block was never executed, isn't a hit.
 #[test]
 fn hits(rt: HostRuntime) {
     for number in 0..ALL {

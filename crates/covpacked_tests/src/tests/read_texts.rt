@@ -1,4 +1,4 @@
-//! Tests of `ReadText`: the numbers of a submission, packed or not, and its last test.
+//! Tests of `ReadText`: the counts and the last test of packed and unpacked submissions.
 
 use super::made;
 use super::packs::submission_of;
@@ -8,7 +8,7 @@ use covpacked::ReadText;
 use std::process::Abort;
 use std::test::*;
 
-/// Checks the numbers of a submission of the first `sections` sections, and its last test.
+/// Checks the counts and the last test of a submission of the first `sections` sample sections.
 fn check<S: ReadText>(rt: &impl Abort, read: &S, sections: usize, items: u64, odd: u64) {
     assert_eq!(rt; read.count_sections(), sections as u64);
     assert_eq!(rt; read.count_items(), items);
@@ -22,7 +22,7 @@ fn check<S: ReadText>(rt: &impl Abort, read: &S, sections: usize, items: u64, od
     }
 }
 
-/// Checks the submission of the first `sections` sections, packed and not.
+/// Checks the submission of the first `sections` sample sections, both packed and unpacked.
 fn check_both(rt: &(impl Abort + AllocGlobal), sections: usize, items: u64, odd: u64) {
     let given = submission_of(rt, rt.alloc(), sections, odd);
     let all = made(rt, packed(rt.alloc(), &given));

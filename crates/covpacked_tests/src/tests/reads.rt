@@ -1,4 +1,4 @@
-//! Items are read by index, by the iterator and in two parts.
+//! Reads items by index, by the iterator and in two parts.
 
 use super::mixed::{ALL, check_numbers, check_range, item, push_all};
 use super::same::check_item;
@@ -6,14 +6,14 @@ use covpacked::{PackedItems, PackedSects};
 use std::process::Abort;
 use std::test::*;
 
-/// Sections that have all ten items in the open one.
+/// Packed sections with all sample items in the open section.
 fn open_all(rt: &(impl Abort + AllocGlobal)) -> PackedSects {
     let mut sects = PackedSects::new(rt.alloc());
     push_all(rt, &mut sects);
     sects
 }
 
-/// The items before `mid`, and the others.
+/// Splits `items` into the first `mid` items and the others.
 fn split<'a>(
     rt: &impl Abort,
     items: &PackedItems<'a>,
@@ -33,7 +33,7 @@ fn no_items(rt: HostRuntime) {
     check_numbers(&rt, items, &[]);
 }
 
-/// There is no item past the end.
+/// An index past the end has no item.
 #[test]
 fn by_index(rt: HostRuntime) {
     let sects = open_all(&rt);
@@ -46,7 +46,7 @@ fn by_index(rt: HostRuntime) {
     assert!(rt; items.get(18_446_744_073_709_551_615).is_none());
 }
 
-/// A copy has the items of the original, even while the original is iterated.
+/// A copy has the original's remaining items, even while the original is iterated.
 #[test]
 fn by_iterator(rt: HostRuntime) {
     let sects = open_all(&rt);
@@ -59,7 +59,7 @@ fn by_iterator(rt: HostRuntime) {
     assert!(rt; items.is_empty());
 }
 
-/// The two parts together are all items, wherever they are split, and so are the parts of a part.
+/// The two parts of a split, at any index, are together all items. A part can be split again.
 #[test]
 fn in_two_parts(rt: HostRuntime) {
     let sects = open_all(&rt);

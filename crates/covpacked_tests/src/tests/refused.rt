@@ -1,5 +1,5 @@
-//! Tries calls in a heap without capacity, and then with more and more capacity, until they succeed. A failed call changes nothing,
-//! and succeeds with ample capacity.
+//! Tries each call in heaps of more and more capacity, beginning with none, until the call succeeds. A failed call changes nothing,
+//! and succeeds when repeated with ample capacity.
 
 use super::heap::{check_rising, narrow, new_heap, widen};
 use super::made;
@@ -12,7 +12,7 @@ use covpacked::PackedSects;
 use std::process::Abort;
 use std::test::*;
 
-/// Pushes all items after two closed sections.
+/// Pushes all sample items after two closed sections. Returns whether an allocation failed.
 fn pushes(rt: &impl Abort, heap: &Bump, room: usize) -> bool {
     let mut sects = PackedSects::new(heap);
     push_sections(rt, &mut sects, 2);
@@ -32,7 +32,7 @@ fn pushes(rt: &impl Abort, heap: &Bump, room: usize) -> bool {
     is_refused
 }
 
-/// Closes a section whose items are pushed already. `number` sections are closed before.
+/// Closes the sample section `number`, whose items must be pushed already. Returns whether an allocation failed.
 fn close_one(rt: &impl Abort, heap: &Bump, sects: &mut PackedSects<&Bump>, number: usize) -> bool {
     let Section {
         test,
@@ -51,7 +51,7 @@ fn close_one(rt: &impl Abort, heap: &Bump, sects: &mut PackedSects<&Bump>, numbe
     is_refused
 }
 
-/// Closes all sections. The items of the last one are pushed with ample room.
+/// Pushes and closes all sample sections. Returns whether an allocation failed.
 fn closes(rt: &impl Abort, heap: &Bump, room: usize) -> bool {
     let mut sects = PackedSects::new(heap);
     let mut is_refused = false;
@@ -69,7 +69,7 @@ fn closes(rt: &impl Abort, heap: &Bump, room: usize) -> bool {
     is_refused
 }
 
-/// Packs the submission of all sections.
+/// Packs the submission of all sample sections. Returns whether an allocation failed.
 fn packs(rt: &impl Abort, heap: &Bump, room: usize) -> bool {
     let given = submission_of(rt, heap, ALL_SECTS, 1);
     narrow(rt, heap, room);
@@ -83,7 +83,7 @@ fn packs(rt: &impl Abort, heap: &Bump, room: usize) -> bool {
     is_refused
 }
 
-/// Unpacks the submission of all sections.
+/// Unpacks the submission of all sample sections. Returns whether an allocation failed.
 fn unpacks(rt: &impl Abort, heap: &Bump, room: usize) -> bool {
     let given = submission_of(rt, heap, ALL_SECTS, 1);
     let all = made(rt, packed(heap, &given));

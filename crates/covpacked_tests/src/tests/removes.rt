@@ -8,7 +8,8 @@ use covpacked::PackedSects;
 use std::process::Abort;
 use std::test::*;
 
-/// Pushes the first six items, removes those at these indices, and then pushes item 8. Checks the numbers of the remaining items.
+/// Pushes the first six sample items and removes those at `places`: `left` must remain. Then pushes item 8: `then` must be the
+/// result.
 fn check(rt: &(impl Abort + AllocGlobal), places: &[usize], left: &[usize], then: &[usize]) {
     let mut sects = PackedSects::new(rt.alloc());
     push_numbers(rt, &mut sects, &[0, 1, 2, 3, 4, 5]);
@@ -37,7 +38,7 @@ fn several(rt: HostRuntime) {
     check(&rt, &[0, 1, 2, 3, 4, 5], &[], &[8]);
 }
 
-/// There is no item at a place past the end.
+/// `remove` ignores an index past the end.
 #[test]
 fn past_the_end(rt: HostRuntime) {
     check(&rt, &[6], &[0, 1, 2, 3, 4, 5], &[0, 1, 2, 3, 4, 5, 8]);
@@ -49,7 +50,7 @@ fn past_the_end(rt: HostRuntime) {
     );
 }
 
-/// All items of the open section are removed, and then one is pushed.
+/// Removes all items of the open section, and then pushes one item.
 #[test]
 fn all_at_once(rt: HostRuntime) {
     let mut sects = PackedSects::new(rt.alloc());
@@ -68,7 +69,7 @@ fn all_at_once(rt: HostRuntime) {
     assert!(rt; closed.next().is_none());
 }
 
-/// An open section without items stays so.
+/// `remove` does nothing in an open section without items.
 #[test]
 fn from_no_items(rt: HostRuntime) {
     let mut sects = PackedSects::new(rt.alloc());
@@ -76,7 +77,7 @@ fn from_no_items(rt: HostRuntime) {
     check_numbers(&rt, sects.items(), &[]);
 }
 
-/// Items are removed twice, and then once more from those pushed since.
+/// Removes items twice, pushes two items, and removes items once more.
 #[test]
 fn several_times(rt: HostRuntime) {
     let mut sects = PackedSects::new(rt.alloc());
@@ -89,7 +90,7 @@ fn several_times(rt: HostRuntime) {
     check_numbers(&rt, sects.items(), &[3, 6, 1]);
 }
 
-/// Indices are those in the open section. The closed ones don't change.
+/// `remove` counts indices from the open section's first item. Closed sections don't change.
 #[test]
 fn behind_a_closed_section(rt: HostRuntime) {
     let mut sects = PackedSects::new(rt.alloc());

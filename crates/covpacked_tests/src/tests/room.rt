@@ -1,4 +1,4 @@
-//! The memory that an item uses. No contract says that small numbers are packed into few bytes.
+//! Tests how much memory an item uses, since no contract says that small numbers take few bytes.
 
 use super::heap::{narrow, new_heap};
 use super::made;
@@ -7,7 +7,7 @@ use covpacked::{ItemRef, PackedSects};
 use std::process::Abort;
 use std::test::*;
 
-/// Checks that 64 such items need at most `bytes` bytes each, and as much again for lists that were outgrown.
+/// Checks that 64 copies of `item` take at most `bytes` bytes each, and as much again for outgrown lists.
 fn check(rt: &(impl Abort + AllocGlobal), item: ItemRef<'_>, bytes: usize) {
     let heap = new_heap(rt);
     let mut sects = PackedSects::new(&heap);
@@ -17,7 +17,7 @@ fn check(rt: &(impl Abort + AllocGlobal), item: ItemRef<'_>, bytes: usize) {
     }
 }
 
-/// Checks the capacity for lines with this checksum. Their numbers are the largest that are packed into few bytes.
+/// Checks the memory that lines with this checksum take. The numbers are the largest that take few bytes.
 fn check_line(rt: &(impl Abort + AllocGlobal), count: u128, checksum: Option<&[u8]>, bytes: usize) {
     let item = ItemRef::Line {
         line: 1_073_741_823,
@@ -27,7 +27,7 @@ fn check_line(rt: &(impl Abort + AllocGlobal), count: u128, checksum: Option<&[u
     check(rt, item, bytes);
 }
 
-/// Checks the capacity for branches. Their numbers are the largest that are packed into few bytes.
+/// Checks the memory that branches take. The numbers are the largest that take few bytes.
 fn check_branch(rt: &(impl Abort + AllocGlobal), taken: Option<u128>, bytes: usize) {
     let item = ItemRef::Branch {
         line: 1_073_741_823,
@@ -43,7 +43,7 @@ fn lines(rt: HostRuntime) {
     check_line(&rt, 2_147_483_647, None, 8);
 }
 
-/// The checksum's text needs eight bytes more.
+/// Eight of the 32 bytes are the checksum's text.
 #[test]
 fn lines_with_checksums(rt: HostRuntime) {
     check_line(&rt, 4_294_967_295, Some(b"abcdefgh"), 32);
@@ -55,7 +55,7 @@ fn branches(rt: HostRuntime) {
     check_branch(&rt, None, 16);
 }
 
-/// The name's text needs eight bytes more.
+/// Eight of the 64 bytes are the name's text.
 #[test]
 fn functions(rt: HostRuntime) {
     let item = ItemRef::Func {

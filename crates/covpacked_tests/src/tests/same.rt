@@ -1,10 +1,10 @@
-//! Compares items with expected ones.
+//! Compares items with expected items.
 
 use covpacked::ItemRef;
 use std::process::Abort;
 use std::test::*;
 
-/// Checks that this is the expected item. `number` identifies it in a failure.
+/// Checks that `given` is the item `wanted`. A failure names the item by `number`.
 pub(super) fn check_item(
     rt: &impl Abort,
     number: usize,
@@ -17,7 +17,7 @@ pub(super) fn check_item(
     }
 }
 
-/// Whether both items say the same.
+/// Whether the items are equal.
 fn is_same(given: ItemRef<'_>, wanted: ItemRef<'_>) -> bool {
     match wanted {
         ItemRef::Line {
@@ -35,7 +35,7 @@ fn is_same(given: ItemRef<'_>, wanted: ItemRef<'_>) -> bool {
     }
 }
 
-/// Whether the item is that of this line.
+/// Whether `given` is the item of this line, with this count and checksum.
 fn is_line(given: ItemRef<'_>, line: u64, count: u128, checksum: Option<&[u8]>) -> bool {
     match given {
         ItemRef::Line {
@@ -47,7 +47,7 @@ fn is_line(given: ItemRef<'_>, line: u64, count: u128, checksum: Option<&[u8]>) 
     }
 }
 
-/// Whether the item is that of this function.
+/// Whether `given` is the item of this function, with this start line and count.
 fn is_function(given: ItemRef<'_>, name: &[u8], line: u64, count: u128) -> bool {
     match given {
         ItemRef::Func {
@@ -59,7 +59,7 @@ fn is_function(given: ItemRef<'_>, name: &[u8], line: u64, count: u128) -> bool 
     }
 }
 
-/// Whether the item is that of this branch.
+/// Whether `given` is the item of this branch, with this `taken`.
 fn is_branch(given: ItemRef<'_>, line: u64, block: u64, branch: u64, taken: Option<u128>) -> bool {
     match given {
         ItemRef::Branch {

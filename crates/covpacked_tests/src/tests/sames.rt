@@ -1,5 +1,5 @@
-//! Compares packed submissions with one another, and with unpacked ones. Samples differ in only one detail each, and no two samples
-//! are equal.
+//! Compares packed submissions with packed and with unpacked submissions. No two samples are equal, but many differ in only one
+//! detail.
 
 use super::made;
 use super::mixed::{branch_of, function_of, line_of};
@@ -10,10 +10,10 @@ use covpacked::ItemRef;
 use std::process::Abort;
 use std::test::*;
 
-/// The letters of all items.
+/// The letters that name the items.
 const LETTERS: &[u8] = b"abcdefghijklmnopqrst";
 
-/// The item with this letter. `a`, `i` and `n` are the first of their kinds.
+/// The item with this letter: a line from `a` on, a function from `i` on, and a branch from `n` on.
 fn item(letter: u8) -> ItemRef<'static> {
     match letter {
         b'a' => line_of(3, 2, Some(b"abc")),
@@ -39,10 +39,10 @@ fn item(letter: u8) -> ItemRef<'static> {
     }
 }
 
-/// How many samples there are.
+/// The number of samples.
 const SAMPLES: usize = 22;
 
-/// The sample with this number, counted from 0: each section's test, its source file and the letters of its items.
+/// The sample with this number, counted from 0: for each section, the test, the source file and the letters of the items.
 fn sample(number: usize) -> &'static [u8] {
     match number {
         0 => b"",
@@ -79,7 +79,7 @@ fn items_of(rt: &(impl Abort + AllocGlobal), letters: &[u8]) -> Items {
     items
 }
 
-/// The section of this test and source file, with the items of these letters.
+/// A section with this test, this source file and the items with these letters.
 fn sect_of(rt: &(impl Abort + AllocGlobal), test: &[u8], file: &[u8], letters: &[u8]) -> Sect {
     Sect {
         test: made(rt, bytes(rt.alloc(), test)),
@@ -88,7 +88,7 @@ fn sect_of(rt: &(impl Abort + AllocGlobal), test: &[u8], file: &[u8], letters: &
     }
 }
 
-/// A part of a sample; empty if it is missing.
+/// Returns a part of a sample, or an empty text if the part is missing.
 fn part<'a>(part: Option<&'a [u8]>) -> &'a [u8] {
     match part {
         Some(text) => text,
@@ -96,7 +96,7 @@ fn part<'a>(part: Option<&'a [u8]>) -> &'a [u8] {
     }
 }
 
-/// The section of a sample.
+/// Makes the section that a part of a sample describes.
 fn read_sect(rt: &(impl Abort + AllocGlobal), text: &[u8]) -> Sect {
     let mut parts = text.split(|byte| *byte == b' ');
     let test = part(parts.next());
@@ -104,7 +104,7 @@ fn read_sect(rt: &(impl Abort + AllocGlobal), text: &[u8]) -> Sect {
     sect_of(rt, test, file, part(parts.next()))
 }
 
-/// The submission of a sample.
+/// Makes the submission that a sample describes.
 fn read_sample(rt: &(impl Abort + AllocGlobal), text: &[u8]) -> Submission {
     let mut sects = Sects::new(rt.alloc());
     for sect in text.split(|byte| *byte == b'|') {
@@ -115,14 +115,14 @@ fn read_sample(rt: &(impl Abort + AllocGlobal), text: &[u8]) -> Submission {
     made(rt, Submission::of(sects, 0))
 }
 
-/// The submission of one section with these items, and with this number of inconsistent lines.
+/// A submission of one section with the items with these letters, and with `odd` inconsistent lines.
 fn submission_of(rt: &(impl Abort + AllocGlobal), letters: &[u8], odd: u64) -> Submission {
     let mut sects = Sects::new(rt.alloc());
     made(rt, sects.push(sect_of(rt, b"t", b"a.c", letters)));
     made(rt, Submission::of(sects, odd))
 }
 
-/// Whether the submissions are equal. Checks that all comparisons agree.
+/// Whether the submissions are equal when packed. Checks that comparisons in the other order and with unpacked submissions agree.
 fn are_same(rt: &(impl Abort + AllocGlobal), first: &Submission, second: &Submission) -> bool {
     let first_packed = made(rt, packed(rt.alloc(), first));
     let second_packed = made(rt, packed(rt.alloc(), second));

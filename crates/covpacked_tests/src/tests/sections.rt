@@ -1,4 +1,4 @@
-//! Six sections, with the items of `mixed`.
+//! Six sample sections, made of the sample items in `mixed`.
 
 use super::made;
 use super::mixed::{check_numbers, push_numbers};
@@ -8,7 +8,7 @@ use std::alloc::Allocator;
 use std::process::Abort;
 use std::test::*;
 
-/// How many sections there are.
+/// The number of sample sections.
 pub(super) const ALL_SECTS: usize = 6;
 
 /// A section: its test's name, its source file, and the numbers of its items.
@@ -19,7 +19,7 @@ pub(super) struct Section {
     pub numbers: &'static [usize],
 }
 
-/// The section with this number, counted from 0. They have nine items in all.
+/// The sample section with this number, counted from 0. The six sections have nine items in all.
 pub(super) fn nth_section(number: usize) -> Section {
     match number {
         0 => section_of(b"t", b"a.c", &[0, 3]),
@@ -39,7 +39,7 @@ fn section_of(test: &'static [u8], file: &'static [u8], numbers: &'static [usize
     }
 }
 
-/// Closes the first `count` sections.
+/// Pushes and closes the first `count` sample sections.
 pub(super) fn push_sections<A: Allocator>(
     rt: &impl Abort,
     sects: &mut PackedSects<A>,
@@ -56,7 +56,7 @@ pub(super) fn push_sections<A: Allocator>(
     }
 }
 
-/// Checks that this is the section of this test and source file, with the items of these numbers.
+/// Checks that `given` is a section with this test, this source file and the sample items with these numbers.
 pub(super) fn check_sect(
     rt: &impl Abort,
     given: Option<PackedSect<'_>>,
@@ -74,7 +74,7 @@ pub(super) fn check_sect(
     }
 }
 
-/// Checks that these are the first `count` sections.
+/// Checks that `sects` are the first `count` sample sections.
 pub(super) fn check_sections(rt: &impl Abort, sects: PackedSectsIter<'_>, count: usize) {
     let mut sects = sects;
     for number in 0..count {

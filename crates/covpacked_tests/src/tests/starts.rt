@@ -8,7 +8,7 @@ use covpacked::{ItemRef, PackedItems, PackedSects};
 use std::process::Abort;
 use std::test::*;
 
-/// Checks that these are all ten items, but that `main` starts at this line.
+/// Checks that `items` are all sample items, except that the function `main` starts at `line`.
 fn check_main(rt: &impl Abort, items: &PackedItems<'_>, line: u64) {
     assert_eq!(rt; items.len(), ALL);
     for number in 0..ALL {
@@ -35,7 +35,7 @@ fn between_other_items(rt: HostRuntime) {
     }
 }
 
-/// The function is the last item, and then no longer the last.
+/// Sets the start line of the last item, and then pushes another item.
 #[test]
 fn at_the_end(rt: HostRuntime) {
     let mut sects = PackedSects::new(rt.alloc());
@@ -52,7 +52,7 @@ fn at_the_end(rt: HostRuntime) {
     check_item(&rt, 2, sects.items().get(2), item(7));
 }
 
-/// An item of another kind doesn't change, whether it is short or long.
+/// `set_start` doesn't change an item of another kind, in a short or a long word.
 #[test]
 fn of_another_kind(rt: HostRuntime) {
     let mut sects = PackedSects::new(rt.alloc());
@@ -63,7 +63,7 @@ fn of_another_kind(rt: HostRuntime) {
     }
 }
 
-/// The items of the closed section.
+/// The items of the first closed section.
 fn closed_items<'a>(rt: &impl Abort, sects: &'a PackedSects) -> PackedItems<'a> {
     match sects.sects().next() {
         Some(sect) => sect.items,
@@ -71,7 +71,7 @@ fn closed_items<'a>(rt: &impl Abort, sects: &'a PackedSects) -> PackedItems<'a> 
     }
 }
 
-/// Indices are those in the open section. The closed one doesn't change.
+/// `set_start` counts the index from the open section's first item. The closed section doesn't change.
 #[test]
 fn behind_a_closed_section(rt: HostRuntime) {
     let mut sects = PackedSects::new(rt.alloc());

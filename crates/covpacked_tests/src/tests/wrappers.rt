@@ -1,5 +1,5 @@
-//! Calls of the crates below, in functions without contracts. A test looks only at values, and its proof is faster without
-//! contracts.
+//! Wraps functions of covline and covpacked in functions without contracts. Tests look only at values, and their proofs are faster
+//! without contracts.
 
 use covline::{BranchPoint, Bytes, Memory, Submission};
 use covpacked::{ItemRef, PackedSects, PackedSubmission};
@@ -45,7 +45,7 @@ pub(super) fn push_branch<A: Allocator>(
     sects.push_branch(point, taken)
 }
 
-/// Replaces the start line of the function at this place. Does nothing if there is no item at the place.
+/// Sets the start line of the function at index `at`. Does nothing if `at` is past the end.
 pub(super) fn set_start<A: Allocator>(sects: &mut PackedSects<A>, at: usize, line: u64) {
     if at < sects.items().len() {
         sects.set_start(at, line);

@@ -1,4 +1,4 @@
-//! A page with the same keys and other values.
+//! Makes a page with the same keys and other values.
 
 ghost use Rattle.std.specs.Prelude.{◌≡◌, IfOk, map, option_map};
 ghost use Rattle.covmap.specs.Images.{page_image};
@@ -8,8 +8,8 @@ use crate::slots::page::Page;
 use std::alloc::{AllocError, Allocator};
 
 impl<K: CopyKey<A> + Drop, V, A: Allocator + Copy> Page<K, V, A> {
-    /// A page with the same keys in the same slots, and the images of the values. The new page uses memory for values only if this
-    /// one does.
+    /// Makes a page with the same keys in the same slots, and with the images of the values. The new page uses memory for values
+    /// only if `self` does.
     pub(crate) fn image<W: Image<V>>(&self, alloc: A) -> Result<Page<K, W, A>, AllocError>
         ensures { IfOk result (λ image. image ≡ page_image W.image self.now) }
     {
@@ -19,7 +19,7 @@ impl<K: CopyKey<A> + Drop, V, A: Allocator + Copy> Page<K, V, A> {
     }
 }
 
-/// Copies of the keys. Reserves capacity for exactly `keys.len()` keys.
+/// Copies the keys. Reserves capacity for exactly `keys.len()` keys.
 fn copy_keys<K: CopyKey<A> + Drop, A: Allocator + Copy>(
     keys: &[K],
     alloc: A,

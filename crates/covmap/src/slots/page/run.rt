@@ -13,22 +13,22 @@ use crate::slots::page::Page;
 use std::alloc::{AllocError, Allocator};
 use std::cmp::Ordering;
 
-/// How many slots are compared with the next key of a run before a search on the page begins.
+/// The number of slots that `search_near` compares with a key before it searches the page.
 const NEAR: usize = 4;
 
-/// How much of a run was added on a page.
+/// How far a run was added on one page.
 #[derive(Clone, Copy)]
 pub(crate) struct Along {
-    /// The number of items.
+    /// The number of items that were added.
     pub(crate) count: usize,
-    /// The slot after that of the last item.
+    /// The slot after the last added item's slot.
     pub(crate) next: usize,
 }
 
 impl<K: Key, V: Value, A: Allocator> Page<K, V, A> {
-    /// Adds items at the front of a run to the values of a column. The slot `start` must have the first key of the run. Stops
-    /// at the first key that has no slot on this page after the slot of the key before it. Skips the slots of keys that aren't
-    /// in the run.
+    /// Adds the addends at the front of `run` to the values of `column`. Slot `start` must have the run's first key. Stops at the
+    /// first key that has no slot on this page after the slot of the run's preceding key. Skips the slots of keys that aren't in
+    /// the run.
     pub(crate) fn add_along<Q: Query<K, A>, N: Drop, M: ReportingAddend<V, N>>(
         &self,
         column: &mut [Option<V>],
@@ -60,8 +60,8 @@ impl<K: Key, V: Value, A: Allocator> Page<K, V, A> {
         Ok(Along { count, next })
     }
 
-    /// The slot to look at first for a key: `start`, one of the next slots, or the result of a search of the page. Usually the key
-    /// is at `start`, so only this comparison is inlined.
+    /// The slot in which to look for a key first: `start`, one of the next slots, or the result of a search on the page. Usually
+    /// the key is at `start`, so only the comparison with slot `start` is inlined.
     #[inline(always)]
     pub(crate) fn guess_near<Q: Query<K, A>>(&self, start: usize, query: Q) -> usize
         requires { IsAscending K.cmp self.now }
@@ -73,7 +73,7 @@ impl<K: Key, V: Value, A: Allocator> Page<K, V, A> {
         self.search_near(start, query)
     }
 
-    /// Like `guess_near`, for a key that isn't at `start`. Has no contract, since `guess_near` may return any place then.
+    /// Like `guess_near`, for a key that isn't at `start`. Promises nothing, since any slot is a correct guess for such a key.
     fn search_near<Q: Query<K, A>>(&self, start: usize, query: Q) -> usize
         requires { IsAscending K.cmp self.now }
     {
@@ -88,7 +88,7 @@ impl<K: Key, V: Value, A: Allocator> Page<K, V, A> {
         self.index_of(query)
     }
 
-    /// Compares the key of a slot with the queried key. Returns `Greater` if there is no slot.
+    /// Compares the key of slot `index` with the queried key. Returns `Greater` if this slot doesn't exist.
     fn order<Q: Query<K, A>>(&self, index: usize, query: Q) -> Ordering
         ensures { result ≡ order_at (λ key. K.cmp key (Q.named query)) (slice_get self.now index) }
     {
@@ -100,8 +100,8 @@ impl<K: Key, V: Value, A: Allocator> Page<K, V, A> {
 }
 
 impl<K: Drop, V: Value, A: Allocator + Copy> Page<K, V, A> {
-    /// A page of empty slots for the keys at the front of a run. Stops at the first key that isn't greater than the key before
-    /// it, or when the page is full.
+    /// Makes a page of empty slots for the keys at the front of `run`. Stops when the page is full, or at the first key that isn't
+    /// greater than the run's preceding key.
     pub(crate) fn of_run<Q: Query<K, A>, M: Addend<V>>(
         alloc: A,
         run: &[(Q, M)],
@@ -117,7 +117,7 @@ impl<K: Drop, V: Value, A: Allocator + Copy> Page<K, V, A> {
         Ok(page)
     }
 
-    /// A page with no slots, and capacity for `len` of them.
+    /// A page without slots, and with capacity for `len` slots.
     #[inline]
     fn with_room(alloc: A, len: usize) -> Result<Page<K, V, A>, AllocError>
         ensures { IfOk result (λ page. page ≡ []) }
@@ -128,8 +128,8 @@ impl<K: Drop, V: Value, A: Allocator + Copy> Page<K, V, A> {
         })
     }
 
-    /// Appends empty slots for the first `most` keys of a run to a page with no slots. Stops at the first key that isn't greater
-    /// than the key before it.
+    /// Appends empty slots for the first `most` keys of `run` to the page, which must have no slots. Stops at the first key that
+    /// isn't greater than the run's preceding key.
     #[inline]
     fn push_front<Q: Query<K, A>, M: Addend<V>>(
         &mut self,
@@ -157,8 +157,8 @@ impl<K: Drop, V: Value, A: Allocator + Copy> Page<K, V, A> {
         Ok(())
     }
 
-    /// Appends an empty slot for a key to a page with `len` slots, if the key is greater than all others. Returns whether the slot
-    /// was appended.
+    /// Appends an empty slot for the queried key if this key is greater than all others on the page. Returns whether the slot was
+    /// appended. `len` must be the page's number of slots.
     #[inline]
     fn push_greater<Q: Query<K, A>>(
         &mut self,
@@ -181,7 +181,7 @@ impl<K: Drop, V: Value, A: Allocator + Copy> Page<K, V, A> {
     }
 }
 
-/// Adds an item to the value in its slot of a column. Appends the addend's report, if any, to `reports`.
+/// Adds `addend` to the value at index `slot` of `column`. Appends `query` and the addend's report, if any, to `reports`.
 fn add_at<V: Drop, A: Allocator, Q: Copy, N: Drop, M: ReportingAddend<V, N>>(
     column: &mut [Option<V>],
     slot: usize,
@@ -198,7 +198,7 @@ fn add_at<V: Drop, A: Allocator, Q: Copy, N: Drop, M: ReportingAddend<V, N>>(
     push_reports(reports, query, note)
 }
 
-/// Adds an addend to the value in a slot of a column, and returns the addend's report.
+/// Adds `addend` to the value at index `slot` of `column`. Returns the addend's report, if any.
 #[inline]
 fn sum_at<V: Drop, N, M: ReportingAddend<V, N>>(
     column: &mut [Option<V>],
@@ -216,7 +216,7 @@ fn sum_at<V: Drop, N, M: ReportingAddend<V, N>>(
     note
 }
 
-/// Appends a report, if there is one.
+/// Appends `query` and the report `note`, if any, to `reports`.
 fn push_reports<Q: Copy, N: Drop, A: Allocator>(
     reports: &mut Vec<(Q, N), A>,
     query: Q,

@@ -1,4 +1,4 @@
-//! Columns of staged values, with other values.
+//! Makes columns for the same pages with other staged values.
 
 ghost use Rattle.std.specs.Prelude.{◌≡◌, IfOk, map};
 ghost use Rattle.covmap.specs.Images.{column_image};
@@ -9,7 +9,7 @@ use crate::slots::staged::StagedColumns;
 use std::alloc::{AllocError, Allocator};
 
 impl<V, A: Allocator + Copy> StagedColumns<V, A> {
-    /// The images of the staged values, for the same pages.
+    /// Returns columns for the same pages, with the images of the staged values.
     pub(crate) fn images<W: Image<V>>(&self, alloc: A) -> Result<StagedColumns<W, A>, AllocError>
         ensures { IfOk result (λ images. images ≡ map (column_image W.image) self.now) }
     {

@@ -13,8 +13,8 @@ use crate::slots::{SlotIndex, Slots};
 use std::alloc::{AllocError, Allocator};
 
 impl<V: Value, A: Allocator> StagedColumns<V, A> {
-    /// Adds items at the front of a run to the staged values. The slot at `place` must have the first key of the run. Stops at
-    /// the first key that has no slot on the same page after the slot of the key before it.
+    /// Adds the addends at the front of `run` to the staged values. The slot at `place` must have the run's first key. Stops at the
+    /// first key that has no slot on the same page after the slot of the run's preceding key.
     pub(crate) fn add_run<K: Key, Q: Query<K, A>, N: Drop, M: ReportingAddend<V, N>>(
         &mut self,
         alloc: A,
