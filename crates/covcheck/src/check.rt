@@ -18,53 +18,55 @@ use covpacked::ReadText;
 use covread::{ReadFault, read_gcov_packed, read_trace_packed};
 use std::alloc::Allocator;
 
-/// Reads a tracefile (geninfo(1) of LCOV 1.x, section FILES), and returns its summary, or the error of `read_trace`. Frees what was
-/// read.
+/// Reads a tracefile (geninfo(1) of LCOV 1.x, section FILES). Returns its summary, or the error of `read_trace`. Frees the
+/// submission.
 pub fn check_trace<'a, A: Allocator + Copy>(
     alloc: A,
     text: &'a [u8],
 ) -> Result<TextSummary<'a>, ReadFault>
-    // The summary fits a result of the reader: what the input is read as, or `Memory`. It is `Memory` only after a path.
+    // The result is the summary of the reader's submission, or the reader's error. `Memory` is returned only if there is a path
+    // line.
     ensures answers { (read : Result SubmissionData Fault) × Answers text.now read × GrowsLate text.now read × Tells IsSkippedRecord text.now read result }
-    // The summary fits what the input is read as, or the result is `Memory`.
+    // Whatever the text's specified outcome is, the result is its summary or its error, or `Memory`.
     ensures only { (outcome : Result SubmissionData Fault) → IsOutcome text.now outcome → (result ≡ Err NoMemory) ⊎ Tells IsSkippedRecord text.now outcome result }
 {
     let submission = read_trace_packed(alloc, text)?;
     Ok(summary_of(&submission, text, Format::Trace))
 }
 
-/// Reads a tracefile of LCOV 2 (geninfo(1) of LCOV 2.x, TRACEFILE FORMAT), and returns its summary, or the error of `read_lcov2`.
-/// Frees what was read.
+/// Reads a tracefile of LCOV 2 (geninfo(1) of LCOV 2.x, TRACEFILE FORMAT). Returns its summary, or the error of `read_lcov2`. Frees
+/// the submission.
 pub fn check_lcov2<'a, A: Allocator + Copy>(
     alloc: A,
     text: &'a [u8],
 ) -> Result<TextSummary<'a>, ReadFault>
-    // The summary fits a result of the reader: what the input is read as, or `Memory`. It is `Memory` only after a path.
+    // The result is the summary of the reader's submission, or the reader's error. `Memory` is returned only if there is a path
+    // line.
     ensures answers { (read : Result SubmissionData Fault) × lcov2.Answers text.now read × lcov2.GrowsLate text.now read × Tells IsSkippedLcov2 text.now read result }
-    // The summary fits what the input is read as, or the result is `Memory`.
+    // Whatever the text's specified outcome is, the result is its summary or its error, or `Memory`.
     ensures only { (outcome : Result SubmissionData Fault) → lcov2.IsOutcome text.now outcome → (result ≡ Err NoMemory) ⊎ Tells IsSkippedLcov2 text.now outcome result }
 {
     let submission = read_lcov2_packed(alloc, text)?;
     Ok(summary_of(&submission, text, Format::Lcov2))
 }
 
-/// Reads gcov's annotated source (gcov(1)), as counts of the test with the empty name. Returns its summary, or the error of
-/// `read_gcov`. Frees what was read.
+/// Reads gcov's annotated source (gcov(1)), as counts of the test with the empty name. Returns the source's summary, or the error
+/// of `read_gcov`. Frees the submission.
 pub fn check_gcov<'a, A: Allocator + Copy>(
     alloc: A,
     text: &'a [u8],
 ) -> Result<TextSummary<'a>, ReadFault>
-    // The summary fits a result of the reader: what the input is read as, or `Memory`. It is `Memory` only after a path or a
-    // function.
+    // The result is the summary of the reader's submission, or the reader's error. `Memory` is returned only if there is a path or
+    // function line before any error.
     ensures answers { (read : Result SubmissionData Fault) × gcov.Answers [] text.now read × gcov.GrowsLate text.now read × Tells IsSkippedGcov text.now read result }
-    // The summary fits what the input is read as, or the result is `Memory`.
+    // Whatever the text's specified outcome is, the result is its summary or its error, or `Memory`.
     ensures only { (outcome : Result SubmissionData Fault) → gcov.IsOutcome [] text.now outcome → (result ≡ Err NoMemory) ⊎ Tells IsSkippedGcov text.now outcome result }
 {
     let submission = read_gcov_packed(alloc, b"", text)?;
     Ok(summary_of(&submission, text, Format::Gcov))
 }
 
-/// The summary of an input that was read as this submission. Doesn't check that it was. Never allocates.
+/// The summary of the input `text`, which must have been read as `submission`. Doesn't check this. Never allocates.
 pub fn summary_of<'a, S: ReadText>(
     submission: &S,
     text: &'a [u8],

@@ -1,4 +1,4 @@
-//! The formats of inputs, and their skipped lines.
+//! The formats of inputs, and the lines that each format skips.
 
 ghost use Rattle.std.specs.Prelude.{◌≡◌, ◌++◌, ◌↔◌, IsTrue, IfSome, codes};
 ghost use Rattle.covline.specs.Spells.{line_data, Begins, HasKey, Skip, Spells};
@@ -12,11 +12,11 @@ use covread::fits_no_shape;
 /// The format of an input.
 #[derive(Clone, Copy)]
 pub enum Format {
-    /// As a tracefile.
+    /// A tracefile of LCOV 1.x.
     Trace,
-    /// As a tracefile of LCOV 2.
+    /// A tracefile of LCOV 2.
     Lcov2,
-    /// As gcov's annotated source.
+    /// gcov's annotated source.
     Gcov,
 }
 
@@ -34,8 +34,8 @@ impl Format {
     }
 }
 
-/// Whether the line is skipped in a tracefile: it isn't empty and has no meaning. Most lines begin with `DA:` or `BRDA:`, for which
-/// the key alone decides, without a look at the fields.
+/// Whether the line is skipped in a tracefile: it isn't empty, and has no known key. Most lines begin with `DA:` or `BRDA:`, so
+/// these keys are tried first, without parsing the fields.
 #[inline]
 fn is_skipped_record(line: &[u8]) -> bool
     ensures { IsTrue result ↔ IsSkippedRecord line.now }
@@ -46,8 +46,8 @@ fn is_skipped_record(line: &[u8]) -> bool
     !line.is_empty() && says_nothing(line)
 }
 
-/// Whether the line is skipped in a tracefile of LCOV 2: it has no meaning, and no version of LCOV writes it. Here too, the keys of
-/// most lines decide.
+/// Whether the line is skipped in a tracefile of LCOV 2: it isn't empty, has no known key, and isn't a version, a comment or a
+/// record of conditions. `DA:` and `BRDA:` are tried first here too.
 #[inline]
 fn is_skipped_lcov2(line: &[u8]) -> bool
     ensures { IsTrue result ↔ IsSkippedLcov2 line.now }
@@ -58,7 +58,7 @@ fn is_skipped_lcov2(line: &[u8]) -> bool
     says_nothing_in_lcov2(line)
 }
 
-/// Whether the line begins with one of the two keys that most lines of a tracefile have.
+/// Whether the line begins with `DA:` or `BRDA:`, as most lines of a tracefile do.
 #[inline]
 fn has_common_key(line: &[u8]) -> bool
     ensures { IsTrue result → HasKey line.now }
@@ -88,7 +88,7 @@ fn after_branch_key(line: &[u8]) -> Option<&[u8]>
     }
 }
 
-/// Whether the line of a tracefile has no meaning.
+/// Whether `read_line` returns `Skip` for the line.
 fn says_nothing(line: &[u8]) -> bool
     ensures { IsTrue result ↔ Spells line.now Skip }
 {
@@ -105,7 +105,7 @@ fn is_skip(says: TraceLine<'_>) -> bool
     matches!(says, TraceLine::Skip)
 }
 
-/// Whether the line of a tracefile of LCOV 2 has no meaning.
+/// Whether `read_lcov2_line` returns a plain `Skip` for the line.
 fn says_nothing_in_lcov2(line: &[u8]) -> bool
     ensures { IsTrue result ↔ Lcov2Spells line.now (Plain Skip) }
 {
@@ -115,7 +115,7 @@ fn says_nothing_in_lcov2(line: &[u8]) -> bool
     }
 }
 
-/// Whether this is `TraceLine::Skip` as a `Lcov2Line::Plain`.
+/// Whether this is `Lcov2Line::Plain` with `TraceLine::Skip`.
 fn is_plain_skip(says: Lcov2Line<'_>) -> bool
     ensures { IsTrue result ↔ (lcov2_data says.entry ≡ Plain Skip) }
 {
@@ -125,7 +125,8 @@ fn is_plain_skip(says: Lcov2Line<'_>) -> bool
     }
 }
 
-/// Whether the line is a version (`VER:`), a comment, or a record of conditions. LCOV 2 writes these; covcollect ignores them.
+/// Whether the line is a version (`VER:`), a comment, or a record of conditions. LCOV 2 writes such lines, and covcollect ignores
+/// them.
 fn is_of_lcov2_alone(line: &[u8]) -> bool
     ensures { IsTrue result ↔ IsOfLcov2Alone line.now }
 {

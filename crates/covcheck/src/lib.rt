@@ -1,10 +1,10 @@
-//! Checks single inputs, without adding up their counts: how many sections, items and inconsistent lines they have, and which lines
-//! are skipped.
+//! Checks single inputs, without adding up their counts: how many sections, items and inconsistent lines an input has, and which
+//! lines are skipped.
 //!
-//! An input is read as by covread or covlcov2, so a check returns the same error. Skipped lines are no error: a tracefile may have
-//! records of later versions (`FNL:`), and gcov's output has `call` lines. The summary counts them, and shows the first one. An
-//! input of only such lines, such as a page of HTML, is read as an empty submission. Empty lines, and kinds of lines that are known
-//! to have no counts, aren't counted as skipped.
+//! covread or covlcov2 reads the input, so a check returns the same error as the reader. Skipped lines are no error: a tracefile
+//! may have records of later versions (`FNL:`), and gcov's output has `call` lines. The summary counts the skipped lines, and shows
+//! the first one. An input of skipped lines alone, such as a page of HTML, is read as an empty submission. Empty lines, and lines
+//! of a kind that is known to have no counts, aren't counted as skipped.
 //!
 //! An example, proved and run in `covuses`: the summary line of a tracefile.
 //!

@@ -8,8 +8,8 @@ use covline::Memory;
 use itoa::Buffer;
 use std::alloc::Allocator;
 
-/// Prints the summary line of an input, without the name of its file and with a line feed. An example is `sections 3 items 40 odd 6
-/// skipped 9 first FNL at 3`.
+/// Returns the summary line of an input, with a line feed but without the file's name. An example is
+/// `sections 3 items 40 odd 6 skipped 9 first FNL at 3`.
 pub fn summary_line<A: Allocator>(alloc: A, summary: &TextSummary<'_>) -> Result<Vec<u8, A>, Memory>
     ensures { IfOk result (λ line. line.items ≡ summary_text summary.now) }
 {
@@ -32,7 +32,7 @@ fn put_number<A: Allocator>(line: &mut Vec<u8, A>, words: &[u8], number: u64) ->
     Ok(())
 }
 
-/// Appends the beginning and the number of the first skipped line. Appends nothing if there is none.
+/// Appends the beginning and the number of the first skipped line, if there is one.
 fn put_first<A: Allocator>(
     line: &mut Vec<u8, A>,
     first: Option<SkippedLine<'_>>,

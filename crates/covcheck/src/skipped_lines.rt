@@ -12,13 +12,13 @@ use covline::lines;
 /// The skipped lines of an input: their number, and the first one.
 #[derive(Clone, Copy)]
 pub(crate) struct SkippedLines<'a> {
-    /// How many such lines there are.
+    /// The number of skipped lines.
     pub(crate) count: u64,
-    /// The first such line.
+    /// The first skipped line.
     pub(crate) first: Option<SkippedLine<'a>>,
 }
 
-/// Finds the lines of the input that this format skips.
+/// Counts the lines of the input that this format skips, and finds the first one.
 pub(crate) fn skipped_lines_in(text: &[u8], format: Format) -> SkippedLines<'_>
     ensures { (lines : List (ℕ × List ℕ)) × AreLinesThat (IsSkippedIn format) text.now lines × (result.count ≡ length lines) × IsFirstOf lines result.first }
 {
@@ -35,7 +35,7 @@ pub(crate) fn skipped_lines_in(text: &[u8], format: Format) -> SkippedLines<'_>
     SkippedLines { count, first }
 }
 
-/// The first skipped line: `first`, or this line with its number if `first` is `None`.
+/// Returns `first` if it is `Some`, and otherwise the skipped line `line` with its number `at`.
 fn first_with<'a>(
     first: Option<SkippedLine<'a>>,
     line: &'a [u8],

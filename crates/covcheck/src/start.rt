@@ -1,4 +1,4 @@
-//! Cuts the beginning of a line.
+//! Finds the beginning of a line, which the summary shows.
 
 ghost use Rattle.std.specs.Prelude.{◌≡◌};
 ghost use Rattle.covcheck.specs.Skipped.{is_cut, start_of};
@@ -7,8 +7,8 @@ ghost use Rattle.covcheck.specs.CheckSteps.{after_cuts, after_word};
 /// The greatest length of a line's beginning, in bytes.
 const MAX_SHOWN: usize = 16;
 
-/// The beginning of a line: the colons, spaces and tabs at its front, and what follows them up to the next colon, space or tab.
-/// It ends after 16 bytes at the latest.
+/// The beginning of a line: the colons, spaces and tabs at its front, and what follows them up to the next colon, space or tab. The
+/// beginning has at most 16 bytes.
 pub(crate) fn start_of(line: &[u8]) -> &[u8]
     ensures { result.now ≡ start_of line.now }
 {
@@ -38,7 +38,7 @@ fn after_cuts(text: &[u8]) -> &[u8]
     rest
 }
 
-/// The text from its first colon, space or tab on; empty if it has none.
+/// The text from its first colon, space or tab on. Empty if the text has none of these.
 fn after_word(text: &[u8]) -> &[u8]
     ensures { result.now ≡ after_word text.now }
 {

@@ -7,7 +7,8 @@ pub struct TextSummary<'a> {
     pub sections: u64,
     /// How many items the sections have.
     pub items: u64,
-    /// How many lines are inconsistent: count a function without a start line, or state a total that isn't the section's own.
+    /// How many lines are inconsistent: they count a function without a start line, or state a total that differs from the
+    /// section's own.
     pub odd: u64,
     /// How many lines are skipped. Empty lines don't count.
     pub skipped: u64,
@@ -19,7 +20,7 @@ pub struct TextSummary<'a> {
 #[derive(Clone, Copy, Debug)]
 pub struct SkippedLine<'a> {
     /// The beginning of the line: the colons, spaces and tabs at its front, and what follows them up to the next colon, space or
-    /// tab. It has 1 to 16 bytes.
+    /// tab. The beginning has 1 to 16 bytes.
     pub start: &'a [u8],
     /// The line's number in the input. Lines are counted from 1, empty ones too.
     pub at: u64,

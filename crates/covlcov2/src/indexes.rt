@@ -1,4 +1,4 @@
-//! The state that later lines of a section need of earlier ones: start lines by index, and the numbering of branches.
+//! What later lines of a section need from earlier lines: start lines by index, and the numbering of branches.
 
 ghost use Rattle.std.specs.Prelude.{◌≡◌, ◌∷◌, ℕ, List, [], Option, Bool, OnOk, IfOk};
 ghost use Rattle.covlcov2.specs.Spells.{Lcov2Data, Leader, Edge};
@@ -10,7 +10,7 @@ use covline::Memory;
 use std::alloc::Allocator;
 use std::collections::BTreeMap;
 
-/// The state of an open section's lines.
+/// What later lines of an open section need from its earlier lines.
 #[derive(Drop)]
 pub struct Indexes<A: Allocator> {
     /// The start line of each index with an `FNL:` line.
@@ -20,7 +20,7 @@ pub struct Indexes<A: Allocator> {
 }
 
 impl<A: Allocator + Copy> Indexes<A> {
-    /// The state before the first line.
+    /// The state before a section's first line.
     pub fn new(alloc: A) -> Indexes<A>
         ensures { AreIndexes result [] }
     {
@@ -30,7 +30,7 @@ impl<A: Allocator + Copy> Indexes<A> {
         }
     }
 
-    /// Returns to the state before the first line.
+    /// Resets the state for a new section.
     pub fn clear(&mut self, alloc: A)
         ensures { AreIndexes self.new [] }
     {
@@ -38,14 +38,14 @@ impl<A: Allocator + Copy> Indexes<A> {
         self.numbers.clear(alloc);
     }
 
-    /// The start line of the index.
+    /// The start line of the index. Returns `None` if no `FNL:` line has the index.
     pub fn start_of(&self, index: u64) -> Option<u64>
         ensures { (above : List Lcov2Data) → AreIndexes self.now above → result ≡ leader index above }
     {
         self.leaders.get(&index).copied()
     }
 
-    /// Stores the start line of an index, in place of an earlier one.
+    /// Stores the start line of an index, and replaces an earlier one.
     pub fn lead(&mut self, index: u64, line: u64) -> Result<(), Memory>
         ensures { OnOk result ((above : List Lcov2Data) → AreIndexes self.old above → AreIndexes self.new (Leader index line ∷ above)) }
     {
@@ -53,7 +53,8 @@ impl<A: Allocator + Copy> Indexes<A> {
         Ok(())
     }
 
-    /// Counts one more branch of the block, and returns its number. `given` is the number in its line, or `None` for an expression.
+    /// Adds a branch to the block, and returns the branch's number. `given` is the number in the branch's line, or `None` if the
+    /// branch has an expression.
     #[inline]
     pub fn number(&mut self, alloc: A, block: Block, given: Option<u64>) -> Result<u64, Memory>
         ensures number { IfOk result (λ n. (above : List Lcov2Data) → AreIndexes self.old above → n ≡ branch_number above block.line block.block given) }

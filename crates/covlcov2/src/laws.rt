@@ -1,4 +1,4 @@
-//! Laws of the definitions that the contracts cite. Each law is the contract of a function that does nothing.
+//! Laws of reading tracefiles of LCOV 2. Each law is the contract of a function that does nothing.
 
 ghost use Rattle.std.specs.Prelude.{◌≡◌, ◌⊎◌, ℕ, List, Result, Ok};
 ghost use Rattle.covline.specs.declared.trace_line.LineFault.{LineFault};
@@ -30,8 +30,8 @@ pub fn each_lcov2_text_has_one_outcome()
     printed_records_spell();
 }
 
-/// A submission that is read from a tracefile of LCOV 2 is lawful: its names and checksums fit into lines, its counts into 128 bits
-/// and its other numbers into 64, and it hasn't too many items.
+/// A submission that is read from a tracefile of LCOV 2 is lawful: its names and checksums fit into lines, its counts into 128
+/// bits, its other numbers into 64 bits, and it doesn't have too many items.
 pub fn what_is_read_as_lcov2_is_lawful()
     ensures { (text : List ℕ) (submission : SubmissionData) → IsOutcome text (Ok submission) → IsLawful submission }
 {

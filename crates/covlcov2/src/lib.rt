@@ -1,5 +1,5 @@
-//! Reads tracefiles of LCOV 2 (geninfo(1) of LCOV 2.x, TRACEFILE FORMAT): turns an input into a submission, or returns its first
-//! error.
+//! Reads tracefiles of LCOV 2 (geninfo(1) of LCOV 2.x, TRACEFILE FORMAT): turns an input into a submission, or returns the input's
+//! first error.
 //!
 //! Each line is first parsed by itself, and then translated into records of version 1 for covread's reader: an `FNA:` line into the
 //! start line and the count of its function, a branch with an expression into a branch with a number.

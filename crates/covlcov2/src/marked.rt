@@ -1,5 +1,5 @@
-//! Parses the first line of a text, without cutting it off, if it is a branch with a mark `e` or `f`. Most branches of C++ have
-//! one.
+//! Parses a branch with a mark `e` or `f` in a text's first line, without cutting the line off. Most branches of C++ have such a
+//! mark.
 
 ghost use Rattle.std.specs.Prelude.{◌≡◌, Option, Some, false, IfSome, option_map};
 ghost use Rattle.covline.specs.PointView.{branch_point_data};
@@ -9,9 +9,9 @@ ghost use Rattle.covlcov2.specs.Fronts.{BeginsWithLcov2Line, after_mark, marked_
 use covline::fields::{after_feed, front_taken, small_field};
 use covline::{BranchLine, BranchPoint, strip_key};
 
-/// Parses the first line of the text in one pass if it is `BRDA:<line>,<mark><block>,<branch>,<taken>` with the mark `e` or `f`, as
-/// covline's `try_branch_line` does without marks. Returns `None` for any other first line, which the caller then cuts off and
-/// parses.
+/// Parses the first line of the text in one pass if it is `BRDA:<line>,<mark><block>,<branch>,<taken>` with the mark `e` or `f`,
+/// numbers below 2^64 and a line feed. Returns `None` for any other line: the caller then cuts the line off and parses it.
+/// covline's `try_branch_line` does the same for branches without marks.
 #[inline]
 pub fn try_marked_branch(text: &[u8]) -> Option<BranchLine<'_>>
     ensures { IfSome result (λ f. BeginsWithLcov2Line text.now (Edge false f.point.line f.point.block (Some f.point.branch) f.taken) f.rest.now) }
@@ -19,7 +19,7 @@ pub fn try_marked_branch(text: &[u8]) -> Option<BranchLine<'_>>
     front_marked(text)
 }
 
-/// The text after its mark `e` or `f`. Returns `None` if it doesn't begin with one.
+/// The text after a mark `e` or `f` at its front. Returns `None` if the text doesn't begin with one of these marks.
 fn skip_mark(text: &[u8]) -> Option<&[u8]>
     ensures { option_map (λ rest. rest.now) result ≡ after_mark text.now }
 {

@@ -11,14 +11,14 @@ use covline::Memory;
 use std::alloc::Allocator;
 use std::collections::BTreeMap;
 
-/// A block of branches: those of one condition of the source line `line`. `block` is the block's number on that line.
+/// A block of branches on the source line `line`. `block` is the block's number on this line.
 #[derive(Clone, Copy, PartialEq, Eq, PartialOrd, Ord, Drop)]
 pub struct Block {
     pub line: u64,
     pub block: u64,
 }
 
-/// Successive branches of one block. `next` is one more than the greatest of their numbers, but at most the largest number.
+/// Successive branches of one block. `next` is one more than their greatest number, but at most 2^64 - 1.
 #[derive(Clone, Copy, Drop)]
 pub struct Run {
     pub block: Block,
@@ -28,9 +28,9 @@ pub struct Run {
 /// The runs of a section in which no branch has an expression.
 #[derive(Drop)]
 pub struct Runs<A: Allocator> {
-    /// The runs before the last one.
+    /// The runs before the current one.
     pub ended: Vec<Run, A>,
-    /// The run of the last branch. Its next number is 0 before the first branch.
+    /// The run of the last branch. Before the first branch, `next` is 0.
     pub current: Run,
 }
 
@@ -44,22 +44,22 @@ pub struct Numbering {
 /// Numbers the branches of an open section.
 #[derive(Drop)]
 pub enum Numbers<A: Allocator> {
-    /// No branch has an expression yet, so each keeps its number. The runs are stored to number branches from the first expression
-    /// on.
+    /// No branch has an expression yet, so each branch keeps its number. The runs are stored to number branches from the first
+    /// expression on.
     Given(Runs<A>),
-    /// A branch has an expression. A block that isn't in the map has no branches.
+    /// A branch has an expression. A block without branches isn't in the map.
     Assigned(BTreeMap<Block, Numbering, A>),
 }
 
 impl<A: Allocator + Copy> Numbers<A> {
-    /// The numbers of a section without branches.
+    /// The numbering of a section without branches.
     pub fn new(alloc: A) -> Numbers<A>
         ensures { HasNumbers result [] }
     {
         Numbers::Given(Runs::new(alloc))
     }
 
-    /// Discards all branches. Keeps the capacity for runs.
+    /// Discards all branches. Keeps the capacity for runs if no branch has an expression.
     pub fn clear(&mut self, alloc: A)
         ensures { HasNumbers self.new [] }
     {
@@ -69,7 +69,8 @@ impl<A: Allocator + Copy> Numbers<A> {
         }
     }
 
-    /// Counts one more branch of the block, and returns its number. `given` is the number in its line, or `None` for an expression.
+    /// Adds a branch to the block, and returns the branch's number. `given` is the number in the branch's line, or `None` if the
+    /// branch has an expression.
     #[inline]
     pub fn number(&mut self, alloc: A, block: Block, given: Option<u64>) -> Result<u64, Memory>
         ensures number { IfOk result (λ n. (above : List Lcov2Data) → HasNumbers self.old above → n ≡ branch_number above block.line block.block given) }
@@ -94,7 +95,7 @@ impl<A: Allocator + Copy> Numbers<A> {
 }
 
 impl<A: Allocator> Runs<A> {
-    /// No runs.
+    /// The runs of a section without branches.
     fn new(alloc: A) -> Runs<A>
         ensures { (q : Block) → next_in_runs q result ≡ 0 }
     {
@@ -112,7 +113,7 @@ impl<A: Allocator> Runs<A> {
         self.current = no_run();
     }
 
-    /// Adds a branch with this number.
+    /// Adds a branch of the block with this number.
     #[inline]
     fn add(&mut self, block: Block, number: u64) -> Result<(), Memory>
         ensures { OnOk result ((q : Block) → next_in_runs q self.new ≡ max (next_in_runs q self.old) (next_in_run q (record { block = block; next = one_more_of number }))) }
@@ -138,7 +139,7 @@ fn no_run() -> Run
     }
 }
 
-/// One more than the number, but at most the largest number.
+/// One more than the number, but at most 2^64 - 1.
 #[inline]
 fn one_more(number: u64) -> u64
     ensures { result ≡ one_more_of number }
@@ -146,7 +147,7 @@ fn one_more(number: u64) -> u64
     number.saturating_add(1)
 }
 
-/// The numberings of all blocks that have a run.
+/// The numbering of each block that has a run.
 fn by_block<A: Allocator + Copy>(
     alloc: A,
     runs: &Runs<A>,
@@ -203,7 +204,8 @@ fn numbering_in<A: Allocator>(numberings: &BTreeMap<Block, Numbering, A>, block:
     }
 }
 
-/// Counts one more branch in the block's numbering, and returns the branch's number.
+/// Adds a branch to the block's numbering, and returns the branch's number. `given` is the number in the branch's line, or `None`
+/// if the branch has an expression.
 fn number_in<A: Allocator + Clone>(
     numberings: &mut BTreeMap<Block, Numbering, A>,
     block: Block,
@@ -224,7 +226,8 @@ fn number_in<A: Allocator + Clone>(
     Ok(number)
 }
 
-/// The number of the next branch of a block with this numbering. `given` is the number in its line, or `None` for an expression.
+/// The number of the next branch of a block with this numbering. `given` is the number in the branch's line, or `None` if the
+/// branch has an expression.
 fn number_below(numbering: Numbering, given: Option<u64>) -> u64
     ensures { result ≡ number_from numbering.has_expression numbering.next given }
 {

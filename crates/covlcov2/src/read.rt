@@ -25,15 +25,15 @@ use covpacked::{PackedSubmission, unpack};
 use covread::{MAX_BYTES, ReadFault, take_branch, take_line_count};
 use std::alloc::Allocator;
 
-/// Reads a tracefile of LCOV 2 (geninfo(1) of LCOV 2.x, TRACEFILE FORMAT). Returns its submission, or the input's first error. An
-/// `FNA:` line is `Misplaced` outside of sections, or without an `FNL:` line of its index above it in its section.
-/// [`read_lcov2_packed`] does the same with less memory and time.
+/// Reads a tracefile of LCOV 2 (geninfo(1) of LCOV 2.x, TRACEFILE FORMAT). Returns its submission or its first error. The error is
+/// `Misplaced` for an `FNA:` line outside of sections, or without an `FNL:` line of its index above it in its section.
+/// [`read_lcov2_packed`] returns a packed submission, with less memory and time.
 pub fn read_lcov2<A: Allocator + Copy>(alloc: A, text: &[u8]) -> Result<Submission<A>, ReadFault>
-    // The result is what the input is read as, or memory ran out.
+    // The result is the text's specified outcome, or `Memory`.
     ensures answers { Answers text.now result }
-    // No other result is possible, unless memory ran out.
+    // Every specified outcome of the text equals the result, unless the result is `Memory`.
     ensures only { (outcome : Result SubmissionData Fault) → IsOutcome text.now outcome → IsOrMemory result outcome }
-    // Nothing is stored before the first path, so memory can't run out before this line.
+    // `Memory` is returned only if there is a path line: nothing is stored before it.
     ensures memory { GrowsLate text.now result }
 {
     let packed = read_lcov2_packed(alloc, text)?;
@@ -45,11 +45,11 @@ pub fn read_lcov2_packed<A: Allocator + Copy>(
     alloc: A,
     text: &[u8],
 ) -> Result<PackedSubmission<A>, ReadFault>
-    // The result is what the input is read as, or memory ran out.
+    // The result is the text's specified outcome, or `Memory`.
     ensures answers { Answers text.now result }
-    // No other result is possible, unless memory ran out.
+    // Every specified outcome of the text equals the result, unless the result is `Memory`.
     ensures only { (outcome : Result SubmissionData Fault) → IsOutcome text.now outcome → IsOrMemory result outcome }
-    // Nothing is stored before the first path, so memory can't run out before this line.
+    // `Memory` is returned only if there is a path line: nothing is stored before it.
     ensures memory { GrowsLate text.now result }
 {
     // The proof cites this law.
@@ -83,8 +83,8 @@ fn read_lines<'a, A: Allocator + Copy>(
     Ok(reader)
 }
 
-/// Processes the first line of `text`, which is the rest of an input, and returns what follows it. `at` is the line's number. Most
-/// lines are counts of a source line or of a branch, so these are tried first, before the line is cut from the text.
+/// Processes the first line of `text`, which must not be empty, and returns what follows the line. `text` is the rest of an input,
+/// and `at` the line's number. Most lines are `DA:` or `BRDA:` lines, so these are tried first, before the line is cut off.
 #[inline]
 fn take_first<'a, A: Allocator + Copy>(
     reader: &mut Lcov2Reader<'a, A>,
@@ -114,7 +114,7 @@ fn take_first<'a, A: Allocator + Copy>(
     Ok(rest)
 }
 
-/// Processes the count of a source line. `at` is the number of its line in the tracefile.
+/// Processes a `DA:` record: the count of the source line `line`. `at` is the record's line number in the tracefile.
 #[inline]
 fn take_count<A: Allocator + Copy>(
     reader: &mut Lcov2Reader<'_, A>,
@@ -129,8 +129,8 @@ fn take_count<A: Allocator + Copy>(
     take_line_count(&mut reader.plain, at, line, count, checksum)
 }
 
-/// Processes how often a branch was taken. The branch isn't excluded and has a number, not an expression. `at` is the number of its
-/// line in the tracefile.
+/// Processes a `BRDA:` record of a branch that isn't excluded and has a number instead of an expression. `at` is the record's line
+/// number in the tracefile.
 #[inline]
 fn take_numbered<A: Allocator + Copy>(
     reader: &mut Lcov2Reader<'_, A>,

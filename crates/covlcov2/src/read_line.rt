@@ -1,4 +1,4 @@
-//! Parses one line of a tracefile of LCOV 2. Keys whose form LCOV 2 changed or added are parsed here, all others by covline.
+//! Parses one line of a tracefile of LCOV 2. Records that LCOV 2 changed or added are parsed here, all others by covline.
 
 ghost use Rattle.std.specs.Prelude.{◌≡◌, ℕ, List, Option, false, codes, option_map, Err, MatchResult, IfOk, IfErr};
 ghost use Rattle.covline.specs.declared.trace_line.LineFault.{LineFault};
@@ -13,7 +13,7 @@ use covline::fields::{
 use covline::{LineFault, TraceLine, strip_key};
 use memchr::memrchr;
 
-/// The name in the text after a start line. Skips an end line that a name follows.
+/// The name in the text after a start line. Skips an end line that is followed by a name.
 fn name_in(text: &[u8]) -> &[u8]
     ensures { result.now ≡ name_in text.now }
 {
@@ -38,7 +38,8 @@ fn start_record(fields: &[u8]) -> Result<Lcov2Line<'_>, LineFault>
     Ok(Lcov2Line::Plain(TraceLine::FuncStart { line, name }))
 }
 
-/// Parses the end line in the text after a start line. Returns `Some(None)` if the text is empty.
+/// Parses the optional end line in the text after a start line. Returns `Some(None)` if the text is empty, and `None` if the text
+/// has another form.
 fn read_end(text: &[u8]) -> Option<Option<Number>>
     ensures { result ≡ end_of text.now }
 {
@@ -49,7 +50,7 @@ fn read_end(text: &[u8]) -> Option<Option<Number>>
     }
 }
 
-/// The start line of an index, if both numbers fit into 64 bits.
+/// The record of an index's start line. Fails if a number doesn't fit into 64 bits.
 fn fit_leader<'a>(index: Number, line: Number) -> Result<Lcov2Line<'a>, LineFault>
     ensures { GivesLcov2 result (leader_of index line) }
 {
@@ -58,7 +59,7 @@ fn fit_leader<'a>(index: Number, line: Number) -> Result<Lcov2Line<'a>, LineFaul
     Ok(Lcov2Line::Leader { index, line })
 }
 
-/// Reads the fields after `FNL:`.
+/// Parses the fields after `FNL:`.
 fn leader_record(fields: &[u8]) -> Result<Lcov2Line<'_>, LineFault>
     ensures { GivesLcov2 result (leader_fields fields.now) }
 {
@@ -74,7 +75,7 @@ fn leader_record(fields: &[u8]) -> Result<Lcov2Line<'_>, LineFault>
     }
 }
 
-/// The count of a function, if the numbers fit.
+/// The record of a function's count. Fails if `index` doesn't fit into 64 bits, or `count` into 128 bits.
 fn fit_alias(index: Number, count: Number, name: &[u8]) -> Result<Lcov2Line<'_>, LineFault>
     ensures { GivesLcov2 result (alias_of index count name.now) }
 {
@@ -83,7 +84,7 @@ fn fit_alias(index: Number, count: Number, name: &[u8]) -> Result<Lcov2Line<'_>,
     Ok(Lcov2Line::Alias { index, count, name })
 }
 
-/// Reads the fields after `FNA:`.
+/// Parses the fields after `FNA:`.
 fn alias_record(fields: &[u8]) -> Result<Lcov2Line<'_>, LineFault>
     ensures { GivesLcov2 result (alias_fields fields.now) }
 {
@@ -99,7 +100,7 @@ fn alias_record(fields: &[u8]) -> Result<Lcov2Line<'_>, LineFault>
     fit_alias(index, count, name)
 }
 
-/// Skips the marks at the front of the text. Returns whether `U` is among them, and what follows them.
+/// Skips the marks at the front of the text. Returns whether `U` is among the marks, and what follows them.
 fn skip_marks(text: &[u8]) -> (bool, &[u8])
     ensures excluded { result.0 ≡ (marks_from false text.now).0 }
     ensures rest { result.1.now ≡ (marks_from false text.now).1 }
@@ -116,7 +117,7 @@ fn skip_marks(text: &[u8]) -> (bool, &[u8])
     (is_excluded, rest)
 }
 
-/// Whether the byte is a mark: of an exception, of a fallthrough, or of exclusion.
+/// Whether the byte is a mark: `e` (exception), `f` (fallthrough) or `U` (excluded).
 fn is_mark(byte: u8) -> bool
     ensures { result ≡ is_mark byte }
 {
@@ -133,7 +134,7 @@ fn cut_last(text: &[u8]) -> Option<(&[u8], &[u8])>
     }
 }
 
-/// Parses a branch's name: its number, or `Some(None)` for an expression. Returns `None` if the text is empty.
+/// Parses a branch's name. Returns its number, `Some(None)` for an expression, or `None` for an empty text.
 fn read_branch_name(text: &[u8]) -> Option<Option<Number>>
     ensures { result ≡ branch_name text.now }
 {
@@ -143,7 +144,7 @@ fn read_branch_name(text: &[u8]) -> Option<Option<Number>>
     Some(read_whole(text))
 }
 
-/// An optional number, if it fits into 64 bits.
+/// Converts an optional number to 64 bits. Fails if the number doesn't fit.
 fn fit_any(number: Option<Number>) -> Result<Option<u64>, LineFault>
     ensures { result ≡ fit_any number }
 {
@@ -153,7 +154,7 @@ fn fit_any(number: Option<Number>) -> Result<Option<u64>, LineFault>
     }
 }
 
-/// An optional count, if it fits into 128 bits.
+/// Converts an optional count to 128 bits. Fails if the count doesn't fit.
 fn fit_any_count(count: Option<Number>) -> Result<Option<u128>, LineFault>
     ensures { result ≡ fit_any_count count }
 {
@@ -163,7 +164,7 @@ fn fit_any_count(count: Option<Number>) -> Result<Option<u128>, LineFault>
     }
 }
 
-/// The record of a branch, if its numbers fit.
+/// The record of a branch. Fails if `taken` doesn't fit into 128 bits, or another number into 64 bits.
 fn fit_edge<'a>(
     is_excluded: bool,
     line: Number,
@@ -186,7 +187,7 @@ fn fit_edge<'a>(
     })
 }
 
-/// Parses the last two fields of a branch: its name, and how often it was taken.
+/// Parses the last two fields of a branch: its name, and how often the branch was taken.
 fn read_edge_end<'a>(
     is_excluded: bool,
     line: Number,
@@ -205,7 +206,7 @@ fn read_edge_end<'a>(
     }
 }
 
-/// Parses a branch from what follows its source line and marks.
+/// Parses a branch. `rest` is what follows the branch's source line and marks.
 fn read_edge_rest<'a>(
     is_excluded: bool,
     line: Number,
@@ -222,7 +223,7 @@ fn read_edge_rest<'a>(
     }
 }
 
-/// Reads the fields after `BRDA:`.
+/// Parses the fields after `BRDA:`.
 fn edge_record(fields: &[u8]) -> Result<Lcov2Line<'_>, LineFault>
     ensures { GivesLcov2 result (edge_fields fields.now) }
 {
@@ -233,7 +234,7 @@ fn edge_record(fields: &[u8]) -> Result<Lcov2Line<'_>, LineFault>
     read_edge_rest(is_excluded, line, rest)
 }
 
-/// Parses a line. Tries the keys that LCOV 2 changed or added first.
+/// Parses a line. First tries the keys that LCOV 2 changed or added.
 #[tactic(auto, unfolding(crate::specs::Reading::read_of_lcov2))]
 fn read_any_lcov2(line: &[u8]) -> Result<Lcov2Line<'_>, LineFault>
     ensures { GivesLcov2 result (read_of_lcov2 line.now) }
@@ -256,8 +257,8 @@ fn read_any_lcov2(line: &[u8]) -> Result<Lcov2Line<'_>, LineFault>
     }
 }
 
-/// Parses one line of a tracefile of LCOV 2, given without its line feed and the carriage returns before it. Errors are those of
-/// covline's `read_line`.
+/// Parses one line of a tracefile of LCOV 2, without the line feed and the carriage returns at its end. The possible errors are
+/// those of covline's `read_line`.
 pub fn read_lcov2_line(line: &[u8]) -> Result<Lcov2Line<'_>, LineFault>
     ensures ok { IfOk result (λ t. Lcov2Spells line.now (lcov2_data t)) }
     ensures err { IfErr result (λ f. HasLcov2Fault line.now f) }

@@ -1,5 +1,5 @@
 //! The state of the LCOV 2 reader between two lines: the state of the version 1 reader after the translated records, and what later
-//! lines need of the lines since the last path.
+//! lines need from the lines since the last path.
 
 ghost use Rattle.std.specs.Prelude.{◌≡◌, ℕ, List, [], ◌∷◌, Option, Some, None, Ok, Err, cond};
 ghost use Rattle.covline.specs.Spells.{LineData, Path, Total, Branch, line_data};
@@ -21,7 +21,7 @@ use std::alloc::Allocator;
 pub struct Lcov2Reader<'a, A: Allocator> {
     /// The state of the version 1 reader.
     pub plain: Reader<'a, A>,
-    /// The state that later lines of the open section need. It isn't used outside of sections.
+    /// What later lines of the open section need from its earlier lines. Not used outside of sections.
     pub indexes: Indexes<A>,
     /// Whether an `FNL:` line came since the last path.
     pub is_grouped: bool,
@@ -77,7 +77,7 @@ impl<'a, A: Allocator + Copy> Lcov2Reader<'a, A> {
         }
     }
 
-    /// Passes a record of version 1 on unchanged. Later lines need nothing of it.
+    /// Passes a record of version 1 on unchanged. The record must not change `indexes` or `is_grouped`.
     fn pass(&mut self, alloc: A, says: TraceLine<'a>) -> Result<(), TakeFault>
         requires { (above : List Lcov2Data) × (inside : List LineData) × HasLineRoom self.old above inside }
         ensures { (above : List Lcov2Data) (inside : List LineData) (line : Lcov2Data) → IsHeld self.old above inside → StandsFor above line (line_data says.entry) → IsQuiet above line → Lcov2Steps result above (held_data self.old.plain inside) self.new line }
@@ -85,7 +85,7 @@ impl<'a, A: Allocator + Copy> Lcov2Reader<'a, A> {
         give(&mut self.plain, alloc, says)
     }
 
-    /// Begins a section. Discards what later lines of the section before would have needed.
+    /// Begins a section. Resets `indexes` and `is_grouped`.
     fn take_path(&mut self, alloc: A, path: &'a [u8]) -> Result<(), TakeFault>
         requires { (above : List Lcov2Data) × (inside : List LineData) × HasLineRoom self.old above inside }
         ensures { (above : List Lcov2Data) (inside : List LineData) → IsHeld self.old above inside → Lcov2Steps result above (held_data self.old.plain inside) self.new (Plain (Path path.now)) }
@@ -111,7 +111,7 @@ impl<'a, A: Allocator + Copy> Lcov2Reader<'a, A> {
         self.pass(alloc, TraceLine::Total { kind, value })
     }
 
-    /// Stores the start line of an index. Ignores it outside of sections.
+    /// Processes an `FNL:` line. Stores the start line of its index only if a section is open.
     fn take_leader(&mut self, index: u64, line: u64) -> Result<(), TakeFault>
         ensures { (above : List Lcov2Data) (inside : List LineData) → IsHeld self.old above inside → Lcov2Steps result above (held_data self.old.plain inside) self.new (Leader index line) }
     {
@@ -125,8 +125,8 @@ impl<'a, A: Allocator + Copy> Lcov2Reader<'a, A> {
         Ok(())
     }
 
-    /// Processes the count of a function. Its line stands for two records: the function's start line, which is that of its index,
-    /// and its count. It is `Misplaced` outside of sections, or if the index has no start line.
+    /// Processes an `FNA:` line, which stands for two records: the function's start line, found by `index`, and the function's
+    /// count. Returns `Misplaced` outside of sections, or if the index has no start line.
     fn take_alias(
         &mut self,
         alloc: A,
@@ -150,7 +150,8 @@ impl<'a, A: Allocator + Copy> Lcov2Reader<'a, A> {
         }
     }
 
-    /// Processes a branch. `given` is the number in its line, or `None` for an expression. An excluded branch is numbered too.
+    /// Processes a branch. `given` is the number in the branch's line, or `None` if the branch has an expression. An excluded
+    /// branch is numbered too.
     fn take_edge(
         &mut self,
         alloc: A,
@@ -185,7 +186,7 @@ impl<'a, A: Allocator + Copy> Lcov2Reader<'a, A> {
     }
 }
 
-/// Whether the total is one of functions.
+/// Whether totals of this kind count functions.
 fn counts_functions(kind: TotalKind) -> bool
     ensures { result ≡ counts_functions kind }
 {
@@ -196,7 +197,7 @@ fn counts_functions(kind: TotalKind) -> bool
     }
 }
 
-/// Checks a branch outside of sections: only an excluded one is allowed there.
+/// Checks a branch outside of sections, where only excluded branches are allowed.
 fn outside_edge(is_excluded: bool) -> Result<(), TakeFault>
     ensures { result ≡ cond is_excluded (Ok tt) (Err outside.Outside) }
 {

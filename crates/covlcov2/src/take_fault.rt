@@ -1,4 +1,4 @@
-//! Why a line is rejected.
+//! The reasons to reject a line of a tracefile of LCOV 2.
 
 ghost use Rattle.std.specs.Prelude.{◌≡◌};
 ghost use Rattle.covlcov2.specs.declared.take_fault.TakeFault.TheVariants.{Memory as NoMemory};
@@ -8,21 +8,21 @@ use covline::Memory;
 use covread::{PlacementFault, ReadFault};
 use std::alloc::AllocFailed;
 
-/// Why a reader rejects a line: it is misplaced, or an allocation failed.
+/// The reason why the reader rejects a line: the line is misplaced, or an allocation failed.
 #[derive(Clone, Copy)]
 pub enum TakeFault {
-    /// The line must be in a section, but none is open.
+    /// The line must be in a section, but no section is open.
     Outside,
-    /// The line must not be in a section, but one is open.
+    /// The line must be outside of sections, but a section is open.
     Inside,
-    /// An `FNA:` line without an `FNL:` line of its index above it in its section, or outside of sections.
+    /// An `FNA:` line is outside of sections, or has no `FNL:` line of its index above it in its section.
     Misplaced,
     /// An allocation failed.
     Memory,
 }
 
 impl TakeFault {
-    /// The error of an input whose line number `at` is rejected for this reason.
+    /// Turns this reason into an error of the input. `at` is the number of the rejected line.
     pub fn at(self, at: u64) -> ReadFault
         ensures { result ≡ lcov2_fault_at self at }
     {

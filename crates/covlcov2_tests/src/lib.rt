@@ -1,5 +1,5 @@
-//! Tests of the reader of tracefiles of LCOV 2 (covlcov2): a row for each form and each error, and hostile inputs. This is a crate
-//! of its own, so that covlcov2 is proved once.
+//! Tests of covlcov2, the reader of tracefiles of LCOV 2: an example of each form and each error, and hostile inputs. The tests
+//! have a crate of their own, so that covlcov2 is proved only once.
 #![tactic(auto)]
 
 #[cfg(test)]

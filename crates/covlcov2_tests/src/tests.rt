@@ -1,5 +1,5 @@
-//! Expected values were worked out by hand from geninfo(1) of LCOV 2.3.1, section TRACEFILE FORMAT. They are written as a tracefile of
-//! version 1.
+//! Tests with expected values that were worked out by hand from geninfo(1) of LCOV 2.3.1, section TRACEFILE FORMAT. Expected
+//! submissions are written as tracefiles of version 1.
 
 use covlcov2::{read_lcov2, read_lcov2_packed};
 use covline::Submission;
@@ -22,7 +22,8 @@ fn read_plain(alloc: Global, text: &[u8]) -> Result<Submission, ReadFault> {
     read_trace(alloc, text)
 }
 
-/// Whether reading `text` as LCOV 2 gives the same as reading `wanted` as version 1, packed and not.
+/// Whether `text`, read as LCOV 2, is the same submission as `wanted`, read as version 1. `text` is also read as a packed
+/// submission.
 fn reads_as(alloc: Global, text: &[u8], wanted: &[u8]) -> Result<bool, ReadFault> {
     let given = read(alloc, text)?;
     let wanted = read_plain(alloc, wanted)?;
@@ -30,7 +31,7 @@ fn reads_as(alloc: Global, text: &[u8], wanted: &[u8]) -> Result<bool, ReadFault
     Ok(given.is_same(&wanted) && packed.is_same_as(&wanted))
 }
 
-/// Prints the error of the input, or `none`.
+/// The printed error of the input, or `none`.
 fn fault_of(alloc: Global, text: &[u8]) -> Result<String, Fail> {
     Ok(match read(alloc, text) {
         Ok(_) => format!(in alloc; "none")?,

@@ -7,8 +7,8 @@ use covread::ReadFault;
 use std::alloc::{Allocator, Global};
 use std::marker::Model;
 
-/// The state that is carried over from the chunks of a tracefile so far: the test's name, how many lines these chunks have, and in
-/// LCOV 2 whether the last `FNL:` line is still valid. Contracts see these three.
+/// The state that is carried over from the chunks of a tracefile so far: the current test's name, the number of lines of these
+/// chunks, and in LCOV 2 whether an `FNL:` line came since the last path. Contracts see all three.
 #[derive(Drop)]
 pub struct Carried<A: Allocator = Global> {
     test: Bytes<A>,
@@ -40,15 +40,15 @@ impl<A: Allocator> Carried<A> {
         }
     }
 
-    /// How many lines were read so far.
+    /// The number of lines of the chunks so far.
     pub fn lines(&self) -> u64
         ensures { result ≡ self.now.lines }
     {
         self.lines
     }
 
-    /// Returns the prefix of the next chunk: the lines to put before its bytes. The chunk is read after them as it would be after
-    /// the chunks before it. An empty test name has no line.
+    /// Returns the prefix of the next chunk: the lines to put before the chunk. After its prefix, the chunk is read as in the whole
+    /// tracefile. An empty test name has no line in the prefix.
     pub fn front(&self, alloc: A) -> Result<Bytes<A>, Memory>
         ensures { IfOk result (λ text. text ≡ front_text self.now) }
     {
@@ -65,7 +65,8 @@ impl<A: Allocator> Carried<A> {
         Ok(text)
     }
 
-    /// Turns an error of the chunk, read after its prefix, into that of the whole tracefile. A line number saturates at 2^64 - 1.
+    /// Turns an error of the chunk, read after its prefix, into the error of the whole tracefile. Line numbers saturate at
+    /// 2^64 - 1.
     pub fn moved(&self, fault: ReadFault) -> ReadFault
         ensures { result ≡ told self.now fault }
     {
@@ -103,7 +104,7 @@ impl<A: Allocator> Carried<A> {
         }
     }
 
-    /// Turns a line number in the chunk with its prefix into that in the whole tracefile.
+    /// Turns a line number in the chunk with its prefix into the line number in the whole tracefile.
     fn moved_number(&self, at: u64) -> u64
         ensures { result ≡ min (moved_number self.now at) (2 ^ 64 - 1) }
     {
@@ -120,8 +121,8 @@ impl<A: Allocator> Carried<A> {
         names + groups
     }
 
-    /// Goes on to the next chunk of a tracefile of version 1. `piece` is the chunk without its prefix, which ends with a section;
-    /// `submission` is what it was read as after its prefix.
+    /// Goes on to the next chunk of a tracefile of version 1. `piece` is the chunk that was read, without its prefix, and must end
+    /// with a section. `submission` is what prefix and chunk were read as.
     pub fn pass<S: ReadText>(
         &mut self,
         alloc: A,

@@ -48,7 +48,7 @@ fn without_last_line(text: &[u8]) -> Option<&[u8]>
     Some(front)
 }
 
-/// The text before its last line, and that line without its line feed.
+/// The text before its last line, and the last line without its line feed. The text must end in a line feed.
 fn cut_last_line(text: &[u8]) -> (&[u8], &[u8])
     requires { EndsInFeed text.now }
     ensures { IsLastCut text.now result.0.now result.1.now }
@@ -58,15 +58,15 @@ fn cut_last_line(text: &[u8]) -> (&[u8], &[u8])
     (&text[..start], &text[start..end])
 }
 
-/// Whether the line is the last of a section.
+/// Whether the line ends a section.
 fn ends_section(line: &[u8]) -> bool
     ensures { IsTrue result ↔ Begins (strip line.now) (codes "end_of_record") }
 {
     strip_key(without_returns(line), b"end_of_record").is_some()
 }
 
-/// Whether functions are grouped (`FNL:`) after these lines. `is_grouped` says whether they are grouped before. Looks at the lines
-/// from the end, up to the first one that decides.
+/// Whether functions are grouped, by an `FNL:` line, after the lines of `text`. `is_grouped` is whether functions are grouped
+/// before. Searches from the end for a line that decides this.
 pub(crate) fn grouped_after(is_grouped: bool, text: &[u8]) -> bool
     requires { HasWholeLines text.now }
     ensures { result ≡ grouped_after is_grouped (lines_of text.now) }

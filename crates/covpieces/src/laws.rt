@@ -17,9 +17,9 @@ use covlcov2::{
 use covline::each_line_has_one_meaning;
 use covread::{each_text_has_one_outcome, what_is_read_is_lawful};
 
-/// Cuts a tracefile after a section, where the first part is read as a submission and the rest is read after its prefix. Then the
-/// whole has the sections and inconsistent lines of both parts, or the error of the rest with its line number in the whole. Only
-/// the first part has to be within the size limit.
+/// A tracefile that is cut after a section can be read in two parts, the second part after its prefix. If the first part has no
+/// error, the whole has the sections and inconsistent lines of both parts, or the second part's error with its line number in the
+/// whole. Only the first part must be within the size limit.
 pub fn two_parts_are_read_as_one()
     ensures trace { (first rest : List ℕ) (s : SubmissionData) (r : Result SubmissionData Fault) → EndsSection first → IsOutcome first (Ok s)
         → IsWholeOutcome (front_text (carried_after nothing_carried first s.sects) ++ rest) r
@@ -34,9 +34,9 @@ pub fn two_parts_are_read_as_one()
     what_is_read_as_lcov2_is_lawful();
 }
 
-/// Reading the chunks of a tracefile gives the same as reading the whole: their sections, in order, are those of the whole, their
-/// numbers of inconsistent lines add up, and the first error is that of the whole, with its line number there. The exception is a
-/// chunk that is too long with its prefix: its error says nothing about the whole.
+/// The result of a tracefile's chunks is the result of the whole: the chunks' sections in order with the sum of inconsistent lines,
+/// or the first error with its line number in the whole. The exception is a chunk that is too long with its prefix: its error says
+/// nothing about the whole.
 pub fn pieces_are_read_as_the_whole()
     ensures trace { (text : List ℕ) (pieces : List (List ℕ)) (r : Result SubmissionData Fault) → IsCut text pieces
         → ReadsInPieces IsOutcome carried_after nothing_carried pieces r → (r ≡ Err TooMuch) ⊎ IsWholeOutcome text r }
@@ -49,7 +49,8 @@ pub fn pieces_are_read_as_the_whole()
     what_is_read_as_lcov2_is_lawful();
 }
 
-/// Conversely, the result for the whole tracefile is also that for its chunks, unless a chunk is too long with its prefix.
+/// The converse of `pieces_are_read_as_the_whole`: the result of the whole tracefile is also the result of its chunks, unless a
+/// chunk is too long with its prefix.
 pub fn the_whole_is_read_in_pieces()
     ensures trace { (text : List ℕ) (pieces : List (List ℕ)) (r : Result SubmissionData Fault) → IsCut text pieces → IsWholeOutcome text r
         → ReadsInPieces IsOutcome carried_after nothing_carried pieces (Err TooMuch) ⊎ ReadsInPieces IsOutcome carried_after nothing_carried pieces r }
@@ -63,8 +64,9 @@ pub fn the_whole_is_read_in_pieces()
     pieces_are_read_as_the_whole();
 }
 
-/// The two steps of a reader in chunks: one more chunk is read after others, and the outcome of the last chunk, or of an invalid
-/// one, gives that of the whole. The exception is a chunk that is too long with its prefix: its error says nothing about the whole.
+/// The steps of reading chunk by chunk: one more chunk can be read after others, and the outcome of the last chunk, or of an
+/// invalid chunk, determines the outcome of the whole. The exception is a chunk that is too long with its prefix: its error says
+/// nothing about the whole.
 pub fn pieces_are_read_one_by_one()
     ensures trace { OneByOne IsOutcome IsWholeOutcome carried_after }
     ensures lcov2 { OneByOne IsLcov2Outcome IsWholeLcov2Outcome lcov2_carried_after }
@@ -72,8 +74,8 @@ pub fn pieces_are_read_one_by_one()
     pieces_are_read_as_the_whole();
 }
 
-/// If no prefix of a block of bytes ends with a section, any chunk that begins with the block is longer than the block. So this
-/// chunk is too long if the block together with the chunk's `front` reaches the size limit.
+/// A chunk that starts where a block of bytes starts is longer than the block, if no section ends in the block. The chunk is too
+/// long if its prefix and the block together reach the size limit.
 pub fn a_block_without_sections_is_in_no_piece()
     ensures longer { (block more piece rest : List ℕ) → AreWholeSections block 0 → block ++ more ≡ piece ++ rest → EndsSection piece → length block < length piece }
     ensures trace { (c : CarriedData) (block more piece rest : List ℕ) → AreWholeSections block 0 → max_bytes ≤ length (front_text c ++ block) → block ++ more ≡ piece ++ rest

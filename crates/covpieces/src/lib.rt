@@ -2,11 +2,11 @@
 //!
 //! A chunk is a run of whole sections: it ends with a line that begins with `end_of_record`, or at the end of the file. Each chunk
 //! is read by itself, after a prefix (`front`) of up to two lines: the line of the current test's name unless that name is empty,
-//! and in LCOV 2 an `FNL:` line if the last one is still valid. The chunks together are read as the whole file would be, and errors
-//! get their line number in the file.
+//! and in LCOV 2 an `FNL:` line if there was one since the last path. The chunks together are read as the whole file would be, and
+//! each error has its line number in the file.
 //!
-//! An example: reads a chunk, or returns its error with the line number in the whole file. Afterwards, `carried.pass(..)` goes on
-//! to the next chunk.
+//! An example: reads a chunk, or returns the chunk's error with the line number in the whole file. After a success,
+//! `carried.pass(..)` goes on to the next chunk.
 //!
 //! ```text
 //! pub fn read_piece(alloc: Global, carried: &Carried, piece: &[u8]) -> Result<Submission, ReadFault> {

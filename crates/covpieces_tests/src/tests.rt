@@ -1,4 +1,5 @@
-//! Expected values were worked out by hand from geninfo(1), section FILES. Sections are written as a tracefile of version 1.
+//! Tests with expected values that were worked out by hand from geninfo(1), section FILES. Expected sections are written as a
+//! tracefile of version 1.
 
 use covlcov2::read_lcov2;
 use covline::{Bytes, Memory, Submission};
@@ -20,7 +21,7 @@ enum Version {
     Two,
 }
 
-/// The submission of a text.
+/// The submission of a tracefile of this version.
 fn read(alloc: Global, text: &[u8], version: Version) -> Result<Submission, ReadFault> {
     match version {
         Version::One => read_trace(alloc, text),
@@ -28,14 +29,14 @@ fn read(alloc: Global, text: &[u8], version: Version) -> Result<Submission, Read
     }
 }
 
-/// Makes the input of the reader for a chunk: its prefix, followed by the chunk.
+/// The chunk's prefix, followed by the chunk.
 fn behind_front(alloc: Global, carried: &Carried, piece: &[u8]) -> Result<Bytes, Memory> {
     let mut text = carried.front(alloc)?;
     text.append(piece)?;
     Ok(text)
 }
 
-/// Reads a chunk after its prefix. The line number in an error is that in the whole text.
+/// Reads a chunk after its prefix. An error has its line number in the whole text.
 fn read_piece(
     alloc: Global,
     carried: &Carried,
@@ -49,7 +50,8 @@ fn read_piece(
     }
 }
 
-/// Goes on after a chunk of whole sections. Returns `false` if the chunk has other lines, or too many bytes for a test.
+/// Reads a chunk, and goes on to the next chunk. Returns `false` if the chunk isn't made of whole sections, or is too long for a
+/// test.
 fn pass(
     alloc: Global,
     carried: &mut Carried,

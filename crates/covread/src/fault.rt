@@ -1,4 +1,4 @@
-//! Why an input is rejected.
+//! The errors of inputs.
 
 ghost use Rattle.std.specs.Prelude.{◌≡◌};
 ghost use Rattle.covread.specs.declared.fault.ReadFault.TheVariants.{Memory as NoMemory};
@@ -13,10 +13,10 @@ pub const MAX_BYTES: usize = 67_108_864;
 /// The first error of an input. `at` is the number of the invalid line, counted from 1.
 #[derive(Clone, Copy, Debug, PartialEq, Eq, Error)]
 pub enum ReadFault {
-    /// Fault 1: the input has more than 67,108,864 bytes. This is checked first.
+    /// Fault 1: the input has more than 67,108,864 bytes. The size is checked first.
     #[error("TooLong")]
     TooLong,
-    /// Fault 2: the line by itself is invalid. In gcov's output, a number is 2^64 or more.
+    /// Fault 2: a line is invalid by itself. In gcov's output, this means that a number is 2^64 or more.
     #[error("{fault} at {at}")]
     Line { at: u64, fault: LineFault },
     /// Fault 3: a start line, a count, a total or `end_of_record` outside of sections.
@@ -31,22 +31,23 @@ pub enum ReadFault {
     /// Fault 6: the mark of a source line, or the count of a branch, has no known form.
     #[error("BadMark at {at}")]
     BadMark { at: u64 },
-    /// Fault 7: a source line before any `Source:`, or a `Source:` without a path.
+    /// Fault 7: a source line comes before any `Source:` line, or a `Source:` line has no path.
     #[error("NoSource at {at}")]
     NoSource { at: u64 },
     /// Fault 8: a branch has a percentage instead of a count.
     #[error("Percent at {at}")]
     Percent { at: u64 },
-    /// Fault 9: a line that begins with `-----`: the counts of template instances follow.
+    /// Fault 9: a line begins with `-----`, so the counts of template instances follow.
     #[error("Instances at {at}")]
     Instances { at: u64 },
-    /// Fault 10: a branch before the first source line of its source file.
+    /// Fault 10: in gcov's output, a branch has no source line above it in its source file. In LCOV 2, an `FNA:` line has no `FNL:`
+    /// line of its index above it in its section.
     #[error("Misplaced at {at}")]
     Misplaced { at: u64 },
-    /// Fault 11: a function has no source line: the next source file or the end of the input follows it.
+    /// Fault 11: no source line follows a function before the next source file or the end of the input.
     #[error("LostFunction")]
     LostFunction,
-    /// Fault 12: a tracefile can't hold the test's name. This is checked after the size.
+    /// Fault 12: a tracefile can't hold the test's name. The name is checked right after the size.
     #[error("BadTest")]
     BadTest,
     /// Fault 13: an allocation failed.

@@ -1,10 +1,10 @@
-//! Reads coverage data: turns an input into a submission, or returns its first error.
+//! Reads coverage data: turns an input into a submission, or returns the input's first error.
 //!
 //! An input is a tracefile (geninfo(1) of LCOV 1.x, section FILES) or gcov's annotated source (gcov(1), and the GCC manual's
-//! chapter on gcov). It is read in one pass. Items are copied, so the input can be freed after reading.
+//! chapter on gcov). A reader passes over the input once, and copies the items, so the input can be freed after reading.
 //!
-//! An example, proved and run in `covuses`, reads an input of either format. It relies on the fact that gcov's output has no items
-//! if it is read as a tracefile.
+//! This example, proved and run in `covuses`, reads an input of either format. It relies on the fact that gcov's output, read as a
+//! tracefile, has no items.
 //!
 //! ```text
 //! pub fn read_either(alloc: Global, test: &[u8], text: &[u8]) -> Result<Submission, ReadFault> {

@@ -1,6 +1,6 @@
-//! Tests of records, readers and checks (covline, covread, covcheck): their public calls with ample memory, and what no session
-//! reaches. This is a crate of its own, so that those crates are proved once, and their mutants are tried while the tests are
-//! proved. It doesn't depend on the store, so both can be proved at the same time.
+//! Tests of covline, covread and covcheck (records, readers, checks): their public calls with ample memory, also calls that no
+//! session makes. The tests have a crate of their own, so that the tested crates are proved only once, and their mutants can be
+//! tried while the tests are proved. This crate doesn't depend on the store, so it can be proved at the same time as the store.
 #![tactic(auto)]
 
 #[cfg(test)]

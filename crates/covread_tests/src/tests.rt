@@ -1,4 +1,5 @@
-//! Public calls with ample memory. Expected values were worked out by hand from the formats (geninfo(1), section FILES; gcov(1)).
+//! Tests public calls with ample memory. Expected values were worked out by hand from the formats (geninfo(1), section FILES;
+//! gcov(1)).
 
 use std::process::Abort;
 use std::test::*;
@@ -10,8 +11,8 @@ mod limits;
 mod records;
 mod wrappers;
 
-/// Checks that the bytes are as expected. The tests call this, since a comparison in a test's own body would be a part of that
-/// test's proof.
+/// Checks that the bytes are as expected. The tests call this function, since a comparison in a test's own body would be a part of
+/// the test's proof.
 fn check_bytes(rt: &impl Abort, given: &[u8], wanted: &[u8]) {
     assert_eq!(rt; given, wanted);
 }

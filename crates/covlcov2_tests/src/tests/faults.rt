@@ -1,10 +1,11 @@
-//! Errors of inputs.
+//! Tests the errors of inputs.
 
 use super::{check_fault, push_line};
 use std::process::Abort;
 use std::test::*;
 
-/// Checks the errors of inputs. A line that begins with `= ` ends an input and has its error.
+/// Checks the errors of inputs. A line that begins with `= ` ends an input, and has the input's expected error. All other lines
+/// belong to inputs.
 fn check_all(rt: &(impl Abort + AllocGlobal), examples: &[u8]) -> Result<(), Fail> {
     let mut text = Vec::new(rt.alloc());
     for line in examples.split(|byte| *byte == b'\n') {
@@ -19,7 +20,7 @@ fn check_all(rt: &(impl Abort + AllocGlobal), examples: &[u8]) -> Result<(), Fai
     Ok(())
 }
 
-/// Lines without the form of their key.
+/// Lines that have a known key, but not the key's form.
 #[test]
 fn bad_lines(rt: HostRuntime) -> Result<(), Fail> {
     check_all(
@@ -70,7 +71,7 @@ DA:1
     )
 }
 
-/// Numbers that are too large, also in excluded branches.
+/// Numbers that are too large, also of excluded branches.
 #[test]
 fn large_numbers(rt: HostRuntime) -> Result<(), Fail> {
     check_all(

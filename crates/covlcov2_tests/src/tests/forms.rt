@@ -1,10 +1,10 @@
-//! The forms of lines, alone and together.
+//! Tests the forms of lines, one by one and combined.
 
 use super::{push_line, reads_as};
 use std::process::Abort;
 use std::test::*;
 
-/// Checks that the input is read as the expected one.
+/// Checks that `text`, read as LCOV 2, is the same submission as `wanted`, read as version 1.
 fn check_one(
     rt: &(impl Abort + AllocGlobal),
     name: &[u8],
@@ -15,8 +15,8 @@ fn check_one(
     Ok(())
 }
 
-/// Checks examples. Each input is the rest of a section that begins with `SF:a`. A line that begins with `> ` is expected, one that
-/// begins with `= ` ends the example and is its name, and the others are the input.
+/// Checks examples. A line that begins with `> ` belongs to the expected tracefile. A line that begins with `= ` ends the example,
+/// and has its name. All other lines are input. Both texts get `SF:a` as first line and `end_of_record` as last line.
 fn check_all(rt: &(impl Abort + AllocGlobal), examples: &[u8]) -> Result<(), Fail> {
     let mut text = Vec::from_slice(rt.alloc(), b"SF:a\n")?;
     let mut wanted = Vec::from_slice(rt.alloc(), b"SF:a\n")?;
@@ -37,7 +37,7 @@ fn check_all(rt: &(impl Abort + AllocGlobal), examples: &[u8]) -> Result<(), Fai
     Ok(())
 }
 
-/// `FN:`, `FNL:` and `FNA:`.
+/// Forms of `FN:`, `FNL:` and `FNA:` lines.
 #[test]
 fn functions(rt: HostRuntime) -> Result<(), Fail> {
     check_all(
@@ -122,7 +122,7 @@ FNA:7,1,f
     )
 }
 
-/// Totals.
+/// Totals above and below an `FNL:` line.
 #[test]
 fn totals(rt: HostRuntime) -> Result<(), Fail> {
     check_all(
@@ -162,7 +162,7 @@ BRH:7
     )
 }
 
-/// `BRDA:`.
+/// Forms of `BRDA:` lines.
 #[test]
 fn branches(rt: HostRuntime) -> Result<(), Fail> {
     check_all(
@@ -292,7 +292,7 @@ FNA
     )
 }
 
-/// Inputs of several sections, or with carriage returns.
+/// Whole inputs: with several sections, with carriage returns, or with lines outside of sections.
 #[test]
 fn sections(rt: HostRuntime) -> Result<(), Fail> {
     check_one(

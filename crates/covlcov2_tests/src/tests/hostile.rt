@@ -1,10 +1,11 @@
-//! Long inputs.
+//! Tests long inputs.
 
 use super::{check_fault, read};
 use std::process::Abort;
 use std::test::*;
 
-/// A section of 20,000 descending `FNL:` lines, each with a function. A reader with quadratic running time wouldn't end in time.
+/// Reads a section of 20,000 `FNL:` lines with descending indexes, each with a function. A reader with quadratic running time would
+/// take too long.
 #[test]
 fn many_leaders(rt: HostRuntime) -> Result<(), Fail> {
     let mut text = Vec::from_slice(rt.alloc(), b"SF:a\n")?;
@@ -18,7 +19,7 @@ fn many_leaders(rt: HostRuntime) -> Result<(), Fail> {
     Ok(())
 }
 
-/// 20,000 branches with expressions in one block, and as many blocks with one expression each.
+/// Reads 20,000 expressions in one block, and 20,000 blocks with one expression each.
 #[test]
 fn many_expressions(rt: HostRuntime) -> Result<(), Fail> {
     let mut text = Vec::from_slice(rt.alloc(), b"SF:a\n")?;
@@ -33,7 +34,7 @@ fn many_expressions(rt: HostRuntime) -> Result<(), Fail> {
     Ok(())
 }
 
-/// An input with one byte more than 64 MiB.
+/// An input of one byte more than 64 MiB is rejected.
 #[test]
 fn too_long_text(rt: HostRuntime) -> Result<(), Fail> {
     let text = vec![in rt.alloc(); b'\n'; 67_108_865]?;

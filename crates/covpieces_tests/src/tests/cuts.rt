@@ -1,4 +1,4 @@
-//! How many bytes of a block are whole sections.
+//! Tests how many bytes of a block are whole sections.
 
 use covpieces::whole_sections;
 use std::process::Abort;
@@ -10,7 +10,7 @@ fn check(rt: &impl Abort, block: &[u8], wanted: usize) {
     assert!(rt; given == wanted, "{block:?}: {given}");
 }
 
-/// A block that ends in whole sections.
+/// An empty block, and blocks that end with a section.
 #[test]
 fn whole_blocks(rt: HostRuntime) {
     check(&rt, b"", 0);
@@ -19,7 +19,7 @@ fn whole_blocks(rt: HostRuntime) {
     check(&rt, b"SF:x\nend_of_record\nSF:y\nend_of_record\n", 38);
 }
 
-/// Lines after the last section: complete, cut off and blank ones.
+/// Blocks with complete, cut-off or blank lines after the last section.
 #[test]
 fn more_lines(rt: HostRuntime) {
     check(&rt, b"SF:x\nend_of_record\nTN:b\nSF:y\n", 19);
@@ -28,7 +28,7 @@ fn more_lines(rt: HostRuntime) {
     check(&rt, b"\n\nend_of_record\nDA:1", 16);
 }
 
-/// No line of the block ends a section.
+/// Blocks in which no line ends a section.
 #[test]
 fn no_sections(rt: HostRuntime) {
     check(&rt, b"end_of_record", 0);
@@ -38,7 +38,7 @@ fn no_sections(rt: HostRuntime) {
     check(&rt, b"\n", 0);
 }
 
-/// Carriage returns before the line feed, and more bytes after `end_of_record`.
+/// Sections whose last line has carriage returns, or more bytes after `end_of_record`.
 #[test]
 fn long_ends(rt: HostRuntime) {
     check(&rt, b"SF:x\r\nend_of_record\r\n", 21);

@@ -1,4 +1,4 @@
-//! The state that is carried over between chunks.
+//! Tests the state that is carried over between chunks.
 
 use super::{Version, pass, push_line, read_piece};
 use covpieces::Carried;
@@ -7,7 +7,7 @@ use std::alloc::Global;
 use std::process::Abort;
 use std::test::*;
 
-/// Prints the error of the chunk, or `none`.
+/// The printed error of the chunk, or `none`.
 fn fault_of(
     alloc: Global,
     carried: &Carried,
@@ -20,7 +20,7 @@ fn fault_of(
     })
 }
 
-/// Checks the error of the last chunk.
+/// Checks the printed error of the chunk.
 fn check_fault(
     rt: &(impl Abort + AllocGlobal),
     carried: &Carried,
@@ -33,7 +33,7 @@ fn check_fault(
     Ok(())
 }
 
-/// Checks the sections of the last chunk. `wanted` is a tracefile of version 1 with them.
+/// Checks that the chunk has the same submission as `wanted`, a tracefile of version 1.
 fn check_sections(
     rt: &(impl Abort + AllocGlobal),
     carried: &Carried,
@@ -47,7 +47,7 @@ fn check_sections(
     Ok(())
 }
 
-/// Goes on to the next chunk.
+/// Reads a chunk by `pass`, and checks that the chunk is made of whole sections.
 fn check_pass(
     rt: &(impl Abort + AllocGlobal),
     carried: &mut Carried,
@@ -59,8 +59,8 @@ fn check_pass(
     Ok(())
 }
 
-/// Checks the last chunk of each text. A line `--` ends a chunk. A line that begins with `! ` ends a text, and has the error of its
-/// last chunk.
+/// Checks the error of each text's last chunk. A line `--` ends a chunk. A line that begins with `! ` ends a text, and has the
+/// expected error.
 fn check_faults(
     rt: &(impl Abort + AllocGlobal),
     version: Version,
@@ -84,8 +84,8 @@ fn check_faults(
     Ok(())
 }
 
-/// Checks the last chunk of each text. A line `--` ends a chunk. Lines that begin with `> ` are the expected sections of the last
-/// chunk, as a tracefile of version 1. A line that begins with `= ` ends a text.
+/// Checks the submission of each text's last chunk. A line `--` ends a chunk. Lines that begin with `> ` are a tracefile of version
+/// 1 with the same submission. A line that begins with `= ` ends a text, and has its name.
 fn check_all(
     rt: &(impl Abort + AllocGlobal),
     version: Version,
@@ -113,7 +113,7 @@ fn check_all(
     Ok(())
 }
 
-/// Checks the prefix of the second chunk.
+/// Checks the prefix of the second chunk, after the chunk `first`.
 fn check_front(
     rt: &(impl Abort + AllocGlobal),
     first: &[u8],
@@ -171,7 +171,7 @@ fn fronts(rt: HostRuntime) -> Result<(), Fail> {
     )
 }
 
-/// The test's name is carried over, and the sections are those of the whole text.
+/// The test's name is carried over to the next chunk, so that its sections are the same as in the whole text.
 #[test]
 fn names(rt: HostRuntime) -> Result<(), Fail> {
     check_all(
@@ -259,7 +259,7 @@ end_of_record
     )
 }
 
-/// Errors have the line number in the whole text.
+/// An error has its line number in the whole text.
 #[test]
 fn faults(rt: HostRuntime) -> Result<(), Fail> {
     check_faults(
@@ -358,7 +358,8 @@ end_of_record
     )
 }
 
-/// Errors of grouped functions. The last two inputs show why the prefix needs an `FNL:` line: without one, the total is an error.
+/// Errors after an `FNL:` line. The last two inputs show why the prefix needs an `FNL:` line: without one, a total of functions
+/// outside of sections is an error.
 #[test]
 fn grouped_faults(rt: HostRuntime) -> Result<(), Fail> {
     check_faults(

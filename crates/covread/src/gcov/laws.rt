@@ -9,7 +9,7 @@ ghost use Rattle.covread.specs.Gcov.{Says, LineSays};
 ghost use Rattle.covread.specs.Outcome.{max_bytes};
 ghost use Rattle.covread.specs.GcovOutcome.{IsOutcome, Answers, FaultsEarly, GrowsLate};
 
-/// Each line has exactly one meaning or exactly one error of its own. For each test, each input has exactly one outcome: a
+/// Each line has exactly one meaning, or exactly one error of its own. For each test name, each input has exactly one outcome: a
 /// submission or an error.
 pub fn each_gcov_text_has_one_outcome()
     ensures some_line { (line : List ℕ) → (says : Says) × LineSays line says }
@@ -18,8 +18,8 @@ pub fn each_gcov_text_has_one_outcome()
     ensures one { (test text : List ℕ) (x y : Result SubmissionData Fault) → IsOutcome test text x → IsOutcome test text y → x ≡ y }
 {}
 
-/// `read_gcov` returns the first error even if memory is short, provided that nothing is stored before the invalid line. This holds
-/// for an input within the size limit and a test name that a tracefile can hold.
+/// `read_gcov` returns the first error even if memory is short, provided that no path or function comes before the invalid line.
+/// The input must be within the size limit, and a tracefile must be able to hold the test's name.
 pub fn an_early_fault_is_told()
     ensures { (test text : List ℕ) (answer : Result SubmissionData Fault) (fault : Fault) → Answers test text answer → GrowsLate text answer
         → length text ≤ max_bytes → IsGoodTest test → FaultsEarly (lines_of text) fault → answer ≡ Err fault }

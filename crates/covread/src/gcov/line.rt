@@ -9,7 +9,7 @@ use crate::gcov::shape::{Shape, shape_of};
 use crate::gcov::text::{are_digits, number, without_last};
 use covline::strip_key;
 
-/// An error of a single line, whatever the other lines are.
+/// An error that a line has by itself, whatever the other lines are.
 #[derive(Clone, Copy)]
 pub enum OwnFault {
     /// Counts of template instances follow.
@@ -27,13 +27,13 @@ pub enum OwnFault {
 pub enum GcovLine<'a> {
     /// The path of a source file.
     Path(&'a [u8]),
-    /// A line of the source file, with its count if it has code.
+    /// A source line, with its execution count if the line has code.
     Source { line: u64, count: Option<u64> },
     /// A function's count; the function begins at the next source line.
     Function { name: &'a [u8], count: u64 },
-    /// How often a branch of the source line above was taken; `None` if its block was never executed.
+    /// How often a branch of the last source line was taken, or `None` if the branch's block was never executed.
     Branch { branch: u64, taken: Option<u64> },
-    /// The number of the block that the branches below belong to.
+    /// The number of the block of the branches that follow.
     Block { block: u64 },
     /// A line that is skipped.
     Skip,
@@ -70,14 +70,14 @@ fn read_shape(shape: Shape<'_>) -> Result<GcovLine<'_>, OwnFault>
     }
 }
 
-/// The number of these digits, or the error that it is 2^64 or more.
+/// The number that the digits spell, or the error `NumberTooLarge` if the number is 2^64 or more.
 fn fit(digits: &[u8]) -> Result<u64, OwnFault>
     ensures { result ≡ fit digits.now }
 {
     number(digits).ok_or(OwnFault::NumberTooLarge)
 }
 
-/// Parses how often a branch was taken. If `word` isn't a number, that error takes precedence over a number that is too large.
+/// Parses a branch from its number and its count `word`. A `word` that isn't a number is the error even if `branch` is too large.
 fn read_branch<'a>(branch: &[u8], word: &[u8]) -> Result<GcovLine<'a>, OwnFault>
     ensures { Gives result (branch_says branch.now word.now) }
 {
@@ -93,7 +93,7 @@ fn read_branch<'a>(branch: &[u8], word: &[u8]) -> Result<GcovLine<'a>, OwnFault>
     }
 }
 
-/// Parses a line with a mark and a number. The number 0 is for lines about the source file as a whole.
+/// Parses a line with a mark and a line number. Line number 0 stands for the source file as a whole.
 fn read_numbered<'a>(mark: &[u8], line: &[u8], text: &'a [u8]) -> Result<GcovLine<'a>, OwnFault>
     ensures { Gives result (says_of (Numbered mark.now line.now text.now)) }
 {
@@ -106,7 +106,7 @@ fn read_numbered<'a>(mark: &[u8], line: &[u8], text: &'a [u8]) -> Result<GcovLin
     }
 }
 
-/// Parses a line of the source file without code.
+/// Parses a source line that has no code.
 fn read_bare<'a>(line: &[u8]) -> Result<GcovLine<'a>, OwnFault>
     ensures { Gives result (bare_says line.now) }
 {
@@ -114,7 +114,7 @@ fn read_bare<'a>(line: &[u8]) -> Result<GcovLine<'a>, OwnFault>
     Ok(GcovLine::Source { line, count: None })
 }
 
-/// Parses a line of the source file. A mark of no known form takes precedence over a number that is too large.
+/// Parses a source line. A mark of no known form is the error even if `line` is too large.
 fn read_source<'a>(mark: &[u8], line: &[u8]) -> Result<GcovLine<'a>, OwnFault>
     ensures { Gives result (source_says mark.now line.now) }
 {

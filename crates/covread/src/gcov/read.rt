@@ -16,35 +16,35 @@ use covline::{LineFault, Submission, good_test, lines};
 use covpacked::{PackedSubmission, unpack};
 use std::alloc::Allocator;
 
-/// Reads gcov's annotated source (gcov(1)) as counts of this test. Returns its submission, or the input's first error.
-/// [`read_gcov_packed`] does the same with less memory and time.
+/// Reads gcov's annotated source (gcov(1)) as counts of this test. Returns the source's submission or first error.
+/// [`read_gcov_packed`] returns a packed submission, with less memory and time.
 pub fn read_gcov<A: Allocator + Copy>(
     alloc: A,
     test: &[u8],
     text: &[u8],
 ) -> Result<Submission<A>, ReadFault>
-    // The result is what the input is read as, or memory ran out.
+    // The result is the text's specified outcome, or `Memory`.
     ensures answers { Answers test.now text.now result }
-    // No other result is possible, unless memory ran out.
+    // Every specified outcome of the text equals the result, unless the result is `Memory`.
     ensures only { (outcome : Result SubmissionData Fault) → IsOutcome test.now text.now outcome → IsOrMemory result outcome }
-    // Nothing is stored before the first path or function, so memory can't run out before this line.
+    // `Memory` is returned only if there is a path or function line before any error: nothing is stored earlier.
     ensures memory { GrowsLate text.now result }
 {
     let packed = read_gcov_packed(alloc, test, text)?;
     Ok(unpack(alloc, &packed)?)
 }
 
-/// Reads gcov's annotated source (gcov(1)) as counts of this test. Returns its packed submission, or the input's first error.
+/// Reads gcov's annotated source (gcov(1)) as counts of this test. Returns the source's packed submission or first error.
 pub fn read_gcov_packed<A: Allocator + Copy>(
     alloc: A,
     test: &[u8],
     text: &[u8],
 ) -> Result<PackedSubmission<A>, ReadFault>
-    // The result is what the input is read as, or memory ran out.
+    // The result is the text's specified outcome, or `Memory`.
     ensures answers { Answers test.now text.now result }
-    // No other result is possible, unless memory ran out.
+    // Every specified outcome of the text equals the result, unless the result is `Memory`.
     ensures only { (outcome : Result SubmissionData Fault) → IsOutcome test.now text.now outcome → IsOrMemory result outcome }
-    // Nothing is stored before the first path or function, so memory can't run out before this line.
+    // `Memory` is returned only if there is a path or function line before any error: nothing is stored earlier.
     ensures memory { GrowsLate text.now result }
 {
     if text.len() > MAX_BYTES {

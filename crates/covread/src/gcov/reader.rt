@@ -17,27 +17,27 @@ use std::alloc::Allocator;
 /// A function whose source line hasn't come yet.
 #[derive(Clone, Copy)]
 pub struct Function<'a> {
-    /// Its name.
+    /// The function's name.
     pub name: &'a [u8],
-    /// Its execution count.
+    /// The function's execution count.
     pub count: u128,
 }
 
-/// The source line and the block that a branch belongs to.
+/// The source line and the block of the branches that follow.
 #[derive(Clone, Copy)]
 pub struct BranchAnchor {
     /// The last source line.
     pub line: u64,
-    /// The last block after that source line, or 0 if there was none.
+    /// The number of the last block after the last source line, or 0 if there was none.
     pub block: u64,
 }
 
 /// The section of the last path.
 #[derive(Drop)]
 pub struct OpenSection<'a> {
-    /// Its path.
+    /// The section's path.
     pub file: &'a [u8],
-    /// Its last source line with that line's last block.
+    /// The section's last source line, with that line's last block.
     pub anchor: Option<BranchAnchor>,
 }
 
@@ -68,7 +68,7 @@ impl<'a, A: Allocator + Copy> Reader<'a, A> {
         }
     }
 
-    /// Processes the meaning of line number `at`.
+    /// Processes line number `at`, whose meaning is `line`.
     pub fn take(&mut self, at: u64, line: GcovLine<'a>) -> Result<(), ReadFault>
         ensures steps { StepsTo result (held_data self.new) (grows (held_data self.old) (line_data line.entry)) (step self.old.test.now at (held_data self.old) (line_data line.entry)) }
         ensures test { self.new.test.now ≡ self.old.test.now }
@@ -89,7 +89,7 @@ impl<'a, A: Allocator + Copy> Reader<'a, A> {
         }
     }
 
-    /// Begins a source file. Fails if functions still wait for their source line.
+    /// Begins a source file. Fails if the path is empty, or if functions still wait for their source line.
     fn begin(&mut self, at: u64, path: &'a [u8]) -> Result<(), ReadFault>
         ensures steps { StepsTo result (held_data self.new) true (step_path self.old.test.now at (held_data self.old) path.now) }
         ensures test { self.new.test.now ≡ self.old.test.now }
@@ -122,7 +122,7 @@ impl<'a, A: Allocator + Copy> Reader<'a, A> {
         Ok(())
     }
 
-    /// Processes a source line: the waiting functions begin at it.
+    /// Processes a source line, at which the waiting functions begin.
     fn source(&mut self, at: u64, line: u64, count: Option<u64>) -> Result<(), ReadFault>
         ensures steps { StepsTo result (held_data self.new) (is_some (held_data self.old).section) (step_source at (held_data self.old).section (held_data self.old) line count) }
         ensures test { self.new.test.now ≡ self.old.test.now }
@@ -165,8 +165,8 @@ impl<'a, A: Allocator + Copy> Reader<'a, A> {
         Err(ReadFault::Misplaced { at })
     }
 
-    /// Processes a block of the last source line: the branches below belong to it. Does nothing if no section is open, or if it has
-    /// no source line yet.
+    /// Processes a block of the last source line. The branches that follow belong to this block. Does nothing if no section is
+    /// open, or if the open section has no source line yet.
     fn enter(&mut self, block: u64)
         ensures held { held_data self.new ≡ step_block (held_data self.old) block }
         ensures test { self.new.test.now ≡ self.old.test.now }
@@ -192,7 +192,7 @@ impl<'a, A: Allocator + Copy> Reader<'a, A> {
     }
 }
 
-/// Appends the functions that begin at this line to the open section.
+/// Appends `functions` to the open section, with `line` as their start line.
 fn push_functions<A: Allocator>(
     sects: &mut PackedSects<A>,
     functions: &[Function<'_>],

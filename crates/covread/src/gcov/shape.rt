@@ -1,4 +1,4 @@
-//! Finds the shape of a line: the first of seven that fits. Copies nothing.
+//! Finds the shape of a line: the first of seven shapes that the line fits. Copies nothing.
 
 ghost use Rattle.std.specs.Prelude.{◌≡◌, ◌↔◌, option_map, IsTrue};
 ghost use Rattle.covread.specs.Gcov.{IsShapeOf, Other};
@@ -44,8 +44,8 @@ pub(crate) enum Shape<'a> {
     Other,
 }
 
-/// Whether a line of gcov's output has none of the known shapes, and so is skipped: it isn't about template instances, a function,
-/// a branch or a block, and doesn't begin with a mark and the number of a line. A blank line has no shape.
+/// Whether a line of gcov's output fits no known shape, so that it is skipped. The known shapes are lines about template instances,
+/// functions, branches or blocks, and lines that begin with a mark and a line number. A blank line fits no known shape.
 pub fn fits_no_shape(line: &[u8]) -> bool
     ensures { IsTrue result ↔ IsShapeOf line.now Other }
 {
@@ -69,7 +69,7 @@ pub(crate) fn shape_of(line: &[u8]) -> Shape<'_>
     }
 }
 
-/// The shape of the line. Returns `None` if it has none of the first six.
+/// The shape of the line. Returns `None` if only `Other` fits.
 fn any_shape(line: &[u8]) -> Option<Shape<'_>>
     ensures { option_map shape_data result ≡ any_shape line.now }
 {
@@ -95,7 +95,7 @@ fn other_shape(line: &[u8]) -> Option<Shape<'_>>
     numbered_shape(line)
 }
 
-/// The shape of a function line, from what follows `function `.
+/// The shape of a function line. `text` is what follows `function `.
 fn function_shape(text: &[u8]) -> Option<Shape<'_>>
     ensures { option_map shape_data result ≡ function_shape text.now }
 {
@@ -109,7 +109,7 @@ fn function_shape(text: &[u8]) -> Option<Shape<'_>>
     }
 }
 
-/// The shape of a branch line, from what follows `branch`.
+/// The shape of a branch line. `text` is what follows `branch`.
 fn branch_shape(text: &[u8]) -> Option<Shape<'_>>
     ensures { option_map shape_data result ≡ branch_shape text.now }
 {
@@ -117,7 +117,7 @@ fn branch_shape(text: &[u8]) -> Option<Shape<'_>>
     branch_rest(branch, text)
 }
 
-/// Parses what follows `branch`: the branch's number, and what follows the spaces after it.
+/// Splits what follows `branch` into the branch's number and what follows the spaces after the number.
 fn branch_front(text: &[u8]) -> Option<(&[u8], &[u8])>
     ensures { option_map (λ parts. (parts.0.now, parts.1.now)) result ≡ branch_front text.now }
 {
@@ -127,7 +127,7 @@ fn branch_front(text: &[u8]) -> Option<(&[u8], &[u8])>
     Some((branch, rest))
 }
 
-/// The shape of a branch line, from its number and what follows the spaces after the number.
+/// The shape of a branch line. `branch` is its number, and `text` is what follows the spaces after the number.
 fn branch_rest<'a>(branch: &'a [u8], text: &'a [u8]) -> Option<Shape<'a>>
     ensures { option_map shape_data result ≡ branch_rest branch.now text.now }
 {
@@ -140,7 +140,7 @@ fn branch_rest<'a>(branch: &'a [u8], text: &'a [u8]) -> Option<Shape<'a>>
     None
 }
 
-/// The shape of a branch line, from its number and what follows `taken`.
+/// The shape of a branch line. `branch` is its number, and `text` is what follows `taken`.
 fn taken<'a>(branch: &'a [u8], text: &'a [u8]) -> Option<Shape<'a>>
     ensures { option_map shape_data result ≡ taken_of branch.now text.now }
 {
@@ -158,7 +158,7 @@ fn numbered_shape(text: &[u8]) -> Option<Shape<'_>>
     after_mark(mark, text)
 }
 
-/// The shape of a numbered line, from its mark and what follows the mark.
+/// The shape of a numbered line. `mark` is its mark, and `text` is what follows the mark.
 fn after_mark<'a>(mark: &'a [u8], text: &'a [u8]) -> Option<Shape<'a>>
     ensures { option_map shape_data result ≡ after_mark mark.now text.now }
 {
@@ -168,7 +168,7 @@ fn after_mark<'a>(mark: &'a [u8], text: &'a [u8]) -> Option<Shape<'a>>
     numbered_rest(mark, line, text)
 }
 
-/// The shape of a numbered line, from its mark, its number and what follows the number.
+/// The shape of a numbered line. `mark` is its mark, `line` its number, and `text` what follows the number.
 fn numbered_rest<'a>(mark: &'a [u8], line: &'a [u8], text: &'a [u8]) -> Option<Shape<'a>>
     ensures { option_map shape_data result ≡ numbered_rest mark.now line.now text.now }
 {
@@ -181,7 +181,7 @@ fn numbered_rest<'a>(mark: &'a [u8], line: &'a [u8], text: &'a [u8]) -> Option<S
     None
 }
 
-/// The shape of a block line, from the source line's number and what follows `-block`.
+/// The shape of a block line. `line` is the source line's number, and `text` is what follows `-block`.
 fn block<'a>(line: &'a [u8], text: &'a [u8]) -> Option<Shape<'a>>
     ensures { option_map shape_data result ≡ block_of line.now text.now }
 {

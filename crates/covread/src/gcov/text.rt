@@ -13,11 +13,11 @@ use covline::strip_key;
 pub(crate) enum Class {
     /// `0` to `9`.
     Digit,
-    /// The space alone.
+    /// Only the space.
     Space,
-    /// A byte of a mark: all but space and colon.
+    /// A byte of a mark: any byte except space and colon.
     Mark,
-    /// A byte of a word: all but space.
+    /// A byte of a word: any byte except space.
     Word,
 }
 
@@ -35,7 +35,7 @@ impl Class {
     }
 }
 
-/// The text without the bytes of this class at its front. There may be none.
+/// The text without the bytes of this class, if any, at its front.
 pub(crate) fn after_all(text: &[u8], class: Class) -> &[u8]
     ensures { result.now ≡ rest_of (in_class class) text.now }
 {
@@ -49,7 +49,8 @@ pub(crate) fn after_all(text: &[u8], class: Class) -> &[u8]
     rest
 }
 
-/// The bytes of this class at the front, and what follows them. Returns `None` if there are none.
+/// The bytes of this class at the front of the text, and the rest of the text. Returns `None` if the text doesn't begin with such a
+/// byte.
 pub(crate) fn split_some(text: &[u8], class: Class) -> Option<(&[u8], &[u8])>
     ensures { option_map (λ parts. (parts.0.now, parts.1.now)) result ≡ some_front (in_class class) text.now }
 {
@@ -60,7 +61,7 @@ pub(crate) fn split_some(text: &[u8], class: Class) -> Option<(&[u8], &[u8])>
     Some((&text[..text.len() - rest.len()], rest))
 }
 
-/// The text without the spaces at its front. Returns `None` if there are none.
+/// The text without the spaces at its front. Returns `None` if the text doesn't begin with a space.
 pub(crate) fn after_spaces(text: &[u8]) -> Option<&[u8]>
     ensures { option_map (λ rest. rest.now) result ≡ after_spaces text.now }
 {
@@ -68,7 +69,7 @@ pub(crate) fn after_spaces(text: &[u8]) -> Option<&[u8]>
     Some(rest)
 }
 
-/// Whether these are one or more bytes, all of them digits.
+/// Whether the text is one or more digits, and nothing else.
 pub(crate) fn are_digits(text: &[u8]) -> bool
     ensures { result ≡ are_digits text.now }
 {
@@ -82,7 +83,7 @@ fn all_digits(text: &[u8]) -> bool
     text.iter().all(|byte| byte.is_ascii_digit())
 }
 
-/// The number of these digits, if it is below 2^64.
+/// The number that the digits spell. Returns `None` if the number is 2^64 or more.
 pub(crate) fn number(digits: &[u8]) -> Option<u64>
     ensures { result ≡ number_of digits.now }
 {
@@ -93,7 +94,7 @@ pub(crate) fn number(digits: &[u8]) -> Option<u64>
     Some(number)
 }
 
-/// The number followed by one more digit, if that is below 2^64.
+/// The number with one more decimal digit at its end. Returns `None` if the result is 2^64 or more.
 fn push_digit(number: u64, digit: u8) -> Option<u64>
     ensures { result ≡ fitting (number * 10 + (digit - 48)) }
 {
@@ -101,7 +102,7 @@ fn push_digit(number: u64, digit: u8) -> Option<u64>
     tens.and_then(|tens| tens.checked_add(u64::from(digit.saturating_sub(b'0'))))
 }
 
-/// Removes this byte from the end. Returns the text unchanged if it ends otherwise.
+/// The text without a `byte` at its end. Returns the text unchanged if it doesn't end in `byte`.
 pub(crate) fn without_last(text: &[u8], byte: u8) -> &[u8]
     ensures { result.now ≡ without_last byte text.now }
 {
@@ -111,7 +112,7 @@ pub(crate) fn without_last(text: &[u8], byte: u8) -> &[u8]
     if *last == byte { front } else { text }
 }
 
-/// Whether a word ends before these bytes: there are none, or the first is a space.
+/// Whether a word right before this text ends there: the text is empty or begins with a space.
 pub(crate) fn ends_word(text: &[u8]) -> bool
     ensures { result ≡ ends_word text.now }
 {
@@ -121,7 +122,7 @@ pub(crate) fn ends_word(text: &[u8]) -> bool
     }
 }
 
-/// Whether the name of a function is one that a tracefile can hold: it isn't empty and has no carriage return at its end.
+/// Whether a tracefile can hold this name of a function: the name isn't empty and doesn't end in a carriage return.
 pub(crate) fn is_name(name: &[u8]) -> bool
     ensures { result ≡ is_name name.now }
 {
@@ -131,7 +132,7 @@ pub(crate) fn is_name(name: &[u8]) -> bool
     }
 }
 
-/// The text after the last ` called `.
+/// The text after the last ` called `. Returns `None` if the text doesn't contain ` called `.
 pub(crate) fn after_last_called(text: &[u8]) -> Option<&[u8]>
     ensures { option_map (λ rest. rest.now) result ≡ last_called text.now }
 {

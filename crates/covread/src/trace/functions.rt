@@ -12,9 +12,9 @@ use std::collections::BTreeMap;
 /// A function that has a start line.
 #[derive(Clone, Copy, Drop)]
 pub struct Function {
-    /// The least of its start lines.
+    /// The function's least start line.
     pub start: u64,
-    /// Whether one of its counts so far is above 0.
+    /// Whether a count of the function, so far, is above 0.
     pub is_hit: bool,
 }
 
@@ -24,13 +24,13 @@ pub type Functions<'a, A> = BTreeMap<&'a [u8], Function, A>;
 /// The function that a count belongs to.
 #[derive(Clone, Copy, Drop)]
 pub struct Found {
-    /// The function's start line.
+    /// The function's least start line.
     pub start: u64,
-    /// Whether the count is the first above 0 that the function has.
+    /// Whether the count is the function's first count above 0.
     pub is_first_hit: bool,
 }
 
-/// Records a start line of the function with this name. The least one is stored.
+/// Adds a start line of the function with this name. Only the least start line is stored.
 pub fn take_start<'a, A: Allocator + Copy>(
     functions: &mut Functions<'a, A>,
     name: &'a [u8],
@@ -59,7 +59,7 @@ fn starts_before(function: &Function, line: u64) -> bool
     function.start < line
 }
 
-/// Records a count of the function with this name. Returns `None` if it has no start line.
+/// Adds a count of the function with this name, and returns the function. Returns `None` if the function has no start line.
 pub fn count_function<'a, A: Allocator>(
     functions: &mut Functions<'a, A>,
     name: &'a [u8],

@@ -1,4 +1,4 @@
-//! Laws of reading tracefiles. Each law is the contract of a function that does nothing. They cite covline's laws of lines.
+//! Laws of reading tracefiles. Each law is the contract of a function that only cites covline's laws of lines.
 
 ghost use Rattle.std.specs.Prelude.{◌≡◌, ℕ, List, Result};
 ghost use Rattle.covline.specs.Row.{SubmissionData};

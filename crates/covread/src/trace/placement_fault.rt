@@ -1,4 +1,4 @@
-//! Why a line is rejected.
+//! The reasons to reject a line of a tracefile.
 
 ghost use Rattle.std.specs.Prelude.{◌≡◌};
 ghost use Rattle.covread.specs.declared.trace.placement_fault.PlacementFault.TheVariants.{Memory as NoMemory};
@@ -6,12 +6,12 @@ ghost use Rattle.covread.specs.declared.trace.placement_fault.PlacementFault.The
 use covline::Memory;
 use std::alloc::AllocFailed;
 
-/// Why a reader rejects a line: it is misplaced, or an allocation failed.
+/// The reason why a reader rejects a line: the line is misplaced, or an allocation failed.
 #[derive(Clone, Copy)]
 pub enum PlacementFault {
-    /// The line must be in a section, but none is open.
+    /// The line must be in a section, but no section is open.
     Outside,
-    /// The line must not be in a section, but one is open.
+    /// The line must be outside of sections, but a section is open.
     Inside,
     /// An allocation failed.
     Memory,

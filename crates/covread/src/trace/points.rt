@@ -11,11 +11,11 @@ use covline::{BranchPoint, Memory, Tally};
 use covpacked::{ItemRef, PackedItems};
 use std::alloc::Allocator;
 
-/// A line's or a branch's identity within its section.
+/// The identity of a line or a branch within a section.
 pub trait Point: Ord + Copy + Drop {
     ghost points: { ItemData → List Self };
 
-    /// The point of the item. Returns `None` for an item of another kind.
+    /// The item's point of this kind. Returns `None` for an item of another kind.
     fn of(item: &ItemRef<'_>) -> Option<Self>
         ensures { MatchOption result (points (item_ref_data item.now) ≡ []) (λ p. points (item_ref_data item.now) ≡ p ∷ []) };
 }
@@ -36,14 +36,14 @@ impl Point for BranchPoint {
     }
 }
 
-/// An item's point, and whether its count is above 0.
+/// An item's point, and whether the item's count is above 0.
 #[derive(Clone, Copy, PartialEq, Eq, PartialOrd, Ord, Drop)]
 pub struct Hit<P> {
     pub point: P,
     pub is_hit: bool,
 }
 
-/// Points in ascending order. The last one isn't counted yet, since it may repeat.
+/// A tally of points in ascending order. The last point isn't counted yet, since the next point may equal it.
 #[derive(Clone, Copy, Drop)]
 pub struct Ascent<P> {
     /// The tally of the different points below the last one.
@@ -51,17 +51,17 @@ pub struct Ascent<P> {
     pub last: Option<Hit<P>>,
 }
 
-/// The points of items, in the order of the items.
+/// Whether the points so far ascend, and their tally if they do.
 #[derive(Clone, Copy, Drop)]
 pub enum Points<P> {
     /// The points ascend, as in most tracefiles, and are counted one by one.
     Ascending(Ascent<P>),
-    /// A point was below the one before it. The points are counted after the last one.
+    /// A point was less than the point before it, so the points have to be sorted.
     Scattered,
 }
 
 impl<P: Point> Ascent<P> {
-    /// No points yet.
+    /// The ascent without points.
     pub fn new() -> Ascent<P>
         ensures { IsAscent P.cmp result [] }
     {
@@ -71,7 +71,7 @@ impl<P: Point> Ascent<P> {
         }
     }
 
-    /// Whether the points still ascend with this one, which may equal the last.
+    /// Whether `point` is at least the last point. Returns `true` if there is no last point.
     fn goes_on_to(&self, point: P) -> bool
         ensures { result ≡ goes_on P.cmp self.now.last point }
     {
@@ -81,7 +81,8 @@ impl<P: Point> Ascent<P> {
         }
     }
 
-    /// Adds a point in place: copying an `Ascent`, with its tags, would take as long as the rest of the work for a line.
+    /// Adds a point, which must be at least the last one. Works in place: to copy an `Ascent` takes as long as all other work for a
+    /// line.
     fn add(&mut self, next: Hit<P>)
         requires ascends { goes_on P.cmp self.old.last next.point ≡ true }
         requires fits { (seen : List (HitOf P)) × IsAscent P.cmp self.old seen × length seen < 2 ^ 64 }
@@ -130,8 +131,8 @@ impl<P: Point> Points<P> {
     }
 }
 
-/// The tally of the different points of the items, all of which were added to `points`. Allocates nothing if the points ascend.
-/// Otherwise sorts them, in time n log n.
+/// The tally of the different points of `items`, all of which must have been added to `points`. Allocates nothing if the points
+/// ascend. Otherwise sorts them, in O(n log n) time.
 pub fn totals_of<P: Point, A: Allocator + Copy>(
     alloc: A,
     points: Points<P>,
@@ -147,7 +148,7 @@ pub fn totals_of<P: Point, A: Allocator + Copy>(
     }
 }
 
-/// The points of all items of this kind, in the order of the items.
+/// The `Hit` of each item of this kind, in the order of the items.
 fn hits_of<P: Point, A: Allocator + Copy>(
     alloc: A,
     items: &PackedItems<'_>,
@@ -167,7 +168,7 @@ fn hits_of<P: Point, A: Allocator + Copy>(
     Ok(hits)
 }
 
-/// The tally of the different points.
+/// Sorts the points, and returns the tally of the different points.
 fn sorted_totals<P: Point, A: Allocator>(mut hits: Vec<Hit<P>, A>) -> Tally
     requires { length hits.items < 2 ^ 64 }
     ensures { IsTally P.cmp result hits.items }

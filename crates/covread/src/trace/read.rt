@@ -18,30 +18,30 @@ use covline::{
 use covpacked::{PackedSubmission, unpack};
 use std::alloc::Allocator;
 
-/// Reads a tracefile (geninfo(1), section FILES). Returns its submission, or the input's first error. [`read_trace_packed`] does
-/// the same with less memory and time.
+/// Reads a tracefile (geninfo(1), section FILES). Returns its submission or its first error. [`read_trace_packed`] returns a packed
+/// submission, with less memory and time.
 pub fn read_trace<A: Allocator + Copy>(alloc: A, text: &[u8]) -> Result<Submission<A>, ReadFault>
-    // The result is what the input is read as, or memory ran out.
+    // The result is the text's specified outcome, or `Memory`.
     ensures answers { Answers text.now result }
-    // No other result is possible, unless memory ran out.
+    // Every specified outcome of the text equals the result, unless the result is `Memory`.
     ensures only { (outcome : Result SubmissionData Fault) → IsOutcome text.now outcome → IsOrMemory result outcome }
-    // Nothing is stored before the first path, so memory can't run out before this line.
+    // `Memory` is returned only if there is a path line: nothing is stored before it.
     ensures memory { GrowsLate text.now result }
 {
     let packed = read_trace_packed(alloc, text)?;
     Ok(unpack(alloc, &packed)?)
 }
 
-/// Reads a tracefile (geninfo(1), section FILES). Returns its packed submission, or the input's first error.
+/// Reads a tracefile (geninfo(1), section FILES). Returns its packed submission or its first error.
 pub fn read_trace_packed<A: Allocator + Copy>(
     alloc: A,
     text: &[u8],
 ) -> Result<PackedSubmission<A>, ReadFault>
-    // The result is what the input is read as, or memory ran out.
+    // The result is the text's specified outcome, or `Memory`.
     ensures answers { Answers text.now result }
-    // No other result is possible, unless memory ran out.
+    // Every specified outcome of the text equals the result, unless the result is `Memory`.
     ensures only { (outcome : Result SubmissionData Fault) → IsOutcome text.now outcome → IsOrMemory result outcome }
-    // Nothing is stored before the first path, so memory can't run out before this line.
+    // `Memory` is returned only if there is a path line: nothing is stored before it.
     ensures memory { GrowsLate text.now result }
 {
     // The proof cites this law.
@@ -70,8 +70,8 @@ fn read_lines<'a, A: Allocator + Copy>(alloc: A, text: &'a [u8]) -> Result<Reade
     Ok(reader)
 }
 
-/// Processes the first line of `text`, which is the rest of an input, and returns what follows it. `at` is the line's number. Most
-/// lines are counts of a source line or of a branch, so these two are tried first, before the line is cut from the text.
+/// Processes the first line of `text`, which must not be empty, and returns what follows the line. `text` is the rest of an input,
+/// and `at` the line's number. Most lines are `DA:` or `BRDA:` lines, so these are tried first, before the line is cut off.
 #[inline(always)]
 fn take_first<'a, A: Allocator + Copy>(
     reader: &mut Reader<'a, A>,
@@ -97,7 +97,7 @@ fn take_first<'a, A: Allocator + Copy>(
     Ok(rest)
 }
 
-/// Processes the count of a source line. `at` is the number of its line in the tracefile.
+/// Processes a `DA:` record: the count of the source line `line`. `at` is the record's line number in the tracefile.
 #[inline(always)]
 pub fn take_line_count<A: Allocator + Copy>(
     reader: &mut Reader<'_, A>,
@@ -115,7 +115,7 @@ pub fn take_line_count<A: Allocator + Copy>(
     }
 }
 
-/// Processes how often a branch was taken. `at` is the number of its line in the tracefile.
+/// Processes a `BRDA:` record: how often a branch was taken. `at` is the record's line number in the tracefile.
 #[inline(always)]
 pub fn take_branch<A: Allocator + Copy>(
     reader: &mut Reader<'_, A>,
@@ -152,7 +152,7 @@ fn take_line<'a, A: Allocator + Copy>(
     }
 }
 
-/// The error of an input whose line number `at` is rejected for this reason.
+/// Turns the reason `why` into an error of the input. `at` is the number of the rejected line.
 pub fn fault_at(why: PlacementFault, at: u64) -> ReadFault
     ensures { result ≡ fault_at why at }
 {

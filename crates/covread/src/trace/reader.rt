@@ -17,22 +17,22 @@ use std::alloc::Allocator;
 /// A section that isn't closed yet.
 #[derive(Drop)]
 pub struct OpenSection<'a, A: Allocator> {
-    /// Its path.
+    /// The section's path.
     pub file: &'a [u8],
-    /// The state of its lines so far.
+    /// The state after the section's lines so far.
     pub builder: SectionBuilder<'a, A>,
 }
 
 /// The state of the reader between two lines.
 #[derive(Drop)]
 pub struct Reader<'a, A: Allocator> {
-    /// The name in the last test line; empty before the first one.
+    /// The name in the last `TN:` line. Empty before the first `TN:` line.
     pub test: &'a [u8],
     /// The open section.
     pub section: Option<OpenSection<'a, A>>,
     /// The closed sections, and the items of the open one.
     pub sects: PackedSects<A>,
-    /// The number of inconsistent lines of the closed sections.
+    /// The number of inconsistent lines in the closed sections.
     pub odd: u64,
 }
 
@@ -127,8 +127,8 @@ impl<'a, A: Allocator + Copy> Reader<'a, A> {
         Err(PlacementFault::Outside)
     }
 
-    /// Adds the count of a branch to the open section. `taken` is how often the branch was taken, or `None` if its block was
-    /// never executed.
+    /// Adds the count of a branch to the open section. `taken` is how often the branch was taken, or `None` if the branch's block
+    /// was never executed.
     #[inline(always)]
     pub fn keep_branch(
         &mut self,
@@ -147,7 +147,7 @@ impl<'a, A: Allocator + Copy> Reader<'a, A> {
         Err(PlacementFault::Outside)
     }
 
-    /// Closes the open section: settles its counts and totals, and stores it with the test's name.
+    /// Closes the open section: completes its items, counts its inconsistent lines, and stores it with the test's name.
     fn end(&mut self, alloc: A) -> Result<(), PlacementFault>
         requires { (inside : List LineData) × HasRoom self.old inside }
         ensures { (inside : List LineData) → IsOpen self.old inside → Steps result (held_data self.old inside) self.new End }

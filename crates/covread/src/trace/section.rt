@@ -12,10 +12,10 @@ use covpacked::PackedSects;
 use std::alloc::Allocator;
 use std::collections::BTreeMap;
 
-/// A count of a function, which waits for the least start line of the function.
+/// A function's count. When the section ends, the count's item gets the function's least start line.
 #[derive(Clone, Copy, Drop)]
 pub struct PendingCount<'a> {
-    /// The index of its item among the section's items.
+    /// The index of the count's item among the section's items.
     pub at: usize,
     /// The function's name.
     pub name: &'a [u8],
@@ -23,15 +23,15 @@ pub struct PendingCount<'a> {
     pub is_hit: bool,
 }
 
-/// The state of an open section's lines, besides its items, which packed sections store. The item of a function's count has the
-/// start line 0 until the section ends. Counts of functions, and totals, depend on later lines, so they wait until then.
+/// The state of an open section, except for its items, which are in a `PackedSects`. The item of a function's count has the start
+/// line 0 until the section ends. Counts of functions, and totals, wait for the section's end, since they depend on later lines.
 #[derive(Drop)]
 pub struct SectionBuilder<'a, A: Allocator> {
     /// The functions with a start line.
     pub functions: Functions<'a, A>,
     /// The counts of functions.
     pub waiting: Vec<PendingCount<'a>, A>,
-    /// The lines that the items count.
+    /// The source lines that the items count.
     pub lines: Points<u64>,
     /// The branches that the items count.
     pub branches: Points<BranchPoint>,
@@ -59,7 +59,7 @@ impl<'a, A: Allocator + Copy> SectionBuilder<'a, A> {
         }
     }
 
-    /// Adds a record, which must be one that an open section stores.
+    /// Adds a record, which must be a start line, a count or a total.
     pub fn take(&mut self, sects: &mut PackedSects<A>, line: TraceLine<'a>) -> Result<(), Memory>
         requires room { (inside : List LineData) × IsBuiltOf self.old sects.old.items inside × length inside + 1 < 2 ^ 64 }
         requires kept { IsKept (line_data line) }
@@ -127,7 +127,7 @@ impl<'a, A: Allocator + Copy> SectionBuilder<'a, A> {
         sects.push_function(name, 0, count)
     }
 
-    /// Adds how often a branch was taken. Only the packed sections may allocate.
+    /// Adds the count of a branch. Allocates only in `sects`.
     #[inline(always)]
     pub fn take_branch(
         &mut self,
@@ -147,7 +147,7 @@ impl<'a, A: Allocator + Copy> SectionBuilder<'a, A> {
         Ok(())
     }
 
-    /// Adds the execution count of a line. Only the packed sections may allocate.
+    /// Adds the execution count of a line. Allocates only in `sects`.
     #[inline(always)]
     pub fn take_line(
         &mut self,

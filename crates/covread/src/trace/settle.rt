@@ -14,18 +14,18 @@ use covline::Memory;
 use covpacked::PackedSects;
 use std::alloc::Allocator;
 
-/// The result of the counts of functions so far.
+/// The result of settling counts of functions.
 #[derive(Drop)]
 pub struct SettledCounts<A: Allocator> {
     /// How many functions have both a start line and a count above 0.
     pub hit: u64,
-    /// The indices, among the section's items, of the counts whose function has no start line. They ascend.
+    /// The indices, in ascending order, of the items that count a function without a start line.
     pub unstarted: Vec<usize, A>,
 }
 
 /// Settles the open section, and returns the number of its inconsistent lines: counts of functions without a start line, and totals
-/// that differ from the section's own. Each count of a function gets the function's least start line, or is removed if there is
-/// none. Takes time n log n for n lines.
+/// that differ from the section's own. Each count of a function gets the function's least start line, or is removed if the function
+/// has none. Takes O(n log n) time for n lines.
 pub fn settle<'a, A: Allocator + Copy>(
     alloc: A,
     sects: &mut PackedSects<A>,
@@ -60,7 +60,7 @@ pub fn settle<'a, A: Allocator + Copy>(
     Ok(unstarted.len() as u64 + others)
 }
 
-/// Gives each count of a function its least start line, and lists the counts whose function has none.
+/// Sets the start line of each count in `waiting` to its function's least start line, and lists the counts whose function has none.
 fn settle_counts<'a, A: Allocator + Copy>(
     alloc: A,
     waiting: &[PendingCount<'a>],

@@ -1,4 +1,4 @@
-//! Compares a section's own totals with the stated ones.
+//! Compares the totals that a section states with the section's own totals.
 
 ghost use Rattle.std.specs.Prelude.{◌≡◌, ◌<◌, ◌^◌, List, true, IfOk, count_by, length, map};
 ghost use Rattle.std.specs.List.{list_any};
@@ -26,12 +26,12 @@ enum PointKind {
     Lines,
 }
 
-/// The numbers of functions of a section.
+/// How many functions a section has, and how many of them are hit.
 #[derive(Clone, Copy, Drop)]
 pub struct FunctionTotals {
-    /// The functions with a start line.
+    /// The number of functions with a start line.
     pub found: u64,
-    /// Those of them with an execution count above 0.
+    /// The number of functions with a start line and an execution count above 0.
     pub hit: u64,
 }
 
@@ -43,8 +43,8 @@ pub struct SectionPoints {
     pub lines: Points<u64>,
 }
 
-/// A section's own totals. Those of branches are counted only if a line of the section states a total of branches, and are 0
-/// otherwise; likewise those of lines.
+/// A section's own totals. Branches are tallied only if the section states a total of branches, and lines only if it states a total
+/// of lines. Otherwise the tally is 0.
 #[derive(Clone, Copy)]
 struct OwnTotals {
     functions: FunctionTotals,
@@ -52,7 +52,8 @@ struct OwnTotals {
     lines: Tally,
 }
 
-/// How many of a section's stated totals differ from its own, which are computed from `has` and `items`.
+/// The number of stated totals that differ from the section's own totals. The section's own totals are computed from `has` and
+/// `items`.
 pub fn odd_totals<A: Allocator + Copy>(
     alloc: A,
     totals: &[StatedTotal],
@@ -71,7 +72,7 @@ pub fn odd_totals<A: Allocator + Copy>(
     Ok(count_odd(totals, &own))
 }
 
-/// The totals of these points if a total of this `sort` is stated, else zeros.
+/// The tally of the points if `totals` has a total of this `sort`, and zeros otherwise.
 fn stated_totals<P: Point, A: Allocator + Copy>(
     alloc: A,
     totals: &[StatedTotal],
@@ -90,7 +91,7 @@ fn stated_totals<P: Point, A: Allocator + Copy>(
     }
 }
 
-/// Whether a total of this `sort` is stated.
+/// Whether `totals` has a total of this `sort`.
 fn any_states(totals: &[StatedTotal], sort: PointKind) -> bool
     ensures { result ≡ list_any (states sort) (map stated_record totals.now) }
 {
@@ -103,7 +104,7 @@ fn any_states(totals: &[StatedTotal], sort: PointKind) -> bool
 }
 
 impl PointKind {
-    /// Whether totals of this kind count points of this sort.
+    /// Whether a total of kind `kind` counts points of this sort.
     fn has(self, kind: TotalKind) -> bool
         ensures { result ≡ has self kind }
     {

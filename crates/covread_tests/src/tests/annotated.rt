@@ -1,4 +1,4 @@
-//! The reader of gcov's annotated source: its result, item by item, and inputs that no session gives it.
+//! Tests the reader of gcov's annotated source: the items that it returns, and inputs that no session passes to it.
 
 use super::wrappers::{annotated, annotated_packed, is_packed, read};
 use super::{check_bytes, push_line};
@@ -9,7 +9,7 @@ use std::test::*;
 mod items;
 mod real;
 
-/// Prints the numbers of sections and items of an input, or its error.
+/// The numbers of sections and items of an input, or its error, as text.
 fn counted(alloc: Global, test: &[u8], text: &[u8]) -> Result<String, Fail> {
     Ok(match annotated(alloc, test, text) {
         Ok(submission) => {
@@ -21,7 +21,8 @@ fn counted(alloc: Global, test: &[u8], text: &[u8]) -> Result<String, Fail> {
     })
 }
 
-/// A packed submission has the same items as a tracefile.
+/// A packed submission of gcov's output equals the submission of a tracefile with the same items, but not a submission of another
+/// test.
 #[test]
 fn packed(rt: HostRuntime) -> Result<(), Fail> {
     let text = b"        -:    0:Source:tmp.c
@@ -50,7 +51,7 @@ fn check_counted(
     Ok(())
 }
 
-/// Prefixes of one input: each `> ` line is the result expected of all lines above it.
+/// Reads prefixes of one input. Each line that begins with `> ` is the expected result for all input lines above it.
 #[test]
 fn first_lines(rt: HostRuntime) -> Result<(), Fail> {
     let lines = b"> sections 0 items 0
@@ -92,7 +93,7 @@ branch  0 never executed
     Ok(())
 }
 
-/// Test names that no tracefile can hold are rejected. No session gives the reader such a name.
+/// Test names that no tracefile can hold are rejected. No session passes such a name to the reader.
 #[test]
 fn unlawful_names(rt: HostRuntime) -> Result<(), Fail> {
     for name in b"a\nb|\n|a\r|\r".split(|byte| *byte == b'|') {
@@ -101,7 +102,7 @@ fn unlawful_names(rt: HostRuntime) -> Result<(), Fail> {
     Ok(())
 }
 
-/// An input of 67,108,864 bytes is read. A longer one is rejected for its length, even if the test's name is unlawful.
+/// An input of 67,108,864 bytes is read. A longer input is rejected for its length, even if the test's name is unlawful.
 #[test]
 fn longest_text(rt: HostRuntime) -> Result<(), Fail> {
     let text = vec![in rt.alloc(); b'#'; 67_108_865]?;
@@ -109,7 +110,7 @@ fn longest_text(rt: HostRuntime) -> Result<(), Fail> {
     check_counted(&rt, b"t", &text[1..], b"sections 0 items 0")
 }
 
-/// Like `longest_text`, with an input of line feeds alone, whose lines are all blank.
+/// Like `longest_text`, with an input of line feeds alone.
 #[test]
 fn most_line_feeds(rt: HostRuntime) -> Result<(), Fail> {
     let text = vec![in rt.alloc(); b'\n'; 67_108_865]?;

@@ -1,4 +1,4 @@
-//! The summary line of a check, with ample memory.
+//! Tests the summary line of a check, with ample memory.
 
 use super::wrappers::{checked, checked_gcov, told, without_shape};
 use super::{check_bytes, push_line};
@@ -22,7 +22,7 @@ fn check(alloc: Global, kind: Kind, text: &[u8]) -> Result<TextSummary<'_>, Read
     }
 }
 
-/// The summary line of an input, or its error.
+/// The summary line of an input, or the line of its error.
 fn line_of(alloc: Global, kind: Kind, text: &[u8]) -> Result<Vec<u8>, Fail> {
     match check(alloc, kind, text) {
         Ok(summary) => Ok(told(alloc, &summary)?),
@@ -33,7 +33,7 @@ fn line_of(alloc: Global, kind: Kind, text: &[u8]) -> Result<Vec<u8>, Fail> {
     }
 }
 
-/// Checks the summary line of the input.
+/// Checks the input's summary line, or its error. `wanted` has no line feed.
 fn check_told(
     rt: &(impl Abort + AllocGlobal),
     kind: Kind,
@@ -46,7 +46,8 @@ fn check_told(
     Ok(())
 }
 
-/// Checks examples. A line that begins with `> ` ends an input, and is its expected summary line. The other lines are the input.
+/// Checks examples. A line that begins with `> ` ends an input, and has the input's expected summary line or error. All other lines
+/// belong to inputs.
 fn check_all(rt: &(impl Abort + AllocGlobal), kind: Kind, lines: &[u8]) -> Result<(), Fail> {
     let mut text: Vec<u8> = Vec::new(rt.alloc());
     for line in lines.split(|byte| *byte == b'\n') {
@@ -61,10 +62,10 @@ fn check_all(rt: &(impl Abort + AllocGlobal), kind: Kind, lines: &[u8]) -> Resul
     Ok(())
 }
 
-/// The second input has an empty line, and the third is empty. The fifth begins with a line of a tab and spaces, and the seventh
-/// with a byte order mark. At most 16 bytes of the first skipped line are printed: the colons, spaces and tabs at its front, and
-/// what follows them up to the next colon, space or tab. A comma or a `<` doesn't end this. Bytes from 33 to 126 are unchanged, and
-/// each other byte is a `?`. A record without the colon of its key is skipped.
+/// The summary shows at most 16 bytes of the first skipped line: the colons, spaces and tabs at its front, and what follows them up
+/// to the next colon, space or tab. Other bytes, such as a comma or a `<`, don't end the shown bytes. Bytes from 33 to 126 are
+/// unchanged, and each other byte is a `?`. Input 2 has an empty line, and input 3 is empty. Input 5 begins with a line of a tab
+/// and spaces, and input 7 with a byte order mark. A record whose key has no colon is skipped.
 #[test]
 fn checked_tracefiles(rt: HostRuntime) -> Result<(), Fail> {
     check_all(
@@ -125,7 +126,7 @@ DA:1
     )
 }
 
-/// The second input is a tracefile.
+/// The second input is a tracefile, so all its lines are skipped.
 #[test]
 fn checked_annotated_source(rt: HostRuntime) -> Result<(), Fail> {
     check_all(
@@ -169,7 +170,7 @@ fn texts_with_and_without_items(rt: HostRuntime) -> Result<(), Fail> {
     check_has_item(&rt, b"<html>\n", false)
 }
 
-/// Each known shape fits some line. A blank line and some others fit no shape.
+/// The six lines of the first list have the six known shapes. The lines of the second list, two of them blank, have none.
 #[test]
 fn lines_with_and_without_a_shape(rt: HostRuntime) {
     for line in b"------|function f called 1|branch 0 never executed|branch 0 taken 1|1: 2-block 3|1: 2:x".split(

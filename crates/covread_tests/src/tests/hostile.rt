@@ -1,4 +1,4 @@
-//! Inputs that are cut off, that have numbers of a million digits, or bytes that few names have.
+//! Tests inputs that are cut off, numbers of a million digits, and names with unusual bytes.
 
 use super::wrappers::{annotated, read, text_of};
 use super::{check_bytes, push_line};
@@ -8,7 +8,7 @@ use std::alloc::Global;
 use std::process::Abort;
 use std::test::*;
 
-/// Prints the numbers of items and of inconsistent lines of an input, or its error.
+/// The numbers of items and of inconsistent lines of an input, or its error, as text.
 fn counted(alloc: Global, text: &[u8]) -> Result<String, Fail> {
     Ok(match read(alloc, text) {
         Ok(submission) => {
@@ -34,7 +34,7 @@ fn wanted_of(n: usize) -> &'static [u8] {
     }
 }
 
-/// An input may be cut off anywhere; its last line then has no line feed.
+/// Reads every prefix of an input. The last line of a prefix may lack its line feed.
 #[test]
 fn first_bytes(rt: HostRuntime) -> Result<(), Fail> {
     let text = b"TN:t\nSF:/a.c\nDA:1,2\nDA:2,0\nLF:2\nLH:1\nend_of_record\n";
@@ -51,7 +51,7 @@ fn million(alloc: Global, digit: u8) -> Result<Vec<u8>, Fail> {
     Ok(vec![in alloc; digit; 1_000_000]?)
 }
 
-/// Replaces each `*` by a million zeros, and each `+` by a million nines.
+/// The text with a million zeros for each `*`, and a million nines for each `+`.
 fn filled(alloc: Global, text: &[u8]) -> Result<Vec<u8>, Fail> {
     let mut filled = Vec::new(alloc);
     for byte in text {
@@ -64,7 +64,7 @@ fn filled(alloc: Global, text: &[u8]) -> Result<Vec<u8>, Fail> {
     Ok(filled)
 }
 
-/// Prints the submission of an input, or its error.
+/// The printed submission of an input, or its printed error.
 fn told(alloc: Global, given: Result<Submission, ReadFault>) -> Result<Vec<u8>, Fail> {
     let mut told = Vec::new(alloc);
     match given {
@@ -80,7 +80,8 @@ fn told(alloc: Global, given: Result<Submission, ReadFault>) -> Result<Vec<u8>, 
     Ok(told)
 }
 
-/// Checks the printed submission of an input. Both the input and the expected text are filled first, by `filled`.
+/// Checks the printed submission, or the error, of an input. First replaces `*` and `+`, by `filled`, in the input and in the
+/// expected text.
 fn check_filled(
     rt: &(impl Abort + AllocGlobal),
     name: &[u8],
@@ -94,8 +95,8 @@ fn check_filled(
     Ok(())
 }
 
-/// Checks examples. A line that begins with `> ` is expected output, one that begins with `= ` ends the example and is its name,
-/// and the others are the input.
+/// Checks examples. A line that begins with `> ` is expected output. A line that begins with `= ` ends the example, and has its
+/// name. All other lines are input.
 fn check_all(rt: &(impl Abort + AllocGlobal), examples: &[u8]) -> Result<(), Fail> {
     let mut text = Vec::new(rt.alloc());
     let mut wanted = Vec::new(rt.alloc());
@@ -194,7 +195,7 @@ end_of_record\x00
     )
 }
 
-/// Names in annotated source may hold any byte but a line feed; carriage returns at a line's end are stripped.
+/// Names in annotated source may have any byte but a line feed. Carriage returns at a line's end are stripped.
 #[test]
 fn bytes_of_annotated_names(rt: HostRuntime) -> Result<(), Fail> {
     let text = b"-:0:Source:\xff\r\x00\r\r\r\nfunction \x00\r\xff called 2\n1:3:\x00\xff\n";

@@ -1,4 +1,4 @@
-//! The longest inputs, and a long section.
+//! Tests the longest inputs, and a long section.
 
 use super::wrappers::read;
 use covread::ReadFault;
@@ -21,7 +21,7 @@ fn check_counted(
     assert_eq!(rt; counted(rt.alloc(), text), wanted);
 }
 
-/// An input of 67,108,864 bytes is read, and one with one more byte isn't.
+/// An input of 67,108,864 bytes is read, and an input of one byte more is rejected.
 #[test]
 fn longest_text(rt: HostRuntime) -> Result<(), Fail> {
     let text = vec![in rt.alloc(); b'#'; 67_108_865]?;
@@ -30,7 +30,7 @@ fn longest_text(rt: HostRuntime) -> Result<(), Fail> {
     Ok(())
 }
 
-/// Like `longest_text`, with an input of line feeds alone, whose lines are all blank.
+/// Like `longest_text`, with an input of line feeds alone.
 #[test]
 fn most_line_feeds(rt: HostRuntime) -> Result<(), Fail> {
     let text = vec![in rt.alloc(); b'\n'; 67_108_865]?;
@@ -39,7 +39,7 @@ fn most_line_feeds(rt: HostRuntime) -> Result<(), Fail> {
     Ok(())
 }
 
-/// Appends the records of a line, a function and a branch of this number. The number is also their count.
+/// Appends records of a line, a function and a branch. `n` is the line number and the count of each.
 fn push_point(alloc: Global, n: u64, text: &mut Vec<u8>) -> Result<(), Fail> {
     let function: String = format!(in alloc; "FNDA:{n},f{n}\nFN:{n},f{n}\n")?;
     let others: String = format!(in alloc; "BRDA:{n},0,0,{n}\nDA:{n},{n}\n")?;
@@ -48,8 +48,8 @@ fn push_point(alloc: Global, n: u64, text: &mut Vec<u8>) -> Result<(), Fail> {
     Ok(())
 }
 
-/// A section of 300,000 lines, 300,000 functions and 300,000 branches that don't ascend. A reader with quadratic running time
-/// wouldn't end in time.
+/// Reads a section of 300,000 lines, 300,000 functions and 300,000 branches in descending order. A reader with quadratic running
+/// time would take too long.
 #[test]
 fn long_section(rt: HostRuntime) -> Result<(), Fail> {
     let mut text = Vec::from_slice(rt.alloc(), b"SF:a\n")?;

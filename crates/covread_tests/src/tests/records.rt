@@ -1,4 +1,4 @@
-//! Calls of covline and covread that no session reaches: single records, lists, submissions, and the items of an input.
+//! Tests calls of covline and covread that no session makes, on single records, lists and submissions, and the items of an input.
 
 use super::wrappers::{
     append, branch_first, bytes_of, copied_items, copied_sects, copied_submission, copy_of,
@@ -14,7 +14,7 @@ use std::alloc::Global;
 use std::process::Abort;
 use std::test::*;
 
-/// A text, and a copy of it that was made before the last two appends.
+/// A text, and a copy of the text from before its last two appends.
 fn text_and_copy(alloc: Global) -> Result<(Bytes, Bytes), Memory> {
     let mut text = bytes_of(alloc, b"ab")?;
     append(&mut text, b"cd")?;
@@ -34,7 +34,7 @@ fn bytes(rt: HostRuntime) -> Result<(), Fail> {
     Ok(())
 }
 
-/// Records are appended to earlier text, with the largest numbers. A skipped line isn't printed.
+/// Printed records are appended to the text. Their numbers are the largest that fit. A skipped line isn't printed.
 #[test]
 fn printed_records(rt: HostRuntime) -> Result<(), Fail> {
     let records = [
@@ -60,23 +60,23 @@ fn printed_records(rt: HostRuntime) -> Result<(), Fail> {
     Ok(())
 }
 
-/// Checks the result of `counted_first`: the numbers of a text's first line, or `None` if that line must be cut first.
+/// Checks `counted_first`: the numbers of a text's first line, or `None` if the line must be cut off before it is parsed.
 fn check_first(rt: &impl Abort, text: &[u8], wanted: Option<(u64, u64, &[u8], usize)>) {
     assert_eq!(rt; counted_first(text), wanted);
 }
 
-/// Checks the result of `branch_first`: the branch of a text's first line, or `None` if that line must be cut first.
+/// Checks `branch_first`: the branch of a text's first line, or `None` if the line must be cut off before it is parsed.
 fn check_branch(rt: &impl Abort, text: &[u8], wanted: Option<(BranchPoint, Option<u64>, usize)>) {
     assert_eq!(rt; branch_first(text), wanted);
 }
 
-/// Checks the length of a text's first line, and how many bytes follow it.
+/// Checks the length of a text's first line, and the number of bytes after this line.
 fn check_cut(rt: &impl Abort, text: &[u8], wanted: (usize, usize)) {
     assert_eq!(rt; cut_first(text), wanted);
 }
 
-/// A first `DA:` line is read before it is cut, with or without a checksum. It isn't if its checksum is empty or has a comma, if it
-/// has no line feed, or if its count isn't below 2^64.
+/// A first `DA:` line, with or without a checksum, is parsed without cutting it off. The line must be cut off first if its checksum
+/// is empty or has a comma, if its line feed is missing, or if its count is 2^64 or more.
 #[test]
 fn checksums_before_a_cut(rt: HostRuntime) {
     check_first(
@@ -91,8 +91,8 @@ fn checksums_before_a_cut(rt: HostRuntime) {
     check_first(&rt, b"DA:7,18446744073709551616,a\n", None);
 }
 
-/// A first `DA:` line without a checksum is read before it is cut, if it has a line feed and its count is below 2^64. Other lines
-/// are cut first.
+/// A first `DA:` line without a checksum is parsed without cutting it off if it has a line feed and a count below 2^64. Other lines
+/// are cut off first.
 #[test]
 fn counts_before_a_cut(rt: HostRuntime) {
     check_first(&rt, b"DA:7,12", None);
@@ -106,7 +106,8 @@ fn counts_before_a_cut(rt: HostRuntime) {
     check_cut(&rt, b"rest", (4, 0));
 }
 
-/// A first `BRDA:` line is read before it is cut, with a count below 2^64 or a dash, if a line feed comes right after that.
+/// A first `BRDA:` line is parsed without cutting it off if its last field, right before a line feed, is a dash or a count below
+/// 2^64.
 #[test]
 fn branch_before_a_cut(rt: HostRuntime) {
     let point = BranchPoint {
@@ -122,7 +123,7 @@ fn branch_before_a_cut(rt: HostRuntime) {
     check_branch(&rt, b"BRDA:7,0,2,12\r\n", None);
 }
 
-/// Prints the record of each line again: `skipped` for a skipped line, and `faulty` for an invalid one.
+/// Parses each line, and returns the printed records, with `skipped` for a skipped line and `faulty` for an invalid line.
 fn read_and_printed(alloc: Global, text: &[u8]) -> Result<Bytes, Memory> {
     let mut printed = Bytes::new(alloc);
     for line in text.split(|byte| *byte == b'\n') {
@@ -204,7 +205,7 @@ LH:6
     Ok(())
 }
 
-/// Appends the lines of a text, with a bar after each, and then a semicolon.
+/// Appends each line of the text with a bar after the line, and at the end a semicolon.
 fn put_lines(text: &[u8], joined: &mut Bytes) -> Result<(), Memory> {
     for line in lines(text) {
         append(joined, line)?;
@@ -213,7 +214,7 @@ fn put_lines(text: &[u8], joined: &mut Bytes) -> Result<(), Memory> {
     append(joined, b";")
 }
 
-/// A semicolon comes between texts, and between the lists of their lines.
+/// A semicolon separates two texts in the input, and ends each text's list of lines in the expected value.
 #[test]
 fn lines_of_texts(rt: HostRuntime) -> Result<(), Fail> {
     let texts = b";a\n;a\nb;\n\na\n;\r\n;a\r\r\nb\n;a\rb\n;a\n\r;a\n\rb\r";
@@ -247,7 +248,7 @@ fn names_of_tests(rt: HostRuntime) {
     }
 }
 
-/// A line, a function and a branch.
+/// The items of a line, a function and a branch.
 fn items_of(alloc: Global, function: &[u8], checksum: &[u8]) -> Result<Items, Memory> {
     let name = bytes_of(alloc, function)?;
     let checksum = Some(bytes_of(alloc, checksum)?);
@@ -271,7 +272,7 @@ fn items_of(alloc: Global, function: &[u8], checksum: &[u8]) -> Result<Items, Me
     Ok(items)
 }
 
-/// Appends the line and the branch that an item counts, and whether it is hit.
+/// Appends the line and the branch that an item counts (`None` if it counts none), and whether the item is hit.
 fn put_points(alloc: Global, item: &Item, text: &mut Vec<u8>) -> Result<(), Fail> {
     let line = item.line_point();
     let branch = item.branch_point();
@@ -315,7 +316,7 @@ fn push_sect(
 const TWO: &[u8] = b"TN:\nSF:a.c\nDA:1,2,k\nFN:3,f\nFNDA:4,f\nBRDA:5,6,7,-\nend_of_record\n\
     TN:t\nSF:a\rb.c\nDA:1,2,+/==\nFN:3,g(int, int)\nFNDA:4,g(int, int)\nBRDA:5,6,7,-\nend_of_record\n";
 
-/// Appends a section with the names of its test, its file and its function, and with a checksum.
+/// Appends a section with this test, file and function, and with this checksum.
 fn push_names(
     alloc: Global,
     sects: &mut Sects,
@@ -336,14 +337,14 @@ fn two_sects(alloc: Global) -> Result<Sects, Memory> {
     Ok(sects)
 }
 
-/// Checks that `text_of` prints the sections as this text.
+/// Checks that `text_of` returns the expected text for the sections.
 fn check_sects(rt: &(impl Abort + AllocGlobal), sects: &[Sect], wanted: &[u8]) -> Result<(), Fail> {
     let text = text_of(rt.alloc(), sects)?;
     check_bytes(rt, text.get(), wanted);
     Ok(())
 }
 
-/// Copies the items of each section, and checks that they are three.
+/// Copies the items of each section, and checks that each copy has three items.
 fn check_copied_items(rt: &(impl Abort + AllocGlobal), sects: &[Sect]) -> Result<(), Fail> {
     for sect in sects {
         let items = copied_items(rt.alloc(), &sect.items)?;
@@ -361,7 +362,7 @@ fn lists_and_their_copies(rt: HostRuntime) -> Result<(), Fail> {
     check_copied_items(&rt, copy.get())
 }
 
-/// The submission of `TWO`, with 14 inconsistent lines.
+/// A submission with the sections of `TWO` and 14 inconsistent lines.
 fn of_two(alloc: Global) -> Result<Submission, Fail> {
     match submission_of(two_sects(alloc)?, 14) {
         Ok(submission) => Ok(submission),
@@ -369,7 +370,7 @@ fn of_two(alloc: Global) -> Result<Submission, Fail> {
     }
 }
 
-/// Checks that the submission is that of `TWO`, with 14 inconsistent lines.
+/// Checks that the submission has the sections of `TWO` and 14 inconsistent lines.
 fn check_two(rt: &(impl Abort + AllocGlobal), submission: &Submission) -> Result<(), Fail> {
     assert_eq!(rt; submission.items(), 6);
     assert_eq!(rt; submission.odd(), 14);
@@ -384,8 +385,8 @@ fn lawful_submissions(rt: HostRuntime) -> Result<(), Fail> {
     check_two(&rt, &copy)
 }
 
-/// The sections that `Submission::of` returns because of an unlawful name or checksum, and the index of the first such section.
-/// Returns `None` if they aren't rejected for that.
+/// Makes a submission of the sections. If a name or a checksum is rejected, returns the sections and the index of the first section
+/// with such a text. Otherwise returns `None`.
 fn handed_back(sects: Sects) -> Option<(Sects, usize)> {
     match submission_of(sects, 0) {
         Ok(_submission) => None,
@@ -396,7 +397,7 @@ fn handed_back(sects: Sects) -> Option<(Sects, usize)> {
     }
 }
 
-/// A section with an empty path is rejected. The error returns the sections.
+/// A section with an empty path is rejected. The error contains the sections.
 #[test]
 fn an_empty_file(rt: HostRuntime) -> Result<(), Fail> {
     let mut sects = Sects::new(rt.alloc());
@@ -414,7 +415,7 @@ fn an_empty_file(rt: HostRuntime) -> Result<(), Fail> {
     }
 }
 
-/// Appends a section with the names of a row.
+/// Appends a section with the test, file, function and checksum of a row.
 fn push_row(alloc: Global, sects: &mut Sects, row: &[u8]) -> Result<(), Memory> {
     let mut parts = row.split(|byte| *byte == b'|');
     let test = parts.next().unwrap_or(b"");
@@ -424,8 +425,8 @@ fn push_row(alloc: Global, sects: &mut Sects, row: &[u8]) -> Result<(), Memory> 
     push_names(alloc, sects, test, file, function, checksum)
 }
 
-/// The number of sections that `Submission::of` returns of four, and the index of the rejected one. The third section is that of
-/// the row. The fourth is unlawful too.
+/// Makes a submission of four sections. Returns the number of sections in the error, and the index of the rejected section. The
+/// third section has the texts of `row`. The fourth section is unlawful too.
 fn told(alloc: Global, row: &[u8]) -> Result<(usize, usize), Memory> {
     let mut sects = two_sects(alloc)?;
     push_row(alloc, &mut sects, row)?;
@@ -436,7 +437,7 @@ fn told(alloc: Global, row: &[u8]) -> Result<(usize, usize), Memory> {
     }
 }
 
-/// Each row has a test, a file, a function and a checksum, with a bar after each.
+/// Each row is a test, a file, a function and a checksum, with a bar after each. One of the four is unlawful.
 #[test]
 fn unlawful_texts(rt: HostRuntime) -> Result<(), Fail> {
     let rows =
@@ -481,7 +482,7 @@ fn numbers_of_faults(rt: HostRuntime) {
     );
 }
 
-/// Checks that an input is read as these sections, with no inconsistent line, packed and not.
+/// Checks the sections of an input that is read as a submission and as a packed submission. No line may be inconsistent.
 fn check_read(rt: &(impl Abort + AllocGlobal), text: &[u8], wanted: &[u8]) -> Result<(), Fail> {
     let submission = read(rt.alloc(), text)?;
     assert_eq!(rt; submission.odd(), 0);
@@ -489,8 +490,8 @@ fn check_read(rt: &(impl Abort + AllocGlobal), text: &[u8], wanted: &[u8]) -> Re
     check_sects(rt, submission.sects(), wanted)
 }
 
-/// Items come in the order of their lines. A start line is an item with the count 0, and a count of a function is an item with
-/// the least start line of that name in the section.
+/// Items come in the order of their lines. A start line is an item with the count 0. A count of a function is an item with the
+/// least start line that the function has in the section.
 #[test]
 fn items_of_texts(rt: HostRuntime) -> Result<(), Fail> {
     check_read(

@@ -1,4 +1,4 @@
-//! Calls of the crates below, in functions without contracts. A test looks only at values, and its proof is faster without
+//! Wraps calls of the tested crates in functions without contracts. A test looks only at values, and its proof is faster without
 //! contracts.
 
 use covcheck::{TextSummary, check_gcov, check_trace, summary_line};
@@ -28,20 +28,21 @@ pub(super) fn put_line(record: &TraceLine<'_>, text: &mut Bytes) -> Result<(), M
     covline::put_line(record, text)
 }
 
-/// The numbers of a text's first line, a `DA:` line; its checksum, empty if it has none; and how many bytes follow it.
+/// Parses a text's first line if it is a `DA:` line. Returns its line number, its count, its checksum (empty if it has none), and
+/// the number of bytes after it.
 pub(super) fn counted_first(text: &[u8]) -> Option<(u64, u64, &[u8], usize)> {
     let first = covline::try_line_count(text)?;
     let checksum = first.checksum.unwrap_or(b"");
     Some((first.line, first.count, checksum, first.rest.len()))
 }
 
-/// The branch of a text's first line, and how many bytes follow it.
+/// Parses a text's first line if it is a `BRDA:` line. Returns the branch, its count, and the number of bytes after the line.
 pub(super) fn branch_first(text: &[u8]) -> Option<(BranchPoint, Option<u64>, usize)> {
     let first = covline::try_branch_line(text)?;
     Some((first.point, first.taken, first.rest.len()))
 }
 
-/// The length of a text's first line, and how many bytes follow it.
+/// The length of a text's first line, and the number of bytes after this line.
 pub(super) fn cut_first(text: &[u8]) -> (usize, usize) {
     if text.is_empty() {
         return (0, 0);
@@ -94,7 +95,7 @@ pub(super) fn is_packed(packed: &PackedSubmission, given: &Submission) -> bool {
     packed.is_same_as(given)
 }
 
-/// Appends the record of an item. A function has two: its start line and its count.
+/// Appends the records of an item. A function has two records: its start line and its count.
 fn put_item(item: &Item, text: &mut Bytes) -> Result<(), Memory> {
     match item {
         Item::Line {
@@ -148,7 +149,7 @@ fn put_sect(sect: &Sect, text: &mut Bytes) -> Result<(), Memory> {
     put_line(&TraceLine::End, text)
 }
 
-/// Prints the sections.
+/// The sections as a tracefile.
 pub(super) fn text_of(alloc: Global, sects: &[Sect]) -> Result<Bytes, Memory> {
     let mut text = Bytes::new(alloc);
     for sect in sects {

@@ -1,4 +1,4 @@
-//! Prints what is read of gcov's output: a line for each section, and one for each of its items.
+//! Prints the submission of gcov's output: a line for each section, and a line for each of its items.
 
 use crate::tests::push_line;
 use crate::tests::wrappers::annotated;
@@ -7,7 +7,7 @@ use std::alloc::{AllocError, Global};
 use std::process::Abort;
 use std::test::*;
 
-/// Prints an item. A branch whose block was never executed has a dash instead of its count.
+/// The printed item. A branch whose block was never executed has a dash instead of its count.
 fn words_of(alloc: Global, item: &Item) -> Result<String, AllocError> {
     match item {
         Item::Line {
@@ -38,7 +38,7 @@ fn words_of(alloc: Global, item: &Item) -> Result<String, AllocError> {
     }
 }
 
-/// Appends a line that names the section's test and file, and one for each of its items.
+/// Appends a line with the section's test and file, and a line for each of its items.
 fn put_sect(alloc: Global, sect: &Sect, text: &mut Vec<u8>) -> Result<(), Fail> {
     text.extend_from_slice(b"Sect ")?;
     text.extend_from_slice(sect.test.get())?;
@@ -51,7 +51,7 @@ fn put_sect(alloc: Global, sect: &Sect, text: &mut Vec<u8>) -> Result<(), Fail> 
     Ok(())
 }
 
-/// Prints the submission of the text as counts of the test `t`, or the error.
+/// Reads gcov's output as counts of the test `t`. Returns the printed submission or error.
 fn given(alloc: Global, text: &[u8]) -> Result<Vec<u8>, Fail> {
     let mut given = Vec::new(alloc);
     match annotated(alloc, b"t", text) {
@@ -68,7 +68,7 @@ fn given(alloc: Global, text: &[u8]) -> Result<Vec<u8>, Fail> {
     Ok(given)
 }
 
-/// Checks the printed submission of the example with this name.
+/// Checks the printed submission, or the error, of the example with this name.
 fn check_given(
     rt: &(impl Abort + AllocGlobal),
     name: &[u8],
@@ -84,8 +84,8 @@ fn check_given(
     Ok(())
 }
 
-/// Checks examples. A line that begins with `> ` is expected output, one that begins with `= ` ends the example and is its name,
-/// and the others are the input.
+/// Checks examples. A line that begins with `> ` is expected output. A line that begins with `= ` ends the example, and has its
+/// name. All other lines are input.
 pub(super) fn check_all(rt: &(impl Abort + AllocGlobal), examples: &[u8]) -> Result<(), Fail> {
     let mut text = Vec::new(rt.alloc());
     let mut wanted = Vec::new(rt.alloc());
@@ -134,7 +134,7 @@ branch  0 never executed
     )
 }
 
-/// Items come in the order of their lines. A function comes right before the next source line, where it starts.
+/// Items come in the order of their lines. A function comes right before the source line where it starts.
 #[test]
 fn orders(rt: HostRuntime) -> Result<(), Fail> {
     check_all(

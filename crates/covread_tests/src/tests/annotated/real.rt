@@ -1,10 +1,10 @@
-//! Outputs of gcov 12 for four small programs, unchanged. Expected values were worked out by hand, line by line. The programs were
-//! compiled with `--coverage` and run once. The outputs contain their sources.
+//! Tests unchanged outputs of gcov 12 for four small programs, which were compiled with `--coverage` and run once. The outputs
+//! contain the programs' sources. Expected values were worked out by hand, line by line.
 
 use super::items::check_all;
 use std::test::*;
 
-/// The line that ends each example has the command that wrote its input.
+/// The last line of each example has the command that wrote the example's input.
 #[test]
 fn texts_of_gcov(rt: HostRuntime) -> Result<(), Fail> {
     check_all(
