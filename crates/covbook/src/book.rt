@@ -18,7 +18,7 @@ use thiserror::Error;
 /// Why a book rejects a step.
 #[derive(Clone, Copy, Debug, PartialEq, Eq, Error)]
 pub enum BookFault {
-    /// The history is full: it has 1,048,576 entries. This is checked first.
+    /// The history is full: it has 1,048,576 entries. `step` checks this first.
     #[error("book full")]
     Full = 1,
     /// An allocation failed.
@@ -49,8 +49,8 @@ impl From<Memory> for BookFault {
     }
 }
 
-/// A table of counts with its history. Contracts see the history, which is always legal: the table is the result of its operations.
-/// Contracts also see what `finish` relies on: the capacity for entries, and the model of the store.
+/// A table of counts with its history. Contracts see the history, which is always legal: its operations result in its answers and
+/// in the table. Contracts also see what `finish` relies on: the capacity for entries, and the model of the store.
 ///
 /// `K` is the part of each entry that the book stores: all of it, its answer, or nothing. Contracts see whole entries in any case.
 #[derive(Drop)]
@@ -84,8 +84,8 @@ impl<A: Allocator + Copy> Book<A> {
         Book::keeping(alloc)
     }
 
-    /// The history, in order. It is legal, and each submission in it is lawful. The store represents the table after the last
-    /// entry.
+    /// The history's entries, in order. The history is legal, and each submission in it is lawful. The store represents the table
+    /// after the last entry.
     pub fn entries(&self) -> &[Entry<A>]
         ensures entries { map entry_data result.now ≡ self.now.entries }
         ensures legal { IsLegal self.now.entries }
@@ -147,7 +147,7 @@ impl<A: Allocator + Copy, K: Keep<Of = Entry<A>>> Book<A, K> {
         self.history.get()
     }
 
-    /// The totals after the last entry, or zeros without entries. Never allocates.
+    /// The totals after the last entry, or zeros if there are no entries. Never allocates.
     pub fn totals(&self) -> Totals
         ensures last { result ≡ last_totals self.now.entries }
         ensures table { result ≡ totals_at (table_of (ops_in self.now.entries)) }
@@ -156,8 +156,8 @@ impl<A: Allocator + Copy, K: Keep<Of = Entry<A>>> Book<A, K> {
         self.store.totals()
     }
 
-    /// The store, which represents the table after the last entry. A caller can print from it what no operation asks for. Never
-    /// allocates.
+    /// The store, which represents the table after the last entry. From the store, a caller can print texts that no `Op` prints.
+    /// Never allocates.
     pub fn store(&self) -> &Store<A>
         ensures store { result.now ≡ self.now.store }
         ensures stands { StandsFor self.now.store (table_of (ops_in self.now.entries)) }
@@ -180,10 +180,10 @@ impl<A: Allocator + Copy, K: Keep<Of = Entry<A>>> Book<A, K> {
         Ok(self.finish(ready))
     }
 
-    /// Does the first half of a step, which can fail. Finds the answer, makes the entry, and reserves capacity for it. Prepares the
-    /// store's change for a submission or a rename. For a drop, finds the number of the test's sections, and the totals without the
-    /// test. Changes neither history nor table, whatever the answer is. `finish` does the rest, if the book is still as this call
-    /// left it. Dropping the `Ready` cancels the step.
+    /// Does the first half of a step, which can fail: finds the answer, makes the entry, and reserves capacity for the entry. For a
+    /// submission or a rename, prepares the store's change. For a drop, finds the number of the test's sections, and the totals
+    /// without the test. Never changes history or table. `finish` does the second half, and the book must not change in between.
+    /// Dropping the `Ready` cancels the step.
     pub fn ready(&mut self, alloc: A, job: u32, op: &Op<A>) -> Result<Ready<A>, BookFault>
         ensures same { SameBook self.old self.new }
         ensures ready { IfOk result (λ r. IsReadyFor self.new job (op_data op.now) r) }
@@ -197,8 +197,8 @@ impl<A: Allocator + Copy, K: Keep<Of = Entry<A>>> Book<A, K> {
         Ok(self.made_ready(alloc, job, op)?)
     }
 
-    /// Does the second half of a step: appends its entry and changes the store. The book must be as `ready` left it. Never
-    /// allocates.
+    /// Does the second half of a step: appends the step's entry and changes the store. The book must be as `Book::ready` left it.
+    /// Never allocates.
     pub fn finish(&mut self, ready: Ready<A>) -> Receipt<A>
         requires { IsReadyOf self.old ready }
         ensures receipt { receipt_data result ≡ receipt_of (length self.old.entries) (next_entry self.old.entries ready.entry.job ready.entry.op) }
@@ -215,7 +215,7 @@ impl<A: Allocator + Copy, K: Keep<Of = Entry<A>>> Book<A, K> {
         receipt
     }
 
-    /// Makes a step ready, provided that the history isn't full. Reserves capacity for the step's entry first.
+    /// Prepares the step of `op`, after reserving capacity for the entry. The history must not be full.
     fn made_ready(&mut self, alloc: A, job: u32, op: &Op<A>) -> Result<Ready<A>, Memory>
         requires { length self.old.entries < max_entries }
         ensures same { SameBook self.old self.new }
@@ -243,7 +243,7 @@ impl<A: Allocator + Copy, K: Keep<Of = Entry<A>>> Book<A, K> {
         Ok(())
     }
 
-    /// Makes a submission ready: it is planned, unless it clashes.
+    /// Prepares the step that adds `submission`. If the submission clashes, the step changes only the history.
     fn submission_ready<S: Submitted<A>>(
         &mut self,
         alloc: A,
@@ -275,7 +275,7 @@ impl<A: Allocator + Copy, K: Keep<Of = Entry<A>>> Book<A, K> {
         }
     }
 
-    /// The answer that accepts a submission with these numbers of items and inconsistent lines, as the next submission.
+    /// The answer that accepts the next submission, with `items` items and `odd` inconsistent lines.
     fn accepted_answer(&self, items: u64, odd: u64) -> Answer<A>
         ensures { answer_data result ≡ AcceptedAnswer (length (table_of (ops_in self.now.entries)) + 1) items odd }
     {
@@ -286,7 +286,7 @@ impl<A: Allocator + Copy, K: Keep<Of = Entry<A>>> Book<A, K> {
         }
     }
 
-    /// Makes the drop of a test ready. If the test has no row, the answer is `NoSuchTest`.
+    /// Prepares the step that drops `test`. The answer is `NoSuchTest` if the table has no row of the test.
     fn drop_ready(&self, alloc: A, job: u32, test: &Bytes<A>) -> Result<Ready<A>, Memory>
         requires { HasRoom self.now }
         ensures { IfOk result (λ r. IsReadyFor self.now job (DropTestOp test.now) r) }
@@ -306,7 +306,7 @@ impl<A: Allocator + Copy, K: Keep<Of = Entry<A>>> Book<A, K> {
         self.ready_to_change(alloc, entry, change)
     }
 
-    /// The answer that drops a test, and the totals without it.
+    /// The answer to the drop of `test`, and the totals without this test.
     fn drop_answer(&self, test: &[u8]) -> (Answer<A>, Totals)
         ensures answer { answer_data result.0 ≡ DroppedAnswer (sections_of_test test.now (table_of (ops_in self.now.entries))) }
         ensures totals { result.1 ≡ totals_at (without_test test.now (table_of (ops_in self.now.entries))) }
@@ -316,7 +316,8 @@ impl<A: Allocator + Copy, K: Keep<Of = Entry<A>>> Book<A, K> {
         (Answer::Dropped { sections }, after)
     }
 
-    /// Makes the rename of a test ready. If the test has no row, the answer is `NoSuchTest`. The totals don't change.
+    /// Prepares the step that renames `old` to `new`. The answer is `NoSuchTest` if the table has no row of `old`. The totals don't
+    /// change.
     fn rename_ready(
         &mut self,
         alloc: A,
@@ -349,7 +350,7 @@ impl<A: Allocator + Copy, K: Keep<Of = Entry<A>>> Book<A, K> {
         self.ready_to_change(alloc, entry, Change::Rename(renaming))
     }
 
-    /// Makes a step ready that asks for a text: prints the text, which the entry and the receipt share.
+    /// Prepares the step of an operation that prints. The step's entry and receipt share the printed text.
     fn text_ready(&self, alloc: A, job: u32, op: &Op<A>) -> Result<Ready<A>, Memory>
         requires room { HasRoom self.now }
         requires text { IsText (op_data op.now) }
@@ -360,7 +361,7 @@ impl<A: Allocator + Copy, K: Keep<Of = Entry<A>>> Book<A, K> {
         self.ready_to_note(alloc, job, op, Answer::Text(text))
     }
 
-    /// Makes the step that appends this entry and makes this change to the store.
+    /// Prepares the step that appends `entry` and makes `change` to the store.
     fn ready_to_change(
         &self,
         alloc: A,
@@ -378,7 +379,7 @@ impl<A: Allocator + Copy, K: Keep<Of = Entry<A>>> Book<A, K> {
         Ok(Ready::new(entry, receipt, change))
     }
 
-    /// Makes the step that appends the entry with this answer and doesn't change the table.
+    /// Prepares the step that appends an entry with `answer`. The operation must not change the table.
     fn ready_to_note(
         &self,
         alloc: A,
@@ -402,7 +403,7 @@ impl<A: Allocator + Copy, K: Keep<Of = Entry<A>>> Book<A, K> {
         self.ready_to_change(alloc, entry, Change::Nothing)
     }
 
-    /// Adds the submission of this plan to the store, and appends the entry.
+    /// Adds the submission of `plan` to the store, and appends the entry.
     fn hold(&mut self, plan: Plan, entry: Entry<A>)
         requires room { HasRoom self.old }
         requires next { IsNextOf self.old (entry_data entry) }
@@ -416,7 +417,7 @@ impl<A: Allocator + Copy, K: Keep<Of = Entry<A>>> Book<A, K> {
         self.history.append(entry);
     }
 
-    /// Drops a test, and appends the entry.
+    /// Drops `test` from the store, and appends the entry.
     fn drop_test(&mut self, test: &Bytes<A>, entry: Entry<A>)
         requires room { HasRoom self.old }
         requires next { IsNextOf self.old (entry_data entry) }
@@ -429,7 +430,7 @@ impl<A: Allocator + Copy, K: Keep<Of = Entry<A>>> Book<A, K> {
         self.history.append(entry);
     }
 
-    /// Renames a test as it is planned, and appends the entry.
+    /// Renames a test as `renaming` plans, and appends the entry.
     fn rename(&mut self, renaming: Renaming<A>, entry: Entry<A>)
         requires room { HasRoom self.old }
         requires next { IsNextOf self.old (entry_data entry) }
@@ -442,7 +443,7 @@ impl<A: Allocator + Copy, K: Keep<Of = Entry<A>>> Book<A, K> {
         self.history.append(entry);
     }
 
-    /// Appends the entry of an operation that doesn't change the table.
+    /// Appends the entry of an operation that must not change the table.
     fn note(&mut self, entry: Entry<A>)
         requires room { HasRoom self.old }
         requires next { IsNextOf self.old (entry_data entry) }
@@ -454,7 +455,7 @@ impl<A: Allocator + Copy, K: Keep<Of = Entry<A>>> Book<A, K> {
         self.history.append(entry);
     }
 
-    /// Prints the text that the operation asks for, from the current table. Appends no entry.
+    /// Returns the text that the operation asks for, of the current table. Appends no entry.
     pub fn text_of(&self, alloc: A, op: &Op<A>) -> Result<Bytes<A>, Memory>
         requires { IsText (op_data op.now) }
         ensures { IfOk result (λ t. TextAnswer t ≡ answer_of (table_of (ops_in self.now.entries)) (op_data op.now)) }
@@ -474,8 +475,8 @@ impl<A: Allocator + Copy, K: Keep<Of = Entry<A>>> Book<A, K> {
         }
     }
 
-    /// Prepares the text that the operation asks for, from the current table, for printing. Appends no entry. Reserves all memory
-    /// that printing needs, so nothing is printed if an allocation fails.
+    /// Prepares to print the text that the operation asks for, of the current table. Appends no entry. Reserves all memory that
+    /// printing needs, so nothing is printed if an allocation fails.
     pub fn printing(&self, alloc: A, op: &Op<A>) -> Result<Printing<'_, A>, Memory>
         requires { IsText (op_data op.now) }
         ensures { IfOk result (λ p. TextAnswer p ≡ answer_of (table_of (ops_in self.now.entries)) (op_data op.now)) }
@@ -504,7 +505,7 @@ impl<A: Allocator> Book<A> {
     ghost use Rattle.covbook.specs.Op.{AreLawfulOps};
     ghost use Rattle.covbook.specs.Step.{ops_in};
 
-    /// Consumes the book and returns its entries, each submission of which is lawful. Never allocates.
+    /// Consumes the book and returns its entries. Each submission in the entries is lawful. Never allocates.
     pub fn into_entries(self) -> Entries<A>
         ensures entries { result ≡ self.entries }
         ensures lawful { AreLawfulOps (ops_in self.entries) }
@@ -518,7 +519,7 @@ ghost use Rattle.covstore.specs.RefuseView.{refuse_data};
 ghost use Rattle.covbook.specs.Refusal.{refusal_answer};
 ghost use Rattle.covbook.specs.View.{answer_data};
 
-/// Turns a clash into an answer. Returns `Memory` if the error isn't a clash but a failed allocation.
+/// Turns a clash into an answer. Returns `Memory` if `refuse` is a failed allocation.
 fn clash_of<A: Allocator>(refuse: Refuse<A>) -> Result<Answer<A>, Memory>
     ensures { MatchResult result (λ a. refusal_answer (refuse_data refuse) ≡ Some (answer_data a)) (λ _. refusal_answer (refuse_data refuse) ≡ None) }
 {

@@ -1,4 +1,4 @@
-//! Entries and receipts, and their lists.
+//! Entries, receipts, and lists of both.
 
 use crate::op::{Answer, Op};
 use covline::Memory;
@@ -6,7 +6,7 @@ use covstore::Totals;
 use std::alloc::{Allocator, Global};
 use std::marker::Model;
 
-/// The most entries in one history.
+/// The maximum number of entries in one history.
 pub const MAX_ENTRIES: u64 = 1_048_576;
 
 /// One operation of a job on a book, the answer to it, and the totals after it.
@@ -23,7 +23,7 @@ impl<A: Allocator + Copy> Entry<A> {
     ghost use Rattle.covbook.specs.EntryView.{entry_data, receipt_data};
     ghost use Rattle.covbook.specs.Step.{receipt_of};
 
-    /// Makes the receipt of this entry at this index, with copies of the operation and the answer.
+    /// Makes the receipt of this entry at the index `place`, with copies of the entry's operation and answer.
     pub(crate) fn receipt(&self, alloc: A, place: u64) -> Result<Receipt<A>, Memory>
         ensures { IfOk result (λ r. receipt_data r ≡ receipt_of place (entry_data self.now)) }
     {
@@ -35,7 +35,8 @@ impl<A: Allocator + Copy> Entry<A> {
     }
 }
 
-/// A job's proof of an operation: its entry's index in the history (`place`, counted from 0), the operation, and the answer.
+/// What a job gets for an operation: the index of the operation's entry in the history (`place`, counted from 0), the operation,
+/// and the answer.
 #[derive(Drop)]
 pub struct Receipt<A: Allocator = Global> {
     pub place: u64,

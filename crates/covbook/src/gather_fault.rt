@@ -2,8 +2,9 @@
 
 use thiserror::Error;
 
-/// Why a history doesn't match the logs. Logs, receipts, readings and entries (`place`) are counted from 0. `gather` checks the
-/// jobs of the logs first, then each log in turn: its receipts, then its readings. It looks for missing entries last.
+/// Why a history doesn't match the logs. Logs (`log`), their receipts or readings (`index`) and entries (`place`) are counted from
+/// 0. `gather` checks the jobs of the logs first, then each log in turn: the log's receipts, then the log's readings. `gather`
+/// looks for missing entries last.
 #[derive(Clone, Copy, Debug, PartialEq, Eq, Error)]
 pub enum GatherFault {
     /// Fault 1: the receipt's `place` has no entry, or an entry of another job.
@@ -12,16 +13,16 @@ pub enum GatherFault {
     /// Fault 2: the entry at the receipt's `place` has another operation or answer.
     #[error("differs")]
     Differs { log: usize, index: usize },
-    /// Fault 3: the receipt's `place` isn't above that of the receipt before it in the log.
+    /// Fault 3: the previous receipt in the log has an equal or higher `place`.
     #[error("backwards")]
     Backwards { log: usize, index: usize },
-    /// Fault 4: the entry at `place` is the first that is in no log.
+    /// Fault 4: the entry at `place` is the first without a receipt in any log.
     #[error("missing")]
     Missing { place: u64 },
-    /// Fault 5: the reading's number of entries is too large, or its totals aren't those after that many entries.
+    /// Fault 5: the history has fewer entries than the reading's `upto`, or other totals after that many entries.
     #[error("bad reading")]
     BadReading { log: usize, index: usize },
-    /// Fault 6: an earlier log has the same job. This is checked first.
+    /// Fault 6: an earlier log has the same job. `gather` checks this first.
     #[error("same job")]
     SameJob { log: usize },
 }

@@ -17,10 +17,11 @@ use crate::reading::Reading;
 use covstore::Totals;
 use std::alloc::Allocator;
 
-/// Checks that the entries are a merge of the logs and that the readings are right: the logs' jobs differ, the `place`s ascend
-/// within each log, each receipt is that of an entry of the log's job, each entry is in a log, and each reading has the totals
-/// after its number of entries. Otherwise returns the first error (`GatherFault` has their order). Never allocates. Takes linear
-/// time in the number of entries, receipts, readings and compared bytes; the jobs of all logs are compared in pairs.
+/// Checks that the entries are a merge of the logs and that the readings are right. That is: the logs' jobs differ, the `place`s
+/// ascend within each log, each receipt matches an entry of the log's job at its `place`, each entry has a receipt, and each
+/// reading has the totals after its number of entries. Otherwise returns the first error, in the order that `GatherFault` states.
+/// Never allocates. Takes time linear in the number of entries, receipts, readings and compared bytes, and quadratic in the number
+/// of logs.
 pub fn gather<A: Allocator>(entries: &[Entry<A>], logs: &[JobLog<A>]) -> Result<(), GatherFault>
     ensures gathered { IsOk result ↔ IsGathered (map entry_data entries.now) (map log_data logs.now) }
     ensures fault { (fault : GatherFault) → (result ≡ Err fault) ↔ IsGatherFault (map entry_data entries.now) (map log_data logs.now) fault }
@@ -33,7 +34,7 @@ pub fn gather<A: Allocator>(entries: &[Entry<A>], logs: &[JobLog<A>]) -> Result<
     }
 }
 
-/// Checks that each log's job differs from those of the logs before.
+/// Checks that each log's job differs from the jobs of all earlier logs.
 fn check_jobs<A: Allocator>(logs: &[JobLog<A>]) -> Result<(), GatherFault>
     ensures { Returns result (job_claims 0 [] (map log_data logs.now)) }
 {
@@ -45,14 +46,14 @@ fn check_jobs<A: Allocator>(logs: &[JobLog<A>]) -> Result<(), GatherFault>
     Ok(())
 }
 
-/// Whether none of the logs is of this job.
+/// Whether none of the logs is a log of `job`.
 fn is_new_job<A: Allocator>(job: u32, logs: &[JobLog<A>]) -> bool
     ensures { IsTrue result ↔ All (λ log. log.job ≢ job) logs.now }
 {
     logs.iter().all(|log| log.job != job)
 }
 
-/// Checks that the receipts and the readings of all logs are of the history.
+/// Checks the receipts and the readings of all logs against the history.
 fn check_logs<A: Allocator>(entries: &[Entry<A>], logs: &[JobLog<A>]) -> Result<(), GatherFault>
     ensures { Returns result (log_claims (map entry_data entries.now) 0 (map log_data logs.now)) }
 {
@@ -62,7 +63,7 @@ fn check_logs<A: Allocator>(entries: &[Entry<A>], logs: &[JobLog<A>]) -> Result<
     Ok(())
 }
 
-/// Checks that the log with this number is of the history: first its receipts, then its readings.
+/// Checks `log` against the history: first its receipts, then its readings. An error names the log by `number`.
 fn check_log<A: Allocator>(
     entries: &[Entry<A>],
     number: usize,
@@ -75,7 +76,7 @@ fn check_log<A: Allocator>(
     Ok(())
 }
 
-/// Checks that each receipt of the log with this number is that of an entry of the log's job, and that the places rise.
+/// Checks each receipt of `log` against its entry, and that the `place`s ascend. An error names the log by `number`.
 fn check_receipts<A: Allocator>(
     entries: &[Entry<A>],
     number: usize,
@@ -91,8 +92,8 @@ fn check_receipts<A: Allocator>(
     Ok(())
 }
 
-/// Checks that the receipt's index is at least `least` and that the job's entry there matches it. Returns the lower bound for the
-/// next receipt.
+/// Checks that the receipt matches the job's entry at its `place`, and that `place` is at least `least`. Returns the next receipt's
+/// `least`.
 fn check_receipt<A: Allocator>(
     entries: &[Entry<A>],
     job: u32,
@@ -126,7 +127,7 @@ fn is_receipt_of<A: Allocator>(receipt: &Receipt<A>, entry: &Entry<A>) -> bool
     entry.op.is_same(&receipt.op) && entry.answer.is_same(&receipt.answer)
 }
 
-/// Checks that the readings of the log with this number are of the history.
+/// Checks the readings of `log` against the history. An error names the log by `number`.
 fn check_readings<A: Allocator>(
     entries: &[Entry<A>],
     number: usize,
@@ -143,7 +144,7 @@ fn check_readings<A: Allocator>(
     Ok(())
 }
 
-/// Whether the reading's totals are those after the first `upto` entries. Returns `false` if there are fewer entries.
+/// Whether the history has the reading's totals after its first `upto` entries. Returns `false` if the history has fewer entries.
 fn is_reading_of<A: Allocator>(reading: &Reading, entries: &[Entry<A>]) -> bool
     ensures { IsTrue result ↔ IsReadingOf (map entry_data entries.now) reading.now }
 {
@@ -153,8 +154,7 @@ fn is_reading_of<A: Allocator>(reading: &Reading, entries: &[Entry<A>]) -> bool
     }
 }
 
-/// The totals after the first `upto` entries: those of the last of these, or zeros if `upto` is 0. Returns `None` if there are
-/// fewer entries.
+/// The totals after the first `upto` entries, or zeros if `upto` is 0. Returns `None` if there are fewer than `upto` entries.
 fn totals_after<A: Allocator>(entries: &[Entry<A>], upto: u64) -> Option<Totals>
     ensures { MatchOption result (length entries.now < upto) (λ totals. (upto ≤ length entries.now) × (totals ≡ last_totals (take upto (map entry_data entries.now)))) }
 {

@@ -43,14 +43,14 @@ impl<A: Allocator, K: Keep<Of = Entry<A>>> History<A, K> {
         self.kept.as_slice()
     }
 
-    /// How many entries there are, which is also the index of the next one.
+    /// How many entries the history has, which is also the next entry's index.
     pub(crate) fn place(&self) -> u64
         ensures { result ≡ length self.now.entries }
     {
         self.get().len() as u64
     }
 
-    /// Whether the history has the greatest number of entries.
+    /// Whether the history has the maximum number of entries (`MAX_ENTRIES`).
     pub(crate) fn is_full(&self) -> bool
         ensures { IsTrue result ↔ (length self.now.entries ≡ max_entries) }
     {
@@ -87,7 +87,7 @@ impl<A: Allocator + Copy, K: Keep<Of = Entry<A>>> History<A, K> {
     ghost use Rattle.covbook.specs.EntryView.{entry_data, receipt_data};
     ghost use Rattle.covbook.specs.Step.{receipt_of};
 
-    /// Makes the receipt of this entry as the next one of the history.
+    /// Makes the receipt of `entry` as the history's next entry.
     pub(crate) fn receipt(&self, alloc: A, entry: &Entry<A>) -> Result<Receipt<A>, Memory>
         ensures { IfOk result (λ r. receipt_data r ≡ receipt_of (length self.now.entries) (entry_data entry.now)) }
     {

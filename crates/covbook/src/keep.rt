@@ -1,21 +1,21 @@
-//! The parts of entries and receipts that are stored.
+//! The stored parts of entries and receipts.
 
 use crate::entry::{Entry, Receipt};
 use crate::op::Answer;
 use std::alloc::{Allocator, Global};
 use std::snapshot::Snapshot;
 
-/// The part of an entry or a receipt that is stored. Contracts see the whole entry or receipt, whatever is stored of it.
+/// The stored part of an entry or a receipt. Contracts see the whole entry or receipt, whatever part is stored.
 pub trait Keep: Drop {
-    /// The entry or the receipt.
+    /// The type of the whole: an entry or a receipt.
     type Of;
 
     ghost use Rattle.std.specs.Prelude.{◌≡◌};
 
-    /// The whole entry or receipt of which this is a part.
+    /// Maps a stored part to the whole entry or receipt.
     ghost shows: { Self → Self.Of };
 
-    /// Stores this type's part of `whole`, and drops the rest. Never allocates.
+    /// Returns this type's part of `whole`, and drops the rest. Never allocates.
     fn keep(whole: Self::Of) -> Self
         ensures { shows result ≡ whole };
 }

@@ -1,4 +1,4 @@
-//! Laws of the definitions that this crate's contracts cite. The functions do nothing: the contract is the law.
+//! Laws about the definitions that this crate's contracts cite. Each function does nothing: its contract is the law.
 
 ghost use Rattle.std.specs.Prelude.{◌≡◌, ◌≢◌, ◌↔◌, ◌+◌, ◌≤◌, ℕ, List, [], ◌∷◌, ◌++◌, length, map, Contains};
 ghost use Rattle.std.specs.List.{AllByRecursion, range_with_len};
@@ -20,7 +20,7 @@ use covstore::laws::{
     the_first_clash_is_told,
 };
 
-/// No run mixes two versions of a source: the rows of its table have no two different checksums of one line of a file.
+/// No two versions of a source are mixed: in the table after any operations, no line of a file has two different checksums.
 pub fn no_versions_are_mixed()
     ensures { (ops : List OpData) → Agree (checksums_in (all_rows (table_of ops))) }
 {
@@ -28,16 +28,15 @@ pub fn no_versions_are_mixed()
     renaming_keeps_totals();
 }
 
-/// One more operation after a run adds one answer and one set of totals, and takes the table one step on.
+/// Appending an operation to a list of operations appends one answer and one set of totals, and applies the operation to the table.
 pub fn a_run_goes_on()
     ensures answers { (ops : List OpData) (op : OpData) → answers_to (ops ++ op ∷ []) ≡ answers_to ops ++ answer_of (table_of ops) op ∷ [] }
     ensures totals { (ops : List OpData) (op : OpData) → totals_to (ops ++ op ∷ []) ≡ totals_to ops ++ totals_at (table_after (table_of ops) op) ∷ [] }
     ensures table { (ops : List OpData) (op : OpData) → table_of (ops ++ op ∷ []) ≡ table_after (table_of ops) op }
 {}
 
-/// The order of submissions doesn't matter if their checksums agree. None of them clashes, and the table has the rows of each. With
-/// the same submissions in another order, each text is the same, whatever texts were requested in between; the checksums agree too,
-/// so no submission clashes there either.
+/// The order of submissions doesn't matter if their checksums agree: no submission clashes, and the table has the rows of each
+/// submission. In another order, the checksums agree too and each text is the same, whatever texts were requested in between.
 pub fn order_does_not_matter()
     ensures accepted { (ops : List OpData) → OnlySubmitsAndAsks ops → AreAgreeing (submissions_in ops) → (clash : ClashData) → ¬ Contains (answers_to ops) (ClashAnswer clash) }
     ensures table { (ops : List OpData) → OnlySubmitsAndAsks ops → AreAgreeing (submissions_in ops) → table_of ops ≡ map rows_of (submissions_in ops) }
@@ -51,8 +50,8 @@ pub fn order_does_not_matter()
     order_of_submissions_does_not_matter();
 }
 
-/// The claims about entries and logs hold if and only if the history matches the logs. There is at most one first error; with one,
-/// the history doesn't match the logs. If this error isn't `BadReading`, the entries aren't a merge of the logs either.
+/// All claims that `gather` checks hold if and only if the history matches the logs. There is at most one first error, and none if
+/// the history matches the logs. If the first error isn't `BadReading`, the entries aren't even a merge of the logs.
 pub fn claims_make_a_gathering()
     ensures gathered { (entries : List EntryData) (logs : List LogData) → AllHold (gather_claims entries logs) ↔ IsGathered entries logs }
     ensures fault { (entries : List EntryData) (logs : List LogData) (some other : GatherFault) → IsGatherFault entries logs some → IsGatherFault entries logs other → some ≡ other }
@@ -60,8 +59,8 @@ pub fn claims_make_a_gathering()
     ensures merge { (entries : List EntryData) (logs : List LogData) (fault : GatherFault) → IsGatherFault entries logs fault → ((log index : ℕ) → fault ≢ BadReading log index) → ¬ IsMerge entries logs }
 {}
 
-/// An error is the first one if and only if it has its cause: the log, receipt, reading or entry that it names is wrong, and all
-/// that is checked before is right.
+/// An error is the first if and only if it has its cause: the log, receipt, reading or entry that the error names is wrong, and
+/// everything checked before is right.
 pub fn each_fault_has_its_cause()
     ensures stranger { (entries : List EntryData) (logs : List LogData) (log index : ℕ) → IsGatherFault entries logs (Stranger log index) ↔ IsStranger entries logs log index }
     ensures differs { (entries : List EntryData) (logs : List LogData) (log index : ℕ) → IsGatherFault entries logs (Differs log index) ↔ IsDiffering entries logs log index }
@@ -71,10 +70,10 @@ pub fn each_fault_has_its_cause()
     ensures same_job { (entries : List EntryData) (logs : List LogData) (log : ℕ) → IsGatherFault entries logs (SameJob log) ↔ IsSameJob logs log }
 {}
 
-/// Two laws that lead from counted calls to a gathered history. First, a job's log that belongs to the history of its latest news
-/// still does after one more call, even if the job stores no history. Second, a history is gathered from the jobs' logs if its
-/// length is the number of all successful calls, each job's latest news are a prefix of it, and the readings are of it: no two
-/// receipts have the same index, so each entry has one.
+/// Two laws that lead from counted calls to a gathered history. First, suppose that a job's log matches the history up to the job's
+/// latest news. The log still matches after one more call, even if the job stores no history. Second, a history is gathered from
+/// the jobs' logs if its length is the number of all successful calls, each job's latest news are a prefix of the history, and all
+/// readings are right. No two receipts have the same index then, so each entry has a receipt.
 pub fn calls_count_a_history()
     ensures one_more { (log : LogData) (calls seen : ℕ) (latest before : List EntryData) (entry : EntryData) (told : ReceiptData) → IsKept log calls seen latest → entry.job ≡ log.job → receipt_of told.place entry ≡ told → length before ≡ told.place → seen ≤ told.place → IsPrefix latest (before ++ entry ∷ []) → IsKept (with_receipt log told) (calls + 1) (told.place + 1) (before ++ entry ∷ []) }
     ensures gathered { (entries : List EntryData) (jobs : ℕ) (kept : List KeptData) → jobs_of (logs_kept kept) ≡ range_with_len 0 jobs → AllByRecursion IsKeptWell kept → AllByRecursion (AreReadingsOf entries) (logs_kept kept) → AreBefore entries kept → length entries ≡ calls_kept kept → IsGathered entries (logs_kept kept) }

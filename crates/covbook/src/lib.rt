@@ -1,21 +1,21 @@
 //! The book of one collector: a table of counts, and the history of its operations with their answers.
 //!
 //! An `Op` is an operation on the table: add a submission, drop or rename a test, or print a text. `Book::step` answers an
-//! operation and appends its entry; the job that asked gets a `Receipt` with the entry's index and answer. The history is always
-//! legal: its answers are those of a run of its operations from an empty table.
+//! operation, appends an entry for it to the history, and returns to the calling job a `Receipt` with the entry's index and answer.
+//! The history is always legal: running its operations from an empty table yields the same answers.
 //!
-//! A caller that has work to do in between takes a step in two halves. `Book::ready` does everything that can fail, and returns a
+//! A step can also be taken in two halves, with other work between them. `Book::ready` does everything that can fail, and returns a
 //! `Ready` with the totals after the step (`Ready::after`). `Book::finish` does the rest, and never allocates.
 //!
-//! Jobs that share a book store their receipts and their readings of the totals in a `JobLog` each. `gather` checks that the
-//! history is a merge of these logs and that each reading has the right totals. Otherwise it returns the first error.
+//! Each job that shares a book stores its receipts and its readings of the totals in a `JobLog`. `gather` checks that the history
+//! is a merge of these logs and that each reading has the right totals. If not, `gather` returns the first error.
 //!
-//! A book stores its whole history by default. `Book::keeping` makes one that stores less (`Keep`): only the answers (`Answered`),
-//! or nothing (`Snapshot<Entry>`). Then the rest of its entries exists only in proofs. Each contract of `Book` speaks of whole
-//! entries, so it is the same in each case.
+//! A book stores its whole history by default. `Book::keeping` makes a book that stores only the answers (`Answered`), or nothing
+//! (`Snapshot<Entry>`). The rest of each entry then exists only in proofs. The contracts of `Book` always describe whole entries,
+//! so they are the same for all books.
 //!
-//! An example, proved and run in `covuses`: the answers of a book to a submission of job 1, and then to a report of job 2. The
-//! first answer is `Answer::Accepted` or `Answer::Clash`, the second `Answer::Text`.
+//! An example, proved and run in `covuses`: job 1 submits, then job 2 asks for a report. The first answer is `Answer::Accepted` or
+//! `Answer::Clash`, the second is `Answer::Text`.
 //!
 //! ```text
 //! pub fn answers(alloc: Global, submission: Submission) -> Result<(Answer, Answer), BookFault> {

@@ -1,4 +1,4 @@
-//! The logs of jobs: their receipts and readings.
+//! The log of a job: its receipts and readings.
 
 use crate::entry::Receipts;
 use crate::reading::Readings;

@@ -10,12 +10,12 @@ use std::alloc::{Allocator, Global};
 pub enum Op<A: Allocator = Global> {
     /// Add the counts of a submission.
     Submit(SubRef<A>),
-    /// Add the counts of a packed submission. Equal to adding the same submission unpacked.
+    /// Add the counts of a packed submission. Equals `Submit` of the same submission.
     SubmitPacked(PackedRef<A>),
     /// Remove the counts of a test, in all files.
     DropTest(Bytes<A>),
-    /// Give the counts of a test another name, in all files. If there is a test with the new name already, the counts of each point
-    /// are added up. Any new name is accepted, but a printed tracefile can be read back only if the name fits into one line
+    /// Rename the test `old` to `new` in all files. If a test named `new` exists, the counts of both are added, for each coverage
+    /// point. Any new name is accepted, but a printed tracefile can be read back only if the name fits into one line
     /// (`covline::good_test`).
     Rename { old: Bytes<A>, new: Bytes<A> },
     /// Print the merged tracefile.
@@ -32,7 +32,7 @@ impl<A: Allocator + Copy> Op<A> {
     ghost use Rattle.std.specs.Prelude.{◌≡◌, IfOk};
     ghost use Rattle.covbook.specs.View.{op_data};
 
-    /// Copies the operation. Shares its submission; copies names of tests and patterns.
+    /// Copies the operation with its test names and patterns. A submission is shared, not copied.
     pub fn copy(&self, alloc: A) -> Result<Op<A>, Memory>
         ensures { IfOk result (λ o. op_data o ≡ op_data self.now) }
     {
@@ -57,7 +57,7 @@ impl<A: Allocator> Op<A> {
     ghost use Rattle.covbook.specs.Op.{SubmitOp, DropTestOp, RenameOp, ExtractOp, RemoveOp};
     ghost use Rattle.covbook.specs.View.{op_data};
 
-    /// Whether the operations are equal, whether or not they share memory. Never allocates.
+    /// Whether the operations are equal, even if they don't share memory. Never allocates.
     pub fn is_same(&self, other: &Op<A>) -> bool
         ensures { IsTrue result ↔ (op_data self.now ≡ op_data other.now) }
     {
@@ -73,7 +73,7 @@ impl<A: Allocator> Op<A> {
         }
     }
 
-    /// Whether this adds an equal submission.
+    /// Whether this operation adds a submission equal to `submission`.
     fn is_submit(&self, submission: &SubRef<A>) -> bool
         ensures { IsTrue result ↔ (SubmitOp submission.now ≡ op_data self.now) }
     {
@@ -84,7 +84,7 @@ impl<A: Allocator> Op<A> {
         }
     }
 
-    /// Whether this adds an equal submission to a packed one.
+    /// Whether this operation adds a submission equal to the packed `submission`.
     fn is_packed_submit(&self, submission: &PackedRef<A>) -> bool
         ensures { IsTrue result ↔ (SubmitOp submission.now ≡ op_data self.now) }
     {
@@ -95,7 +95,7 @@ impl<A: Allocator> Op<A> {
         }
     }
 
-    /// Whether this drops the test.
+    /// Whether this operation drops `test`.
     fn is_drop_test(&self, test: &Bytes<A>) -> bool
         ensures { IsTrue result ↔ (DropTestOp test.now ≡ op_data self.now) }
     {
@@ -105,7 +105,7 @@ impl<A: Allocator> Op<A> {
         }
     }
 
-    /// Whether this renames the test `old` to `new`.
+    /// Whether this operation renames the test `old` to `new`.
     fn is_rename(&self, old: &Bytes<A>, new: &Bytes<A>) -> bool
         ensures { IsTrue result ↔ (RenameOp old.now new.now ≡ op_data self.now) }
     {
@@ -118,7 +118,7 @@ impl<A: Allocator> Op<A> {
         }
     }
 
-    /// Whether this is an `Extract` with equal patterns.
+    /// Whether this operation is an `Extract` with patterns equal to `patterns`.
     fn is_extract(&self, patterns: &Patterns<A>) -> bool
         ensures { IsTrue result ↔ (ExtractOp patterns.now ≡ op_data self.now) }
     {
@@ -128,7 +128,7 @@ impl<A: Allocator> Op<A> {
         }
     }
 
-    /// Whether this is a `Remove` with equal patterns.
+    /// Whether this operation is a `Remove` with patterns equal to `patterns`.
     fn is_remove(&self, patterns: &Patterns<A>) -> bool
         ensures { IsTrue result ↔ (RemoveOp patterns.now ≡ op_data self.now) }
     {
@@ -142,15 +142,15 @@ impl<A: Allocator> Op<A> {
 /// The answer to an operation.
 #[derive(Drop)]
 pub enum Answer<A: Allocator = Global> {
-    /// The submission is accepted. It is the book's submission with this number, counted from 1, and has these numbers of items and
-    /// of inconsistent lines.
+    /// The submission is accepted under this `number`, counted from 1. The submission has `items` items and `odd` inconsistent
+    /// lines.
     Accepted {
         number: u64,
         items: u64,
         odd: u64,
     },
-    /// The submission's checksum for this line of this file differs from the held one, so it comes from another version of the
-    /// source. Nothing of it is added.
+    /// The submission's checksum `given` for this line of this file differs from an earlier one, `held`, so the source has two
+    /// versions. No count of the submission is added.
     Clash {
         file: Bytes<A>,
         line: u64,
@@ -165,7 +165,7 @@ pub enum Answer<A: Allocator = Global> {
     Renamed {
         sections: u64,
     },
-    /// There is no count of this test.
+    /// The table has no count of this test.
     NoSuchTest,
     /// The printed text.
     Text(TextRef<A>),
@@ -175,7 +175,7 @@ impl<A: Allocator + Copy> Answer<A> {
     ghost use Rattle.std.specs.Prelude.{◌≡◌, IfOk};
     ghost use Rattle.covbook.specs.View.{answer_data};
 
-    /// Copies the answer. Shares its text; copies the file's name and the checksums of a clash.
+    /// Copies the answer with a clash's file name and checksums. A text is shared, not copied.
     pub fn copy(&self, alloc: A) -> Result<Answer<A>, Memory>
         ensures { IfOk result (λ a. answer_data a ≡ answer_data self.now) }
     {
@@ -213,7 +213,7 @@ impl<A: Allocator> Answer<A> {
     ghost use Rattle.covbook.specs.Op.{AcceptedAnswer, ClashAnswer, DroppedAnswer, RenamedAnswer, TextAnswer};
     ghost use Rattle.covbook.specs.View.{answer_data};
 
-    /// Whether the answers are equal, whether or not they share memory. Never allocates.
+    /// Whether the answers are equal, even if they don't share memory. Never allocates.
     pub fn is_same(&self, other: &Answer<A>) -> bool
         ensures { IsTrue result ↔ (answer_data self.now ≡ answer_data other.now) }
     {
@@ -232,7 +232,7 @@ impl<A: Allocator> Answer<A> {
         }
     }
 
-    /// Whether this accepts a submission, with these numbers.
+    /// Whether this answer is `Accepted` with these numbers.
     fn is_accepted(&self, number: u64, items: u64, odd: u64) -> bool
         ensures { IsTrue result ↔ (AcceptedAnswer number items odd ≡ answer_data self.now) }
     {
@@ -246,7 +246,7 @@ impl<A: Allocator> Answer<A> {
         }
     }
 
-    /// Whether this is a clash at this line of this file, with these two checksums.
+    /// Whether this answer is a `Clash` at `line` of `file`, with the checksums `held` and `given`.
     fn is_clash(&self, file: &Bytes<A>, line: u64, held: &Bytes<A>, given: &Bytes<A>) -> bool
         ensures { IsTrue result ↔ (ClashAnswer (record { file = file.now; line = line; held = held.now; given = given.now }) ≡ answer_data self.now) }
     {
@@ -266,7 +266,7 @@ impl<A: Allocator> Answer<A> {
         }
     }
 
-    /// Whether this is a drop of this number of sections.
+    /// Whether this answer is `Dropped` with this number of sections.
     fn is_dropped(&self, sections: u64) -> bool
         ensures { IsTrue result ↔ (DroppedAnswer sections ≡ answer_data self.now) }
     {
@@ -276,7 +276,7 @@ impl<A: Allocator> Answer<A> {
         }
     }
 
-    /// Whether this is a rename of this number of sections.
+    /// Whether this answer is `Renamed` with this number of sections.
     fn is_renamed(&self, sections: u64) -> bool
         ensures { IsTrue result ↔ (RenamedAnswer sections ≡ answer_data self.now) }
     {
@@ -286,7 +286,7 @@ impl<A: Allocator> Answer<A> {
         }
     }
 
-    /// Whether this answer is a text that is equal to the given one.
+    /// Whether this answer is a `Text` equal to `text`.
     fn is_text(&self, text: &TextRef<A>) -> bool
         ensures { IsTrue result ↔ (TextAnswer text.now ≡ answer_data self.now) }
     {

@@ -8,9 +8,9 @@ ghost use Rattle.covbook.specs.LogView.{log_data};
 use crate::log::JobLog;
 use std::alloc::Allocator;
 
-/// The least index below `count` that no receipt of the logs has. Returns `None` if none is missing. No two receipts have the same
-/// index, so the receipts have all indices below n if and only if n receipts have an index below n. A binary search finds the least
-/// missing one.
+/// Returns the least index below `count` that no receipt of the logs has, or `None` if each index has a receipt. No two receipts
+/// may have the same index. So all indices below n have receipts if and only if n receipts have an index below n, and a binary
+/// search finds the least missing index.
 pub(crate) fn least_missing<A: Allocator>(count: u64, logs: &[JobLog<A>]) -> Option<u64>
     requires { AreApart (map log_data logs.now) }
     ensures { ReturnsLeast result count (places_in (map log_data logs.now)) }
@@ -18,7 +18,7 @@ pub(crate) fn least_missing<A: Allocator>(count: u64, logs: &[JobLog<A>]) -> Opt
     if receipts_below(logs, count) == count {
         return None;
     }
-    // no place below `told` is missing, and some place below `beyond` is missing
+    // no index below `told` is missing, and some index below `beyond` is missing
     let mut told = 0;
     let mut beyond = count;
     while told + 1 < beyond {
@@ -44,7 +44,7 @@ fn receipts_below<A: Allocator>(logs: &[JobLog<A>], place: u64) -> u64
     count
 }
 
-/// How many receipts of the log have an index below `place`. The indices ascend, so a binary search finds the number.
+/// How many receipts of the log have an index below `place`, by binary search. The receipts' indices must ascend.
 fn log_below<A: Allocator>(log: &JobLog<A>, place: u64) -> u64
     requires { Rise (places_of (log_data log.now)) }
     ensures { result ≡ below place (places_of (log_data log.now)) }

@@ -1,4 +1,4 @@
-//! Readings of the totals, and their list.
+//! Readings of the totals, and lists of readings.
 
 use covline::Memory;
 use covstore::Totals;

@@ -9,18 +9,18 @@ use std::marker::Model;
 /// The effect of a step on the store.
 #[derive(Drop)]
 pub(crate) enum Change<A: Allocator> {
-    /// Nothing: a text is printed, or the operation has no effect.
+    /// No change: the operation prints a text or has no effect.
     Nothing,
-    /// The planned submission is added.
+    /// Adds the planned submission.
     Hold(Plan),
-    /// The test of this name is dropped.
+    /// Drops the test of this name.
     Drop(Bytes<A>),
-    /// A test is renamed as planned.
+    /// Renames a test as planned.
     Rename(Renaming<A>),
 }
 
-/// A step that its book can finish without allocating. Contracts see its entry with its index, its effect on the store, and the
-/// totals after it. Dropping it cancels the step: the book's history and content stay as they are.
+/// A step that its book can finish without allocating. Contracts see the step's entry and index, its effect on the store, and the
+/// totals after it. Dropping a `Ready` cancels the step: the book's history and content stay as they are.
 #[derive(Drop)]
 pub struct Ready<A: Allocator = Global> {
     entry: Entry<A>,
@@ -54,7 +54,7 @@ impl<A: Allocator> Ready<A> {
     ghost use Rattle.covbook.specs.Step.{receipt_of};
     ghost use Rattle.covbook.specs.View.{op_data};
 
-    /// Makes the step that appends this entry, with this receipt and this effect on the store.
+    /// Makes the step that appends `entry`, makes `change` to the store, and returns `receipt`.
     pub(crate) fn new(entry: Entry<A>, receipt: Receipt<A>, change: Change<A>) -> Ready<A>
         requires receipt { receipt_data receipt ≡ receipt_of receipt.place (entry_data entry) }
         requires totals { AreTotals entry.after }
@@ -86,7 +86,7 @@ impl<A: Allocator> Ready<A> {
         &self.entry
     }
 
-    /// The entry, its receipt, and the effect on the store.
+    /// Splits the step into its entry, its receipt, and its change to the store.
     pub(crate) fn into_parts(self) -> (Entry<A>, Receipt<A>, Change<A>)
         ensures entry { entry_data result.0 ≡ self.entry }
         ensures receipt { receipt_data result.1 ≡ receipt_of self.place self.entry }

@@ -21,7 +21,7 @@ impl<T: Drop, A: Allocator> Model for SharedValue<T, A> {
 impl<T: Drop, A: Allocator> SharedValue<T, A> {
     ghost use Rattle.std.specs.Prelude.{◌≡◌, IfOk};
 
-    /// Makes the value shareable. On `Memory`, drops it.
+    /// Makes the value shareable. On `Memory`, drops the value.
     fn of(alloc: A, value: T) -> Result<SharedValue<T, A>, Memory>
         ensures { IfOk result (λ s. s ≡ value) }
     {
@@ -37,7 +37,7 @@ impl<T: Drop, A: Allocator> SharedValue<T, A> {
         &self.value
     }
 
-    /// One more owner of the same value.
+    /// Returns one more owner of the same value.
     fn copy(&self) -> Result<SharedValue<T, A>, Memory>
         ensures { IfOk result (λ s. s ≡ self.now) }
     {
@@ -64,7 +64,7 @@ impl<A: Allocator> Model for SubRef<A> {
 impl<A: Allocator> SubRef<A> {
     ghost use Rattle.std.specs.Prelude.{◌≡◌, ◌↔◌, IfOk, IsTrue};
 
-    /// Makes the submission shareable. On `Memory`, drops it.
+    /// Makes the submission shareable. On `Memory`, drops the submission.
     pub fn of(alloc: A, submission: Submission<A>) -> Result<SubRef<A>, Memory>
         ensures { IfOk result (λ s. s ≡ submission) }
     {
@@ -80,14 +80,14 @@ impl<A: Allocator> SubRef<A> {
         self.shared.get()
     }
 
-    /// Whether the submissions are equal, shared or not. Never allocates.
+    /// Whether the submissions are equal, even if they don't share memory. Never allocates.
     pub fn is_same(&self, other: &SubRef<A>) -> bool
         ensures { IsTrue result ↔ (self.now ≡ other.now) }
     {
         self.get().is_same(other.get())
     }
 
-    /// One more owner of the same submission.
+    /// Returns one more owner of the same submission.
     pub fn copy(&self) -> Result<SubRef<A>, Memory>
         ensures { IfOk result (λ s. s ≡ self.now) }
     {
@@ -114,7 +114,7 @@ impl<A: Allocator> Model for PackedRef<A> {
 impl<A: Allocator> PackedRef<A> {
     ghost use Rattle.std.specs.Prelude.{◌≡◌, ◌↔◌, IfOk, IsTrue};
 
-    /// Makes the submission shareable. On `Memory`, drops it.
+    /// Makes the submission shareable. On `Memory`, drops the submission.
     pub fn of(alloc: A, submission: PackedSubmission<A>) -> Result<PackedRef<A>, Memory>
         ensures { IfOk result (λ s. s ≡ submission) }
     {
@@ -130,21 +130,21 @@ impl<A: Allocator> PackedRef<A> {
         self.shared.get()
     }
 
-    /// Whether the submissions are equal, shared or not. Never allocates.
+    /// Whether the submissions are equal, even if they don't share memory. Never allocates.
     pub fn is_same(&self, other: &PackedRef<A>) -> bool
         ensures { IsTrue result ↔ (self.now ≡ other.now) }
     {
         self.get().is_same(other.get())
     }
 
-    /// Whether this equals a submission that isn't packed. Never allocates.
+    /// Whether this submission equals `other`, which isn't packed. Never allocates.
     pub fn is_same_as(&self, other: &SubRef<A>) -> bool
         ensures { IsTrue result ↔ (self.now ≡ other.now) }
     {
         self.get().is_same_as(other.get())
     }
 
-    /// One more owner of the same submission.
+    /// Returns one more owner of the same submission.
     pub fn copy(&self) -> Result<PackedRef<A>, Memory>
         ensures { IfOk result (λ s. s ≡ self.now) }
     {
@@ -171,7 +171,7 @@ impl<A: Allocator> Model for TextRef<A> {
 impl<A: Allocator> TextRef<A> {
     ghost use Rattle.std.specs.Prelude.{◌≡◌, ◌↔◌, IfOk, IsTrue};
 
-    /// Makes the text shareable. On `Memory`, drops it.
+    /// Makes the text shareable. On `Memory`, drops the text.
     pub fn of(alloc: A, text: Bytes<A>) -> Result<TextRef<A>, Memory>
         ensures { IfOk result (λ t. t ≡ text) }
     {
@@ -187,14 +187,14 @@ impl<A: Allocator> TextRef<A> {
         self.shared.get()
     }
 
-    /// Whether the texts are equal, shared or not. Never allocates.
+    /// Whether the texts are equal, even if they don't share memory. Never allocates.
     pub fn is_same(&self, other: &TextRef<A>) -> bool
         ensures { IsTrue result ↔ (self.now ≡ other.now) }
     {
         self.get().is_same(other.get())
     }
 
-    /// One more owner of the same text.
+    /// Returns one more owner of the same text.
     pub fn copy(&self) -> Result<TextRef<A>, Memory>
         ensures { IfOk result (λ t. t ≡ self.now) }
     {

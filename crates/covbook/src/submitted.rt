@@ -19,23 +19,23 @@ pub(crate) trait Submitted<A: Allocator + Copy> {
     ghost use Rattle.covbook.specs.Op.{SubmitOp};
     ghost use Rattle.covbook.specs.View.{op_data};
 
-    // The submission.
+    // The submission as plain data.
     ghost says: { Self → SubmissionData };
 
-    /// Makes the operation that submits it. The operation shares the submission.
+    /// Returns the operation that adds this submission. The submission is shared, not copied.
     fn to_op(&self) -> Result<Op<A>, Memory>
         ensures { IfOk result (λ op. op_data op ≡ SubmitOp (says self.now)) };
 
-    /// How many items it has.
+    /// How many items the submission has.
     fn count_items(&self) -> u64
         ensures count { result ≡ items_in (says self.now).sects }
         ensures lawful { IsLawful (says self.now) };
 
-    /// How many inconsistent lines its input has.
+    /// How many inconsistent lines the submission's input has.
     fn count_odd(&self) -> u64
         ensures { result ≡ (says self.now).odd };
 
-    /// Prepares to add it to the store, as `Store::prepare` does.
+    /// Prepares to add the submission to `store`, as `Store::prepare` does.
     fn prepare_in(&self, alloc: A, store: &mut Store<A>) -> Result<Plan, Refuse<A>>
         requires { store.old.members < max_members }
         ensures content { SameContent store.old store.new }

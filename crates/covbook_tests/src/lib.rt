@@ -1,5 +1,5 @@
-//! Tests of covbook's book and of `gather`: its public calls with ample memory, and what no session reaches. This crate has nothing
-//! but its tests.
+//! Tests of covbook's book and of `gather`: the public calls with ample memory, and what no session reaches. This crate has only
+//! tests.
 #![tactic(auto)]
 
 #[cfg(test)]

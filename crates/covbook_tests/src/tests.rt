@@ -1,4 +1,4 @@
-//! The book. Expected values were worked out by hand from the formats.
+//! Tests of the book. The expected values were worked out by hand from the formats.
 
 use std::test::*;
 
@@ -12,7 +12,7 @@ mod script;
 mod steps;
 mod wrappers;
 
-/// Appends a line.
+/// Appends `line` and a line feed.
 fn push_line(text: &mut Vec<u8>, line: &[u8]) -> Result<(), Fail> {
     text.extend_from_slice(line)?;
     text.push(b'\n')?;

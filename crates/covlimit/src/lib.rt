@@ -1,9 +1,9 @@
-//! Thresholds for rates of points hit, and the totals below them.
+//! Thresholds for rates of points hit, and lines about totals below their thresholds.
 //!
-//! A rate is a decimal number of percent. It is compared with whole numbers of points, so nothing is rounded: 3999 of 5000 lines
-//! are below 79.980001 percent, and not below 79.98 percent.
+//! A rate is a percentage in decimal. Totals are compared with a rate without rounding: 3999 of 5000 lines are below 79.980001
+//! percent, but not below 79.98 percent.
 //!
-//! An example: the line about totals with too few lines hit, which is empty if they have enough. `LimitFault` is the caller's own.
+//! An example: the line about too few lines hit, which is empty if enough lines are hit. `LimitFault` is the caller's own type.
 //!
 //! ```text
 //! pub fn missed_lines(alloc: Global, word: Bytes, totals: &Totals) -> Result<Bytes, LimitFault> {

@@ -1,4 +1,4 @@
-//! The thresholds of a run, and the totals below them.
+//! The thresholds of a run, and lines about totals below their thresholds.
 
 ghost use Rattle.std.specs.Prelude.{◌≡◌, [], IfOk, IsOk};
 ghost use Rattle.covlimit.specs.Limits.{has_limit, shortfalls};
@@ -10,7 +10,7 @@ use covline::{Bytes, Memory};
 use covstore::Totals;
 use std::alloc::{Allocator, Global};
 
-/// The thresholds of a run for rates of points hit. `None` is no threshold for a kind of points.
+/// The thresholds of a run for rates of points hit. A kind of points with `None` has no threshold.
 #[derive(Drop)]
 pub struct Limits<A: Allocator = Global> {
     /// The threshold for lines (gcovr(1), `--fail-under-line`).
@@ -22,7 +22,7 @@ pub struct Limits<A: Allocator = Global> {
 }
 
 impl<A: Allocator> Limits<A> {
-    /// Whether there is a threshold.
+    /// Whether any kind of points has a threshold.
     pub fn has_limit(&self) -> bool
         ensures { result ≡ has_limit (limits_data self.now) }
     {
@@ -30,9 +30,9 @@ impl<A: Allocator> Limits<A> {
     }
 }
 
-/// Prints a line for each kind of points below its threshold, in the order lines, functions, branches. An example is `lines: 3996
-/// of 5000 is below 80%`. The threshold is printed as it was given. If no points of a kind are found, they are below any threshold.
-/// The result is empty if no kind is below its threshold; then nothing is allocated. Fails only if an allocation fails.
+/// Returns a line for each kind of points below its threshold, in the order lines, functions, branches. An example is `lines: 3996
+/// of 5000 is below 80%`. A line has the threshold as the caller wrote it. If no points of a kind are found, this kind is below any
+/// threshold. If no kind is below its threshold, the result is empty, and nothing is allocated. Fails only if an allocation fails.
 pub fn shortfall_lines<A: Allocator>(
     alloc: A,
     limits: &Limits<A>,

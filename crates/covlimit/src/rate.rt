@@ -5,8 +5,8 @@ use covline::Bytes;
 use std::alloc::{Allocator, Global};
 use std::marker::Model;
 
-/// A rate of points hit as a threshold: a decimal number of percent, from 0 to 100. It stores the argument that it was made of,
-/// which contracts see.
+/// A threshold for the rate of points hit: a decimal percentage from 0 to 100. A `Rate` stores the argument that it was parsed
+/// from, which contracts see.
 #[derive(Drop)]
 pub struct Rate<A: Allocator = Global> {
     word: Bytes<A>,
@@ -29,9 +29,9 @@ impl<A: Allocator> Rate<A> {
     ghost use Rattle.covlimit.specs.Rates.{IsRate};
     ghost use Rattle.covlimit.specs.Shortfalls.{is_below};
 
-    /// Parses a rate. It has at most three digits, then nothing, or a point and at most six digits. It has at least one digit, and
-    /// is at most 100. So `80`, `79.5`, `.5` and `80.` are rates; `-1`, `1e1`, `80%` and `101` aren't. Returns `None` if `word`
-    /// isn't a rate. Never allocates.
+    /// Parses a rate: at most three digits, then nothing, or a `.` and at most six digits. A rate has at least one digit, and is at
+    /// most 100. So `80`, `79.5`, `.5` and `80.` are rates; `-1`, `1e1`, `80%` and `101` aren't. Returns `None` if `word` isn't a
+    /// rate. Never allocates.
     pub fn of(word: Bytes<A>) -> Option<Rate<A>>
         ensures rate { IsSome result ↔ IsRate word }
         ensures kept { IfSome result (λ r. r ≡ word) }
@@ -40,15 +40,14 @@ impl<A: Allocator> Rate<A> {
         Some(Rate { word, millionths })
     }
 
-    /// The argument that the rate was made of.
+    /// The argument that the rate was parsed from.
     pub fn word(&self) -> &[u8]
         ensures { result.now ≡ self.now }
     {
         self.word.get()
     }
 
-    /// Whether `hit` of `found` points are below the rate. Nothing is rounded. No points at all are below any rate, even 0. Never
-    /// allocates.
+    /// Whether `hit` of `found` points are below the rate. Nothing is rounded. If `found` is 0, the points are below any rate, even
     /// 0. Never allocates.
     pub fn is_missed_by(&self, hit: u64, found: u64) -> bool
         ensures { result ≡ is_below self.now hit found }

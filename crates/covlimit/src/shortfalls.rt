@@ -1,4 +1,4 @@
-//! Prints the lines about rates below their thresholds.
+//! Prints the lines about kinds of points below their thresholds.
 
 ghost use Rattle.std.specs.Prelude.{◌≡◌, ◌++◌, [], OnOk, IsOk, decimal};
 ghost use Rattle.covlimit.specs.Shortfalls.{numbers_text, shortfall, shortfall_line};
@@ -8,7 +8,7 @@ use covline::{Bytes, Memory};
 use itoa::Buffer;
 use std::alloc::Allocator;
 
-/// Appends a line about these points if they are below their threshold. Otherwise, or without a threshold, appends nothing and
+/// Appends a line about this kind of points if they are below `limit`. Otherwise, or if `limit` is `None`, appends nothing and
 /// never fails.
 pub(crate) fn put_shortfall<A: Allocator>(
     kind: &[u8],
@@ -29,7 +29,7 @@ pub(crate) fn put_shortfall<A: Allocator>(
     put_line(kind, rate.word(), hit, found, text)
 }
 
-/// Appends the line about points of a kind that are below the threshold `word`.
+/// Appends the line that says that points of a kind are below the threshold `word`.
 fn put_line<A: Allocator>(
     kind: &[u8],
     word: &[u8],

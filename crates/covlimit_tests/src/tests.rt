@@ -1,6 +1,6 @@
-//! Rates and totals, with answers that were worked out by hand from what a rate means.
+//! Tests of rates and totals. The expected results were worked out by hand from what a rate means.
 //!
-//! Examples are text, so that they cost the proof of these tests nothing: each is a line.
+//! Each example is a line of text, so that examples add nothing to the proof of these tests.
 
 use covlimit::{Limits, Rate, shortfall_lines};
 use covline::{Bytes, Memory};
@@ -9,7 +9,7 @@ use std::alloc::Global;
 use std::process::Abort;
 use std::test::*;
 
-/// Arguments that are rates. Leading zeros change nothing.
+/// Arguments that are rates, some of them with leading zeros.
 #[test]
 fn rates(rt: HostRuntime) -> Result<(), Fail> {
     check_words(
@@ -66,8 +66,8 @@ fn other_words(rt: HostRuntime) -> Result<(), Fail> {
     )
 }
 
-/// Each example has a rate, the numbers of lines hit and found, and after ` => ` whether they are below the rate. The comparison is
-/// exact.
+/// Each example has a rate, the numbers of lines hit and found, and after ` => ` whether these lines reach the rate or are below
+/// it. The comparison is exact.
 #[test]
 fn comparisons(rt: HostRuntime) -> Result<(), Fail> {
     check_lines(
@@ -101,7 +101,7 @@ fn comparisons(rt: HostRuntime) -> Result<(), Fail> {
     )
 }
 
-/// The lines about all three kinds, and about only those with a threshold.
+/// The lines for thresholds of all three kinds, of some kinds and of none, and for thresholds that are reached.
 #[test]
 fn all_kinds(rt: HostRuntime) -> Result<(), Fail> {
     let none = shortfall(rt.alloc(), "", "", "")?;
@@ -125,7 +125,7 @@ branches: 0 of 0 is below 0%
     Ok(())
 }
 
-/// Checks that all arguments are rates, or that none is.
+/// Checks that each argument is a rate if `wanted` is `true`, or that none is if it is `false`.
 fn check_words(rt: &(impl Abort + AllocGlobal), wanted: bool, words: &str) -> Result<(), Fail> {
     for word in words.lines() {
         let is_rate = rate(rt.alloc(), word)?.is_some();
@@ -134,12 +134,12 @@ fn check_words(rt: &(impl Abort + AllocGlobal), wanted: bool, words: &str) -> Re
     Ok(())
 }
 
-/// The rate that the word says, if it is one.
+/// Parses a rate. Returns `Ok(None)` if `word` isn't a rate.
 fn rate(alloc: Global, word: &str) -> Result<Option<Rate>, Memory> {
     Ok(Rate::of(Bytes::of(alloc, word.as_bytes())?))
 }
 
-/// Checks each line.
+/// Checks the example in each line.
 fn check_lines(rt: &(impl Abort + AllocGlobal), examples: &str) -> Result<(), Fail> {
     for line in examples.lines() {
         if let Some((asked, wanted)) = line.split_once(" => ") {
@@ -149,7 +149,7 @@ fn check_lines(rt: &(impl Abort + AllocGlobal), examples: &str) -> Result<(), Fa
     Ok(())
 }
 
-/// Checks whether these numbers of lines are below the rate.
+/// Checks one example: `asked` is a rate and the numbers of lines hit and found, `wanted` is `reached` or `below`.
 fn check_line(rt: &(impl Abort + AllocGlobal), asked: &str, wanted: &str) -> Result<(), Fail> {
     let mut fields = asked.split(' ');
     let word = fields.next().unwrap_or("");
@@ -167,12 +167,12 @@ fn check_line(rt: &(impl Abort + AllocGlobal), asked: &str, wanted: &str) -> Res
     Ok(())
 }
 
-/// The number that the word says.
+/// Parses a number. Returns 7 if `word` isn't a number.
 fn number(word: &str) -> u64 {
     word.parse().unwrap_or(7)
 }
 
-/// The line about `hit` of `found` lines for this threshold.
+/// The line about `hit` of `found` source lines with the threshold `lines`, or an empty text if the threshold is reached.
 fn told_of_lines(
     alloc: Global,
     lines: Option<Rate>,
@@ -195,7 +195,7 @@ fn told_of_lines(
     shortfall_lines(alloc, &limits, &totals)
 }
 
-/// The lines about 3996 of 5000 lines, 2 of 3 functions, and no branches, for these thresholds. An empty argument is no threshold.
+/// The lines about 3996 of 5000 lines, 2 of 3 functions, and no branches, with these thresholds. An empty argument is no threshold.
 fn shortfall(alloc: Global, lines: &str, functions: &str, branches: &str) -> Result<Bytes, Memory> {
     let limits = Limits {
         lines: rate(alloc, lines)?,
@@ -213,7 +213,7 @@ fn shortfall(alloc: Global, lines: &str, functions: &str, branches: &str) -> Res
     shortfall_lines(alloc, &limits, &totals)
 }
 
-/// Checks that the text is as wanted.
+/// Checks that `given` is the text `wanted`.
 fn check_text(rt: &impl Abort, given: &Bytes, wanted: &str) {
     assert_eq!(rt; given.get(), wanted.as_bytes());
 }

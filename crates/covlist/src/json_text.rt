@@ -15,10 +15,10 @@ use covstore::{FileTotals, Store, Totals};
 use json::Writer;
 use std::alloc::Allocator;
 
-/// Prints the chosen files with their totals as one JSON object (RFC 8259). It is `{"files":[..],"total":{..}}`. `files` has an
-/// object for each chosen file, ascending by path, each on a line of its own. `total` has the totals of the chosen files. Totals
-/// are those of lines, functions and branches, each `{"found":7,"hit":6}`. A file has its path under `file`, or under `file_hex` in
-/// lower-case hexadecimal if the path isn't UTF-8.
+/// Returns the chosen files with their totals as one JSON object (RFC 8259). The object is `{"files":[..],"total":{..}}`. `files`
+/// has an object for each chosen file, ascending by path, each on its own line. `total` has the totals of the chosen files. Lines,
+/// functions and branches each have totals such as `{"found":7,"hit":6}`. A file's object has the path under `file`, or in
+/// lower-case hexadecimal under `file_hex` if the path isn't UTF-8.
 ///
 /// # Errors
 ///
@@ -39,7 +39,7 @@ pub fn list_json<A: Allocator + Copy>(
     Ok(text)
 }
 
-/// Prints totals as one line of JSON (RFC 8259): how many lines, functions and branches are found, and how many of them are hit.
+/// Returns totals as one line of JSON (RFC 8259): how many lines, functions and branches are found and hit.
 ///
 /// # Errors
 ///
@@ -54,7 +54,7 @@ pub fn summary_json<A: Allocator>(alloc: A, totals: &Totals) -> Result<Bytes<A>,
     Ok(text)
 }
 
-/// Appends the objects of the chosen files.
+/// Appends the JSON objects of the chosen files.
 fn put_objects<A: Allocator + Copy>(
     alloc: A,
     store: &Store<A>,
@@ -90,7 +90,7 @@ fn put_object<A: Allocator>(
     text.append(b"}")
 }
 
-/// Appends the member that names a file.
+/// Appends the member that names a file: `file` or `file_hex`.
 fn put_name<A: Allocator>(alloc: A, path: &[u8], text: &mut Bytes<A>) -> Result<(), Memory>
     ensures { OnOk result (text.new ≡ text.old ++ name_member path.now) }
 {
@@ -100,7 +100,7 @@ fn put_name<A: Allocator>(alloc: A, path: &[u8], text: &mut Bytes<A>) -> Result<
     }
 }
 
-/// Appends the member that names a file by a string.
+/// Appends the member `file`, which names a file by a string.
 fn put_string_name<A: Allocator>(alloc: A, name: &str, text: &mut Bytes<A>) -> Result<(), Memory>
     ensures { OnOk result (text.new ≡ text.old ++ string_name name.now) }
 {
@@ -108,7 +108,7 @@ fn put_string_name<A: Allocator>(alloc: A, name: &str, text: &mut Bytes<A>) -> R
     put_string(alloc, name, text)
 }
 
-/// Appends a string.
+/// Appends `name` as a JSON string.
 fn put_string<A: Allocator>(alloc: A, name: &str, text: &mut Bytes<A>) -> Result<(), Memory>
     ensures { OnOk result (text.new ≡ text.old ++ quoted name.now) }
 {
@@ -117,7 +117,7 @@ fn put_string<A: Allocator>(alloc: A, name: &str, text: &mut Bytes<A>) -> Result
     text.append(writer.into_inner().as_slice())
 }
 
-/// Appends the member that names a file by its bytes in hexadecimal.
+/// Appends the member `file_hex`, which names a file by its path in hexadecimal.
 fn put_hexadecimal_name<A: Allocator>(
     alloc: A,
     path: &[u8],
@@ -130,7 +130,7 @@ fn put_hexadecimal_name<A: Allocator>(
     text.append(b"\"")
 }
 
-/// Appends bytes in hexadecimal.
+/// Appends bytes in lower-case hexadecimal.
 fn put_hexadecimal<A: Allocator>(alloc: A, bytes: &[u8], text: &mut Bytes<A>) -> Result<(), Memory>
     ensures { OnOk result (text.new ≡ text.old ++ encode_lower bytes.now) }
 {
@@ -138,7 +138,7 @@ fn put_hexadecimal<A: Allocator>(alloc: A, bytes: &[u8], text: &mut Bytes<A>) ->
     text.append(digits.as_bytes())
 }
 
-/// Appends the members with the totals.
+/// Appends the totals as the members `lines`, `functions` and `branches`.
 fn put_members<A: Allocator>(totals: &Totals, text: &mut Bytes<A>) -> Result<(), Memory>
     ensures { OnOk result (text.new ≡ text.old ++ members totals.now) }
 {
@@ -150,7 +150,7 @@ fn put_members<A: Allocator>(totals: &Totals, text: &mut Bytes<A>) -> Result<(),
     put_points(totals.bh, totals.bf, text)
 }
 
-/// Appends the numbers of points found and hit.
+/// Appends a JSON object with the numbers of points found and hit.
 fn put_points<A: Allocator>(hit: u64, found: u64, text: &mut Bytes<A>) -> Result<(), Memory>
     ensures { OnOk result (text.new ≡ text.old ++ points hit found) }
 {

@@ -1,9 +1,9 @@
-//! Lists the source files of a store with their totals: as a table (lcov(1), `--list`) and as JSON (RFC 8259). Also prints only
-//! totals as JSON.
+//! Lists the source files of a store with their totals, as a table (lcov(1), `--list`) or as JSON (RFC 8259). `summary_json` prints
+//! only totals, as JSON.
 //!
-//! `list_table` is for people. It prints a control byte in a file's name as `\x` and two digits, and a backslash twice, so each file
-//! has one line, and no two names look the same. `list_json` is for programs. It prints a name as a string under `file` if the name
-//! is UTF-8, and otherwise in hexadecimal under `file_hex`.
+//! For people, `list_table` prints a control byte in a file's name as `\x` and two digits, and a backslash twice. So each file has
+//! one line, and no two names look the same. For programs, `list_json` prints a name as a string under `file` if the name is UTF-8,
+//! and otherwise in hexadecimal under `file_hex`.
 //!
 //! An example: the table of all files, and the totals as JSON.
 //!

@@ -1,4 +1,4 @@
-//! Appends numbers in decimal, and spaces in front of them.
+//! Appends decimal numbers and spaces to a text.
 
 ghost use Rattle.std.specs.Prelude.{◌≡◌, ◌≤◌, ◌++◌, OnOk, decimal, length, replicate};
 
@@ -23,7 +23,7 @@ pub(crate) fn digits(number: u64) -> usize
     digits.format(number).len()
 }
 
-/// Appends this many spaces.
+/// Appends `count` spaces.
 pub(crate) fn put_spaces<A: Allocator>(count: usize, text: &mut Bytes<A>) -> Result<(), Memory>
     ensures { OnOk result (text.new ≡ text.old ++ replicate count 32) }
 {

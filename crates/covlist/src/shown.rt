@@ -1,4 +1,4 @@
-//! Prints names from outside in lines of text.
+//! Prints names from outside with control bytes and backslashes escaped.
 
 ghost use Rattle.std.specs.Prelude.{◌≡◌, ◌++◌, ◌∷◌, [], OnOk};
 ghost use Rattle.hex.specs.Hex.{encode_lower};
@@ -22,11 +22,11 @@ pub fn put_shown_name<A: Allocator>(name: &[u8], text: &mut Bytes<A>) -> Result<
     Ok(())
 }
 
-/// Appends whole lines in which names stand. Each line feed stays, and any other byte is printed as in a name.
+/// Appends whole lines that contain names. Each line feed stays, and any other byte is printed as `put_shown_name` does.
 ///
 /// # Errors
 ///
-/// `Memory` if memory was refused. The text may then end in a part of the lines.
+/// `Memory` if an allocation failed. The text may then end with a part of the lines.
 pub fn put_shown_lines<A: Allocator>(lines: &[u8], text: &mut Bytes<A>) -> Result<(), Memory>
     ensures { OnOk result (text.new ≡ text.old ++ shown_lines lines.now) }
 {
@@ -36,7 +36,7 @@ pub fn put_shown_lines<A: Allocator>(lines: &[u8], text: &mut Bytes<A>) -> Resul
     Ok(())
 }
 
-/// Appends a byte of whole lines in printed form.
+/// Appends one byte as `put_shown_lines` prints it.
 fn put_shown_in_lines<A: Allocator>(byte: u8, text: &mut Bytes<A>) -> Result<(), Memory>
     ensures { OnOk result (text.new ≡ text.old ++ shown_in_lines byte) }
 {
@@ -46,7 +46,7 @@ fn put_shown_in_lines<A: Allocator>(byte: u8, text: &mut Bytes<A>) -> Result<(),
     put_shown_byte(byte, text)
 }
 
-/// Appends a byte in printed form.
+/// Appends one byte as `put_shown_name` prints it.
 fn put_shown_byte<A: Allocator>(byte: u8, text: &mut Bytes<A>) -> Result<(), Memory>
     ensures { OnOk result (text.new ≡ text.old ++ shown_byte byte) }
 {
@@ -67,7 +67,7 @@ fn is_control(byte: u8) -> bool
     byte < 32 || byte == 127
 }
 
-/// Appends a byte as two hexadecimal digits.
+/// Appends a byte as two lower-case hexadecimal digits.
 fn put_hexadecimal<A: Allocator>(byte: u8, text: &mut Bytes<A>) -> Result<(), Memory>
     ensures { OnOk result (text.new ≡ text.old ++ encode_lower (byte ∷ [])) }
 {

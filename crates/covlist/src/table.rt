@@ -15,9 +15,9 @@ use covreport::{Choice, chosen_totals, tenths};
 use covstore::{FileTotals, Store, Totals};
 use std::alloc::Allocator;
 
-/// Prints the table of the chosen files (lcov(1), `--list`): a line of headings, a row for each file, ascending by path, and a row
-/// `Total` with the totals of the chosen files. A row has the rate of points hit and the numbers hit and found, each for lines,
-/// functions and branches; the rate is `-` if none is found. The name of the file comes last, as `put_shown_name` prints it. If no
+/// Returns the table of the chosen files (lcov(1), `--list`): a line of headings, a row for each file, ascending by path, and a row
+/// `Total` with the totals of the chosen files. For lines, functions and branches, a row has the percentage of points hit (`-` if
+/// no points are found), and how many points are hit and found. The file's name comes last, as `put_shown_name` prints it. If no
 /// file is chosen, `Total` is the only row.
 ///
 /// # Errors
@@ -53,7 +53,7 @@ fn put_rows<A: Allocator + Copy>(
     Ok(())
 }
 
-/// Appends the row of a file if it is chosen.
+/// Appends the row of `file`, if `choice` takes this file.
 fn put_if_chosen<A: Allocator>(
     choice: &Choice<A>,
     all: &Totals,
@@ -81,7 +81,7 @@ fn put_headings<A: Allocator>(all: &Totals, text: &mut Bytes<A>) -> Result<(), M
     text.append(b"  File\n")
 }
 
-/// Appends the heading of a column. `most` is the greatest number in it.
+/// Appends the heading of a column whose largest number is `most`.
 fn put_heading<A: Allocator>(most: u64, label: &[u8], text: &mut Bytes<A>) -> Result<(), Memory>
     ensures { OnOk result (text.new ≡ text.old ++ heading most label.now) }
 {
@@ -90,7 +90,7 @@ fn put_heading<A: Allocator>(most: u64, label: &[u8], text: &mut Bytes<A>) -> Re
     text.append(label)
 }
 
-/// The width of a column's numbers, hit and found with the text between them. `most` is the greatest number.
+/// The width of the numbers hit and found in a column, with the slash between them. `most` is the column's largest number.
 fn numbers_width(most: u64) -> usize
     ensures value { result ≡ width_of_numbers most }
     ensures narrow { result ≤ 41 }
@@ -98,7 +98,7 @@ fn numbers_width(most: u64) -> usize
     2 * digits(most) + 1
 }
 
-/// Appends the row of a name with its own totals. `all` decides the widths of the columns.
+/// Appends a row with the totals `own` and a name. The totals `all` determine the widths of the columns.
 fn put_row<A: Allocator>(
     all: &Totals,
     name: &[u8],
@@ -118,7 +118,7 @@ fn put_row<A: Allocator>(
     text.append(b"\n")
 }
 
-/// Appends the rate of points hit, and the numbers of points hit and found.
+/// Appends the percentage of points hit, and how many points are hit and found. `most` is the column's largest number.
 fn put_cell<A: Allocator>(
     most: u64,
     hit: u64,
@@ -133,7 +133,7 @@ fn put_cell<A: Allocator>(
     put_numbers(numbers_width(most), hit, found, text)
 }
 
-/// Appends the rate of points hit, padded to 6 characters.
+/// Appends the percentage of points hit, or `-` if no points are found, padded to 6 characters.
 fn put_rate<A: Allocator>(hit: u64, found: u64, text: &mut Bytes<A>) -> Result<(), Memory>
     requires { hit ≤ found }
     ensures { OnOk result (text.new ≡ text.old ++ right_aligned 6 (rate hit found)) }
@@ -144,7 +144,7 @@ fn put_rate<A: Allocator>(hit: u64, found: u64, text: &mut Bytes<A>) -> Result<(
     put_percentage(tenths(hit, found), text)
 }
 
-/// Appends a rate in tenths of a percent as a percentage, padded to 6 characters.
+/// Appends tenths of a percent as a percentage, padded to 6 characters.
 fn put_percentage<A: Allocator>(tenths: u32, text: &mut Bytes<A>) -> Result<(), Memory>
     ensures { OnOk result (text.new ≡ text.old ++ right_aligned 6 (percentage tenths)) }
 {
@@ -158,7 +158,7 @@ fn put_percentage<A: Allocator>(tenths: u32, text: &mut Bytes<A>) -> Result<(), 
     text.append(b"%")
 }
 
-/// Appends the numbers of points hit and found as one text, padded to `width` characters.
+/// Appends how many points are hit and found, with a slash in between, padded to `width` characters.
 fn put_numbers<A: Allocator>(
     width: usize,
     hit: u64,

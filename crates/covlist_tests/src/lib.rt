@@ -1,4 +1,4 @@
-//! Tests of the lists of files, as a table and as JSON (covlist). This crate has nothing but its tests.
+//! Tests of covlist: lists of files as a table and as JSON. This crate has only tests.
 #![tactic(auto)]
 
 #[cfg(test)]

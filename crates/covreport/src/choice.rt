@@ -1,4 +1,4 @@
-//! Which files a printed text includes.
+//! The choice of the files that a printed text includes.
 
 use crate::patterns::Patterns;
 use std::alloc::{Allocator, Global};
@@ -12,8 +12,8 @@ pub enum Choice<A: Allocator = Global> {
     Extract(Patterns<A>),
     /// The files that match none of the patterns; every file if there are no patterns.
     Remove(Patterns<A>),
-    /// The files that match at least one of the includes (any file if there are none) and none of the excludes (lcov(1) of LCOV
-    /// 2.x, `--include` and `--exclude`).
+    /// The files that match at least one of the includes and none of the excludes (lcov(1) of LCOV 2.x, `--include` and
+    /// `--exclude`). Without includes, only the excludes count.
     Filter {
         includes: Patterns<A>,
         excludes: Patterns<A>,

@@ -1,10 +1,10 @@
-//! Prints the content of a store: the merged tracefile (geninfo(1), FILES), of all files or of those that patterns choose (lcov(1),
-//! `--extract` and `--remove`), and the summary of totals (lcov(1), `--summary`).
+//! Prints the merged tracefile of a store (geninfo(1), FILES), with all files or only the files that patterns choose (lcov(1),
+//! `--extract` and `--remove`). Also prints summaries of totals (lcov(1), `--summary`).
 //!
-//! `trace_text` makes the whole text of a tracefile. A `Printing` prints it piece by piece to the caller's `Printer`, and never
-//! allocates once it is made.
+//! `trace_text` returns the whole text of a tracefile. A `Printing` prints a text piece by piece to the caller's `Printer`, and its
+//! `print` never allocates.
 //!
-//! `chosen_totals` returns the totals of chosen files, for a summary of only these.
+//! `chosen_totals` returns the totals of the chosen files, for a summary of only these files.
 //!
 //! An example, proved and run in `covuses`: the merged tracefile of the files that match a pattern, and the summary of all files.
 //!

@@ -5,7 +5,7 @@ ghost use Rattle.std.specs.Borrow.{ftrue};
 
 use std::marker::Model;
 
-/// Bytes that exist only in proofs, and use neither memory nor time. A printer can note all bytes that it was given.
+/// Bytes that exist only in proofs, and use neither memory nor time. A printer can note all its pieces as such bytes.
 #[derive(Drop)]
 pub struct Noted {
     pub ghost bytes: { List ℕ },
@@ -29,7 +29,7 @@ impl Noted {
         Noted {}
     }
 
-    /// These bytes, followed by a piece.
+    /// Returns these bytes followed by `piece`.
     #[inline]
     pub fn and(&self, piece: &[u8]) -> Noted
         ensures { result.bytes ≡ self.now.bytes ++ piece.now }
@@ -37,7 +37,7 @@ impl Noted {
         Noted::with(self, &Piece { bytes: piece })
     }
 
-    /// The bytes of `_before`, followed by those of `_piece`.
+    /// Returns the bytes of `_before` followed by those of `_piece`.
     #[inline]
     fn with(_before: &Noted, _piece: &Piece<'_>) -> Noted
         ensures { result.bytes ≡ _before.now.bytes ++ _piece.now.bytes.now }

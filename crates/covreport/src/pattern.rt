@@ -1,8 +1,8 @@
 //! Shell patterns for paths. A pattern matches a whole path:
 //!
-//! `*` matches any run of bytes, also `/`; `?` any byte; `\` the next byte as itself; `[abc]` and `[a-z]` a byte of a set, and
-//! `[!abc]` a byte that isn't in it. Any other byte matches itself, and so do a `\` at the end and a `[` that no `]` closes after
-//! at least one byte.
+//! `*` matches any run of bytes, also `/`. `?` matches any byte. `\` and a byte match this byte. `[abc]` and `[a-z]` match a byte
+//! of a set, `[!abc]` matches a byte outside of the set. Any other byte matches itself. So do a `\` at the end of the pattern, and
+//! a `[` that no `]` closes after at least one byte.
 
 ghost use Rattle.std.specs.Prelude.{◌≡◌};
 ghost use Rattle.covreport.specs.Pattern.{matches as pattern_matches};
@@ -12,7 +12,7 @@ pub(crate) mod steps;
 
 use steps::Matcher;
 
-/// Whether the pattern matches the whole path. Never allocates. Backtracks to the last star only.
+/// Whether the pattern matches the whole path. Never allocates. Backtracks only to the last star.
 pub fn matches(pattern: &[u8], path: &[u8]) -> bool
     ensures { result ≡ pattern_matches pattern.now path.now }
 {

@@ -6,16 +6,16 @@ use std::alloc::{Allocator, Global};
 use std::marker::Model;
 use thiserror::Error;
 
-/// The most patterns in one list.
+/// The maximum number of patterns in one list.
 pub const MAX_PATTERNS: usize = 64;
 
-/// The most bytes in one pattern.
+/// The maximum number of bytes in one pattern.
 pub const MAX_PATTERN_BYTES: usize = 1_024;
 
 /// Why a pattern couldn't be added to a list.
 #[derive(Clone, Copy, Debug, PartialEq, Eq, Error)]
 pub enum PatternFault {
-    /// The list has 64 patterns. This is checked first.
+    /// The list has 64 patterns already. `add` checks this first.
     #[error("TooMany")]
     TooMany = 1,
     /// The pattern has more than 1,024 bytes.
@@ -98,7 +98,7 @@ impl<A: Allocator + Copy> Patterns<A> {
         Ok(())
     }
 
-    /// Appends a pattern to a list that isn't full.
+    /// Appends a pattern, which must not be too long, to a list that must not be full.
     fn push(&mut self, pattern: Bytes<A>) -> Result<(), Memory>
         requires few { length self.old < max_patterns }
         requires short { length pattern ≤ max_pattern_bytes }
@@ -132,7 +132,7 @@ impl<A: Allocator> Patterns<A> {
         self.patterns.as_slice()
     }
 
-    /// Whether the other list has equal patterns in the same order. Never allocates.
+    /// Whether the two lists have equal patterns in the same order. Never allocates.
     pub fn is_same(&self, other: &Patterns<A>) -> bool
         ensures { IsTrue result ↔ (self.now ≡ other.now) }
     {

@@ -8,17 +8,17 @@ use covstore::Store;
 use std::alloc::{Allocator, Global};
 use std::marker::Model;
 
-/// The source of a text.
+/// What a text is printed from.
 #[derive(Drop)]
 enum PrintedFrom<'s, A: Allocator> {
-    /// The sections of a store.
+    /// The chosen sections of a store.
     Sections(Tracefile<'s, A>),
-    /// The text in memory.
+    /// A text in memory.
     Text(Bytes<A>),
 }
 
-/// A text that is ready to be printed: all memory for printing is reserved. Contracts see the text. A tracefile's text is made
-/// piece by piece while it is printed.
+/// A text that is ready to be printed: all memory for printing is reserved. Contracts see the text. The text of a tracefile is made
+/// piece by piece during printing.
 #[derive(Drop)]
 pub struct Printing<'s, A: Allocator = Global> {
     from: PrintedFrom<'s, A>,
@@ -38,8 +38,8 @@ impl<'s, A: Allocator + Copy> Printing<'s, A> {
     ghost use Rattle.covreport.specs.ChoiceView.{choice_data};
     ghost use Rattle.covreport.specs.Report.{report_text};
 
-    /// The tracefile of all chosen files, in order. Reserves memory for the functions of one section, if a chosen section has
-    /// functions.
+    /// The tracefile of all chosen files, in order. If a chosen section has functions, reserves memory for the functions of one
+    /// section.
     pub fn of_store(
         alloc: A,
         store: &'s Store<A>,
@@ -53,7 +53,7 @@ impl<'s, A: Allocator + Copy> Printing<'s, A> {
         })
     }
 
-    /// A text in memory. Never allocates.
+    /// Makes a text in memory ready to be printed. Never allocates.
     pub fn of_text(text: Bytes<A>) -> Printing<'s, A>
         ensures { result ≡ text }
     {
@@ -62,7 +62,7 @@ impl<'s, A: Allocator + Copy> Printing<'s, A> {
         }
     }
 
-    /// Prints the text. Stops after a section if the printer wants no more. Never allocates.
+    /// Prints the text. Stops between two sections if the printer wants no more pieces. Never allocates.
     pub fn print<P: Printer>(self, printer: &mut P)
         ensures begun { (rest : List ℕ) × (P.text printer.new ++ rest ≡ P.text printer.old ++ self.entry) }
         ensures whole { P.is_open printer.new ≡ true → P.text printer.new ≡ P.text printer.old ++ self.entry }

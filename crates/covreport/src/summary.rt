@@ -1,4 +1,4 @@
-//! The summary of totals, as lcov(1) prints it with `--summary`.
+//! Summaries of totals, as lcov(1) prints them with `--summary`.
 
 ghost use Rattle.std.specs.Prelude.{◌≡◌, ◌<◌, ◌≤◌, ◌++◌, ◌/◌, ◌%◌, IfOk, OnOk, codes, decimal, filter};
 ghost use Rattle.covstore.specs.Totals.{AreTotals, totals_of};
@@ -13,7 +13,7 @@ use covstore::{Store, Totals};
 use itoa::Buffer;
 use std::alloc::Allocator;
 
-/// The totals of the chosen files, over all tests. Never allocates.
+/// The totals of all tests in the chosen files. Never allocates.
 pub fn chosen_totals<A: Allocator + Copy>(store: &Store<A>, choice: &Choice<A>) -> Totals
     ensures value { result ≡ totals_of (filter (λ s. is_chosen (choice_data choice.now) s.key.file) store.now.sections) }
     ensures bounds { AreTotals result }
@@ -27,7 +27,7 @@ pub fn chosen_totals<A: Allocator + Copy>(store: &Store<A>, choice: &Choice<A>) 
     totals
 }
 
-/// Subtracts the totals of a part from those of the whole.
+/// Subtracts the totals of a part from the totals of the whole.
 fn without(whole: Totals, part: Totals) -> Totals
     requires { IsAmong part whole }
     ensures { together result part ≡ whole }
@@ -42,8 +42,8 @@ fn without(whole: Totals, part: Totals) -> Totals
     }
 }
 
-/// The rate of points hit, in tenths of a percent from 0 to 1000. Rounds to the nearest, halves up, but returns at most 999 if some
-/// point isn't hit, and at least 1 if some point is. Never allocates.
+/// The percentage of points hit, in tenths of a percent: 0 to 1000. Rounds to the nearest, halves up. But returns at most 999 if
+/// any point isn't hit, and at least 1 if any point is hit. Never allocates.
 pub fn tenths(hit: u64, found: u64) -> u32
     requires some { 0 < found }
     requires fewer { hit ≤ found }
@@ -58,7 +58,7 @@ pub fn tenths(hit: u64, found: u64) -> u32
     if hit > 0 { not_all.max(1) } else { not_all }
 }
 
-/// The rate of points hit, in tenths of a percent, rounded to the nearest, halves up.
+/// The percentage of points hit, in tenths of a percent, rounded to the nearest, halves up.
 fn rounded(hit: u64, found: u64) -> u32
     requires some { 0 < found }
     requires fewer { hit ≤ found }
@@ -69,7 +69,7 @@ fn rounded(hit: u64, found: u64) -> u32
     ((2000 * hit + found) / (2 * found)) as u32
 }
 
-/// Prints the summary: a heading, and one line each for lines, functions and branches.
+/// Returns the summary: a heading, and one line each for lines, functions and branches.
 pub fn summary_text<A: Allocator>(alloc: A, totals: &Totals) -> Result<Bytes<A>, Memory>
     requires { AreTotals totals.now }
     ensures { IfOk result (λ t. t ≡ summary_of totals.now) }
@@ -105,7 +105,7 @@ struct Words<'a> {
     many: &'a [u8],
 }
 
-/// Appends the line of a kind of points.
+/// Appends the summary line for one kind of coverage points.
 fn put_summary<A: Allocator>(
     words: &Words<'_>,
     hit: u64,
@@ -122,7 +122,7 @@ fn put_summary<A: Allocator>(
     text.append(b"\n")
 }
 
-/// Appends the rate of points hit and the numbers of points hit and found, or `no data found` if there are no points.
+/// Appends the percentage of points hit, and how many points are hit and found. Appends `no data found` if no points are found.
 fn put_value<A: Allocator>(
     words: &Words<'_>,
     hit: u64,
@@ -141,7 +141,7 @@ fn put_value<A: Allocator>(
     put_parts(words, hit, found, text)
 }
 
-/// Appends the numbers of points hit and found, then the noun and the closing parenthesis.
+/// Appends how many points are hit and found, then the noun and the closing parenthesis.
 fn put_parts<A: Allocator>(
     words: &Words<'_>,
     hit: u64,
@@ -159,14 +159,14 @@ fn put_parts<A: Allocator>(
     text.append(b")")
 }
 
-/// The noun for this number of points.
+/// The noun for `found` points: the singular for one point, otherwise the plural.
 fn noun<'a>(words: &Words<'a>, found: u64) -> &'a [u8]
     ensures { result.now ≡ noun_of words.now.one.now words.now.many.now found }
 {
     if found == 1 { words.one } else { words.many }
 }
 
-/// Appends a rate in tenths of a percent, as a percentage with one decimal place.
+/// Appends tenths of a percent as a percentage with one decimal place.
 fn put_tenths<A: Allocator>(tenths: u32, text: &mut Bytes<A>) -> Result<(), Memory>
     ensures { OnOk result (text.new ≡ text.old ++ (decimal (tenths / 10) ++ (codes "." ++ decimal (tenths % 10)))) }
 {

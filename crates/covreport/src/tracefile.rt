@@ -1,4 +1,4 @@
-//! The merged tracefile as text (geninfo(1), section FILES). It has a section for each pair of a file and a test that have a row.
+//! The merged tracefile as text (geninfo(1), section FILES). Each test with a row in a file has a section for this file.
 
 ghost use Rattle.std.specs.Prelude.{◌≡◌, ◌≢◌, ◌≤◌, ◌++◌, ℕ, List, true, false, [], ◌∷◌, length, IfOk, OnErr, vec_capacity};
 ghost use Rattle.covreport.specs.ChoiceView.{choice_data};
@@ -27,8 +27,8 @@ use covstore::{Section, Store};
 use std::alloc::Allocator;
 use std::marker::Model;
 
-/// Prints the tracefile of all chosen files, in order. Allocates this text, and memory for the functions of one section; nothing if
-/// no section is chosen.
+/// Returns the tracefile of all chosen files, in order. Allocates the text, and memory for the functions of one section. Allocates
+/// nothing if no section is chosen.
 pub fn trace_text<A: Allocator + Copy>(
     alloc: A,
     store: &Store<A>,
@@ -43,7 +43,7 @@ pub fn trace_text<A: Allocator + Copy>(
     text.into_text()
 }
 
-/// A tracefile that is ready to be printed, with capacity for the functions of any one section. Contracts see the text.
+/// A tracefile that is ready to be printed, with reserved capacity for the functions of any one section. Contracts see the text.
 #[derive(Drop)]
 pub(crate) struct Tracefile<'s, A: Allocator> {
     store: &'s Store<A>,
@@ -65,7 +65,7 @@ impl<'s, A: Allocator> Model for Tracefile<'s, A> {
 }
 
 impl<'s, A: Allocator + Copy> Tracefile<'s, A> {
-    /// The tracefile of all chosen files, in order.
+    /// Reserves capacity to print the tracefile of all chosen files, in order.
     pub(crate) fn of(
         alloc: A,
         store: &'s Store<A>,
@@ -81,7 +81,7 @@ impl<'s, A: Allocator + Copy> Tracefile<'s, A> {
         })
     }
 
-    /// Prints the text. Stops after a section if the printer wants no more. Never allocates.
+    /// Prints the text. Stops between two sections if the printer wants no more pieces. Never allocates.
     pub(crate) fn print<P: Printer>(self, out: &mut P)
         ensures begun { (rest : List ℕ) × (P.text out.new ++ rest ≡ P.text out.old ++ self.entry) }
         ensures whole { P.is_open out.new ≡ true → P.text out.new ≡ P.text out.old ++ self.entry }
@@ -95,7 +95,8 @@ impl<'s, A: Allocator + Copy> Tracefile<'s, A> {
     }
 }
 
-/// Prints the sections of all chosen files, until the printer wants no more. `functions` has capacity for those of each section.
+/// Prints the sections of all chosen files, until the printer wants no more pieces. `functions` is a buffer, which must have
+/// capacity for the functions of any one section.
 fn put_chosen<'s, A: Allocator + Copy, P: Printer>(
     store: &'s Store<A>,
     choice: &Choice<A>,
@@ -113,7 +114,7 @@ fn put_chosen<'s, A: Allocator + Copy, P: Printer>(
     }
 }
 
-/// Prints a section if its file is chosen and the printer wants more. Returns whether the printer wanted more.
+/// Prints a section, if the printer wants more pieces and the section's file is chosen. Returns whether the printer wanted more.
 fn put_if_wanted<'s, A: Allocator, P: Printer>(
     section: &Section<'s, A>,
     choice: &Choice<A>,
@@ -133,7 +134,7 @@ fn put_if_wanted<'s, A: Allocator, P: Printer>(
     true
 }
 
-/// Prints a section if its file is chosen.
+/// Prints a section, if its file is chosen.
 fn put_if_chosen<'s, A: Allocator, P: Printer>(
     section: &Section<'s, A>,
     choice: &Choice<A>,

@@ -1,4 +1,4 @@
-//! A history of six calls, and the result of `gather` for it and for the logs of two jobs.
+//! Tests of `gather` for a history of six calls and the logs of two jobs.
 
 use super::said::put_answer;
 use super::script::{check_run, op_of, run};
@@ -14,8 +14,8 @@ use std::alloc::Global;
 use std::process::Abort;
 use std::test::*;
 
-/// Jobs 0 and 1 ask in turn: both submit the same, 0 asks for a summary, 1 drops a test that isn't there, 0 asks for a report
-/// and 1 for a summary.
+/// Jobs 0 and 1 ask in turn: both submit the same tracefile, job 0 asks for a summary, job 1 drops an unknown test, job 0 asks for
+/// a report, and job 1 for a summary.
 const SIX_CALLS: &[u8] = b"0 submit DA:1,2;DA:2,0
 1 submit DA:1,2;DA:2,0
 0 summary
@@ -28,7 +28,7 @@ fn number_of(digit: u8) -> u8 {
     digit.wrapping_sub(b'0')
 }
 
-/// The entry at the index that the digit gives.
+/// The entry whose index is `digit`.
 fn entry_at<'e>(rt: &impl Abort, entries: &'e [Entry], digit: u8) -> &'e Entry {
     match entries.get(usize::from(number_of(digit))) {
         Some(entry) => entry,
@@ -36,7 +36,7 @@ fn entry_at<'e>(rt: &impl Abort, entries: &'e [Entry], digit: u8) -> &'e Entry {
     }
 }
 
-/// The answer with another first byte in its text.
+/// A text answer like `answer`, but with `?` as its first byte.
 fn other_text(alloc: Global, answer: &Answer) -> Result<Answer, Fail> {
     let mut text = Vec::new(alloc);
     put_answer(alloc, &mut text, answer)?;
@@ -46,7 +46,7 @@ fn other_text(alloc: Global, answer: &Answer) -> Result<Answer, Fail> {
     text_of(alloc, &text)
 }
 
-/// The answer of the entry at the index that the digit gives; for `!`, this entry's answer with another text.
+/// The answer of the entry whose index is `digit`. If `digit` is `!`, the answer of `entry` with another first byte.
 fn answer_of(
     rt: &(impl Abort + AllocGlobal),
     entries: &[Entry],
@@ -60,7 +60,7 @@ fn answer_of(
     Ok(copied_answer(rt.alloc(), &answered.answer)?)
 }
 
-/// The index of a sign: a digit, or `^` for the largest number.
+/// The index that a sign means: a digit is itself, and `^` is the largest number.
 fn place_of(sign: u8) -> u64 {
     match sign {
         b'^' => u64::MAX,
@@ -68,8 +68,8 @@ fn place_of(sign: u8) -> u64 {
     }
 }
 
-/// Makes a receipt from three signs: its index, the entry whose operation it has, and the entry whose answer it has. If the last
-/// sign is `!`, the answer is that of the operation's entry with another text.
+/// Makes a receipt from three signs: its index, the index of the entry whose operation it has, and the index of the entry whose
+/// answer it has. If the last sign is `!`, the receipt's text differs from the text of the operation's entry.
 fn receipt_of(
     rt: &(impl Abort + AllocGlobal),
     entries: &[Entry],
@@ -87,7 +87,7 @@ fn receipt_of(
     })
 }
 
-/// Makes a reading with these numbers of entries, of lines found and of lines hit, and nothing else; each is a digit.
+/// Makes a reading from three digits: the numbers of entries, of lines found and of lines hit. All other totals are 0.
 fn reading_of(upto: u8, lines_found: u8, lines_hit: u8) -> Reading {
     let mut totals = Totals::default();
     totals.lf = u64::from(number_of(lines_found));
@@ -98,7 +98,7 @@ fn reading_of(upto: u8, lines_found: u8, lines_hit: u8) -> Reading {
     }
 }
 
-/// Makes a log from a line: its job, followed by its receipts and readings. A reading has `=` after its number of entries.
+/// Makes a log from a line's words: the job, the receipts and the readings. A reading has `=` after its number of entries.
 fn log_of(
     rt: &(impl Abort + AllocGlobal),
     entries: &[Entry],
@@ -126,7 +126,7 @@ fn counted(alloc: Global, word: &str, number: u64) -> Result<String, Fail> {
     Ok(format!(in alloc; "{word} {number}")?)
 }
 
-/// A word, and the indices of a log and of a receipt or a reading in it.
+/// A word, the index of a log, and the index of a receipt or a reading in this log.
 fn placed(alloc: Global, word: &str, log: usize, index: usize) -> Result<String, Fail> {
     Ok(format!(in alloc; "{word} {log} {index}")?)
 }
@@ -143,7 +143,7 @@ fn fault_in_words(alloc: Global, fault: &GatherFault) -> Result<String, Fail> {
     }
 }
 
-/// Prints the result of `gather` for entries and logs.
+/// Returns the result of `gather` for entries and logs, as text.
 fn told(alloc: Global, entries: &[Entry], logs: &[JobLog]) -> Result<String, Fail> {
     match gathered(entries, logs) {
         Ok(()) => Ok(String::from_str(alloc, "yes")?),
@@ -151,7 +151,7 @@ fn told(alloc: Global, entries: &[Entry], logs: &[JobLog]) -> Result<String, Fai
     }
 }
 
-/// Checks the result of `gather` for the entries and these logs.
+/// Checks the result of `gather` for the entries and these logs, as text.
 fn check_told(
     rt: &(impl Abort + AllocGlobal),
     entries: &[Entry],
@@ -164,7 +164,7 @@ fn check_told(
     Ok(())
 }
 
-/// Checks examples, as `check_history` does. The history has the same entries as the receipts.
+/// Checks examples as `check_history` does, for a history of all `entries`.
 fn check_all(
     rt: &(impl Abort + AllocGlobal),
     entries: &[Entry],
@@ -173,9 +173,9 @@ fn check_all(
     check_history(rt, entries, entries, examples)
 }
 
-/// Checks examples, one after the other. An example has a line for each log; a line `> ` with the expected result of `gather` for
-/// the history and these logs; and a line `= ` with its name, which ends it. The receipts are made of `entries`, which may be more
-/// than the history has.
+/// Checks examples, one after the other. An example has a line for each log, then a line `> ` with the expected result of `gather`
+/// for the history and these logs, and last a line `= ` with its name. The receipts are made from `entries`, which may be more
+/// entries than the history has.
 fn check_history(
     rt: &(impl Abort + AllocGlobal),
     entries: &[Entry],
@@ -197,7 +197,7 @@ fn check_history(
     Ok(())
 }
 
-/// Logs of two jobs for the six calls, each with the expected result of `gather`.
+/// Examples for `SIX_CALLS`: the jobs' logs, each time with the expected result of `gather`.
 const EXAMPLES: &[u8] = b"0 000 222 444
 1 111 333 555
 > yes
@@ -314,7 +314,7 @@ const EXAMPLES: &[u8] = b"0 000 222 444
 > BadReading 0 0
 = a reading comes before a receipt of the next log";
 
-/// Like the six calls of the history above, but job 1 renames the test that both submit, instead of dropping one that isn't there.
+/// Like `SIX_CALLS`, but job 1 renames the test that both jobs submit, instead of dropping an unknown test.
 const A_RENAME: &[u8] = b"0 submit DA:1,2;DA:2,0
 1 submit DA:1,2;DA:2,0
 0 summary
@@ -375,7 +375,7 @@ fn what_two_jobs_kept(rt: HostRuntime) -> Result<(), Fail> {
     check_all(&rt, &[], b"> yes\n= nothing at all\n1\n> yes\n= no calls")
 }
 
-/// A history without its last entry, so that the receipt of this entry is a `Stranger`, and a history without entries.
+/// A history without its last entry, whose receipt is then a `Stranger`, and a history without entries.
 #[test]
 fn a_shorter_history(rt: HostRuntime) -> Result<(), Fail> {
     let mut book = Book::new(rt.alloc());
@@ -407,21 +407,21 @@ fn a_shorter_history(rt: HostRuntime) -> Result<(), Fail> {
     )
 }
 
-/// Whether the operations that the words ask for are the same.
+/// Whether the operations that `one` and `other` describe are equal.
 fn are_same_ops(rt: &(impl Abort + AllocGlobal), one: &[u8], other: &[u8]) -> Result<bool, Fail> {
     let one = op_of(rt, one)?;
     let other = op_of(rt, other)?;
     Ok(is_same_op(&one, &other))
 }
 
-/// Whether the answers that the words describe are the same.
+/// Whether the answers that `one` and `other` describe are equal.
 fn are_same_answers(alloc: Global, one: &[u8], other: &[u8]) -> Result<bool, Fail> {
     let one = told_answer(alloc, one)?;
     let other = told_answer(alloc, other)?;
     Ok(is_same_answer(&one, &other))
 }
 
-/// The answer that words describe: a text, or a clash at line 1 of `/a.c`, where `k` was held.
+/// The answer that words describe: a text, or a clash at line 1 of `/a.c`, which had the checksum `k` before.
 fn told_answer(alloc: Global, words: &[u8]) -> Result<Answer, Fail> {
     match words.strip_prefix(b"clash ") {
         Some(given) => clash_of(alloc, bytes_of(alloc, given)?),
@@ -448,7 +448,7 @@ fn clash_in(file: Bytes, held: Bytes, given: Bytes) -> Answer {
     }
 }
 
-/// The answer to a rename has its number of sections, and isn't the same as the answer to a drop.
+/// Answers to renames differ if their numbers of sections differ. They also differ from answers to drops.
 #[test]
 fn a_number_of_an_answer_differs(rt: HostRuntime) {
     let renamed = |sections| Answer::Renamed { sections };
@@ -458,8 +458,7 @@ fn a_number_of_an_answer_differs(rt: HostRuntime) {
     assert!(rt; !is_same_answer(&renamed(0), &Answer::NoSuchTest));
 }
 
-/// Each operation is the same as another one of the same words. It isn't the same as one that differs in a byte, a number or its
-/// kind.
+/// Each operation equals another one made from the same text, and differs from one with another byte, number or kind.
 #[test]
 fn a_byte_of_an_operation_differs(rt: HostRuntime) -> Result<(), Fail> {
     let examples = b"submit DA:1,2&submit DA:1,3
@@ -486,7 +485,7 @@ remove /a|/b&remove /a|/c";
     Ok(())
 }
 
-/// An operation that submits a packed submission is the same as one that submits it as it is, whichever is asked.
+/// Submitting a packed submission equals submitting it unpacked, whichever operation is compared with the other.
 #[test]
 fn a_submission_packed_or_not(rt: HostRuntime) -> Result<(), Fail> {
     let examples = b"submit DA:1,2;DA:2,0&packed DA:1,2;DA:2,0
@@ -502,7 +501,7 @@ submit BRDA:1,0,0,-&packed BRDA:1,0,0,-";
     Ok(())
 }
 
-/// Each answer is the same as another one of the same words, and isn't the same as one that differs in a byte.
+/// Each answer equals another one made from the same text, and differs from one with another byte.
 #[test]
 fn a_byte_of_an_answer_differs(rt: HostRuntime) -> Result<(), Fail> {
     for line in b"a&b\nclash k&clash l".split(|byte| *byte == b'\n') {
@@ -513,7 +512,7 @@ fn a_byte_of_an_answer_differs(rt: HostRuntime) -> Result<(), Fail> {
     Ok(())
 }
 
-/// The two texts of a line.
+/// The texts before and after the `&` in a line.
 fn pair_of<'l>(rt: &impl Abort, line: &'l [u8]) -> (&'l [u8], &'l [u8]) {
     let mut texts = line.split(|byte| *byte == b'&');
     let (Some(one), Some(other)) = (texts.next(), texts.next()) else {

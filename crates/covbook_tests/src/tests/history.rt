@@ -1,4 +1,4 @@
-//! Calls of covbook that no session shows: receipts, entries, copies, and the length of a history.
+//! Calls of covbook that no session makes: receipts, entries, copies, and the length of a history.
 
 use super::script::{check_new, check_words};
 use super::wrappers::{bytes_of, entries, step};
@@ -39,7 +39,7 @@ end_of_record
     )
 }
 
-/// A clash has its entry like every other answer, and gets no submission number.
+/// A clash has an entry, like every other answer, but takes no submission number.
 #[test]
 fn a_history_with_a_clash(rt: HostRuntime) -> Result<(), Fail> {
     check_new(
@@ -54,8 +54,8 @@ fn a_history_with_a_clash(rt: HostRuntime) -> Result<(), Fail> {
     )
 }
 
-/// The counts of a dropped test are gone from the totals, and the number of its submission isn't given again. A drop of a test
-/// that isn't there has an entry too.
+/// A drop removes the test's counts from the totals, but the number of the test's submission isn't used again. The drop of an
+/// unknown test has an entry too.
 #[test]
 fn a_history_with_drops(rt: HostRuntime) -> Result<(), Fail> {
     check_new(
@@ -74,7 +74,7 @@ fn a_history_with_drops(rt: HostRuntime) -> Result<(), Fail> {
     )
 }
 
-/// The answer that is this text, as a copy of a shared text.
+/// The answer that is `text`, as a copy of a shared text.
 fn shared(alloc: Global, text: &[u8]) -> Result<Answer, Memory> {
     let text = TextRef::of(alloc, bytes_of(alloc, text)?)?;
     Ok(Answer::Text(text.copy()?))
@@ -129,7 +129,7 @@ fn a_list_of_receipts(rt: HostRuntime) -> Result<(), Fail> {
     }
 }
 
-/// Performs the book's next step, and returns whether it has this index.
+/// Performs the book's next step, a summary, and returns whether the receipt's index is `place`.
 fn is_next(alloc: Global, book: &mut Book, place: u64) -> bool {
     match step(alloc, book, 0, &Op::Summary) {
         Ok(receipt) => receipt.place == place,
@@ -145,7 +145,7 @@ fn is_full(alloc: Global, book: &mut Book) -> bool {
     }
 }
 
-/// Performs the first `steps` steps of the book, and returns whether they have the first indices, in order.
+/// Performs the first `steps` steps of the book, and returns whether they have the indices from 0 on, in order.
 fn is_filled(alloc: Global, book: &mut Book, steps: u64) -> bool {
     for place in 0..steps {
         if !is_next(alloc, book, place) {
@@ -155,7 +155,7 @@ fn is_filled(alloc: Global, book: &mut Book, steps: u64) -> bool {
     true
 }
 
-/// A history takes 1,048,576 entries and no more.
+/// A history can have 1,048,576 entries and no more.
 #[test]
 fn a_full_book(rt: HostRuntime) {
     let mut book = Book::new(rt.alloc());

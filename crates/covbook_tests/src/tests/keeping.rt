@@ -8,7 +8,7 @@ use std::process::Abort;
 use std::snapshot::Snapshot;
 use std::test::*;
 
-/// Two submissions that clash in line 7, each followed by a report.
+/// A submission, whose report is `REPORT`. The submission `SECOND` clashes with `FIRST` in line 7.
 const FIRST: &[u8] = b"TN:t\nSF:/a.c\nDA:7,1,one\nend_of_record\n";
 
 const SECOND: &[u8] = b"TN:t\nSF:/a.c\nDA:7,1,two\nend_of_record\n";
@@ -23,7 +23,7 @@ fn step<K: Keep<Of = Entry>>(
     book.step(alloc, 3, op)
 }
 
-/// Checks the report that the book prints. No entry is appended for it.
+/// Checks the report that the book prints. Printing appends no entry.
 fn check_report<K: Keep<Of = Entry>>(
     rt: &(impl Abort + AllocGlobal),
     book: &Book<Global, K>,
@@ -35,7 +35,7 @@ fn check_report<K: Keep<Of = Entry>>(
     }
 }
 
-/// Whether the answer is this text.
+/// Whether the answer is the text `wanted`.
 fn is_text(answer: &Answer, wanted: &[u8]) -> bool {
     match answer {
         Answer::Text(text) => text.get().get() == wanted,
@@ -50,7 +50,7 @@ fn is_clash(answer: &Answer) -> bool {
     }
 }
 
-/// Checks the answers to the four steps in this book.
+/// Submits `FIRST`, asks for a report, submits `SECOND`, and checks the answers. Checks that `text_of` appends no entry.
 fn check_steps<K: Keep<Of = Entry>>(
     rt: &(impl Abort + AllocGlobal),
     book: &mut Book<Global, K>,
@@ -67,7 +67,7 @@ fn check_steps<K: Keep<Of = Entry>>(
     Ok(())
 }
 
-/// A book that stores nothing of its history gives the same answers as one that stores all of it.
+/// A book that stores nothing of its history has the same answers as a book that stores all of it.
 #[test]
 fn a_book_that_keeps_nothing(rt: HostRuntime) -> Result<(), Fail> {
     let mut book: Book<Global, Snapshot<Entry>> = Book::keeping(rt.alloc());
@@ -76,7 +76,7 @@ fn a_book_that_keeps_nothing(rt: HostRuntime) -> Result<(), Fail> {
     Ok(())
 }
 
-/// Whether an entry is stored, and its answer is a clash.
+/// Whether `kept` is a stored entry whose answer is a clash.
 fn keeps_clash(kept: Option<&Answered>) -> bool {
     match kept {
         Some(kept) => is_clash(&kept.answer),
@@ -84,7 +84,7 @@ fn keeps_clash(kept: Option<&Answered>) -> bool {
     }
 }
 
-/// Whether an entry is stored, and its answer is the report.
+/// Whether `kept` is a stored entry whose answer is the report.
 fn keeps_report(kept: Option<&Answered>) -> bool {
     match kept {
         Some(kept) => is_text(&kept.answer, REPORT),
@@ -111,7 +111,7 @@ fn a_book_that_keeps_entries(rt: HostRuntime) -> Result<(), Fail> {
     Ok(())
 }
 
-/// A list of one receipt, with the index 0.
+/// A list of one receipt, whose `place` is 0.
 fn one_receipt(alloc: Global) -> Result<Receipts, Memory> {
     let mut receipts = Vec::new(alloc);
     receipts.push(Receipt {

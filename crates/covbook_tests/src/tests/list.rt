@@ -1,4 +1,4 @@
-//! Submits random tracefiles to a book, and compares it with a plain list of their rows.
+//! Submits random tracefiles to a book, and compares the book with a plain list of the tracefiles' rows.
 
 use super::push_line;
 use super::script::{check_printed, receipt_of};
@@ -11,7 +11,7 @@ use std::alloc::Global;
 use std::process::Abort;
 use std::test::*;
 
-/// The sections of the plain list, each a test of a file, in the order of printing.
+/// The sections of the plain list, in the order of printing. Each section is one test of one file.
 const SECTIONS: [&[u8]; 6] = [
     b"TN:a\nSF:/f\n",
     b"TN:b\nSF:/f\n",
@@ -21,7 +21,7 @@ const SECTIONS: [&[u8]; 6] = [
     b"TN:c\nSF:/g\n",
 ];
 
-/// A row of the plain list: functions are the points 0 to 2, branches 3 to 5, lines 6 to 9.
+/// A row of the plain list. Points 0 to 2 are functions, 3 to 5 branches, 6 to 9 lines.
 #[derive(Clone, Copy)]
 pub(super) struct Row {
     section: usize,
@@ -29,14 +29,14 @@ pub(super) struct Row {
     count: Option<u64>,
 }
 
-/// Pseudorandom numbers of a linear congruence.
+/// A linear congruential generator of pseudorandom numbers.
 #[derive(Drop)]
 pub(super) struct Random {
     pub state: u64,
 }
 
 impl Random {
-    /// A number below a limit.
+    /// The next random number below `limit`.
     pub(super) fn below(&mut self, limit: u64) -> u64 {
         self.state = self
             .state
@@ -46,7 +46,7 @@ impl Random {
     }
 }
 
-/// The kinds of printed records.
+/// The kinds of records that are printed for a point.
 #[derive(Clone, Copy)]
 enum Record {
     Start,
@@ -55,7 +55,7 @@ enum Record {
     Line,
 }
 
-/// The first point of a kind, and the one after its last.
+/// The first point of a kind, and the point after its last.
 fn points_of(record: Record) -> (u64, u64) {
     match record {
         Record::Start | Record::Calls => (0, 3),
@@ -64,7 +64,7 @@ fn points_of(record: Record) -> (u64, u64) {
     }
 }
 
-/// The line with a point and its count.
+/// The tracefile line of this kind with a point and its count.
 fn line_of(alloc: Global, record: Record, point: u64, count: Option<u64>) -> Result<String, Fail> {
     let number = count.unwrap_or(0);
     match record {
@@ -76,7 +76,7 @@ fn line_of(alloc: Global, record: Record, point: u64, count: Option<u64>) -> Res
     }
 }
 
-/// The sum of two counts. `None` has no number, and adds nothing.
+/// The sum of two counts. `None` isn't a number, and adds nothing.
 fn both(one: Option<u64>, other: Option<u64>) -> Option<u64> {
     match one {
         Some(count) => Some(count.saturating_add(other.unwrap_or(0))),
@@ -95,7 +95,7 @@ fn sum_of(rows: &[Row], section: usize, point: u64) -> Option<Option<u64>> {
     sum
 }
 
-/// Appends a line for each point of this kind in a section. Returns how many points there are, and how many of them are hit.
+/// Appends a line for each point of this kind in a section. Returns how many points are found, and how many of these are hit.
 fn put_points(
     alloc: Global,
     rows: &[Row],
@@ -117,7 +117,7 @@ fn put_points(
     Ok((found, hit))
 }
 
-/// Appends how many points there are, and how many are above 0, in two lines of these names.
+/// Appends how many points are found and hit, in two lines whose names begin with `names`.
 fn put_totals(
     alloc: Global,
     names: &str,
@@ -130,7 +130,7 @@ fn put_totals(
     Ok(())
 }
 
-/// Appends the points of a kind and how many there are, if there are any.
+/// Appends the points of a kind in a section, and their totals if there are any points.
 fn put_kind(
     alloc: Global,
     rows: &[Row],
@@ -146,7 +146,7 @@ fn put_kind(
     Ok(())
 }
 
-/// Appends a section's lines, how many of them there are, and the section's end.
+/// Appends the line records of a section, their totals, and the section's end.
 fn put_lines(alloc: Global, rows: &[Row], section: usize, text: &mut Vec<u8>) -> Result<(), Fail> {
     let totals = put_points(alloc, rows, section, Record::Line, text)?;
     put_totals(alloc, "L", totals, text)?;
@@ -158,7 +158,7 @@ fn has_section(rows: &[Row], section: usize) -> bool {
     rows.iter().any(|row| row.section == section)
 }
 
-/// Appends the expected report of a section.
+/// Appends the expected report of a section, if the section has a row.
 fn put_list(
     alloc: Global,
     rows: &[Row],
@@ -176,8 +176,8 @@ fn put_list(
     put_lines(alloc, rows, section, text)
 }
 
-/// How many points of a kind the rows have, and how many of these are hit. A point is counted once for each file that has it,
-/// and is hit if one test of this file has it above 0.
+/// How many points of a kind the rows have, and how many of these are hit. A point counts once for each file that has it, and is
+/// hit if its count in one of this file's tests is above 0.
 fn tally_of(rows: &[Row], record: Record) -> (u64, u64) {
     let (first, end) = points_of(record);
     let mut found = 0u64;
@@ -199,7 +199,7 @@ fn tally_of(rows: &[Row], record: Record) -> (u64, u64) {
     (found, hit)
 }
 
-/// A random submission as text. Its rows are appended to the list.
+/// A random submission as text. Appends the submission's rows to the list.
 pub(super) fn random_text(
     alloc: Global,
     random: &mut Random,
@@ -274,13 +274,13 @@ fn totals_of(rows: &[Row]) -> Totals {
     }
 }
 
-/// The summary of these totals.
+/// The summary text of these totals.
 fn summary(rt: &(impl Abort + AllocGlobal), totals: &Totals) -> Result<Bytes, Memory> {
     assert!(rt; totals.lh <= totals.lf && totals.fh <= totals.ff && totals.bh <= totals.bf);
     summary_text(rt.alloc(), totals)
 }
 
-/// Checks that the book's report equals that of the plain list.
+/// Checks that the book's report equals the plain list's report.
 fn check_report(
     rt: &(impl Abort + AllocGlobal),
     book: &mut Book,
@@ -297,7 +297,7 @@ fn check_list(rt: &(impl Abort + AllocGlobal), book: &mut Book, rows: &[Row]) ->
     check_printed(rt, book, b"0 summary", summary.get())
 }
 
-/// The rows of all other tests. A test has the sections with the indices `test` and `test + 3`.
+/// The rows of all tests but `test`, whose sections have the indices `test` and `test + 3`.
 fn without(alloc: Global, rows: &[Row], test: usize) -> Result<Vec<Row>, Fail> {
     let mut others = Vec::new(alloc);
     for row in rows {
@@ -308,14 +308,14 @@ fn without(alloc: Global, rows: &[Row], test: usize) -> Result<Vec<Row>, Fail> {
     Ok(others)
 }
 
-/// In how many sections a test has a row.
+/// How many sections with a row the test has.
 fn sections_with(rows: &[Row], test: usize) -> u64 {
     let in_first = has_section(rows, test);
     let in_second = has_section(rows, test.wrapping_add(3));
     u64::from(in_first).wrapping_add(u64::from(in_second))
 }
 
-/// The line that asks to drop a test.
+/// The script's line that drops a test.
 fn dropping(test: usize) -> &'static [u8] {
     match test {
         0 => b"1 drop a",
@@ -324,7 +324,7 @@ fn dropping(test: usize) -> &'static [u8] {
     }
 }
 
-/// How many sections a dropped test had, 0 if it isn't there, and the largest number for an answer of another kind.
+/// How many sections of a test were dropped: 0 for an unknown test, and the largest number for an answer of another kind.
 fn dropped(answer: &Answer) -> u64 {
     match answer {
         Answer::Dropped { sections } => *sections,
@@ -333,7 +333,7 @@ fn dropped(answer: &Answer) -> u64 {
     }
 }
 
-/// Drops a test of the book. Checks that it had as many sections as in the list.
+/// Drops a test of the book, and checks that the test had as many sections as in the list.
 fn drop_checked(
     rt: &(impl Abort + AllocGlobal),
     book: &mut Book,
@@ -345,7 +345,7 @@ fn drop_checked(
     Ok(())
 }
 
-/// Submits a random text, after its step was made ready once and dropped. Appends the text's rows to the list.
+/// Submits a random text, after first preparing its step and dropping it. Appends the text's rows to the list.
 fn take_random(
     alloc: Global,
     random: &mut Random,
@@ -357,7 +357,7 @@ fn take_random(
     hand_in(alloc, book, &text)
 }
 
-/// Submits a random text. Checks that the book's report then equals that of the list.
+/// Submits a random text, and checks that the book's report and summary then equal the list's.
 fn check_random(
     rt: &(impl Abort + AllocGlobal),
     random: &mut Random,
@@ -368,7 +368,7 @@ fn check_random(
     check_list(rt, book, rows)
 }
 
-/// Drops a test of the book and of the list. Checks that the book's report then equals that of the list.
+/// Drops a test from the book and from the list, and checks that the book's report and summary then equal the list's.
 fn check_drop(
     rt: &(impl Abort + AllocGlobal),
     book: &mut Book,
@@ -380,8 +380,8 @@ fn check_drop(
     check_list(rt, book, rows)
 }
 
-/// The book's report equals that of a plain list of all rows, after each of many random submissions and each drop of a test. The
-/// report of the list walks over the whole list for each point.
+/// After each of many random submissions and drops of tests, the book prints the same as a plain list of all rows. For each point,
+/// the list's report walks over the whole list.
 #[test]
 fn random_submissions(rt: HostRuntime) -> Result<(), Fail> {
     let mut random = Random { state: 20_261_123 };

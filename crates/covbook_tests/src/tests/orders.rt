@@ -8,7 +8,7 @@ use std::alloc::Global;
 use std::process::Abort;
 use std::test::*;
 
-/// Submits all texts in a cyclic order: first the one with the index `first`, and then always the one `stride` indices later.
+/// Submits all texts in a cyclic order: first the text with the index `first`, and then always the text `stride` indices later.
 fn hand_in_all(
     alloc: Global,
     book: &mut Book,
@@ -29,7 +29,7 @@ fn hand_in_all(
     Ok(())
 }
 
-/// Checks that both books print the same text for the step in this line, and that it isn't empty.
+/// Checks that both books print the same text for the script's line, and that this text isn't empty.
 fn check_alike(
     rt: &(impl Abort + AllocGlobal),
     one: &mut Book,
@@ -41,7 +41,7 @@ fn check_alike(
     check_printed(rt, other, line, &text)
 }
 
-/// Checks that both books print the same report and summary, of all files, of one file, and of all others.
+/// Checks that both books print the same report, the same summary, the same sections of `/f`, and the same other sections.
 fn check_books(
     rt: &(impl Abort + AllocGlobal),
     one: &mut Book,
@@ -84,7 +84,7 @@ fn twenty_texts(alloc: Global) -> Result<Vec<Vec<u8>>, Fail> {
     Ok(texts)
 }
 
-/// Twenty submissions in three orders: all that is printed is the same.
+/// Twenty submissions in three orders: all printed texts are the same.
 #[test]
 fn twenty_submissions_in_another_order(rt: HostRuntime) -> Result<(), Fail> {
     let texts = twenty_texts(rt.alloc())?;

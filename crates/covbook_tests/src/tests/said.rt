@@ -1,4 +1,4 @@
-//! Operations and answers in words, as bytes.
+//! Operations and answers as readable text.
 
 use covbook::{Answer, Op};
 use covline::Bytes;
@@ -71,7 +71,7 @@ fn put_accepted(
     put_number(alloc, text, odd)
 }
 
-/// Appends where a clash is, and the two checksums.
+/// Appends a clash: its file, its line and the two checksums.
 fn put_clash(
     alloc: Global,
     text: &mut Vec<u8>,
@@ -107,7 +107,7 @@ pub(super) fn put_answer(
     }
 }
 
-/// The words on an operation and its answer: the operation, `> `, and the answer.
+/// The text of a step: its operation, `> `, and its answer.
 pub(super) fn words_of(alloc: Global, op: &Op, answer: &Answer) -> Result<Vec<u8>, AllocError> {
     let mut text = Vec::new(alloc);
     put_op(alloc, &mut text, op)?;

@@ -1,4 +1,4 @@
-//! Histories as text. Each line of a script has a job and its operation, and each step is printed in words.
+//! Runs scripts on a book, and prints the steps as text. A script has one line for each step: a job and an operation.
 
 use super::push_line;
 use super::said::{put_answer, put_number, words_of};
@@ -11,8 +11,8 @@ use std::alloc::Global;
 use std::process::Abort;
 use std::test::*;
 
-/// The operation that these words ask for. A submission is written as the lines of a section of `/a.c`, with semicolons between
-/// them. It is packed after the word `packed`.
+/// The operation that these words describe. A submission is written as the lines of a section of `/a.c`, separated by semicolons.
+/// The word `packed` makes it a packed submission.
 pub(super) fn op_of(rt: &(impl Abort + AllocGlobal), words: &[u8]) -> Result<Op, Fail> {
     if let Some(lines) = words.strip_prefix(b"submit ") {
         Ok(submit(rt.alloc(), &section_of(rt.alloc(), lines)?)?)
@@ -31,7 +31,7 @@ pub(super) fn op_of(rt: &(impl Abort + AllocGlobal), words: &[u8]) -> Result<Op,
     }
 }
 
-/// The operation that renames a test: its old and its new name, with a space between them.
+/// The operation that renames a test. `names` are the old and the new name, separated by a space.
 fn rename_op(rt: &(impl Abort + AllocGlobal), names: &[u8]) -> Result<Op, Fail> {
     let mut words = names.split(|byte| *byte == b' ');
     let (Some(old), Some(new)) = (words.next(), words.next()) else {
@@ -43,7 +43,7 @@ fn rename_op(rt: &(impl Abort + AllocGlobal), names: &[u8]) -> Result<Op, Fail> 
     })
 }
 
-/// The operation of this name: a report or a summary.
+/// The operation with this name: a report or a summary.
 fn plain_op(rt: &impl Abort, name: &[u8]) -> Op {
     if name.strip_prefix(b"report").is_some() {
         Op::Report
@@ -53,7 +53,7 @@ fn plain_op(rt: &impl Abort, name: &[u8]) -> Op {
     }
 }
 
-/// A section of `/a.c` with these lines, which have semicolons between them.
+/// A section of `/a.c` with these lines, which semicolons separate.
 fn section_of(alloc: Global, lines: &[u8]) -> Result<Vec<u8>, Fail> {
     let mut text = Vec::from_slice(alloc, b"TN:t\nSF:/a.c\n")?;
     for line in lines.split(|byte| *byte == b';') {
@@ -63,7 +63,7 @@ fn section_of(alloc: Global, lines: &[u8]) -> Result<Vec<u8>, Fail> {
     Ok(text)
 }
 
-/// The job of a line: its first digit.
+/// The job of a script's line: the line's first digit.
 fn job_of(line: &[u8]) -> u32 {
     match line.first() {
         Some(job) => u32::from(job.wrapping_sub(b'0')),
@@ -71,7 +71,7 @@ fn job_of(line: &[u8]) -> u32 {
     }
 }
 
-/// The operation of a line, after its job and a space.
+/// The operation in a script's line: what follows the job and a space.
 fn asked(line: &[u8]) -> &[u8] {
     match line.get(2..) {
         Some(words) => words,
@@ -79,7 +79,7 @@ fn asked(line: &[u8]) -> &[u8] {
     }
 }
 
-/// The receipt of the step in a line.
+/// Performs the step of a script's line, and returns its receipt.
 pub(super) fn receipt_of(
     rt: &(impl Abort + AllocGlobal),
     book: &mut Book,
@@ -89,7 +89,7 @@ pub(super) fn receipt_of(
     Ok(take(rt.alloc(), book, job_of(line), &op)?)
 }
 
-/// The text of an answer that has to be a text.
+/// The text of an answer that must be a text.
 fn text_of(rt: &(impl Abort + AllocGlobal), answer: &Answer) -> Result<Vec<u8>, Fail> {
     assert!(rt; matches!(answer, Answer::Text(_)));
     let mut text = Vec::new(rt.alloc());
@@ -97,7 +97,7 @@ fn text_of(rt: &(impl Abort + AllocGlobal), answer: &Answer) -> Result<Vec<u8>, 
     Ok(text)
 }
 
-/// Prints the text of the step in this line.
+/// Performs the step of a script's line, and returns the text in its answer.
 pub(super) fn printed(
     rt: &(impl Abort + AllocGlobal),
     book: &mut Book,
@@ -107,7 +107,7 @@ pub(super) fn printed(
     text_of(rt, &receipt.answer)
 }
 
-/// Checks the text that the book prints for the step in a line.
+/// Checks the text that the book prints for a script's line.
 pub(super) fn check_printed(
     rt: &(impl Abort + AllocGlobal),
     book: &mut Book,
@@ -119,7 +119,7 @@ pub(super) fn check_printed(
     Ok(())
 }
 
-/// Checks the words that `words_of` returns for this operation and answer.
+/// Checks the text of a step with this operation and answer (`words_of`).
 pub(super) fn check_words(
     rt: &(impl Abort + AllocGlobal),
     op: &Op,
@@ -131,7 +131,7 @@ pub(super) fn check_words(
     Ok(())
 }
 
-/// Checks that copies of the receipt's operation and answer have these words.
+/// Checks the text of copies of the receipt's operation and answer.
 fn check_copies(
     rt: &(impl Abort + AllocGlobal),
     receipt: &Receipt,
@@ -142,7 +142,7 @@ fn check_copies(
     check_words(rt, &op, &answer, words)
 }
 
-/// Checks that the last entry has this place, this job and these words.
+/// Checks the last entry's index (`place`), job and text.
 fn check_entry(
     rt: &(impl Abort + AllocGlobal),
     entries: &[Entry],
@@ -157,7 +157,7 @@ fn check_entry(
     check_words(rt, &entry.op, &entry.answer, words)
 }
 
-/// Whether the totals after the last entry are these, or there is no entry.
+/// Whether the last entry has these totals. Returns `true` if there is no entry.
 fn is_last(entries: &[Entry], totals: &Totals) -> bool {
     match entries.last() {
         Some(entry) => entry.after == *totals,
@@ -165,12 +165,13 @@ fn is_last(entries: &[Entry], totals: &Totals) -> bool {
     }
 }
 
-/// Checks how many lines are found and hit.
+/// Checks how many lines are found and hit in the totals.
 pub(super) fn check_lines(rt: &impl Abort, totals: &Totals, found: u64, hit: u64) {
     assert!(rt; totals.lf == found && totals.lh == hit);
 }
 
-/// Checks that a copy of the receipt and the last entry have these words too, and that this entry is the job's.
+/// Checks that a copy of the receipt and the last entry have the text `words`, and that the entry has the receipt's index and this
+/// job.
 fn check_kept(
     rt: &(impl Abort + AllocGlobal),
     entries: &[Entry],
@@ -182,7 +183,7 @@ fn check_kept(
     check_entry(rt, entries, receipt.place, job, words)
 }
 
-/// Appends the words on the step that this job took last. Checks the copy of its receipt, and its entry.
+/// Appends the text of the book's last step, which `job` made. Checks a copy of the step's receipt, and the step's entry.
 fn put_receipt(
     rt: &(impl Abort + AllocGlobal),
     book: &Book,
@@ -195,7 +196,7 @@ fn put_receipt(
     put_step(rt, book, receipt.place, &words, text)
 }
 
-/// Performs the step of a line, and appends its words.
+/// Performs the step of a script's line, and appends the step's text.
 fn take_step(
     rt: &(impl Abort + AllocGlobal),
     book: &mut Book,
@@ -206,8 +207,8 @@ fn take_step(
     put_receipt(rt, book, job_of(line), &receipt, text)
 }
 
-/// Appends a step's place, its words, and how many lines are found and hit after it. Checks that its entry has the same totals
-/// as the book.
+/// Appends a step's index, its text, and how many lines are found and hit after it. Checks that the last entry has the book's
+/// totals.
 fn put_step(
     rt: &(impl Abort + AllocGlobal),
     book: &Book,
@@ -222,14 +223,14 @@ fn put_step(
     put_lines(rt.alloc(), &now, text)
 }
 
-/// Appends how many lines are found and hit.
+/// Appends how many lines are found and hit in the totals.
 fn put_lines(alloc: Global, totals: &Totals, text: &mut Vec<u8>) -> Result<(), Fail> {
     let lines: String = format!(in alloc; "; {} {} \n", totals.lf, totals.lh)?;
     text.extend_from_slice(lines.as_bytes())?;
     Ok(())
 }
 
-/// Performs the steps of the lines, and returns their words.
+/// Performs the steps of a script's lines, and returns the steps' text.
 pub(super) fn run(
     rt: &(impl Abort + AllocGlobal),
     book: &mut Book,
@@ -242,7 +243,7 @@ pub(super) fn run(
     Ok(text)
 }
 
-/// Checks the words of the steps in the lines.
+/// Performs the steps of a script's lines, and checks the steps' text.
 pub(super) fn check_run(
     rt: &(impl Abort + AllocGlobal),
     book: &mut Book,
@@ -254,7 +255,7 @@ pub(super) fn check_run(
     Ok(())
 }
 
-/// Checks the words of the steps in the lines, in a new book, in which nothing is found.
+/// Performs the steps of a script's lines in a new book, and checks the steps' text. The new book must have no lines.
 pub(super) fn check_new(
     rt: &(impl Abort + AllocGlobal),
     lines: &[u8],

@@ -1,4 +1,4 @@
-//! Steps in two halves, and tests that are dropped.
+//! Steps in two halves, and drops of tests.
 
 use super::script::{check_lines, check_run};
 use super::wrappers::{after_dropped, entry_ready, hand_in, submit, totals};
@@ -8,7 +8,7 @@ use std::alloc::Global;
 use std::process::Abort;
 use std::test::*;
 
-/// Checks how many lines would be found and hit after submitting the text. Makes the step ready and drops it.
+/// Checks how many lines the book would have found and hit after submitting the text. Prepares the step and drops it.
 fn check_dropped(
     rt: &(impl Abort + AllocGlobal),
     book: &mut Book,
@@ -21,7 +21,7 @@ fn check_dropped(
     Ok(())
 }
 
-/// A step can be done in two halves. Without its second half, it has no effect.
+/// A step can be done in two halves. Without the second half, the step has no effect.
 #[test]
 fn halves_of_a_step(rt: HostRuntime) -> Result<(), Fail> {
     let mut book = Book::new(rt.alloc());
@@ -35,7 +35,7 @@ fn halves_of_a_step(rt: HostRuntime) -> Result<(), Fail> {
     check_run(&rt, &mut book, b"0 report", report)
 }
 
-/// Packed submissions add up with others. One that clashes adds nothing.
+/// Packed submissions add up with unpacked ones. A packed submission that clashes adds nothing.
 #[test]
 fn packed_submissions(rt: HostRuntime) -> Result<(), Fail> {
     let mut book = Book::new(rt.alloc());
@@ -51,7 +51,7 @@ fn packed_submissions(rt: HostRuntime) -> Result<(), Fail> {
     check_run(&rt, &mut book, b"0 report", report)
 }
 
-/// The entry of a step that is made ready is the asking job's, with the totals after it.
+/// The entry of a ready step has the job that asked and the totals after the step.
 #[test]
 fn the_entry_of_a_step(rt: HostRuntime) -> Result<(), Fail> {
     let mut book = Book::new(rt.alloc());
@@ -65,7 +65,8 @@ fn the_entry_of_a_step(rt: HostRuntime) -> Result<(), Fail> {
     Ok(())
 }
 
-/// A tracefile of one of three tests, in one of five files: a line, a function and a branch, all with the same count.
+/// The tracefile number `k`: a section of one of three tests in one of five files. Its line, function and branch have the same
+/// count.
 fn text_of_one(alloc: Global, k: u64) -> Result<String, Fail> {
     let (test, file, place) = (k % 3, k % 5, k % 7);
     let count = place % (test + 2);
@@ -76,7 +77,7 @@ fn text_of_one(alloc: Global, k: u64) -> Result<String, Fail> {
     )?)
 }
 
-/// Makes 105 submissions, one for each test, each file and each place from 0 to 6.
+/// Submits 105 tracefiles: one for each combination of a test, a file and a `place` from 0 to 6.
 fn hand_in_105(alloc: Global, book: &mut Book) -> Result<(), Fail> {
     for k in 0..105u64 {
         let text = text_of_one(alloc, k)?;
@@ -85,7 +86,7 @@ fn hand_in_105(alloc: Global, book: &mut Book) -> Result<(), Fail> {
     Ok(())
 }
 
-/// How many lines, functions and branches are found and hit.
+/// How many lines, functions and branches are found and hit, as text.
 fn six_numbers(alloc: Global, totals: &Totals) -> Result<String, Fail> {
     let Totals {
         lf,
@@ -98,15 +99,15 @@ fn six_numbers(alloc: Global, totals: &Totals) -> Result<String, Fail> {
     Ok(format!(in alloc; "{lf} {lh} {ff} {fh} {bf} {bh}")?)
 }
 
-/// Checks how many lines, functions and branches are found and hit.
+/// Checks how many lines, functions and branches the book has found and hit.
 fn check_totals(rt: &(impl Abort + AllocGlobal), book: &Book, wanted: &[u8]) -> Result<(), Fail> {
     let numbers = six_numbers(rt.alloc(), &totals(book))?;
     assert_eq!(rt; numbers.as_bytes(), wanted);
     Ok(())
 }
 
-/// Checks the words on the step that a line asks, and how many lines, functions and branches are found and hit after
-/// it.
+/// Performs the step of a script's line. Checks the step's text, and how many lines, functions and branches are found and hit after
+/// the step.
 fn check_drop(
     rt: &(impl Abort + AllocGlobal),
     book: &mut Book,
@@ -118,7 +119,7 @@ fn check_drop(
     check_totals(rt, book, wanted)
 }
 
-/// The three tests are dropped, the last one first. Each was in five sections.
+/// Drops the three tests, the last one first, and checks the answers and totals. Each test has five sections.
 fn check_drops(rt: &(impl Abort + AllocGlobal), book: &mut Book) -> Result<(), Fail> {
     let without_t2 = b"105 drop t2 > dropped 5 ; 45 30 \n";
     check_drop(rt, book, b"0 drop t2", without_t2, b"45 30 25 15 15 10")?;
@@ -128,8 +129,8 @@ fn check_drops(rt: &(impl Abort + AllocGlobal), book: &mut Book) -> Result<(), F
     check_drop(rt, book, b"0 drop t0", without_t0, b"0 0 0 0 0 0")
 }
 
-/// The points of each test in the five files follow from the places in `text_of_one`. The count of test t at a place is `place % (t
-/// + 2)`, and a point is hit if one of its counts isn't 0.
+/// The coverage points of each test in each file follow from `text_of_one`. Test t has the count `place % (t + 2)` at a place. A
+/// point is hit if one of its counts isn't 0.
 ///
 /// | test | lines   | hit        | functions | hit   | branches | hit |
 /// |------|---------|------------|-----------|-------|----------|-----|
@@ -137,9 +138,9 @@ fn check_drops(rt: &(impl Abort + AllocGlobal), book: &mut Book) -> Result<(), F
 /// | t1   | 2 to 8  | 3 4 6 7    | 1 to 4    | 1 2 3 | 1 2      | 1 2 |
 /// | t2   | 4 to 10 | 5 6 7 9 10 | 2 to 5    | 3 4 5 | 2 3      | 2 3 |
 ///
-/// Together they have 11 lines (8 are hit), 6 functions (5) and 4 branches (3). Without t2 these are 9 (6), 5 (3) and 3 (2), where
-/// function 4 stays and isn't hit any more. Without t1 too they are 7 (3), 4 (2) and 2 (1), where lines 4 and 6 and function 2
-/// stay and aren't hit any more. Each number is wanted five times, as there are five files.
+/// The three tests together have 11 lines (8 are hit), 6 functions (5 are hit) and 4 branches (3 are hit). Without t2, these
+/// numbers are 9 (6), 5 (3) and 3 (2): function 4 stays but isn't hit any more. Without t1 and t2, they are 7 (3), 4 (2) and 2 (1):
+/// lines 4 and 6 and function 2 stay but aren't hit any more. The totals are five times these numbers, since there are five files.
 #[test]
 fn three_tests_are_dropped(rt: HostRuntime) -> Result<(), Fail> {
     let mut book = Book::new(rt.alloc());

@@ -1,4 +1,4 @@
-//! Calls of the crates below, in functions without contracts. A test looks only at values, and its proof is faster without
+//! Wraps calls of other crates in functions without contracts. The tests look only at values, and their proofs are faster without
 //! contracts.
 
 use covbook::{
@@ -24,13 +24,13 @@ pub(super) fn step(
     book.step(alloc, job, op)
 }
 
-/// A step in its two halves.
+/// Performs a step in its two halves.
 fn step_in_halves(alloc: Global, book: &mut Book, job: u32, op: &Op) -> Result<Receipt, BookFault> {
     let ready = book.ready(alloc, job, op)?;
     Ok(book.finish(ready))
 }
 
-/// Performs a step; for the jobs from 8 on, in two halves.
+/// Performs a step. For jobs from 8 on, performs it in two halves.
 pub(super) fn take(
     alloc: Global,
     book: &mut Book,
@@ -44,13 +44,13 @@ pub(super) fn take(
     }
 }
 
-/// The totals that a step would have after it. The step is made ready and dropped.
+/// The totals that the book would have after `op`. Prepares the step and drops it.
 fn after_ready(alloc: Global, book: &mut Book, op: &Op) -> Result<Totals, BookFault> {
     let ready = book.ready(alloc, 0, op)?;
     Ok(ready.after())
 }
 
-/// The job and the totals of the entry that a step would have. The step is made ready and dropped.
+/// The job and the totals of the entry that the step would append. Prepares the step and drops it.
 pub(super) fn entry_ready(
     alloc: Global,
     book: &mut Book,
@@ -90,7 +90,7 @@ pub(super) fn is_same_answer(one: &Answer, other: &Answer) -> bool {
     one.is_same(other)
 }
 
-/// The list of the patterns, which have bars between them.
+/// Splits the patterns at `|`, and returns their list.
 pub(super) fn list_of(alloc: Global, patterns: &[u8]) -> Result<Patterns, PatternFault> {
     let mut list = Patterns::new(alloc);
     for pattern in patterns.split(|byte| *byte == b'|') {
@@ -99,19 +99,19 @@ pub(super) fn list_of(alloc: Global, patterns: &[u8]) -> Result<Patterns, Patter
     Ok(list)
 }
 
-/// The operation that submits the text.
+/// The `Submit` operation of the text.
 pub(super) fn submit(alloc: Global, text: &[u8]) -> Result<Op, Fail> {
     let shared = SubRef::of(alloc, read_trace(alloc, text)?)?;
     Ok(Op::Submit(shared.copy()?))
 }
 
-/// The operation that submits the text packed.
+/// The `SubmitPacked` operation of the text.
 pub(super) fn submit_packed(alloc: Global, text: &[u8]) -> Result<Op, Fail> {
     let shared = PackedRef::of(alloc, read_trace_packed(alloc, text)?)?;
     Ok(Op::SubmitPacked(shared.copy()?))
 }
 
-/// The totals that the text's submission would have after it. Its step is made ready and dropped.
+/// The totals that the book would have after submitting the text. Prepares the step and drops it.
 pub(super) fn after_dropped(alloc: Global, book: &mut Book, text: &[u8]) -> Result<Totals, Fail> {
     let op = submit(alloc, text)?;
     Ok(after_ready(alloc, book, &op)?)

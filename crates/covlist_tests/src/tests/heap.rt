@@ -5,10 +5,11 @@ use std::alloc::AllocError;
 use std::process::Abort;
 use std::test::*;
 
-/// The capacity of a heap.
+/// The minimum capacity of a new heap.
 const AMPLE: usize = 20_000;
 
-/// A heap with this capacity. It has several blocks, so it never reuses freed memory: each allocation needs new capacity.
+/// A heap with at least the capacity `AMPLE`. The heap has several blocks, so it never reuses freed memory: each allocation needs
+/// new capacity.
 fn new_heap(rt: &(impl Abort + AllocGlobal)) -> Bump {
     let heap = Bump::new(rt.alloc());
     take(rt, &heap, 1);
@@ -25,7 +26,7 @@ fn take(rt: &impl Abort, heap: &Bump, bytes: usize) {
     }
 }
 
-/// Limits the heap to exactly this capacity: uses up the rest, and forbids further blocks.
+/// Limits the heap to a capacity of `room` bytes: uses up the rest, and forbids further blocks.
 pub(super) fn narrow(rt: &impl Abort, heap: &Bump, room: usize) {
     let left = heap.chunk_capacity();
     assert!(rt; room <= left, "a heap is too small");
@@ -40,7 +41,7 @@ pub(super) fn widen(heap: &Bump) {
 }
 
 /// Tries a call in heaps with a capacity of 0, 1, 2 and so on, until the call succeeds. `is_refused` makes the call, and returns
-/// whether an allocation failed, as one must in the first heap.
+/// whether an allocation failed. In the first heap, an allocation must fail.
 pub(super) fn check_rising<R: Abort + AllocGlobal, F: Fn(&Bump, usize) -> bool>(
     rt: &R,
     is_refused: F,

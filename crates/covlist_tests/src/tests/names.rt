@@ -1,4 +1,4 @@
-//! Names as they are shown.
+//! Tests of names as they are printed.
 
 use super::wrappers::{put_lines, put_name};
 use super::{check_bytes, made};
@@ -6,7 +6,7 @@ use covline::Bytes;
 use std::process::Abort;
 use std::test::*;
 
-/// Checks how the name is shown after a text.
+/// Checks how the name is printed after another text.
 fn check_name(rt: &(impl Abort + AllocGlobal), name: &[u8], wanted: &[u8]) {
     let mut text = Bytes::new(rt.alloc());
     made(rt, put_name(b"of ", &mut text));

@@ -1,4 +1,4 @@
-//! Makes texts in a heap without capacity, and then with more and more capacity, until a text is made.
+//! Makes each text in heaps of rising capacity, from 0 on, until no allocation fails.
 
 use super::heap::{check_rising, narrow, widen};
 use super::objects::{JSON_OF_TWO, SUMMARY_OF_TWO};
@@ -10,7 +10,8 @@ use covreport::Choice;
 use std::process::Abort;
 use std::test::*;
 
-/// Makes the table with this capacity, and if that fails, with ample capacity.
+/// Makes the table with a capacity of `room` bytes, or with ample capacity if that fails. Checks the table, and returns whether the
+/// first call failed.
 fn makes_table(rt: &impl Abort, heap: &Bump, room: usize) -> bool {
     let store = holding(rt, heap, TWO_FILES);
     narrow(rt, heap, room);
@@ -24,7 +25,8 @@ fn makes_table(rt: &impl Abort, heap: &Bump, room: usize) -> bool {
     is_refused
 }
 
-/// Makes the JSON of the files with this capacity, and if that fails, with ample capacity.
+/// Makes the JSON of the files with a capacity of `room` bytes, or with ample capacity if that fails. Checks the JSON, and returns
+/// whether the first call failed.
 fn makes_json(rt: &impl Abort, heap: &Bump, room: usize) -> bool {
     let store = holding(rt, heap, TWO_FILES);
     narrow(rt, heap, room);
@@ -38,7 +40,8 @@ fn makes_json(rt: &impl Abort, heap: &Bump, room: usize) -> bool {
     is_refused
 }
 
-/// Makes the JSON of the totals with this capacity, and if that fails, with ample capacity.
+/// Makes the JSON of the totals with a capacity of `room` bytes, or with ample capacity if that fails. Checks the JSON, and returns
+/// whether the first call failed.
 fn makes_summary(rt: &impl Abort, heap: &Bump, room: usize) -> bool {
     let totals = holding(rt, heap, TWO_FILES).totals();
     narrow(rt, heap, room);

@@ -9,8 +9,8 @@ use std::alloc::Global;
 use std::process::Abort;
 use std::test::*;
 
-/// Two files. `src/a.c` has 7 lines, of which 6 are hit, a function that is hit, and no branches. `src/b.c` has 12 lines and 2
-/// functions, none of them hit, and 4 branches, of which one is hit.
+/// Two files. `src/a.c` has 7 lines (6 are hit), one function, which is hit, and no branches. `src/b.c` has 12 lines and 2
+/// functions, none of which is hit, and 4 branches (one is hit).
 pub(super) const TWO_FILES: &[u8] = b"\
 TN:t
 SF:src/b.c
@@ -117,7 +117,7 @@ fn a_name_with_an_escape_byte(rt: HostRuntime) {
     check_all(&rt, b"TN:t\nSF:a\x1b[1m.c\nDA:1,1\nend_of_record\n", wanted);
 }
 
-/// Appends lines from 1 to `found`, of which the first `hit` are hit.
+/// Appends `DA` records of the lines 1 to `found`, of which the first `hit` lines are hit.
 fn push_lines(text: &mut Vec<u8>, hit: u64, found: u64) -> Result<(), Fail> {
     let mut digits = Buffer::new();
     for line in 0..found {
@@ -128,7 +128,7 @@ fn push_lines(text: &mut Vec<u8>, hit: u64, found: u64) -> Result<(), Fail> {
     Ok(())
 }
 
-/// A tracefile with a file of 9 lines and one of 1000.
+/// A tracefile with two source files, one of 9 lines and one of 1000 lines.
 fn few_and_many(alloc: Global) -> Result<Vec<u8>, Fail> {
     let mut text = Vec::from_slice(alloc, b"TN:t\nSF:a.c\n")?;
     push_lines(&mut text, 9, 9)?;

@@ -1,4 +1,4 @@
-//! Calls of the crates below, in functions without contracts. A test looks only at values, and its proof is faster without
+//! Wraps calls of other crates in functions without contracts. The tests look only at values, and their proofs are faster without
 //! contracts.
 
 use super::made;
@@ -60,7 +60,7 @@ pub(super) fn matching<A: Allocator + Copy>(
     Choice::Extract(patterns)
 }
 
-/// A store that holds the submission alone.
+/// A store that has only the submission `given`.
 fn stored<A: Allocator + Copy>(rt: &impl Abort, alloc: A, given: &Submission<A>) -> Store<A> {
     let mut store = Store::new(alloc);
     match store.prepare(alloc, given) {
@@ -70,7 +70,7 @@ fn stored<A: Allocator + Copy>(rt: &impl Abort, alloc: A, given: &Submission<A>)
     store
 }
 
-/// A store that holds the text alone.
+/// A store that has only the tracefile `text`.
 pub(super) fn holding<A: Allocator + Copy>(rt: &impl Abort, alloc: A, text: &[u8]) -> Store<A> {
     let given = made(rt, read(alloc, text));
     stored(rt, alloc, &given)

@@ -9,27 +9,27 @@ use memchr::memchr;
 /// The bytes that a part of a pattern matches. A set `[...]` is stored as its body.
 #[derive(Clone, Copy)]
 pub(crate) enum ByteSet<'a> {
-    /// Each byte.
+    /// Any byte.
     Any,
-    /// This byte.
+    /// Only this byte.
     Exactly(u8),
-    /// A byte of the body.
+    /// The bytes of a set with this body.
     OneOf(&'a [u8]),
-    /// A byte that isn't in the body.
+    /// The bytes outside a set with this body.
     NoneOf(&'a [u8]),
 }
 
-/// A part of a pattern.
+/// A part of a pattern: a star, or what matches one byte.
 #[derive(Clone, Copy)]
 pub(crate) enum Part<'a> {
-    /// Matches any run of bytes, also an empty one.
+    /// Matches any run of bytes, even an empty run.
     AnyRun,
     /// Matches one byte of the set.
     OneByte(ByteSet<'a>),
 }
 
 impl<'a> ByteSet<'a> {
-    /// Whether the set has the byte.
+    /// Whether the set contains `byte`.
     pub(crate) fn takes(self, byte: u8) -> bool
         ensures { result ≡ set_takes (set_data self.entry) byte }
     {
@@ -42,7 +42,7 @@ impl<'a> ByteSet<'a> {
     }
 }
 
-/// Whether a set's body has the byte.
+/// Whether the body of a set contains `byte`.
 fn body_takes(body: &[u8], byte: u8) -> bool
     ensures { result ≡ in_body byte body.now }
 {
@@ -56,8 +56,8 @@ fn body_takes(body: &[u8], byte: u8) -> bool
     false
 }
 
-/// The range at the front of a set's body, and the rest of the body. A byte that no `-` and another byte follow is a range of one
-/// byte. Returns `None` if the body is empty.
+/// The range at the front of a set's body, and the rest of the body. A byte is a range of its own unless a `-` and another byte
+/// follow it. Returns `None` if the body is empty.
 fn read_range(body: &[u8]) -> Option<(u8, u8, &[u8])>
     ensures { MatchOption result (body.now ≡ []) (λ range. BeginsWithRange body.now range.0 range.1 range.2.now) }
 {
@@ -68,14 +68,14 @@ fn read_range(body: &[u8]) -> Option<(u8, u8, &[u8])>
     }
 }
 
-/// A part, and the rest of its pattern.
+/// The first part of a pattern, and the rest of the pattern.
 #[derive(Clone, Copy)]
 pub(crate) struct Head<'a> {
     pub(crate) part: Part<'a>,
     pub(crate) rest: &'a [u8],
 }
 
-/// The part that matches one byte of this set, followed by the rest of the pattern.
+/// Combines a part that matches one byte of `set` with the rest of the pattern.
 fn one_byte<'a>(set: ByteSet<'a>, rest: &'a [u8]) -> Head<'a>
     ensures { head_data result ≡ (OneByte (set_data set.entry), rest.now) }
 {
@@ -85,7 +85,7 @@ fn one_byte<'a>(set: ByteSet<'a>, rest: &'a [u8]) -> Head<'a>
     }
 }
 
-/// The body of the set after its `[` or `[!`, and the rest of the pattern. Returns `None` if no `]` closes the set.
+/// Splits the text after a `[` or `[!` into the set's body and the rest of the pattern. Returns `None` if no `]` closes the set.
 fn read_body(text: &[u8]) -> Option<(&[u8], &[u8])>
     ensures { option_map (λ read. (read.0.now, read.1.now)) result ≡ option_map (after_body text.now) (body_of text.now) }
 {
@@ -94,7 +94,7 @@ fn read_body(text: &[u8]) -> Option<(&[u8], &[u8])>
     Some((&text[..close + 1], &behind[close + 1..]))
 }
 
-/// The set that a `[` before these bytes opens, and the rest of the pattern. Returns `None` if no `]` closes the set.
+/// The set that begins with a `[` before `rest`, and the pattern after this set. Returns `None` if no `]` closes the set.
 fn read_set(rest: &[u8]) -> Option<Head<'_>>
     ensures { option_map head_data result ≡ option_map (after_head rest.now) (opened_set rest.now) }
 {
@@ -106,7 +106,7 @@ fn read_set(rest: &[u8]) -> Option<Head<'_>>
     Some(one_byte(ByteSet::OneOf(body), behind))
 }
 
-/// The part of a `\` before these bytes: it matches only the byte after the `\`, or a `\` if the pattern ends there.
+/// The part that begins with a `\` before `rest`. It matches only the first byte of `rest`, or a `\` if `rest` is empty.
 fn read_quoted(rest: &[u8]) -> Head<'_>
     ensures { head_data result ≡ after_head rest.now (quoted rest.now) }
 {
@@ -116,7 +116,7 @@ fn read_quoted(rest: &[u8]) -> Head<'_>
     }
 }
 
-/// The first part of the pattern made of the byte `first` and `rest`.
+/// The first part of the pattern made of the byte `first` and the bytes `rest`.
 pub(crate) fn read_head(first: u8, rest: &[u8]) -> Head<'_>
     ensures { head_data result ≡ after_head rest.now (head_of first rest.now) }
 {

@@ -1,4 +1,4 @@
-//! Matches a pattern with a path, step by step.
+//! Matches a path against a pattern, step by step.
 
 ghost use Rattle.std.specs.Prelude.{◌≡◌, ◌+◌, ◌*◌, ◌≤◌, false, ◌∷◌, length, MatchOption};
 ghost use Rattle.covreport.specs.Pattern.{OneByte, matches as pattern_matches, parts_of};
@@ -7,24 +7,24 @@ ghost use Rattle.covreport.specs.PatternSteps.{fits_at, answer_of, steps_left, G
 
 use crate::pattern::parts::{ByteSet, Part, read_head};
 
-/// The rest of a pattern, and the rest of a path.
+/// What remains to be matched of a pattern and of a path.
 #[derive(Clone, Copy)]
 struct Position<'a> {
     pattern: &'a [u8],
     path: &'a [u8],
 }
 
-/// The state of a match. It backtracks to the last star only: the parts before this star match as early in the path as they can,
-/// and later matches would only leave less of the path for the star and the parts after it.
+/// The state of a match. The match backtracks only to the last star. The parts before this star match as early in the path as
+/// possible: a later match would only leave less of the path for the star and the parts after it.
 #[derive(Drop)]
 pub(crate) struct Matcher<'a> {
     here: Position<'a>,
-    /// The rest after the last star, at the current end of the star's run.
+    /// The rest of the pattern after the last star, and the rest of the path after the bytes that this star matches so far.
     star: Option<Position<'a>>,
 }
 
 impl<'a> Matcher<'a> {
-    /// Begins to match the pattern with the whole path.
+    /// Begins to match the whole path against the pattern.
     pub(crate) fn new(pattern: &'a [u8], path: &'a [u8]) -> Matcher<'a>
         ensures answer { answer_of result ≡ pattern_matches pattern.now path.now }
         ensures goes_on { GoesOn result }
@@ -36,8 +36,8 @@ impl<'a> Matcher<'a> {
         }
     }
 
-    /// Does one step. Returns the result once it is known. A match needs at most as many steps as there are pairs of an index in
-    /// the pattern and one in the path.
+    /// Does one step. Returns the result once it is known. A match takes at most (m + 1) * (n + 1) steps for a pattern of m bytes
+    /// and a path of n bytes.
     pub(crate) fn step(&mut self) -> Option<bool>
         requires { GoesOn self.old }
         ensures { MatchOption result (Proceeds self.old self.new) (λ answer. answer ≡ answer_of self.old) }
@@ -56,7 +56,7 @@ impl<'a> Matcher<'a> {
         }
     }
 
-    /// Does a step at the end of the pattern: there is a match if this is also the end of the path. Otherwise backtracks.
+    /// Does a step at the end of the pattern. Returns `true` if the path ends too, and otherwise backtracks.
     fn end(&mut self) -> Option<bool>
         requires goes_on { GoesOn self.old }
         requires at_end { length self.old.here.pattern.now ≡ 0 }
@@ -68,8 +68,8 @@ impl<'a> Matcher<'a> {
         self.go_back()
     }
 
-    /// Matches the next byte of the path with this set; `rest` is the pattern after the set. Backtracks if the byte isn't in the
-    /// set.
+    /// Matches the path's next byte against the set, and continues with `rest`, the pattern after the set. Backtracks if there is
+    /// no next byte, or the set doesn't have it.
     fn take_byte(&mut self, set: ByteSet<'a>, rest: &'a [u8]) -> Option<bool>
         requires goes_on { GoesOn self.old }
         requires parts { parts_of self.old.here.pattern.now ≡ OneByte (set_data set) ∷ parts_of rest.now }
@@ -88,8 +88,8 @@ impl<'a> Matcher<'a> {
         }
     }
 
-    /// Lets the last star match one more byte of the path, and goes on after this byte. There is no match without a star, or
-    /// without such a byte.
+    /// Lets the last star match one more byte of the path, and goes on after this byte. Returns `false` if the pattern has had no
+    /// star yet, or the path has no such byte.
     fn go_back(&mut self) -> Option<bool>
         requires { fits_at self.old.here ≡ false }
         ensures { MatchOption result (Proceeds self.old self.new) (λ answer. answer ≡ answer_of self.old) }

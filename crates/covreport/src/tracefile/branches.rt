@@ -14,7 +14,7 @@ use covline::{Tally, TotalKind};
 use covstore::Section;
 use std::alloc::Allocator;
 
-/// Prints the branches of a section and their totals.
+/// Prints the branch records of a section, and the section's branch totals.
 pub(super) fn put_branches<A: Allocator, P: Printer>(section: &Section<'_, A>, out: &mut P)
     ensures { P.text out.new ≡ P.text out.old ++ flat_map printed (branch_records section.now.branches) }
 {

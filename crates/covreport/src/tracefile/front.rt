@@ -1,4 +1,4 @@
-//! Builds a record from its numbers, so that it is printed in few pieces.
+//! Builds records in a buffer, so that each record is printed in few pieces.
 
 ghost use Rattle.std.specs.Prelude.{◌≡◌, ◌+◌, ◌<◌, ◌≤◌, ◌++◌, [], ◌∷◌, decimal, length};
 ghost use Rattle.covline.specs.Spells.{comma};
@@ -10,7 +10,7 @@ use std::marker::Model;
 /// each number.
 const ROOM: usize = 112;
 
-/// A record, or the front of one, that is built from its last byte to its first. Contracts see the bytes.
+/// A record, or the beginning of one, that is built from its last byte to its first. Contracts see the bytes.
 #[derive(Drop)]
 pub(super) struct Front {
     bytes: [u8; ROOM],
@@ -27,7 +27,7 @@ impl Model for Front {
 }
 
 impl Front {
-    /// One byte.
+    /// Starts a record with its last byte.
     #[inline]
     pub(super) fn of(last: u8) -> Front
         ensures { result ≡ last ∷ [] }
@@ -40,7 +40,7 @@ impl Front {
         }
     }
 
-    /// Starts again with one byte.
+    /// Drops all bytes, and starts a record with its last byte.
     #[inline]
     pub(super) fn begin(&mut self, last: u8)
         ensures { self.new ≡ last ∷ [] }
@@ -49,7 +49,7 @@ impl Front {
         self.put(last);
     }
 
-    /// The bytes.
+    /// The bytes so far.
     #[inline]
     pub(super) fn get(&self) -> &[u8]
         ensures { result.now ≡ self.now }

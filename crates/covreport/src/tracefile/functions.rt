@@ -14,8 +14,8 @@ use covline::{Tally, TotalKind};
 use covstore::{FunctionValue, Section};
 use std::alloc::Allocator;
 
-/// A function as it is printed. Functions are ordered as they are printed: by start line, then by the name's bytes. The functions
-/// of a section differ in their names, so counts don't affect the order.
+/// A function as it is printed. The derived order is the order of printing: by start line, then by the bytes of the name. The names
+/// in a section differ, so counts don't affect the order.
 #[derive(Clone, Copy, PartialEq, Eq, PartialOrd, Ord)]
 pub(super) struct PrintedFunction<'a> {
     pub(super) line: u64,
@@ -36,7 +36,7 @@ impl<'a> PrintedFunction<'a> {
     }
 }
 
-/// Prints the functions of a section and their totals. `functions` is a buffer with capacity for them; its content is replaced.
+/// Prints the functions of a section and their totals. The buffer `functions` must have capacity for them.
 pub(super) fn put_functions<'a, A: Allocator, P: Printer>(
     section: &Section<'a, A>,
     functions: &mut Vec<PrintedFunction<'a>, A>,
@@ -53,7 +53,7 @@ pub(super) fn put_functions<'a, A: Allocator, P: Printer>(
     put_totals_if_any(TotalKind::FuncFound, TotalKind::FuncHit, tally, out);
 }
 
-/// Replaces the content of the list by the functions of a section, in the order of printing. The list has capacity for them.
+/// Replaces the content of `functions` by the section's functions, in the order of printing. The list must have capacity for them.
 fn sort_by_start_line<'a, A: Allocator>(
     section: &Section<'a, A>,
     functions: &mut Vec<PrintedFunction<'a>, A>,
@@ -68,7 +68,7 @@ fn sort_by_start_line<'a, A: Allocator>(
     functions.sort_unstable();
 }
 
-/// Appends the functions of a section to the list, which has capacity for them.
+/// Appends the functions of a section to the empty list `functions`, which must have capacity for them.
 fn collect<'a, A: Allocator>(section: &Section<'a, A>, functions: &mut Vec<PrintedFunction<'a>, A>)
     requires empty { functions.old.items ≡ [] }
     requires none { vec_len functions.old ≡ 0 }
@@ -82,7 +82,7 @@ fn collect<'a, A: Allocator>(section: &Section<'a, A>, functions: &mut Vec<Print
     }
 }
 
-/// Prints the start lines of functions.
+/// Prints the `FN` record of each function.
 fn put_starts<P: Printer>(functions: &[PrintedFunction<'_>], out: &mut P)
     ensures { P.text out.new ≡ P.text out.old ++ flat_map (λ f. printed (start_record f)) (map printed_function functions.now) }
 {
@@ -91,7 +91,7 @@ fn put_starts<P: Printer>(functions: &[PrintedFunction<'_>], out: &mut P)
     }
 }
 
-/// Prints the counts of functions. Returns how many functions there are, and how many have a count above 0.
+/// Prints the `FNDA` record of each function. Returns how many functions there are, and how many have a count above 0.
 fn put_calls<P: Printer>(functions: &[PrintedFunction<'_>], out: &mut P) -> Tally
     requires { length functions.now < 2 ^ 64 }
     ensures text { P.text out.new ≡ P.text out.old ++ flat_map (λ f. printed (call_record f)) (map printed_function functions.now) }

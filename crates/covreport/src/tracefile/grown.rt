@@ -1,4 +1,4 @@
-//! A text that grows as it is printed.
+//! A printer that collects a text in memory.
 
 ghost use Rattle.std.specs.Prelude.{◌≡◌, ◌≢◌, ◌++◌, [], true, false};
 
@@ -62,7 +62,7 @@ impl<A: Allocator> Printer for Grown<A> {
     }
 }
 
-/// Appends the piece, unless an allocation failed before. Returns whether the text is still whole.
+/// Appends the piece, unless an earlier allocation failed (`is_whole` is `false`). Returns whether the text is still whole.
 #[inline]
 fn grow<A: Allocator>(text: &mut Bytes<A>, is_whole: bool, piece: &[u8]) -> bool
     ensures whole { result ≡ true → text.new ≡ text.old ++ piece.now }

@@ -13,7 +13,7 @@ use covline::{Tally, TotalKind};
 use covstore::Section;
 use std::alloc::Allocator;
 
-/// Prints the lines of a section and their totals.
+/// Prints the line records of a section, and the section's line totals.
 pub(super) fn put_lines<A: Allocator, P: Printer>(section: &Section<'_, A>, out: &mut P)
     ensures { P.text out.new ≡ P.text out.old ++ flat_map printed (line_records section.now.lines) }
 {

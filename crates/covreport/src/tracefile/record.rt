@@ -1,4 +1,4 @@
-//! The records of a tracefile, one function for each.
+//! The records of a tracefile. Each function prints one record.
 
 ghost use Rattle.std.specs.Prelude.{◌≡◌, ◌++◌, ◌∷◌, [], ◌+◌, ◌≤◌, codes, decimal, length};
 ghost use Rattle.covline.specs.Lines.{line_feed};
@@ -14,7 +14,7 @@ use crate::printer::Printer;
 use covline::TotalKind;
 use covstore::{BranchValue, LineValue};
 
-/// Prints the name of a test.
+/// Prints a `TN` record: the name of a test.
 pub(super) fn put_test<P: Printer>(name: &[u8], out: &mut P)
     ensures { P.text out.new ≡ P.text out.old ++ printed (Test name.now) }
 {
@@ -23,7 +23,7 @@ pub(super) fn put_test<P: Printer>(name: &[u8], out: &mut P)
     out.put(b"\n");
 }
 
-/// Prints the path of a file.
+/// Prints an `SF` record: the path of a file.
 pub(super) fn put_path<P: Printer>(path: &[u8], out: &mut P)
     ensures { P.text out.new ≡ P.text out.old ++ printed (Path path.now) }
 {
@@ -32,7 +32,7 @@ pub(super) fn put_path<P: Printer>(path: &[u8], out: &mut P)
     out.put(b"\n");
 }
 
-/// Prints the start line of a function.
+/// Prints an `FN` record: the start line and the name of a function.
 pub(super) fn put_start<P: Printer>(function: &PrintedFunction<'_>, out: &mut P)
     ensures { P.text out.new ≡ P.text out.old ++ printed (start_record (printed_function function.now)) }
 {
@@ -44,7 +44,7 @@ pub(super) fn put_start<P: Printer>(function: &PrintedFunction<'_>, out: &mut P)
     out.put(b"\n");
 }
 
-/// Prints the count of a function.
+/// Prints an `FNDA` record: the count and the name of a function.
 pub(super) fn put_call<P: Printer>(function: &PrintedFunction<'_>, out: &mut P)
     ensures { P.text out.new ≡ P.text out.old ++ printed (call_record (printed_function function.now)) }
 {
@@ -56,7 +56,7 @@ pub(super) fn put_call<P: Printer>(function: &PrintedFunction<'_>, out: &mut P)
     out.put(b"\n");
 }
 
-/// Prints a branch with its value. `front` is a buffer for its record.
+/// Prints a `BRDA` record: a branch, and how often it was taken. `front` is a buffer, whose content is replaced.
 pub(super) fn put_branch<P: Printer>(branch: &BranchValue, front: &mut Front, out: &mut P)
     ensures { P.text out.new ≡ P.text out.old ++ printed (branch_record (branch_data branch.now)) }
 {
@@ -68,7 +68,7 @@ pub(super) fn put_branch<P: Printer>(branch: &BranchValue, front: &mut Front, ou
     out.put(front.get());
 }
 
-/// Starts a record from its end: how often a branch was taken, and a line feed.
+/// Starts a `BRDA` record from its end: how often the branch was taken, and a line feed.
 #[inline]
 fn begin_taken(front: &mut Front, taken: Option<u128>)
     ensures text { front.new ≡ taken_text taken ++ line_feed ∷ [] }
@@ -81,7 +81,7 @@ fn begin_taken(front: &mut Front, taken: Option<u128>)
     }
 }
 
-/// Prints a line with its values. `front` is a buffer for its record.
+/// Prints a `DA` record: a line, its count, and its checksum if it has one. `front` is a buffer, whose content is replaced.
 pub(super) fn put_count<P: Printer>(line: &LineValue<'_>, front: &mut Front, out: &mut P)
     ensures { P.text out.new ≡ P.text out.old ++ printed (line_record (line_data line.now)) }
 {
@@ -99,7 +99,7 @@ pub(super) fn put_count<P: Printer>(line: &LineValue<'_>, front: &mut Front, out
     }
 }
 
-/// Builds the front of a line's record: the key, the line, its count, and the byte `end` after the count.
+/// Builds the beginning of a `DA` record: the key, the line, its count, and the byte `end` after the count.
 #[inline]
 fn begin_count(front: &mut Front, line: u64, count: u128, end: u8)
     ensures { front.new ≡ codes "DA:" ++ decimal line ++ comma ∷ decimal count ++ end ∷ [] }
@@ -110,7 +110,7 @@ fn begin_count(front: &mut Front, line: u64, count: u128, end: u8)
     front.put_text(b"DA:");
 }
 
-/// Prints one total.
+/// Prints the record of a total.
 pub(super) fn put_total<P: Printer>(kind: TotalKind, value: u64, out: &mut P)
     ensures { P.text out.new ≡ P.text out.old ++ printed (Total kind value) }
 {
@@ -135,7 +135,7 @@ fn key(kind: TotalKind) -> &'static [u8]
     }
 }
 
-/// Prints the end of a section.
+/// Prints the record that ends a section.
 pub(super) fn put_end<P: Printer>(out: &mut P)
     ensures { P.text out.new ≡ P.text out.old ++ printed End }
 {

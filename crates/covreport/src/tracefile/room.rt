@@ -10,7 +10,7 @@ use covline::Memory;
 use covstore::{Section, Store};
 use std::alloc::Allocator;
 
-/// Reserves memory for the functions of any one section of the chosen files. Never allocates if these files have no functions.
+/// Reserves memory for the functions of any one section of the chosen files. Allocates nothing if these files have no functions.
 pub(super) fn room_for_functions<'s, A: Allocator + Copy>(
     alloc: A,
     store: &'s Store<A>,
@@ -22,7 +22,7 @@ pub(super) fn room_for_functions<'s, A: Allocator + Copy>(
     Ok(Vec::with_capacity(alloc, most_functions(store, choice))?)
 }
 
-/// The greatest number of functions of a section of the chosen files.
+/// The maximum number of functions in a section of the chosen files.
 fn most_functions<A: Allocator + Copy>(store: &Store<A>, choice: &Choice<A>) -> usize
     ensures { result ≡ most_functions_of (choice_data choice.now) store.now.sections }
 {
@@ -33,7 +33,7 @@ fn most_functions<A: Allocator + Copy>(store: &Store<A>, choice: &Choice<A>) -> 
     most
 }
 
-/// How many functions of a section are printed: all of them if its file is chosen, otherwise none.
+/// How many functions of a section are printed: all if the section's file is chosen, otherwise none.
 fn functions_to_print<A: Allocator>(section: &Section<'_, A>, choice: &Choice<A>) -> usize
     ensures { result ≡ most_functions_of (choice_data choice.now) (section.now ∷ []) }
 {

@@ -9,7 +9,7 @@ use super::record::put_total;
 use crate::printer::Printer;
 use covline::{Tally, TotalKind};
 
-/// Prints the two totals of a kind of points.
+/// Prints how many points of a kind are found and hit, in two records.
 pub(super) fn put_totals<P: Printer>(found: TotalKind, hit: TotalKind, tally: Tally, out: &mut P)
     ensures { P.text out.new ≡ P.text out.old ++ flat_map printed (totals found hit tally.found tally.hit) }
 {
@@ -17,7 +17,7 @@ pub(super) fn put_totals<P: Printer>(found: TotalKind, hit: TotalKind, tally: Ta
     put_total(hit, tally.hit, out);
 }
 
-/// Prints the two totals if there is a point.
+/// Prints how many points of a kind are found and hit, unless no points are found.
 pub(super) fn put_totals_if_any<P: Printer>(
     found: TotalKind,
     hit: TotalKind,
