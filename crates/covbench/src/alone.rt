@@ -1,13 +1,13 @@
-//! Checks that a single thread gets the same answers.
+//! Checks that a single thread gets the same answers as the jobs.
 
 use covbook::{Answer, Book, Entry, JobLog, Op, SubRef};
 use covread::read_trace;
 use covstore::Totals;
 use std::alloc::Global;
 
-/// Checks that a single thread with its own book gets the same answers and totals for the history's operations in order. Its book
-/// must also print the report that job 0 got last. An empty book that gets this report must have the same totals and print the same
-/// report.
+/// Checks that a single thread with its own book gets the same answers and totals for the history's operations in order. The
+/// thread's book must also print the report that job 0 got last. An empty book that gets this report as a submission must then have
+/// the same totals and print the same report.
 pub(crate) fn check_alone(alloc: Global, entries: &[Entry], logs: &[JobLog]) -> anyhow::Result<()> {
     let mut book = Book::new(alloc);
     for entry in entries {
@@ -19,7 +19,7 @@ pub(crate) fn check_alone(alloc: Global, entries: &[Entry], logs: &[JobLog]) -> 
     }
 }
 
-/// Performs the entry's operation on this book, and checks its answer and totals against the entry.
+/// Performs the entry's operation on `book`, and checks the book's answer and totals against the entry.
 fn check_step(alloc: Global, book: &mut Book, entry: &Entry) -> anyhow::Result<()> {
     let receipt = book.step(alloc, entry.job, &entry.op)?;
     let place = receipt.place;
@@ -46,7 +46,7 @@ fn text_of(answer: &Answer) -> Option<&[u8]> {
     }
 }
 
-/// Checks that the book prints this report, and that an empty book that gets the report prints it too and has the same totals.
+/// Checks that the book prints `report`, and that an empty book does so too, with the same totals, after `report` is submitted.
 fn check_report(alloc: Global, book: &mut Book, report: &[u8]) -> anyhow::Result<()> {
     let totals = book.totals();
     check_printed(alloc, book, report, totals)?;

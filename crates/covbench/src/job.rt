@@ -14,9 +14,9 @@ pub(crate) struct Job<L: Name> {
     live: Live<L>,
     random: Random,
     log: JobLog,
-    /// The largest number of entries that it has read or learned of. No later reading may have fewer.
+    /// The largest number of entries that the job has read or learned of. No later reading may have fewer.
     known: u64,
-    /// How its work ended. An error before the work begins.
+    /// How the job's work ended; an error until it ends.
     ended: anyhow::Result<()>,
 }
 
@@ -38,13 +38,13 @@ impl<L: Name> Job<L> {
         }
     }
 
-    /// Makes `calls` random calls, up to the first error, and stores how this ended.
+    /// Makes `calls` random calls, or stops at the first error. Stores the outcome in `ended`.
     pub(crate) fn work<R: Wait>(&mut self, rt: &R, alloc: Global, book: &Shared<L>, calls: u64) {
         self.ended = self.call_often(rt, alloc, book, calls);
     }
 
-    /// Makes `calls` random calls, and stores the receipts. After each call, learns the news in two of three cases, and reads the
-    /// totals in two of three cases.
+    /// Makes `calls` random calls, and stores the receipts. Learns the news of about two thirds of the calls. Reads the totals
+    /// after about two thirds of the calls.
     fn call_often<R: Wait>(
         &mut self,
         rt: &R,

@@ -6,15 +6,15 @@
 //! ```
 //!
 //! `soak`: in each round, THREADS threads (1 to 64) make CALLS random calls each on one shared book, and read its totals in
-//! between. Then the book is closed, and two checks are made: the history matches the threads' logs, and a single thread gets the
-//! same answers for the same operations in the same order. The first round has the seed SEED, and each later round the next number.
-//! If a check fails, covbench reports the round's seed and ends with status 1. Otherwise it prints one line at the end.
+//! between. Then covbench closes the book and checks two things: the history matches the threads' logs, and a single thread gets
+//! the same answers for the same operations in the same order. The first round has the seed SEED, and each later round the next
+//! number. If a check fails, covbench reports the round's seed and ends with status 1. Otherwise it prints one line at the end.
 //!
 //! `pace`: SUBMITTERS threads (1 to 64) submit one small tracefile to one shared book, SUBMITS times each, while READERS others (0
-//! to 64) read the totals without a pause. It prints one line: submits per second, the slowest submit in microseconds, and readings
-//! per second.
+//! to 64) read the totals without a pause. covbench prints one line: submits per second, the slowest submit in microseconds, and
+//! readings per second.
 //!
-//! With any other arguments, covbench prints the two lines above.
+//! With any other arguments, covbench prints the two usage lines above.
 #![tactic(auto)]
 
 mod alone;

@@ -13,7 +13,7 @@ use std::thread;
 use std::thread::Threads;
 use std::time::{Clock, Instant};
 
-/// How many lines of its source file the submitted tracefile counts.
+/// The number of lines that the submitted tracefile counts.
 const LINES: u64 = 100;
 
 /// The parameters of a measurement.
@@ -55,14 +55,14 @@ fn put_line(text: &mut String, line: u64) -> Result<(), AllocError> {
     text.push_str(record.as_str())
 }
 
-/// An operation that submits this tracefile.
+/// An operation that submits the text of `tracefile`.
 fn submit(alloc: Global) -> anyhow::Result<Op> {
     let text = tracefile(alloc)?;
     let given = read(alloc, text.as_bytes())?;
     Ok(Op::Submit(shared(alloc, given)?))
 }
 
-/// Measures a new book. Returns the line to print: submits a second, the slowest submit in microseconds, and readings a second.
+/// Measures a new book. Returns the line to print: submits per second, the slowest submit in microseconds, and readings per second.
 pub(crate) fn started<R: Threads + Wait + Clock + Sync>(
     rt: &R,
     alloc: Global,
@@ -91,7 +91,7 @@ fn measured<L: Name + Send + Sync, R: Threads + Wait + Clock + Sync>(
     line_of(alloc, nanos, submitters.as_slice(), watchers.as_slice())
 }
 
-/// A submitter for each seat.
+/// Makes a submitter for each seat.
 fn submitters_of<L: Name>(alloc: Global, seats: Seats<L>) -> anyhow::Result<Vec<Submitter<L>>> {
     let mut submitters = Vec::new(alloc);
     for seat in seats.into_vec() {
@@ -100,7 +100,7 @@ fn submitters_of<L: Name>(alloc: Global, seats: Seats<L>) -> anyhow::Result<Vec<
     Ok(submitters)
 }
 
-/// This number of watchers, each with a reader of the book.
+/// Makes `readers` watchers, each with a reader of the book.
 fn watchers_of<L: Name, R: Wait>(
     rt: &R,
     alloc: Global,
@@ -130,7 +130,7 @@ fn timed<L: Name + Send + Sync, R: Threads + Wait + Clock + Sync>(
     Ok(begun.elapsed(rt)?.as_nanos())
 }
 
-/// Prints the result of a measurement.
+/// Returns the line to print with the result of a measurement.
 fn line_of<L: Name>(
     alloc: Global,
     nanos: u128,
@@ -154,7 +154,7 @@ fn submits_of<L: Name>(submitters: &[Submitter<L>]) -> u64 {
     submits
 }
 
-/// The nanoseconds of the slowest submit.
+/// The duration of the slowest submit, in nanoseconds.
 fn slowest_of<L: Name>(submitters: &[Submitter<L>]) -> u64 {
     let mut slowest: u64 = 0;
     for it in submitters {

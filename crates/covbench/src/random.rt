@@ -15,7 +15,7 @@ impl Random {
         Random { state: jobs.next() }
     }
 
-    /// The next number. A fixed odd number is added to the state, and the bits of the sum are mixed.
+    /// Returns the next number: adds a fixed odd number to the state, and mixes the bits of the sum.
     fn next(&mut self) -> u64 {
         self.state = self.state.wrapping_add(0x9e37_79b9_7f4a_7c15);
         let mut bits = self.state;

@@ -1,4 +1,4 @@
-//! Random operations. They have only few tests, files and lines, so that many of them change the same points.
+//! Random operations, with so few tests, files and lines that many operations change the same points.
 
 use crate::random::Random;
 use covbook::{Op, SubRef};
@@ -83,7 +83,7 @@ fn record(alloc: Global, random: &mut Random) -> anyhow::Result<String> {
     }
 }
 
-/// The record of a branch of the line. About one in three says that the branch wasn't reached.
+/// The record of a branch of `line`. About one record in three says that the branch wasn't reached.
 fn branch(alloc: Global, random: &mut Random, line: u64) -> anyhow::Result<String> {
     let branch = random.below(2);
     if random.one_in(3) {
@@ -93,7 +93,7 @@ fn branch(alloc: Global, random: &mut Random, line: u64) -> anyhow::Result<Strin
     Ok(format!(in alloc; "BRDA:{line},0,{branch},{count}\n")?)
 }
 
-/// The record that counts the line. About one in four has a checksum. About one in twenty of these checksums differs from the
+/// The record that counts `line`. About one record in four has a checksum. About one in twenty of these checksums differs from the
 /// line's usual one.
 fn line_count(alloc: Global, random: &mut Random, line: u64) -> anyhow::Result<String> {
     let count = random_count(random);

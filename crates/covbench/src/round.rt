@@ -50,7 +50,7 @@ pub(crate) fn soaked<L: Name + Send + Sync, R: Threads + Wait + Sync>(
     Ok(made)
 }
 
-/// Lets the jobs make their random calls at the same time, and then the first job ask for the report. Returns their results.
+/// Lets all jobs make their random calls at the same time. Then lets the first job ask for the report. Returns the jobs' results.
 fn worked<L: Name + Send + Sync, R: Threads + Wait + Sync>(
     rt: &R,
     alloc: Global,
@@ -81,7 +81,7 @@ fn work_at_once<L: Name + Send + Sync, R: Threads + Wait + Sync>(
 ) {
     thread::scope(thread::scope_env(), rt, |scope| {
         for job in jobs.iter_mut() {
-            // If a thread can't be started, `ended` of its job is still an error.
+            // If a thread can't be started, `ended` of the thread's job stays an error.
             let _ = scope.spawn(move || job.work(rt, alloc, book, calls));
         }
     });
@@ -110,7 +110,7 @@ fn calls_of<L: Name>(seats: &[Seat<L>]) -> u64 {
     calls
 }
 
-/// Closes the book, and returns its history and news of it.
+/// Closes the book, and returns its history and news of this history.
 fn closed<L: Name, R: Wait>(
     rt: &R,
     book: Shared<L>,
@@ -122,8 +122,8 @@ fn closed<L: Name, R: Wait>(
     }
 }
 
-/// Checks that the history has one entry per call, that the news are of all entries, and that each reader reports the totals of the
-/// news after learning them.
+/// Checks that the history has one entry per call, that the news cover all entries, and that each reader that learns the news then
+/// reports their totals.
 fn check_news<L: Name>(
     entries: &Entries,
     news: &News<L>,

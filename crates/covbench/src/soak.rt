@@ -16,7 +16,7 @@ pub(crate) struct SoakPlan {
     pub(crate) seed: u64,
 }
 
-/// Runs all rounds, and returns their total number of calls. The first failure ends them, and is reported with the round's seed.
+/// Runs all rounds, and returns their total number of calls. Stops at the first failure, and returns it with the round's seed.
 pub(crate) fn all_rounds<R: Threads + Wait + Sync>(
     rt: &R,
     alloc: Global,

@@ -1,5 +1,5 @@
-//! Calls of other crates, in functions without `ensures` clauses. A measurement needs none of these, and its proof is faster
-//! without them.
+//! Wraps calls of other crates in functions without `ensures` clauses. A measurement doesn't need such clauses, and is proved
+//! faster without them.
 
 ghost use Rattle.std.specs.Prelude.{◌≡◌};
 

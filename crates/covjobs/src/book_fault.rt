@@ -7,13 +7,13 @@ use covline::Memory;
 use covlock::OpenFault;
 use thiserror::Error;
 
-/// Why inputs couldn't be collected in a book. All jobs run to their end. After a failed call, or a failed allocation of one of its
-/// lists, a job submits nothing more but still reads its other inputs. So in most cases the first unreadable input is known, and
-/// `Unread` takes precedence over `Full` and `Memory`. It isn't known if memory runs out while an earlier input is read, or if a
-/// job can't be started.
+/// Why inputs couldn't be collected in a book. Returned after all jobs have ended. After a failed call, or a failed allocation of
+/// one of its lists, a job submits nothing more but still reads its other inputs. So in most cases the first unreadable input is
+/// known, and `Unread` takes precedence over `Full` and `Memory`. That input isn't known if memory runs out while an earlier input
+/// is read, or if a job can't be started.
 #[derive(Clone, Copy, Debug, PartialEq, Eq, Error)]
 pub enum IntoBookFault {
-    /// Faults 1 to 5: those of `collect`. `Full` and `Memory` are those of the lowest-numbered job that got such an error.
+    /// Faults 1 to 5: the errors of `collect`. `Full` or `Memory` comes from the lowest-numbered job that got one of the two.
     #[error("{0}")]
     Collect(CollectFault),
     /// Fault 6: the input with this index, counted from 0, can't be read. All inputs before it were read.
@@ -98,7 +98,7 @@ impl From<GatherFault> for IntoBookFault {
 ghost use Rattle.std.specs.Prelude.{◌≡◌};
 ghost use Rattle.covjobs.specs.Stops.{of_refused, of_stop};
 
-/// Turns a job's stop into the error to return. `most_parts` is the greatest number of parts of all inputs.
+/// Turns a job's stop into the error to return. `most_parts` is the greatest number of parts that all inputs together can have.
 pub(crate) fn fault_of(most_parts: u64, stop: Stop) -> IntoBookFault
     ensures { result ≡ of_stop most_parts stop }
 {
@@ -108,8 +108,8 @@ pub(crate) fn fault_of(most_parts: u64, stop: Stop) -> IntoBookFault
     }
 }
 
-/// Turns an error of the book into one of collecting. `most_parts` is the greatest number of parts of all inputs. A history is full
-/// only if they have at least as many parts as it has entries. Otherwise the result is `NotLast`, which never happens.
+/// Turns an error of the book into one of collecting. `most_parts` is the greatest number of parts that all inputs together can
+/// have. `Full` becomes `NotLast` if `most_parts` is below `MAX_ENTRIES`: then no history gets full, so this never happens.
 pub(crate) fn refused_by(most_parts: u64, fault: BookFault) -> CollectFault
     ensures { result ≡ of_refused most_parts fault }
 {

@@ -5,8 +5,8 @@ use covline::Memory;
 use covlock::OpenFault;
 use thiserror::Error;
 
-/// Why inputs couldn't be collected. After its first `Full` or `Memory`, a job submits nothing more. All jobs run to their end.
-/// Then the error of the lowest-numbered job with an error is returned, or `Memory` if the list of workers couldn't be allocated.
+/// Why inputs couldn't be collected. A job submits nothing more after its first `Full` or `Memory`, but all jobs run to their end.
+/// Then the error of the lowest-numbered job that has one is returned, or `Memory` if the list of workers couldn't be allocated.
 #[derive(Clone, Copy, Debug, PartialEq, Eq, Error)]
 pub enum CollectFault {
     /// Fault 1: the number of jobs is 0 or more than 64. This is checked first.
@@ -18,11 +18,11 @@ pub enum CollectFault {
     /// Fault 3: an allocation failed, or a worker couldn't be started.
     #[error("out of memory")]
     Memory,
-    /// Fault 4: the history doesn't match the jobs' logs: it isn't a merge of them, or a reading is wrong.
+    /// Fault 4: the history isn't a merge of the jobs' logs, or a log has a wrong reading.
     #[error("gather: {0}")]
     Gather(GatherFault),
-    /// Fault 5: another entry follows that of the last operation. This is checked last. Also returned for a full history of inputs
-    /// with fewer parts than it has entries, which never happens.
+    /// Fault 5, checked last: the last operation's entry isn't the last one. Also returned if the history is full although the
+    /// inputs have fewer parts than it has entries. Neither happens.
     #[error("NotLast")]
     NotLast,
 }

@@ -1,4 +1,4 @@
-//! Collects many inputs into one history, by jobs that work at once.
+//! Collects many inputs into one history, with jobs that run at the same time.
 
 use crate::book_fault::IntoBookFault;
 use crate::collect_fault::CollectFault;
@@ -26,7 +26,7 @@ pub struct Collected {
     pub entries: Entries,
     /// A log of each job, from job 0 on: its receipts, and its readings of the totals.
     pub logs: Logs,
-    /// The rejected inputs, in their order. They aren't in the history.
+    /// The rejected inputs, in the inputs' order. They aren't in the history.
     pub refused: Refused,
 }
 
@@ -37,11 +37,11 @@ ghost use Rattle.covjobs.specs.Collect.{IsCollected, IsCollectedFrom};
 ghost use Rattle.covjobs.specs.InputView.{input_data};
 ghost use Rattle.covlock.specs.Start.{AreJobs};
 
-/// Collects inputs by jobs that work at once, each in a thread of its own. A single job works on the calling thread. Job j of n
-/// processes the inputs j, j + n, j + 2n and so on, in order: it parses each input outside the book's lock, and submits the result.
-/// An invalid input is noted as rejected, and the job goes on. After each submit the job reads the totals once, without the lock;
-/// without a place for its reader, it has no readings. After all jobs have ended, job 0 performs the last operation. Waits for the
-/// workers.
+/// Collects inputs with `jobs` jobs that run at the same time, each in its own thread. A single job runs on the calling thread. Job
+/// j of n processes the inputs j, j + n, j + 2n and so on, in order: the job parses an input outside the book's lock, and then
+/// submits it. If an input is invalid, the job notes it as rejected and goes on. After each submit, the job reads the totals once,
+/// without the lock, unless the book had no place for the job's reader. After all jobs have ended, job 0 performs the operation
+/// `last`. Waits for the jobs.
 ///
 /// Counts add up as with lcov(1), --add-tracefile. Errors: `BadJobs` if and only if `jobs` isn't 1 to 64; `Full`; `Memory`, also if
 /// a worker can't be started; `Gather` and `NotLast` if the history doesn't match the logs, which never happens.
@@ -66,7 +66,7 @@ pub fn collect<R: Threads + Wait + Sync, G: Gate + Sync>(
     }
 }
 
-/// Like `collect`, but consumes the inputs: frees each one after parsing, before its submission is submitted.
+/// Like `collect`, but consumes the inputs: frees each input after parsing it, before the submit.
 pub fn collect_owned<R: Threads + Wait + Sync, G: Gate + Sync>(
     rt: &R,
     alloc: Global,
@@ -87,7 +87,7 @@ pub fn collect_owned<R: Threads + Wait + Sync, G: Gate + Sync>(
     }
 }
 
-/// Borrows each input, in order.
+/// Returns a reference to each input, in order.
 fn lent(alloc: Global, inputs: &[Input]) -> Result<Vec<&Input>, Memory>
     ensures { IfOk result (λ lent. map (λ input. input_data input.now) lent.items ≡ map input_data inputs.now) }
 {
@@ -101,7 +101,7 @@ fn lent(alloc: Global, inputs: &[Input]) -> Result<Vec<&Input>, Memory>
 ghost use Rattle.covjobs.specs.declared.book_fault.IntoBookFault.TheVariants as into_book;
 ghost use Rattle.covjobs.specs.Late.{IsUnreadFault};
 
-/// Like `collect_owned`, for inputs that are read when their turn comes, and with the book of `start`.
+/// Like `collect_owned`, but for any `LateInput`, and with a book opened from `start`.
 fn collect_named<
     R: Threads + Wait + Sync,
     G: Gate + Sync,

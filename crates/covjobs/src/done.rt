@@ -1,4 +1,4 @@
-//! Does the work of all jobs: distributes the inputs, and returns the workers if all ended well.
+//! Distributes the inputs to the jobs, runs all jobs, and returns the workers if all ended well.
 
 ghost use Rattle.std.specs.Prelude.{◌≡◌, ◌⊎◌, ◌<◌, Ok, Err, IfOk, IfErr, length, map};
 ghost use Rattle.covbook.specs.View.{op_data};
@@ -24,7 +24,8 @@ use std::alloc::Global;
 use std::sync::Wait;
 use std::thread::Threads;
 
-/// Distributes the inputs to one worker per seat, and returns the workers after all have done their work.
+/// Distributes the inputs to one worker per seat, and waits until all workers have ended. Returns the workers, or an error if one
+/// of them stopped early.
 pub(crate) fn all_done<
     R: Threads + Wait + Sync,
     G: Gate + Sync,
@@ -58,9 +59,9 @@ pub(crate) fn all_done<
     }
 }
 
-/// Returns the workers if all of them ended well. Otherwise returns the first unreadable input, if every job read its own inputs
-/// before it; else the error of the lowest-numbered job whose call or allocation failed. Returns `Memory` if the list of workers
-/// can't be allocated.
+/// Returns the workers if all of them ended well. Otherwise returns the first unreadable input, if each job has read all its inputs
+/// before that input, or else the error of the lowest-numbered job with a failed call or allocation. Returns `Memory` if the list
+/// of workers can't be allocated.
 fn all_well<L: Name, P: Keep<Of = Receipt>, F: Drop>(
     alloc: Global,
     ended: Vec<Result<Worker<L, Global, P, F>, Stop>>,

@@ -2,8 +2,8 @@
 
 use std::sync::Wait;
 
-/// Hooks right before and right after each submit, outside the book's lock. A test uses them to observe that workers run at the
-/// same time. `call` counts the job's submits from 0. `after` is also called if the submit failed.
+/// Hooks that a worker calls right before and right after each submit, outside the book's lock. A test uses them to observe that
+/// workers run at the same time. `call` is the number of the job's earlier submits. `after` is also called if the submit failed.
 pub trait Gate {
     /// Called before the job submits.
     fn before<R: Wait>(&self, rt: &R, job: u32, call: u64);

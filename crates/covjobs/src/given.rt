@@ -4,7 +4,7 @@ use covbook::{Op, PackedRef, SubRef};
 use std::alloc::{Allocator, Global};
 use std::marker::Model;
 
-/// A submission, packed or not. Contracts see the submission.
+/// A submission, packed or not. Contracts see the same submission in both forms.
 #[derive(Drop)]
 pub struct Given<A: Allocator = Global> {
     form: Form<A>,
@@ -31,7 +31,7 @@ impl<A: Allocator> Given<A> {
     ghost use Rattle.covbook.specs.Op.{SubmitOp};
     ghost use Rattle.covbook.specs.View.{op_data};
 
-    /// A submission that isn't packed.
+    /// Wraps a submission that isn't packed.
     pub fn plain(submission: SubRef<A>) -> Given<A>
         ensures { result ≡ submission }
     {
@@ -40,7 +40,7 @@ impl<A: Allocator> Given<A> {
         }
     }
 
-    /// A packed submission.
+    /// Wraps a packed submission.
     pub fn packed(submission: PackedRef<A>) -> Given<A>
         ensures { result ≡ submission }
     {
@@ -49,7 +49,7 @@ impl<A: Allocator> Given<A> {
         }
     }
 
-    /// Makes the operation that submits it.
+    /// Turns the submission into the operation that submits it.
     pub fn into_op(self) -> Op<A>
         ensures { op_data result ≡ SubmitOp self }
     {

@@ -14,7 +14,7 @@ pub enum Input<A: Allocator = Global> {
     Trace(Bytes<A>),
     /// A tracefile of LCOV 2 (geninfo(1) of LCOV 2.x, TRACEFILE FORMAT).
     Lcov2(Bytes<A>),
-    /// gcov's annotated source (gcov(1)). Its counts get the name `test`.
+    /// gcov's annotated source `text` (gcov(1)). Its counts belong to the test that `test` names.
     Gcov { test: Bytes<A>, text: Bytes<A> },
 }
 

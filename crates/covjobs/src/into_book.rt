@@ -1,4 +1,4 @@
-//! Collects into a book that stores only the answers of its history.
+//! Collects inputs into a book that stores only the answers of its history.
 
 use crate::book_fault::{IntoBookFault, refused_by};
 use crate::collect_fault::CollectFault;
@@ -22,10 +22,10 @@ use std::thread::Threads;
 /// The result of `collect_into_book`.
 #[derive(Drop)]
 pub struct CollectedBook<F: Drop = ReadFault> {
-    /// The book. Its table has the counts of all accepted inputs. It stores only the answers of its history; the rest exists only
-    /// in proofs.
+    /// The book. Its table has the counts of all accepted submissions. Of its history, it stores only the answers; the rest exists
+    /// only in proofs.
     pub book: Book<Global, Answered>,
-    /// The rejected inputs, in their order. They aren't in the history.
+    /// The rejected inputs, in the inputs' order. Of these inputs, only parts before the error are in the history.
     pub refused: Refused<Global, F>,
 }
 
@@ -42,18 +42,17 @@ ghost use Rattle.covjobs.specs.Latest.{history_of};
 ghost use Rattle.covjobs.specs.Work.{kept_of, seats_in, refused_in};
 ghost use Rattle.covlock.specs.Start.{AreJobs};
 
-/// Collects inputs as `collect` does, but stores no history and no logs, and no job reads the totals. Each worker reads an input
-/// when its turn comes, part by part: it submits each part before it reads the next one, and frees the input before it submits the
-/// last part. An error rejects the rest of the input; the parts before the error stay submitted.
+/// Collects inputs as `collect` does, but stores no history and no logs, and no job reads the totals. A worker reads its inputs one
+/// after another, part by part: it submits each part before it reads the next one, and frees the input before it submits the last
+/// part. An error rejects the rest of the input; the parts before the error stay submitted.
 ///
-/// The promises of `collect` hold for the book's history extended by the next text that job 0 asks for, whatever it is: there are
-/// logs of the jobs with which this history is a result of `collect`. The history always has capacity for that entry.
-/// `Book::text_of` returns the text.
+/// If job 0 next asks for a text, whichever it is, the history with this further entry is a result of `collect`: matching logs of
+/// the jobs exist. The history always has capacity for this entry. `Book::text_of` returns the text.
 ///
 /// Errors: those of `collect` except `Gather`, and `Unread` with the first unreadable input. If that input is known, `Unread` takes
 /// precedence over `Full` and `Memory`. `Full` is returned only if the inputs can have at least 1,048,576 parts. `NotLast` is
-/// returned if a worker knows of more entries than the closed book has, or if the book is full although there are fewer parts.
-/// Neither happens. No contract says that `Memory` is returned only after a failed allocation.
+/// returned if a worker knows of more entries than the closed book has, or if the book is full although the inputs have fewer
+/// parts. Neither happens. No contract says that `Memory` is returned only after a failed allocation.
 pub fn collect_into_book<
     R: Threads + Wait + Sync,
     G: Gate + Sync,
@@ -74,7 +73,7 @@ pub fn collect_into_book<
     collect_named::<R, G, Brand, T>(rt, alloc, inputs, jobs, gate, start)
 }
 
-/// Like `collect_into_book`, with the book of `start`.
+/// Like `collect_into_book`, with a book opened from `start`.
 fn collect_named<
     R: Threads + Wait + Sync,
     G: Gate + Sync,
@@ -152,7 +151,7 @@ fn hand_in_news<L: Name, F: Drop>(
     Ok((seats, latest, refused))
 }
 
-/// Whether the history of each latest news is a prefix of the history of `news`.
+/// Whether each history in `latest` is a prefix of the history of `news`.
 fn are_before<L: Name>(latest: &[Option<News<L>>], news: &News<L>) -> bool
     ensures { IsTrue result ↔ AllByRecursion (λ own. IsPrefix (history_of own) news.now) latest.now }
 {
@@ -164,7 +163,7 @@ fn are_before<L: Name>(latest: &[Option<News<L>>], news: &News<L>) -> bool
     true
 }
 
-/// Whether the history of the latest news is a prefix of the history of `news`.
+/// Whether the history of `latest` is a prefix of the history of `news`. `None` stands for the empty history.
 fn is_before<L: Name>(latest: &Option<News<L>>, news: &News<L>) -> bool
     ensures { IsTrue result ↔ IsPrefix (history_of latest.now) news.now }
 {

@@ -7,14 +7,14 @@ use crate::part::Part;
 use covread::ReadFault;
 use std::alloc::Allocator;
 
-/// An input that a worker reads when its turn comes, such as a file. It has one part or several, and each part is a submission of
-/// its own. Reading consumes the input: before its last part is submitted, its memory is freed or returned to the owner.
+/// An input that is read when a worker reaches it, such as a file. It has one part or several, and each part is a submission of its
+/// own. Reading consumes the input: its memory is freed or returned to the owner before the last part is submitted.
 pub trait LateInput<A: Allocator>: Drop {
     ghost use Rattle.std.specs.Prelude.{◌≡◌, ℕ};
     ghost use Rattle.covjobs.specs.Collect.{OutcomeData};
     ghost use Rattle.covjobs.specs.Late.{IsNextPart};
 
-    // Which outcomes the input may have: the submissions read of it, and why the rest of it may be rejected.
+    // The outcomes that the input may have: the submissions read of it, and the error if the rest of the input is rejected.
     ghost may_give: { Self → OutcomeData Self.Fault → Type 0 };
 
     // Whether the input may turn out to be unreadable.
@@ -26,8 +26,8 @@ pub trait LateInput<A: Allocator>: Drop {
     /// Why an input is rejected.
     type Fault: Drop;
 
-    /// Reads the next part of the input. Returns it ready to be submitted, with the rest of the input unless this part is the last
-    /// one. An error ends the input; parts that were submitted before stay submitted.
+    /// Reads the next part of the input. Returns the part, ready to be submitted, and the rest of the input unless the part is the
+    /// last one. An error ends the input, but parts submitted earlier stay submitted.
     fn read_part(self, alloc: A) -> Result<Part<Self, A>, LateFault<Self::Fault>>
         ensures { IsNextPart may_give may_fail most self result };
 

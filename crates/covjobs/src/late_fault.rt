@@ -1,10 +1,10 @@
-//! Why an input has no more parts.
+//! Why the next part of an input couldn't be read.
 
 use covread::ReadFault;
 use std::fmt::Display;
 use thiserror::Error;
 
-/// Why an input has no more parts. `F` is the error of a rejected input.
+/// Why the next part of an input couldn't be read. `F` is the error of a rejected input.
 #[derive(Clone, Copy, Debug, PartialEq, Eq, Error)]
 #[error_bound(F: Display)]
 pub enum LateFault<F = ReadFault> {

@@ -7,11 +7,11 @@
 //! - `Shared::reader` makes a reader of the totals (`Live`), which works without the lock.
 //! - `Shared::close` takes all seats back and returns the history.
 //!
-//! `collect` does all of this for inputs that are in memory. It opens a book. Each job parses its share of the inputs and submits
-//! them: a single job on the calling thread, several in one thread each. Then `collect` performs a last operation, closes the book,
-//! and gathers: it checks the history against the jobs' logs. `collect_owned` also frees each input after parsing.
-//! `collect_into_book` stores no history and no logs, and returns the book. Its inputs are read when their turn comes, in one part
-//! or several (`LateInput`).
+//! `collect` does all of this for inputs that are in memory. It opens a book, and each job parses and submits its share of the
+//! inputs: a single job on the calling thread, each of several jobs in its own thread. Then `collect` performs a last operation,
+//! closes the book, and calls `gather`, which checks the history against the jobs' logs. `collect_owned` also frees each input
+//! after parsing. `collect_into_book` stores no history and no logs, and returns the book. Its inputs are read when their turn
+//! comes, in one part or several (`LateInput`).
 //!
 //! This crate also re-exports covbook's operations (`Op`), logs (`JobLog`, with `Receipt`s and `Reading`s), and `gather`, which
 //! checks that the logs match the closed history (`Entries`). So a user needs only this crate.
@@ -57,7 +57,7 @@ mod workers;
 pub use book_fault::IntoBookFault;
 pub use collect_fault::CollectFault;
 pub use collected::{Collected, collect, collect_owned};
-// `gather` can also check the readings of a reader that isn't a job: as a log without receipts, with a job number that no seat has.
+// `gather` also checks a reader that isn't a job, if its readings are in a log without receipts and with a job number of no seat.
 pub use covbook::{Answered, Book, BookFault, Entries, JobLog, Keep, Op, Reading, Receipt, gather};
 pub use covlock::{
     CloseFault, Done, Live, MAX_JOBS, MAX_READERS, Name, News, OpenFault, ReaderFault, Seat, Seats,

@@ -57,7 +57,7 @@ impl<A: Allocator, F: Drop> Refused<A, F> {
         self.inputs.as_slice()
     }
 
-    /// Appends all inputs of another list. On `Memory`, drops those that aren't appended yet.
+    /// Appends the inputs of `others`. On `Memory`, drops the inputs that aren't appended yet.
     pub(crate) fn append(&mut self, others: Refused<A, F>) -> Result<(), Memory>
         ensures { OnOk result (self.new ≡ self.old ++ others) }
     {

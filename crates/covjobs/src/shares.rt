@@ -14,7 +14,7 @@ pub(crate) struct Placed<T> {
     pub(crate) input: T,
 }
 
-/// The inputs, distributed into one share per job. `inputs` is the list before it was distributed; it exists only for contracts and
+/// The inputs, distributed into one share per job. `inputs` is the list before the distribution; it exists only for contracts and
 /// uses no memory.
 #[derive(Drop)]
 pub(crate) struct Dealt<T> {
@@ -22,7 +22,7 @@ pub(crate) struct Dealt<T> {
     pub(crate) shares: Vec<Vec<Placed<T>>>,
 }
 
-/// Distributes the inputs: job j of n gets those with the indices j, j + n, j + 2n and so on, in order. On `Memory`, drops all
+/// Distributes the inputs to `jobs` jobs: job j of n gets the inputs j, j + n, j + 2n and so on, in order. On `Memory`, drops all
 /// inputs.
 pub(crate) fn deal<T: Drop>(alloc: Global, inputs: Vec<T>, jobs: u32) -> Result<Dealt<T>, Memory>
     requires { 0 < jobs }
@@ -40,7 +40,7 @@ pub(crate) fn deal<T: Drop>(alloc: Global, inputs: Vec<T>, jobs: u32) -> Result<
     })
 }
 
-/// An empty share for each job.
+/// Makes an empty share for each job.
 fn empty_shares<T: Drop>(alloc: Global, jobs: u32) -> Result<Vec<Vec<Placed<T>>>, Memory>
     ensures { IfOk result (λ shares. map (λ share. share.items) shares.items ≡ replicate jobs []) }
 {
@@ -51,7 +51,7 @@ fn empty_shares<T: Drop>(alloc: Global, jobs: u32) -> Result<Vec<Vec<Placed<T>>>
     Ok(shares)
 }
 
-/// Appends the input to the share of this job.
+/// Appends the input to the share of job `job`.
 fn give<T: Drop>(
     shares: &mut Vec<Vec<Placed<T>>>,
     job: usize,

@@ -8,15 +8,15 @@ use covline::Memory;
 pub(crate) enum Stop {
     /// The input with this index can't be read. The job has read all its inputs before this one.
     Unread(usize),
-    /// A call of the book failed, or an allocation.
+    /// A call of the book or an allocation failed.
     Refused(Refusal),
 }
 
-/// A job's first failed call or allocation, and how far the job still read its inputs.
+/// A job's first failed call or allocation, and how far the job read its inputs.
 #[derive(Clone, Copy)]
 pub(crate) struct Refusal {
     pub(crate) fault: BookFault,
-    /// The job has read its inputs before this index: 0 if it has read none, `usize::MAX` if it has read all.
+    /// The job has read its inputs before this index: none of them if this is 0, all of them if it is `usize::MAX`.
     pub(crate) upto: usize,
 }
 
@@ -26,7 +26,7 @@ impl From<Memory> for Stop {
 
     ghost from_gives = { λ _ stop. stop ≡ no_memory };
 
-    /// An allocation failed before the job read anything.
+    /// Returns the stop for a failed allocation. No input counts as read.
     fn from(_refused: Memory) -> Stop {
         Stop::Refused(Refusal {
             fault: BookFault::Memory,
@@ -38,7 +38,7 @@ impl From<Memory> for Stop {
 ghost use Rattle.std.specs.Prelude.{◌≡◌};
 ghost use Rattle.covjobs.specs.Stops.{both_of, lesser_of, worst_of};
 
-/// The lesser of two indices. Returns `index` if the other is `None`.
+/// Returns the lesser of `least` and `index`, or `index` if `least` is `None`.
 pub(crate) fn lesser(least: Option<usize>, index: usize) -> usize
     ensures { result ≡ lesser_of least index }
 {
@@ -48,7 +48,7 @@ pub(crate) fn lesser(least: Option<usize>, index: usize) -> usize
     }
 }
 
-/// Combines two refusals: the first one's error, and the lesser of the two indices.
+/// Combines two refusals into one with the error of `first` and the lesser index. Returns `next` if `first` is `None`.
 pub(crate) fn both(first: Option<Refusal>, next: Refusal) -> Refusal
     ensures { result ≡ both_of first next }
 {
@@ -61,8 +61,8 @@ pub(crate) fn both(first: Option<Refusal>, next: Refusal) -> Refusal
     }
 }
 
-/// Chooses the stop to report. This is the unreadable input `least` if no job with a refusal stopped reading before it, and
-/// otherwise the refusal. Returns `None` if there is no stop.
+/// Chooses the stop to report: the unreadable input `least` if `refused` is `None` or has a greater index, and otherwise `refused`.
+/// Returns `None` if both are `None`.
 pub(crate) fn worst(least: Option<usize>, refused: Option<Refusal>) -> Option<Stop>
     ensures { result ≡ worst_of least refused }
 {

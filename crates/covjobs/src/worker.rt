@@ -18,8 +18,8 @@ use std::marker::Model;
 use std::snapshot::Snapshot;
 use std::sync::Wait;
 
-/// A job at work: its seat, what is stored of its receipts (`P`), the latest news of its calls, its readings of the totals, and its
-/// rejected inputs. Contracts see whole receipts even if less is stored, the history of the latest news, and whether the job has a
+/// A job at work: its seat, receipts, latest news, readings of the totals, rejected inputs, and reader if it has one. `P` is the
+/// part of each receipt that is stored. Contracts see whole receipts, the history of the latest news, and whether the job has a
 /// reader. The receipts are a log of that history.
 #[derive(Drop)]
 pub(crate) struct Worker<
@@ -79,9 +79,9 @@ impl<L: Name, A: Allocator + Copy, P: Keep<Of = Receipt<A>>, F: Drop> Worker<L, 
         }
     }
 
-    /// Reads the input, part by part. `first` is the job's first failed call or list allocation so far. While it is `None`, submits
-    /// each part before reading the next one, or notes that the input is rejected. Returns the first failure up to the end of this
-    /// input. The input is consumed before its last part is submitted.
+    /// Reads the input part by part. `first` is the job's first failed call or list allocation before this input. As long as none
+    /// has failed, submits each part before reading the next one, or notes that the input is rejected. Returns the job's first
+    /// failure up to the end of this input. The input is consumed before its last part is submitted.
     fn go_on<R: Wait, G: Gate, T: LateInput<A, Fault = F>, K: Keep<Of = Entry<A>>>(
         &mut self,
         rt: &R,
@@ -111,9 +111,9 @@ impl<L: Name, A: Allocator + Copy, P: Keep<Of = Receipt<A>>, F: Drop> Worker<L, 
         Ok(fault)
     }
 
-    /// Reads the next part of the input. `first` is the job's first failed call or list allocation so far. If it is `None`, submits
-    /// the part, or notes that the input is rejected. Returns the rest of the input, and the first failure up to the end of this
-    /// part.
+    /// Reads the next part of the input. `first` is the job's first failed call or list allocation before this part. If `first` is
+    /// `None`, submits the part, or notes that the input is rejected. Returns the rest of the input, and the job's first failure up
+    /// to the end of this part.
     fn take_part<R: Wait, G: Gate, T: LateInput<A, Fault = F>, K: Keep<Of = Entry<A>>>(
         &mut self,
         rt: &R,
@@ -171,7 +171,7 @@ impl<L: Name, A: Allocator + Copy, P: Keep<Of = Receipt<A>>, F: Drop> Worker<L, 
         Ok(())
     }
 
-    /// Submits between the two calls of the gate, and stores the receipt. Then stores a reading, if the job has a reader.
+    /// Submits `submission` between the two calls of `gate`, and stores the receipt. Then stores a reading if the job has a reader.
     fn submit<R: Wait, G: Gate, K: Keep<Of = Entry<A>>>(
         &mut self,
         rt: &R,
@@ -194,8 +194,8 @@ impl<L: Name, A: Allocator + Copy, P: Keep<Of = Receipt<A>>, F: Drop> Worker<L, 
         Ok(())
     }
 
-    /// Performs the operation and stores the receipt. Then the job has seen the history up to and including the receipt's entry,
-    /// and gets news of it. Reserves memory for the receipt first, so the receipt of each successful call is stored.
+    /// Performs the operation and stores the receipt. Returns news of the history up to and including the receipt's entry, which
+    /// the job has now seen. Reserves memory for the receipt first, so the receipt of each successful call is stored.
     pub(crate) fn ask<R: Wait, K: Keep<Of = Entry<A>>>(
         &mut self,
         rt: &R,
@@ -237,7 +237,7 @@ ghost use Rattle.std.specs.Prelude.{◌≡◌, ◌<◌, IfOk, length};
 ghost use Rattle.covbook.specs.Kept.{IsPrefix};
 ghost use Rattle.covjobs.specs.Latest.{history_of};
 
-/// Returns `news`, whose history extends that of `latest`.
+/// Returns a copy of `news`, whose history must be longer than that of `latest`. The longer history extends the shorter one.
 fn later<L: Name>(latest: &Option<News<L>>, news: &News<L>) -> News<L>
     requires { length (history_of latest.now) < length news.now }
     ensures same { result ≡ news.now }
@@ -255,14 +255,14 @@ impl<L: Name, A: Allocator, P: Keep<Of = Receipt<A>>, F: Drop> Worker<L, A, P, F
     ghost use Rattle.covjobs.specs.Latest.{history_of};
     ghost use Rattle.covjobs.specs.Work.{kept_of};
 
-    /// How many entries of the history the job has seen: all up to and including that of its last call.
+    /// How many entries of the history the job has seen: all up to and including the entry of its last successful call.
     pub(crate) fn seen(&self) -> u64
         ensures { result ≡ self.now.seat.seen }
     {
         self.seat.seen()
     }
 
-    /// The job's seat, the latest news of its calls, and its rejected inputs.
+    /// Consumes the worker, and returns the job's seat, the latest news of its calls, and its rejected inputs.
     pub(crate) fn into_news(self) -> (Seat<L>, Option<News<L>>, Refused<A, F>)
         ensures seat { result.0 ≡ self.seat }
         ensures latest { history_of result.1 ≡ self.latest }
@@ -284,7 +284,7 @@ impl<L: Name, A: Allocator, P: Keep<Of = Receipt<A>>, F: Drop> Worker<L, A, P, F
 impl<L: Name, A: Allocator> Worker<L, A> {
     ghost use Rattle.std.specs.Prelude.{◌≡◌};
 
-    /// The job's seat, its log, and its rejected inputs.
+    /// Consumes the worker, and returns the job's seat, its log, and its rejected inputs.
     pub(crate) fn into_parts(self) -> (Seat<L>, JobLog<A>, Refused<A>)
         ensures seat { result.0 ≡ self.seat }
         ensures job { result.1.job ≡ self.seat.job }
@@ -317,8 +317,8 @@ ghost use Rattle.covjobs.specs.Work.{HasEnded, IsPartOf, MayHaveReader, work_of}
 ghost use Rattle.covlock.specs.Seat.{fresh_seat};
 
 /// Does the work of one of `jobs` jobs: processes the job's share of the inputs, in order. After a failed call or list allocation,
-/// only reads the inputs that are left. Stops at an input that can't be read, or if memory runs out while one is read. Without a
-/// place for one more reader, the job has no readings.
+/// only reads the remaining inputs. Stops at an input that can't be read, or at one during which memory runs out. The job has no
+/// readings if the book has no place for its reader.
 pub(crate) fn work<
     R: Wait,
     G: Gate,
@@ -360,8 +360,9 @@ pub(crate) fn work<
 ghost use Rattle.std.specs.Prelude.{IfErr, IfSome};
 ghost use Rattle.covjobs.specs.Stops.{IsStopAt, of_late};
 
-/// Reads the next part of the input. Returns the part and the rest of the input. The error says where the job stops. `first` is the
-/// job's first failed call or list allocation.
+/// Reads the next part of the input. Returns the part, or why the input is rejected, and the rest of the input. Fails with the
+/// job's stop if the input can't be read, or if memory runs out. `first` is the job's first failed call or list allocation before
+/// this part.
 fn next_part<A: Allocator, T: LateInput<A>>(
     alloc: A,
     index: usize,
@@ -380,7 +381,8 @@ fn next_part<A: Allocator, T: LateInput<A>>(
     }
 }
 
-/// Returns the error of a rejected input. The job stops if the input can't be read, or if memory runs out.
+/// Returns why the input is rejected. Fails with the job's stop if the input can't be read, or if memory ran out. A stop for memory
+/// has the earlier error `first`, if any.
 fn refused_text<F: Drop>(
     index: usize,
     first: Option<BookFault>,
@@ -398,7 +400,7 @@ fn refused_text<F: Drop>(
     }
 }
 
-/// Makes a reader of the book, if jobs have readers and the book has a place for one.
+/// Makes a reader of the book, if `readers` asks for one per job and the book has a place for it.
 fn reader_of<R: Wait, L: Name, A: Allocator, K: Keep<Of = Entry<A>>>(
     rt: &R,
     book: &Shared<L, A, K>,

@@ -1,4 +1,4 @@
-//! Runs the workers of all jobs: one on the calling thread, or several in one thread each.
+//! Runs the workers of all jobs: a single worker on the calling thread, each of several workers in its own thread.
 
 ghost use Rattle.std.specs.Prelude.{◌≡◌, Err, IfOk, IsTrue, false, map, Contains};
 ghost use Rattle.std.specs.List.{AllByRecursion};
@@ -24,7 +24,7 @@ use std::sync::Wait;
 use std::thread;
 use std::thread::{Promise, PromisedHandle, Threads};
 
-/// The promise of a worker's thread about the worker's end.
+/// A thread's promise about how its worker ends.
 #[derive(Drop)]
 struct WorkPromise<T: LateInput<Global>> {
     job: u32,
@@ -47,8 +47,8 @@ impl<L: Name, T: LateInput<Global>, P: Keep<Of = Receipt>> Promise<
     ghost kept_by = { λ p r. HasEnded (chances_of T.may_give T.may_fail) p r };
 }
 
-/// Does the work of all seats, each with its share of the inputs. Returns how each worker ended, in the order of the seats. A
-/// single job works on the calling thread; several work at once, in one thread each.
+/// Runs a worker for each seat, with the seat's share of the inputs. Returns how each worker ended, in the seats' order. A single
+/// worker runs on the calling thread; several run at the same time, each in its own thread.
 pub(crate) fn do_all_work<
     R: Threads + Wait + Sync,
     G: Gate + Sync,
@@ -77,8 +77,8 @@ pub(crate) fn do_all_work<
     work_at_once(rt, alloc, book, gate, seats, jobs, readers, inputs, shares)
 }
 
-/// Does the work of each seat on the calling thread, one seat after another, with its share of the inputs. Returns how each worker
-/// ended, in the order of the seats. A single job gets no thread of its own, because a thread's memory comes from an arena that
+/// Runs a worker for each seat, one after another on the calling thread, with the seat's share of the inputs. Returns how each
+/// worker ended, in the seats' order. A single job gets no thread of its own, because a thread's memory comes from an arena that
 /// grows by many small system calls.
 fn work_in_turn<
     R: Wait,
@@ -116,9 +116,9 @@ fn work_in_turn<
     Ok(ended)
 }
 
-/// Starts a worker in a thread for each seat, with its share of the inputs. Waits until all workers have ended, and returns how
-/// each ended, in the order of the seats. If a worker can't be started, starts no further one and treats this as a failed
-/// allocation.
+/// Starts a thread with a worker for each seat, with the seat's share of the inputs. Waits until all workers have ended, and
+/// returns how each worker ended, in the seats' order. After a worker that can't be started, starts no further one, and appends a
+/// failed allocation to the result.
 fn work_at_once<
     R: Threads + Wait + Sync,
     G: Gate + Sync,
@@ -184,7 +184,7 @@ fn work_at_once<
     )
 }
 
-/// Waits until all workers have ended, and returns how each ended. Adds a failed allocation to the list unless all were started.
+/// Waits until all workers have ended, and returns how each worker ended. Appends a failed allocation unless `all_started`.
 fn end_all<R: Threads, L: Name, T: LateInput<Global>, P: Keep<Of = Receipt>>(
     rt: &R,
     alloc: Global,
@@ -201,7 +201,7 @@ fn end_all<R: Threads, L: Name, T: LateInput<Global>, P: Keep<Of = Receipt>>(
     Ok(ended)
 }
 
-/// Waits until all workers have ended, and returns how each ended.
+/// Waits until all workers have ended, and returns how each worker ended.
 fn join_all<R: Threads, L: Name, T: LateInput<Global>, P: Keep<Of = Receipt>>(
     rt: &R,
     alloc: Global,

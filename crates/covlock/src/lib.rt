@@ -8,14 +8,14 @@
 //! itself. Each contract speaks of the whole history, whatever is stored.
 //!
 //! A reader of the totals (`Shared::reader`, `Live`) needs no lock and never waits. `perform` and `close` return news of the
-//! history. After a reader learns news (`Live::learn`), it reports at least their entries.
+//! history. After a reader learns news (`Live::learn`), it reports at least the entries of the news.
 //!
 //! A function that uses a book is generic in the book's name `L: Name`. Its caller chooses `Brand` for `L`, and states in an
-//! `Invariants.antt` that this is the name of the start (`docs/ARCHITECTURE.md` has the lines). So the seats, news and readers of
-//! two books have different types if the books are opened in two such functions. Two books that one function opens at `Brand` have
-//! the same types: then the compiler accepts a seat of one book for the other, and only the prover rejects it.
+//! `Invariants.antt` that `Brand` is the name of the start (`docs/ARCHITECTURE.md` has the lines). So the seats, news and readers
+//! of two books have different types if the books are opened in two such functions. Two books that one function opens at `Brand`
+//! have the same types: then the compiler accepts a seat of one book for the other book, and only the prover rejects such a call.
 //!
-//! covjobs re-exports all of this, so its users list only that crate. Its page has a sketch.
+//! covjobs re-exports all of this, so a user of covjobs lists no other crate. The page of covjobs has a sketch.
 #![tactic(auto)]
 
 mod seat;

@@ -5,7 +5,7 @@ use std::marker::Model;
 use std::sync::ledger::{Book, Share};
 
 /// The seat (handle) of one job at a shared book. Contracts see the job, the number of its successful calls, and how many entries
-/// of the history it has seen: all up to that of its last successful call.
+/// of the history the job has seen: all up to the entry of its last successful call.
 #[derive(Drop)]
 pub struct Seat<L: Name> {
     job: u32,
@@ -30,7 +30,7 @@ impl<L: Name> Seat<L> {
     ghost use Rattle.covbook.specs.Step.{max_entries};
     ghost use Rattle.covlock.specs.Seat.{fresh_seat, after_call};
 
-    /// The seat of a job without calls, with a share of the count.
+    /// Makes the seat of a job without calls. `share` must be one part of the count of calls, with the amount 0.
     pub(crate) fn new(job: u32, share: Share<L>) -> Seat<L>
         requires part { share.parts ≡ 1 }
         requires none { share.amount ≡ 0 }
@@ -44,7 +44,7 @@ impl<L: Name> Seat<L> {
         }
     }
 
-    /// The number of the job. Neither this nor `calls` and `seen` allocate.
+    /// The number of the job. Like `calls` and `seen`, never allocates.
     pub fn job(&self) -> u32
         ensures { result ≡ self.now.job }
     {
@@ -58,7 +58,7 @@ impl<L: Name> Seat<L> {
         self.calls
     }
 
-    /// How many entries the job has seen: all up to that of its last successful call, or 0 before the first call.
+    /// How many entries the job has seen: all up to the entry of its last successful call, or 0 before the first call.
     pub fn seen(&self) -> u64
         ensures { result ≡ self.now.seen }
     {

@@ -101,7 +101,7 @@ impl<L: Name, A: Allocator> Seats<L, A> {
 ghost use Rattle.std.specs.Prelude.{◌≡◌, IfOk};
 ghost use Rattle.covlock.specs.Seat.{first_seats};
 
-/// Makes a seat for each job from 0 to `jobs - 1`, none of which has made a call. Each seat gets one part of the share `all`.
+/// Makes a seat without calls for each job from 0 to `jobs - 1`. Each seat gets one part of the share `all`.
 pub(crate) fn seats_for<L: Name, A: Allocator>(
     alloc: A,
     jobs: u32,

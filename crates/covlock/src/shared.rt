@@ -15,9 +15,8 @@ use thiserror::Error;
 /// The greatest number of readers of one book.
 pub const MAX_READERS: u32 = 64;
 
-/// A book with a lock. Threads share it by reference. `K` is the part of each entry that the book stores. Contracts see for how
-/// many jobs the book is. A book that is dropped without being closed leaks the memory that it shares with its readers (some 17
-/// KB).
+/// A book with a lock. Threads share this value by reference. `K` is the part of each entry that the book stores. Contracts see the
+/// number of jobs. A book that is dropped without being closed leaks the memory that it shares with its readers (some 17 KB).
 #[derive(Drop)]
 pub struct Shared<L: Name, A: Allocator = Global, K: Keep<Of = Entry<A>> = Entry<A>> {
     jobs: u32,
@@ -35,7 +34,7 @@ impl<L: Name, A: Allocator, K: Keep<Of = Entry<A>>> Model for Shared<L, A, K> {
     ghost invariant = { λ a. a.jobs ≡ L.parts };
 }
 
-/// The result of a successful call: its receipt, and news of the history up to its entry.
+/// The result of a successful call: the call's receipt, and news of the history up to the call's entry.
 #[derive(Drop)]
 pub struct Done<L: Name, A: Allocator = Global> {
     pub receipt: Receipt<A>,
@@ -45,7 +44,7 @@ pub struct Done<L: Name, A: Allocator = Global> {
 /// Why a book couldn't be closed.
 #[derive(Clone, Copy, Debug, PartialEq, Eq, Error)]
 pub enum CloseFault {
-    /// Fault 1: this job's seat is missing. No lower job's seat is.
+    /// Fault 1: `job` is the lowest job whose seat is missing.
     #[error("Missing {job}")]
     Missing { job: u32 },
 }
@@ -108,10 +107,10 @@ impl<L: Name, A: Allocator + Copy, K: Keep<Of = Entry<A>>> Shared<L, A, K> {
     ghost use Rattle.covlock.specs.Seat.{after_call};
 
     /// Performs one step of the book for the seat's job. The answer follows from the table after the earlier steps, which form a
-    /// legal history. The news are of the history up to this step's entry, which readers see from then on. Waits for the lock,
-    /// which it holds only for the step, and for readers that still read what was shown two steps ago. Returns `Full` if the
-    /// history is full, or if the history had fewer entries than the seat has seen, which never happens to a seat of this book. A
-    /// failed call changes neither the book, nor what readers see, nor the seat.
+    /// legal history. The news are of the history up to this step's entry, and readers see this history from then on. Waits for the
+    /// lock, which this call holds only for the step, and for readers that still read what was shown two steps ago. Returns `Full`
+    /// if the history is full, or if the seat has seen more entries than the history has, which never happens with a seat of this
+    /// book. A failed call changes neither the book, nor the seat, nor what readers see.
     pub fn perform<R: Wait>(
         &self,
         rt: &R,
@@ -149,8 +148,8 @@ impl<L: Name, A: Allocator, K: Keep<Of = Entry<A>>> Shared<L, A, K> {
         self.shared_state.lock(rt).reader()
     }
 
-    /// Like `close`, but returns the book itself, with the table of its counts. Contracts see its whole history, whatever the book
-    /// stores.
+    /// Like `close`, but returns the book itself, with its table of counts. Contracts see the whole history, whatever part is
+    /// stored.
     pub fn close_book<R: Wait>(
         self,
         rt: &R,
@@ -178,9 +177,9 @@ impl<L: Name, A: Allocator> Shared<L, A> {
     ghost use Rattle.covlock.specs.Handed.{AllAreSeated, IsLeastMissing};
     ghost use Rattle.covlock.specs.CloseFault.{told_job};
 
-    /// Closes the book if all jobs' seats are given. Returns the book's history, whose submissions are lawful, and news of it.
-    /// Otherwise returns the book, the seats, and the least job whose seat is missing. Never allocates. May wait for readers that
-    /// are inside a read. After the close, each reader reports the longest history that it saw or learned.
+    /// Closes the book if `seats` has the seat of each job. Returns the book's history, whose submissions are lawful, and news of
+    /// this history. If a seat is missing, returns the book, the seats, and the lowest job without a seat. Never allocates. May
+    /// wait for readers that are inside a read. After the close, each reader reports the longest history that it saw or learned.
     pub fn close<R: Wait>(
         self,
         rt: &R,

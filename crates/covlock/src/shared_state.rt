@@ -15,7 +15,7 @@ use std::sync::ledger::{Book as Count, Share};
 pub(crate) struct SharedState<L: Name, A: Allocator, K: Keep<Of = Entry<A>>> {
     book: Book<A, K>,
     count: Count<L>,
-    /// A share without a part of the count, to which `close` adds the shares of the seats.
+    /// An empty share of the count, to which `close` adds the shares of the seats.
     rest: Share<L>,
     publisher: Publisher<L, A>,
 }
@@ -41,7 +41,7 @@ impl<L: Name, A: Allocator + Copy, K: Keep<Of = Entry<A>>> SharedState<L, A, K> 
     ghost use Rattle.covlock.specs.Call.{IsReceiptAfter, IsNewsOf};
     ghost use Rattle.covlock.specs.Seat.{after_call};
 
-    /// The state of an empty book: no call is counted, and the empty history is noted and published.
+    /// Makes the state of an empty book. `count` and `rest` must count no calls, and the noted and published history must be empty.
     pub(crate) fn new(
         book: Book<A, K>,
         count: Count<L>,
@@ -64,9 +64,9 @@ impl<L: Name, A: Allocator + Copy, K: Keep<Of = Entry<A>>> SharedState<L, A, K> 
         }
     }
 
-    /// Performs one step of the book for the seat's job, and publishes the history with the step's entry. Does everything that can
-    /// fail first, so a failure changes neither the history, nor what is published, nor the seat. Waits for readers that still read
-    /// what was published two steps ago.
+    /// Performs one step of the book for the seat's job, and publishes the history with the step's entry. First does everything
+    /// that can fail, so a failure changes neither the history, nor what is published, nor the seat. Waits for readers that still
+    /// read what was published two steps ago.
     pub(crate) fn step<R: Wait>(
         &mut self,
         rt: &R,

@@ -91,7 +91,7 @@ impl<A: Allocator> Start<A> {
     ghost use Rattle.std.specs.Prelude.{◌≡◌};
     ghost use Rattle.covlock.specs.Start.{AreJobs};
 
-    /// The number of jobs, the count with no call yet, and the seed of the book's published history.
+    /// Splits the start into the number of jobs, the empty count of calls, and the seed of the book's published history.
     pub(crate) fn into_parts(self) -> (u32, Blank, HistorySeed)
         ensures jobs { result.0 ≡ self.jobs }
         ensures bounds { AreJobs self.jobs }

@@ -10,7 +10,7 @@ pub enum ReaderFault {
     /// All places for readers are taken. May also be returned earlier, if no free place is found.
     #[error("NoPlace")]
     NoPlace = 1,
-    /// An allocation failed. No call returns it today, since making a reader never allocates.
+    /// An allocation failed. No call returns this error today, since making a reader never allocates.
     #[error("out of memory")]
     Memory = 2,
 }

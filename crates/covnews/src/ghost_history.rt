@@ -1,4 +1,4 @@
-//! The noted history. Its entries exist only in proofs; the memory holds only a `logbook::Word` with its length. A token says
+//! The noted history. Its entries exist only in proofs; memory holds only the history's length, as a `logbook::Word`. A token says
 //! that a prefix of the noted history was seen.
 
 use crate::noted::NotedEntry;
@@ -6,13 +6,13 @@ use covbook::Entry;
 use logbook::{Gain, Plain, Play, Rule, Seen, Word};
 use std::alloc::Allocator;
 
-/// The number in memory that is the length of a noted history.
+/// The length of a noted history, as a word in memory.
 pub(crate) type Length = Word<NotedEntry, u64, Legality>;
 
-/// The token of a prefix of a noted history that was seen. It has no bytes.
+/// A token, without bytes, which says that a prefix of a noted history was seen.
 pub(crate) type SeenHistory = Seen<NotedEntry, u64, Legality>;
 
-/// The rule of a noted history: at all times it is legal, and its word holds its length.
+/// The rule of a noted history: the history is always legal, and the word in memory holds the history's length.
 pub struct Legality;
 
 impl Rule<NotedEntry, u64> for Legality {
@@ -33,7 +33,7 @@ impl Rule<NotedEntry, u64> for Legality {
     ghost moves = { λ _ _ _ _. Unit {0} };
 }
 
-/// What a step trades with its caller: nothing.
+/// What a caller gains from a step: nothing.
 pub struct NoGain;
 
 impl Gain<NotedEntry, u64> for NoGain {

@@ -5,8 +5,8 @@ ghost use Rattle.covbook.specs.Op.{EntryData};
 ghost use Rattle.covbook.specs.Step.{IsLegal};
 ghost use Rattle.covnews.specs.History.{IsPrefix};
 
-/// Of two prefixes of one history, the shorter is a prefix of the longer. So this also holds for the histories of any two news that
-/// a reader learned. A prefix of a prefix is a prefix. A prefix of a legal history is legal.
+/// Of two prefixes of one history, the shorter is a prefix of the longer. Two news that a reader learned have such histories. A
+/// prefix of a prefix is a prefix. A prefix of a legal history is legal.
 pub fn prefixes_agree()
     ensures shorter { (some other whole : List EntryData) → IsPrefix some whole → IsPrefix other whole → length some ≤ length other → IsPrefix some other }
     ensures onward { (first second third : List EntryData) → IsPrefix first second → IsPrefix second third → IsPrefix first third }

@@ -1,11 +1,11 @@
 //! Publishes a shared book's totals to readers that never wait.
 //!
-//! The holder of the book's lock has its `Publisher`. For each new entry, the publisher first notes it (`Publisher::note`). Then it
-//! shows readers how many entries there are and the totals after them (`Publisher::publish`). A reader (`Live`) gets these totals
-//! at any time, without a lock or a wait: `left_right` has two copies of what is shown.
+//! A `Publisher` belongs to the holder of the book's lock. The publisher first notes each new entry (`Publisher::note`). Then it
+//! shows readers how many entries there are and the totals after them (`Publisher::publish`). A reader (`Live`) gets the shown
+//! totals at any time, without a lock or a wait: `left_right` has two copies of what is shown.
 //!
-//! `News`, which `publish` returns, have the length of a published history and the totals after it. A reader that learns news never
-//! again reports fewer entries than these, even if it wasn't shown them, and even after the book is closed.
+//! `News`, which `publish` returns, have the length of a published history and the totals after it. A reader that has learned news
+//! never reports fewer entries than the news have, even if it wasn't shown these entries, and even after the book is closed.
 //!
 //! The published history is legal (covbook's `IsLegal`) and only grows at its end. So of any two published histories, one is a
 //! prefix of the other. Memory holds only the history's length, its last totals and a token without bytes; the entries themselves

@@ -9,8 +9,8 @@ use std::alloc::{Allocator, Global};
 use std::marker::Model;
 use std::thread;
 
-/// A reader of the published totals, which never waits. Contracts see the longest history that it saw or learned. At first this is
-/// the history that was published when the reader was made.
+/// A reader of the published totals. It never waits. Contracts see the longest history that the reader saw or learned: at first the
+/// history that was published when the reader was made.
 #[derive(Drop)]
 pub struct Live<L: Name, A: Allocator = Global> {
     longest: News<L>,
@@ -26,7 +26,7 @@ impl<L: Name, A: Allocator> Model for Live<L, A> {
     ghost view = { λ live. live.longest };
 }
 
-/// News of the published history. Returns `None` if the reader gets no view of it, as after a close.
+/// Returns the reader, and news of the published history: `None` if the reader gets no view of that history, as after a close.
 fn look<L: Name, A: Allocator>(
     reader: SnapshotReader<L, A>,
 ) -> (SnapshotReader<L, A>, Option<News<L>>) {
@@ -54,7 +54,7 @@ impl<L: Name, A: Allocator> Live<L, A> {
         }
     }
 
-    /// Learns the news: later readings count at least the news' entries. Never allocates or waits.
+    /// Learns the news: from now on, readings have at least the entries of the news. Never allocates or waits.
     pub fn learn(&mut self, news: &News<L>)
         ensures one { (self.new ≡ self.old) ⊎ (self.new ≡ news.now) }
         ensures own { IsPrefix self.old self.new }
@@ -63,8 +63,8 @@ impl<L: Name, A: Allocator> Live<L, A> {
         self.longest = self.longest.longer(news);
     }
 
-    /// The totals of the longest history that this reader knows: one that it saw or learned, or a longer published one. After a
-    /// close, the reader no longer gets a view of the published history. Never allocates or waits.
+    /// Returns a reading of the longest history that this reader saw or learned, or of the published history if that is longer.
+    /// After a close, the reader no longer gets a view of the published history. Never allocates or waits.
     pub fn totals(&mut self) -> Reading
         ensures own { IsPrefix self.old self.new }
         ensures legal { IsLegal self.new }
@@ -76,12 +76,13 @@ impl<L: Name, A: Allocator> Live<L, A> {
         self.longest.reading()
     }
 
-    /// News of the published history. If the reader gets no view of it, news of the longest history that it saw or learned.
+    /// Returns news of the published history. If the reader gets no view of this history, returns news of the longest history that
+    /// the reader saw or learned.
     fn published(&mut self) -> News<L>
         ensures { self.new ≡ self.old }
     {
         // The publisher waits for readers inside a read. A reader that yields its processor before a read is rarely suspended
-        // inside it, even with more readers than processors.
+        // during the read, even with more readers than processors.
         thread::yield_now();
         match replace_with(&mut self.reader, (), |reader, _| look(reader)) {
             Some(news) => news,

@@ -11,7 +11,7 @@ use std::sync::ledger::Ledger;
 pub trait Name: Ledger {
     ghost use Rattle.logbook.specs.Pages.{Book};
 
-    // The noted history that this names.
+    // The noted history of the book.
     ghost book: { Book };
 }
 
@@ -51,7 +51,7 @@ impl HistorySeed {
         }
     }
 
-    /// The history's length, and the token of the empty history.
+    /// Splits the seed into the history's length and the token of the empty history.
     pub(crate) fn into_parts(self) -> (Length, SeenHistory)
         ensures length { result.0 ≡ length_of self.book }
         ensures book { result.1.book ≡ self.book }

@@ -10,8 +10,9 @@ use logbook::Offer;
 use std::alloc::Allocator;
 use std::marker::{Model, PhantomData};
 
-/// The length of the noted history at one time, and the totals after its last entry. Contracts see the entries, which are a legal
-/// history. Callers get news only of a published history: from `Publisher::publish` and `close`, and as copies.
+/// The length that the noted history had at one time, and the totals after its last entry at that time. Contracts see the entries
+/// up to then, which are a legal history. Callers get news only of published histories: from `Publisher::publish`, from
+/// `Publisher::close`, and as copies.
 #[derive(Drop)]
 pub struct News<L: Name> {
     snapshot: Snapshot,
@@ -58,7 +59,7 @@ impl<L: Name> News<L> {
         }
     }
 
-    /// News of the history without an entry.
+    /// News of the empty history.
     pub(crate) fn first(seen: SeenHistory) -> News<L>
         requires book { seen.book ≡ L.book }
         requires empty { seen.log ≡ [] }
@@ -95,8 +96,8 @@ impl<L: Name> News<L> {
         &self.snapshot
     }
 
-    /// The news with the longer history, or `self` if both are equally long. Both are of one book, so the shorter history is a
-    /// prefix of the longer one.
+    /// Returns a copy of the news with the longer history, or of `self` if both histories are equally long. Both are of one book,
+    /// so the shorter history is a prefix of the longer one.
     pub fn longer(&self, other: &News<L>) -> News<L>
         ensures one { (result ≡ self.now) ⊎ (result ≡ other.now) }
         ensures this { IsPrefix self.now result }
@@ -112,7 +113,7 @@ impl<L: Name> News<L> {
     }
 
     /// Appends the next entry to the noted history, and returns news of the history with this entry. If the noted history has more
-    /// entries than these news, appends nothing and returns `None`. That never happens if nobody else has the history's word.
+    /// entries than `self`, appends nothing and returns `None`, which never happens if nobody else has the word of the history.
     pub(crate) fn appended<A: Allocator>(
         &self,
         history: &Length,

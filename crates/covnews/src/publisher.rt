@@ -66,8 +66,8 @@ impl<L: Name, A: Allocator> Publisher<L, A> {
     ghost use Rattle.covbook.specs.Step.{ComesNext, max_entries};
     ghost use Rattle.covnews.specs.declared.fault.ReaderFault.TheVariants as faults;
 
-    /// Notes the next entry of the history, for `publish`. Changes nothing if it returns `None`, which never happens if no other
-    /// publisher has this history; the types ensure this, but no contract says so. Never allocates.
+    /// Notes the next entry of the history, for `publish`. Returns `None`, and changes nothing, if another publisher has noted an
+    /// entry of this history. The types exclude this, but no contract says so. Never allocates.
     pub fn note(&mut self, entry: &Entry<A>) -> Option<()>
         requires few { length self.old.noted < max_entries }
         requires next { ComesNext self.old.noted (entry_data entry.now) }
@@ -78,7 +78,7 @@ impl<L: Name, A: Allocator> Publisher<L, A> {
         Some(())
     }
 
-    /// Publishes the noted history, and returns news of it. Never fails. So readers are shown each entry of which there are news.
+    /// Publishes the noted history, and returns news of this history. Never fails, so readers are shown every entry in the news.
     /// Waits for readers that are still inside a read of what was shown before the last `publish`.
     pub fn publish<R: Wait>(&mut self, rt: &R) -> News<L>
         ensures published { self.new ≡ record self.old { published = self.old.noted } }

@@ -13,7 +13,7 @@ use std::alloc::AllocError;
 use std::marker::PhantomData;
 
 /// The length of a noted history, and the totals after its last entry. The token `seen` says which history this is: contracts see
-/// its entries as `seen.log`.
+/// the history's entries as `seen.log`.
 #[derive(Drop)]
 pub struct Snapshot {
     pub upto: u64,
@@ -23,7 +23,7 @@ pub struct Snapshot {
 }
 
 impl Snapshot {
-    /// An equal snapshot.
+    /// Returns a copy of the snapshot.
     pub(crate) fn copy(&self) -> Snapshot
         ensures { result ≡ self.now }
     {
@@ -50,7 +50,7 @@ impl Absorb<Snapshot> for Snapshot {
     }
 }
 
-/// The rule of what readers are shown: each snapshot is of the book of this name.
+/// The rule of what readers are shown: each snapshot is of the book with the name `L`.
 pub struct OfBook<L> {
     name: PhantomData<L>,
 }

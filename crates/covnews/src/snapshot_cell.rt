@@ -25,8 +25,8 @@ impl<L: Name, A: Allocator> Model for SnapshotCell<L, A> {
     ghost invariant = { λ snapshot_cell. snapshot_cell.writer.desk.shown.value.seen.book ≡ L.book };
 }
 
-/// A cell that is dropped without being closed leaks its memory, some 17 KB for 64 readers. To free it, the drop would have to wait
-/// for readers, and a drop has no runtime to wait with. The readers still see what was shown last.
+/// A cell that is dropped without being closed leaks its memory, some 17 KB for 64 readers. To free this memory, the drop would
+/// have to wait for readers, and a drop has no runtime to wait with. The readers still see what was shown last.
 impl<L: Name, A: Allocator> Drop for SnapshotCell<L, A> {
     fn drop(self) {
         let SnapshotCell { writer } = self;
@@ -35,8 +35,8 @@ impl<L: Name, A: Allocator> Drop for SnapshotCell<L, A> {
     }
 }
 
-/// Appends a snapshot to those to be shown. Its capacity was reserved when the book was opened, so the first try succeeds. No
-/// contract of `left_right` says so; therefore this repeats a failed try until there is memory.
+/// Appends a snapshot to the list of snapshots to show. The list's capacity was reserved when the book was opened, so the first try
+/// succeeds. No contract of `left_right` says so, so this function repeats a failed try until there is memory.
 fn append<L: Name, A: Allocator, R: Wait>(
     rt: &R,
     writer: &mut SnapshotWriter<L, A>,
@@ -73,8 +73,9 @@ impl<L: Name, A: Allocator + Copy> SnapshotCell<L, A> {
             readers as usize,
         )?;
         let mut snapshot_cell = SnapshotCell { writer };
-        // This first append reserves capacity for four snapshots. There are never more than three: the next one, and those that the
-        // last `show` published: two for the first `show`, since this one is still waiting, and one for any later `show`.
+        // This first append reserves capacity for four snapshots. The list never has more than three: the next snapshot, and those
+        // that the last `show` published. The first `show` publishes two, since this one is still waiting, and each later `show`
+        // publishes one.
         snapshot_cell
             .writer
             .append(snapshot.copy())
@@ -98,8 +99,7 @@ impl<L: Name, A: Allocator> SnapshotCell<L, A> {
         News::of(self.writer.published())
     }
 
-    /// Shows the history of the news in place of the one that is shown now. Waits for readers of the snapshot that was shown before
-    /// that one.
+    /// Shows the history of `news` in place of the current one. Waits for readers of the snapshot before the current one.
     pub(crate) fn show<R: Wait>(&mut self, rt: &R, news: &News<L>)
         ensures { self.new ≡ news.now }
     {
@@ -109,7 +109,7 @@ impl<L: Name, A: Allocator> SnapshotCell<L, A> {
         });
     }
 
-    /// Closes the cell. Waits for readers that are inside a read. Later readers see nothing.
+    /// Closes the cell. Waits for readers that are inside a read. Later reads see nothing.
     pub(crate) fn close<R: Wait>(self, rt: &R) {
         let SnapshotCell { writer } = self;
         writer.take(rt);

@@ -57,7 +57,7 @@ fn step<L: Name, R: Wait + Abort>(
     publisher.publish(rt)
 }
 
-/// Checks how many entries the reader reports.
+/// Checks that the reader reports `upto` entries.
 fn check_upto<L: Name, A: Allocator>(rt: &impl Abort, live: &mut Live<L, A>, upto: u64) {
     assert_eq!(rt; live.totals().upto, upto);
 }
@@ -72,8 +72,8 @@ fn check_no_place<L: Name, A: Allocator>(rt: &impl Abort, publisher: &mut Publis
     }
 }
 
-/// A reader reports published entries without learning news. A reader that is made later begins with them. After the end, a
-/// reader that never looked reports no entries until it learns news.
+/// Checks three readers. `early` reports published entries without learning news. `late` begins with what was published before it
+/// was made. `asleep` first reads after the close, and reports no entries until it learns news.
 fn follow<L: Name, R: Wait + Abort>(rt: &R, alloc: Global, seed: HistorySeed)
     requires { seed.book ≡ L.book }
 {

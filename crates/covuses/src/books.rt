@@ -9,7 +9,7 @@ use covbook::{Answer, Book, BookFault, Op, SubRef};
 use covline::Submission;
 use std::alloc::Global;
 
-/// The answers of a book to a submission, and then to a report.
+/// Returns a new book's answers to a submission, and then to a report.
 pub fn answers(alloc: Global, submission: Submission) -> Result<(Answer, Answer), BookFault>
     ensures first { IfOk result (λ a. answer_data a.0 ≡ answer_of [] (SubmitOp submission)) }
     ensures second { IfOk result (λ a. answer_data a.1 ≡ answer_of (table_of (SubmitOp submission ∷ [])) ReportOp) }

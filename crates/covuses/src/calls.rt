@@ -10,7 +10,7 @@ ghost use Rattle.covuses.specs.Merge.{AsksForMerge};
 use covcommand::{Asked, Command, CommandFault, Names, command};
 use std::alloc::Global;
 
-/// The number of jobs and the files' names of a merge. Returns `None` if the command line isn't a merge.
+/// Parses a command line. Returns a merge's number of jobs and file names, or `None` if the command isn't a merge.
 pub fn merge_of(alloc: Global, words: &[String]) -> Result<Option<(u32, Names)>, CommandFault>
     ensures merge { IfOk result (AsksForMerge (subcommand_of covcollect (map string_bytes words.now))) }
     ensures fault { IfErr result (IsFaultAmong (fault_of covcollect (map string_bytes words.now))) }

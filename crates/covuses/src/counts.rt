@@ -6,7 +6,7 @@ ghost use Rattle.covuses.specs.Added.{added, more as more_of};
 use covmap::{Addend, StagedMap};
 use std::alloc::{AllocError, Global};
 
-/// A count to add to the one before it. The sum saturates at 2^64 - 1.
+/// A count to add to the earlier count. The sum saturates at 2^64 - 1.
 #[derive(Clone, Copy)]
 struct More {
     count: u64,
@@ -22,7 +22,7 @@ impl Addend<u64> for More {
     }
 }
 
-/// Adds counts to those of their lines: all of them, or none if an allocation fails.
+/// Adds each count to the count of its line. If an allocation fails, adds none of the counts.
 pub fn add_counts(
     alloc: Global,
     lines: &mut StagedMap<u64, u64, Global>,

@@ -1,4 +1,4 @@
-//! The examples of the crates' pages. They use the crates as a caller does. Each is proved, and run by a test.
+//! The examples of the crates' pages. They use the crates as a caller does. Each example is proved, and run by a test.
 #![tactic(auto)]
 
 pub mod books;

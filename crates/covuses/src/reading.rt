@@ -16,8 +16,8 @@ use covline::Submission;
 use covread::{ReadFault, read_gcov, read_trace};
 use std::alloc::Global;
 
-/// Reads a tracefile, or else gcov's annotated source, whose counts get this test name. gcov's output has no line that a tracefile
-/// has, so it is read as a tracefile without items.
+/// Reads the text as a tracefile, or as gcov's annotated source if the tracefile has no items. The source's counts belong to the
+/// test `test`. No line of gcov's output is a record of a tracefile, so this output, read as a tracefile, has no items.
 pub fn read_either(alloc: Global, test: &[u8], text: &[u8]) -> Result<Submission, ReadFault>
     ensures { IfOk result (λ s. trace.IsOutcome text.now (Ok s) ⊎ gcov.IsOutcome test.now text.now (Ok s)) }
 {

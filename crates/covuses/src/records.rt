@@ -19,7 +19,7 @@ pub enum PrintFault {
     Memory(#[from] Memory),
 }
 
-/// Prints the counted lines of a tracefile again.
+/// Parses a tracefile, and returns its `DA:` records, printed again.
 pub fn counted_lines(alloc: Global, text: &[u8]) -> Result<Bytes, PrintFault>
     ensures { IfOk result (λ t. AreCounted (lines_of text.now) t) }
 {

@@ -8,7 +8,7 @@ use covline::Submission;
 use covstore::{Refuse, Store};
 use std::alloc::Global;
 
-/// The store of two submissions.
+/// Merges two submissions into a new store.
 pub fn merged(alloc: Global, first: &Submission, second: &Submission) -> Result<Store, Refuse>
     ensures { IfOk result (λ s. StandsFor s (rows_of first.now ∷ rows_of second.now ∷ [])) }
 {

@@ -155,7 +155,7 @@ fn answers_of_a_session(rt: HostRuntime) -> Result<(), Fail> {
     Ok(())
 }
 
-/// The arguments of a command line.
+/// Splits a command line into its arguments.
 fn words_of(alloc: Global, call: &str) -> Result<Vec<String>, Fail> {
     let mut words = Vec::new(alloc);
     for word in call.split_whitespace() {

@@ -1,5 +1,5 @@
-//! A shared book from its opening to its history. These functions panic on an error. A function that returned early would have to
-//! drop its book and its seats on each way out, and each of these ways would have to be proved.
+//! Functions for a shared book, from its opening to its history. They panic on an error. A function that returned early would have
+//! to drop its book and its seats on each way out, and each way out would need a proof.
 
 ghost use Rattle.std.specs.Prelude.{◌≡◌};
 
@@ -11,7 +11,7 @@ use std::alloc::{Allocator, Global};
 use std::process::Abort;
 use std::sync::Wait;
 
-/// The book, and the seats of its jobs.
+/// Opens a book, and returns it with the seats of its jobs.
 pub(super) fn opened<L: Name, A: Allocator + Copy>(
     rt: &impl Abort,
     alloc: A,
@@ -27,7 +27,7 @@ pub(super) fn opened<L: Name, A: Allocator + Copy>(
     }
 }
 
-/// Closes the book with all of its seats, and returns its history, and news of it.
+/// Closes the book with all of its seats. Returns the book's history, and news of this history.
 pub(super) fn closed<L: Name, A: Allocator, R: Wait + Abort>(
     rt: &R,
     book: Shared<L, A>,
@@ -48,8 +48,8 @@ pub(super) fn history_of<L: Name, A: Allocator, R: Wait + Abort>(
     closed(rt, book, seats).0
 }
 
-/// The operation of this name, if there is one. `submit` submits the small tracefile, `drop` drops the test `x`, and `rename`
-/// renames the test `t` to `v`.
+/// The operation that `name` stands for, if there is one. `submit` submits the small tracefile, `drop` drops the test `x`, and
+/// `rename` renames the test `t` to `v`.
 fn made(alloc: Global, name: &[u8]) -> Option<Op> {
     match name {
         b"submit" => submit(alloc, SMALL),
@@ -61,7 +61,7 @@ fn made(alloc: Global, name: &[u8]) -> Option<Op> {
     }
 }
 
-/// The operation of this name, as by `made`. Panics if there is none.
+/// The operation that `name` stands for, as in `made`. Panics if there is none.
 pub(super) fn op_of(rt: &impl Abort, alloc: Global, name: &[u8]) -> Op {
     match made(alloc, name) {
         Some(op) => op,
@@ -69,7 +69,7 @@ pub(super) fn op_of(rt: &impl Abort, alloc: Global, name: &[u8]) -> Op {
     }
 }
 
-/// The receipt and the news of the seat's call. Panics if the call fails.
+/// Performs the operation with the seat. Returns the receipt and the news, and panics on an error.
 pub(super) fn done_of<L: Name, R: Wait + Abort>(
     rt: &R,
     alloc: Global,
@@ -83,7 +83,7 @@ pub(super) fn done_of<L: Name, R: Wait + Abort>(
     }
 }
 
-/// The receipt of the seat's call. Panics if the call fails.
+/// Performs the operation with the seat. Returns the receipt, and panics on an error.
 pub(super) fn receipt_of<L: Name, R: Wait + Abort>(
     rt: &R,
     alloc: Global,
@@ -101,7 +101,7 @@ pub(super) fn keep(rt: &impl Abort, log: &mut JobLog, receipt: Receipt) {
     }
 }
 
-/// A log without receipts and readings for each seat.
+/// Makes an empty log for each seat.
 pub(super) fn empty_logs<L: Name>(
     rt: &impl Abort,
     alloc: Global,

@@ -21,7 +21,7 @@ const ENTRIES: &[u8] = b"\
 
 ";
 
-/// Checks that the book isn't closed without the seat of this job, and is returned with the other seats.
+/// Tries to close the book without the seat of `job`. Checks that this fails, and returns the book and the other seats.
 fn close_without<L: Name, R: Wait + Abort>(
     rt: &R,
     book: Shared<L>,
@@ -37,8 +37,8 @@ fn close_without<L: Name, R: Wait + Abort>(
     }
 }
 
-/// Performs the operation of this name with the first seat. Checks that the call succeeds, that the seat is job 0's, and that
-/// `calls` of its calls have succeeded.
+/// Performs the operation `name` with the first seat. Checks that the call succeeds, that the seat is job 0's, and that `calls` of
+/// the seat's calls have succeeded so far.
 fn check_usable<L: Name, R: Wait + Abort + AllocGlobal>(
     rt: &R,
     book: &Shared<L>,
@@ -56,12 +56,12 @@ fn check_usable<L: Name, R: Wait + Abort + AllocGlobal>(
     }
 }
 
-/// Checks that the seat is job 0's, and how many of its calls succeeded.
+/// Checks that the seat is job 0's, and that `calls` of the seat's calls have succeeded.
 fn check_calls<L: Name>(rt: &impl Abort, seat: &Seat<L>, calls: u64) {
     assert_eq!(rt; (seat.job(), seat.calls()), (0, calls));
 }
 
-/// The seats with the one that was held back.
+/// Appends `last`, the seat that was held back, to the seats.
 fn with_last<L: Name>(rt: &impl Abort, seats: Vec<Seat<L>>, last: Option<Seat<L>>) -> Vec<Seat<L>> {
     let Some(seat) = last else {
         panic!(rt; "no seat was kept back");
@@ -72,7 +72,7 @@ fn with_last<L: Name>(rt: &impl Abort, seats: Vec<Seat<L>>, last: Option<Seat<L>
     }
 }
 
-/// The book isn't closed without the second seat, and the first one can be used before and after that.
+/// Checks that the book isn't closed without the second seat, and that the first seat works before and after this attempt.
 fn refused_once<L: Name, R: Wait + Abort + AllocGlobal>(
     rt: &R,
     book: Shared<L>,
@@ -84,8 +84,8 @@ fn refused_once<L: Name, R: Wait + Abort + AllocGlobal>(
     (book, seats)
 }
 
-/// Tries to close a book of two seats without the second one, then without both, and at last closes it with both. Operations before
-/// and after a failed close are in the history.
+/// Tries to close a book of two seats: first without the second seat, then without any seat, and at last with both. Checks that the
+/// operations before and after a failed close are in the history.
 fn kept_back<L: Name, R: Wait + Abort + AllocGlobal>(rt: &R, start: Start)
     requires name { start.name ≡ L.name }
     requires jobs { start.jobs ≡ L.parts }

@@ -40,7 +40,7 @@ pub(super) fn traces(alloc: Global, texts: &[&[u8]]) -> Result<Vec<Input>, Fail>
     Ok(inputs)
 }
 
-/// Collects the inputs with `jobs` jobs and this last operation.
+/// Collects the inputs with `jobs` jobs and the last operation `last`.
 fn answered<R: Threads + Wait + Sync + AllocGlobal, G: Gate + Sync>(
     rt: &R,
     inputs: &[Input],
@@ -51,7 +51,7 @@ fn answered<R: Threads + Wait + Sync + AllocGlobal, G: Gate + Sync>(
     collect(rt, rt.alloc(), inputs, last, jobs, gate)
 }
 
-/// Collects the inputs with `jobs` jobs and this last operation. Panics on an error.
+/// Collects the inputs with `jobs` jobs and the last operation `last`. Panics on an error.
 fn collected_after<R: Threads + Wait + Sync + AllocGlobal + Abort, G: Gate + Sync>(
     rt: &R,
     inputs: &[Input],
@@ -65,7 +65,7 @@ fn collected_after<R: Threads + Wait + Sync + AllocGlobal + Abort, G: Gate + Syn
     }
 }
 
-/// Collects the inputs with `jobs` jobs, and the report as the last operation. Panics on an error.
+/// Collects the inputs with `jobs` jobs. The last operation is a report. Panics on an error.
 pub(super) fn collected_of<R: Threads + Wait + Sync + AllocGlobal + Abort, G: Gate + Sync>(
     rt: &R,
     inputs: &[Input],
@@ -75,7 +75,7 @@ pub(super) fn collected_of<R: Threads + Wait + Sync + AllocGlobal + Abort, G: Ga
     collected_after(rt, inputs, &Op::Report, jobs, gate)
 }
 
-/// The last operation renames the test of the only input.
+/// Collects one input. The last operation renames the input's test.
 fn rename_at_the_end<R: Threads + Wait + Sync + AllocGlobal + Abort>(rt: &R) -> Result<(), Fail> {
     let inputs = traces(rt.alloc(), &[SMALL])?;
     let last = op_of(rt, rt.alloc(), b"rename");
@@ -100,7 +100,7 @@ pub(super) fn is_outside(refused: &[RefusedInput], index: usize) -> bool {
     }
 }
 
-/// The second of three inputs can't be read. Job 1 has no other input.
+/// Collects three inputs with two jobs. The second input is invalid, and job 1 has no other.
 fn one_refused<R: Threads + Wait + Sync + AllocGlobal + Abort>(rt: &R) -> Result<(), Fail> {
     let inputs = traces(rt.alloc(), &[SMALL, b"DA:1,1", SMALL])?;
     let collected = collected_of(rt, inputs.as_slice(), 2, &NoGate);
@@ -115,7 +115,7 @@ fn a_refused_input(rt: HostRuntime) -> Result<(), Fail> {
     one_refused(&rt)
 }
 
-/// The report of a tracefile of LCOV 2: the records of version 1 that its lines represent.
+/// The expected entries for a tracefile of LCOV 2. The report has the records of version 1 that the tracefile's lines represent.
 const LCOV2_ENTRIES: &[u8] = b"\
 0 submit: accepted 1 4 0 
 0 report: TN:t
@@ -134,7 +134,7 @@ end_of_record
 
 ";
 
-/// A tracefile of LCOV 2 is collected.
+/// Collects a tracefile of LCOV 2, and checks the entries.
 fn one_of_lcov2<R: Threads + Wait + Sync + AllocGlobal + Abort>(rt: &R) -> Result<(), Fail> {
     let text = b"TN:t\nSF:/a.c\nFNL:0,1,3\nFNA:0,2,f\nBRDA:1,e0,a,3\nDA:1,2\nend_of_record\n";
     let mut inputs = Vec::new(rt.alloc());
@@ -149,14 +149,14 @@ fn a_tracefile_of_lcov2(rt: HostRuntime) -> Result<(), Fail> {
     one_of_lcov2(&rt)
 }
 
-/// Whether reading the input packed gives the same as reading the tracefile `wanted` unpacked.
+/// Whether `input`, read packed, is the same submission as the tracefile `wanted`, read unpacked.
 fn packs_as(alloc: Global, input: &Input, wanted: &[u8]) -> Result<bool, Fail> {
     let packed = input.read_packed(alloc)?;
     let wanted = trace(alloc, wanted)?.read(alloc)?;
     Ok(packed.is_same_as(&wanted))
 }
 
-/// Each kind of input is read packed.
+/// Each kind of input can be read packed.
 #[test]
 fn packed_inputs(rt: HostRuntime) -> Result<(), Fail> {
     let alloc = rt.alloc();
@@ -182,7 +182,7 @@ fn packed_inputs(rt: HostRuntime) -> Result<(), Fail> {
     Ok(())
 }
 
-/// Collects owned inputs with `jobs` jobs, and the report as the last operation.
+/// Collects owned inputs with `jobs` jobs. The last operation is a report.
 fn answered_by_owned<R: Threads + Wait + Sync + AllocGlobal>(
     rt: &R,
     inputs: Vec<Input>,
@@ -191,7 +191,7 @@ fn answered_by_owned<R: Threads + Wait + Sync + AllocGlobal>(
     collect_owned(rt, rt.alloc(), inputs, &Op::Report, jobs, &NoGate)
 }
 
-/// Checks the text of the last entry.
+/// Checks that the answer of the last entry is the text `wanted`.
 fn check_last(rt: &impl Abort, entries: &[Entry], wanted: &[u8]) {
     match entries.last() {
         Some(entry) => match &entry.answer {
@@ -202,7 +202,7 @@ fn check_last(rt: &impl Abort, entries: &[Entry], wanted: &[u8]) {
     }
 }
 
-/// A line that SMALL has too, one that it doesn't have, and another test.
+/// A tracefile with a line that `SMALL` has too, a line that `SMALL` doesn't have, and a section of another test.
 pub(super) const OTHERS: &[u8] = b"\
 TN:t
 SF:/a.c
@@ -215,7 +215,7 @@ DA:2,5
 end_of_record
 ";
 
-/// SMALL twice and OTHERS, added up: 2 + 3 + 2 of line 1.
+/// `SMALL` twice and `OTHERS`, added up. The count of line 1 is 2 + 3 + 2.
 pub(super) const ADDED_UP: &[u8] = b"\
 TN:t
 SF:/a.c
@@ -233,7 +233,7 @@ LH:1
 end_of_record
 ";
 
-/// The second of four inputs can't be read. Job 0 has two of the others.
+/// Collects four owned inputs with three jobs. The second input is invalid, and job 0 has two of the others.
 fn owned_by_three<R: Threads + Wait + Sync + AllocGlobal + Abort>(rt: &R) -> Result<(), Fail> {
     let inputs = traces(rt.alloc(), &[SMALL, b"DA:1,1", OTHERS, SMALL])?;
     match answered_by_owned(rt, inputs, 3) {
@@ -262,7 +262,7 @@ fn check_log(rt: &impl Abort, log: Option<&JobLog>, receipts: usize, readings: u
     }
 }
 
-/// Job 0 submits two of three inputs, and asks for the report. Job 1 submits the other input.
+/// Collects three inputs with two jobs, and checks both logs. Job 0 submits two inputs and then asks for the report.
 fn read_by_two<R: Threads + Wait + Sync + AllocGlobal + Abort>(rt: &R) -> Result<(), Fail> {
     let inputs = traces(rt.alloc(), &[SMALL, SMALL, SMALL])?;
     let collected = collected_of(rt, inputs.as_slice(), 2, &NoGate);
@@ -273,7 +273,7 @@ fn read_by_two<R: Threads + Wait + Sync + AllocGlobal + Abort>(rt: &R) -> Result
     Ok(())
 }
 
-/// After each submit a job reads the totals once, and not after the last operation.
+/// A job reads the totals once after each submit, and doesn't read them after the last operation.
 #[test]
 fn a_reading_for_each_submit(rt: HostRuntime) -> Result<(), Fail> {
     read_by_two(&rt)

@@ -1,4 +1,4 @@
-//! Workers run at the same time: in a gate, one waits for an act of another one.
+//! Workers run at the same time: in a gate, one worker waits until another has done something.
 
 use super::collecting::{collected_of, trace, traces};
 use super::turns::SMALL;
@@ -34,7 +34,7 @@ impl Flag {
         self.up.load(Ordering::SeqCst) == 1
     }
 
-    /// Waits until the flag is up. Returns `false` if it gives up.
+    /// Waits until the flag is up. Returns `false` if it is still down after `MAX_TURNS` looks.
     fn is_seen(&self) -> bool {
         for _turn in 0..MAX_TURNS {
             if self.is_up() {
@@ -45,7 +45,7 @@ impl Flag {
     }
 }
 
-/// Each of two jobs raises its flag at its first submit, and waits for the other's.
+/// A meeting of two jobs. At its first submit, each job raises its own flag in `came` and waits for the other job's flag.
 #[derive(Drop)]
 struct Meeting {
     came: [Flag; 2],
@@ -76,7 +76,7 @@ impl Meeting {
     }
 }
 
-/// Two jobs meet before their first submits.
+/// A gate at which two jobs meet before their first submits.
 #[derive(Drop)]
 struct MeetBefore {
     meeting: Meeting,
@@ -90,7 +90,7 @@ impl Gate for MeetBefore {
     fn after<R: Wait>(&self, _rt: &R, _job: u32, _call: u64) {}
 }
 
-/// Two jobs meet after their first submits, before either reads the totals.
+/// A gate at which two jobs meet after their first submits, before either job reads the totals.
 #[derive(Drop)]
 struct MeetAfter {
     meeting: Meeting,
@@ -104,7 +104,7 @@ impl Gate for MeetAfter {
     }
 }
 
-/// One job waits before its first submit until the other's first submit is over.
+/// A gate that makes job `second` wait before its first submit until the other job's first submit is over.
 #[derive(Drop)]
 struct Order {
     second: u32,
@@ -126,7 +126,8 @@ impl Gate for Order {
     }
 }
 
-/// Job 1 waits before its first submit until job 0's first one is over. Then job 0 waits until job 1 comes to its second submit.
+/// A gate that makes job 1 wait before its first submit until job 0's first submit is over. Then it makes job 0 wait until job 1 is
+/// about to submit again.
 #[derive(Drop)]
 struct Between {
     over: Flag,
@@ -155,7 +156,7 @@ impl Gate for Between {
     }
 }
 
-/// Counts the calls of the gate around job 0's submits, and checks their order.
+/// A gate that counts its calls around the submits of job 0, and checks the order of these calls.
 #[derive(Drop)]
 struct Steps {
     taken: AtomicU64,
@@ -163,7 +164,7 @@ struct Steps {
 }
 
 impl Steps {
-    /// Counts the call of this number. Raises `wrong` unless the call is job 0's and its number comes next.
+    /// Counts a call of the gate. Raises `wrong` unless `job` is 0 and `step` is the number of calls before this one.
     fn take(&self, job: u32, step: u64) {
         let taken = self.taken.load(Ordering::SeqCst);
         if job != 0 || step != taken {
@@ -183,7 +184,7 @@ impl Gate for Steps {
     }
 }
 
-/// Two jobs submit an input each, with this gate. The third entry is the report.
+/// Lets two jobs submit one input each, with `gate`. Checks that the history has three entries: both submits and the report.
 fn two_jobs<R: Threads + Wait + Sync + AllocGlobal + Abort, G: Gate + Sync>(
     rt: &R,
     gate: &G,
@@ -204,7 +205,7 @@ fn both_at_once(rt: HostRuntime) -> Result<(), Fail> {
     Ok(())
 }
 
-/// Checks that the log has one reading, and that this is of `upto` entries.
+/// Checks that the log has exactly one reading, and that this reading covers `upto` entries.
 fn check_reading(rt: &impl Abort, log: &JobLog, upto: u64) {
     match log.readings.get().split_first() {
         Some((reading, [])) => assert_eq!(rt; reading.upto, upto),
@@ -212,7 +213,7 @@ fn check_reading(rt: &impl Abort, log: &JobLog, upto: u64) {
     }
 }
 
-/// Two jobs submit an input each, and read the totals after both submits.
+/// Lets two jobs submit one input each. Checks that each job reads the totals after both submits.
 fn read_when_both_are_done<R: Threads + Wait + Sync + AllocGlobal + Abort>(
     rt: &R,
 ) -> Result<(), Fail> {
@@ -228,13 +229,13 @@ fn read_when_both_are_done<R: Threads + Wait + Sync + AllocGlobal + Abort>(
     Ok(())
 }
 
-/// A job's reading covers all that is published when it reads, not only its own submit. It comes before the last operation.
+/// A job's reading covers all entries published by then, not only the job's own, and comes before the last operation.
 #[test]
 fn a_reading_sees_other_jobs(rt: HostRuntime) -> Result<(), Fail> {
     read_when_both_are_done(&rt)
 }
 
-/// Two jobs submit an input each, and this job does so after the other one.
+/// Lets two jobs submit one input each. Checks that `job` waits for the other job's submit.
 fn is_second<R: Threads + Wait + Sync + AllocGlobal + Abort>(rt: &R, job: u32) -> Result<(), Fail> {
     let gate = Order {
         second: job,
@@ -256,7 +257,7 @@ fn second_job_waits(rt: HostRuntime) -> Result<(), Fail> {
     is_second(&rt, 1)
 }
 
-/// Checks that the first entry is this job's.
+/// Checks that the first entry is of job `job`.
 fn check_first(rt: &impl Abort, entries: &[Entry], job: u32) {
     match entries.first() {
         Some(entry) => assert_eq!(rt; entry.job, job),
@@ -264,7 +265,7 @@ fn check_first(rt: &impl Abort, entries: &[Entry], job: u32) {
     }
 }
 
-/// Two jobs process two inputs each. Job 0 waits after its first submit until job 1 has done its first one.
+/// Lets two jobs process two inputs each, with the gate `Between`. Checks that the first entry is of job 0.
 fn first_is_held<R: Threads + Wait + Sync + AllocGlobal + Abort>(rt: &R) -> Result<(), Fail> {
     let inputs = traces(rt.alloc(), &[SMALL, SMALL, SMALL, SMALL])?;
     let gate = Between {
@@ -278,14 +279,14 @@ fn first_is_held<R: Threads + Wait + Sync + AllocGlobal + Abort>(rt: &R) -> Resu
     Ok(())
 }
 
-/// A gate's `after` is called after the submit. In it, job 0 lets job 1 begin, and waits until job 1 has submitted. Since job 0's
-/// own submit is complete by then, its entry is the first one.
+/// A gate's `after` is called after the submit. In this call, job 0 lets job 1 begin, and waits until job 1 has submitted once. By
+/// then, job 0's own submit is complete, so the first entry is of job 0.
 #[test]
 fn after_is_after_the_submit(rt: HostRuntime) -> Result<(), Fail> {
     first_is_held(&rt)
 }
 
-/// One job collects three inputs, one of which can't be read, with this gate.
+/// Lets one job collect three inputs with `gate`. The second input is invalid.
 fn one_job<R: Threads + Wait + Sync + AllocGlobal + Abort, G: Gate + Sync>(
     rt: &R,
     gate: &G,
@@ -296,8 +297,7 @@ fn one_job<R: Threads + Wait + Sync + AllocGlobal + Abort, G: Gate + Sync>(
     Ok(())
 }
 
-/// The gate is called before and after each submit, with the submit's number. It isn't called for an input that can't be read, nor
-/// for the last operation.
+/// A gate is called before and after each submit, with the submit's number, but not for an invalid input or the last operation.
 #[test]
 fn around_each_submit(rt: HostRuntime) -> Result<(), Fail> {
     let gate = Steps {

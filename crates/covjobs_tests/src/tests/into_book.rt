@@ -16,7 +16,7 @@ use std::sync::Wait;
 use std::test::*;
 use std::thread::Threads;
 
-/// An input that may be unreadable, or run out of memory.
+/// An input that is readable, unreadable, or too large for the memory.
 #[derive(Drop)]
 enum Late {
     Readable(Input),
@@ -49,10 +49,10 @@ impl LateInput<Global> for Late {
     }
 }
 
-/// Stands for an input that runs out of memory.
+/// The text that stands for an input too large for the memory.
 pub(super) const TOO_LARGE: &[u8] = b"too large";
 
-/// An input of this text. An empty text makes an unreadable one.
+/// Makes an input of the text. An empty text stands for an unreadable input.
 fn late_of(alloc: Global, text: &[u8]) -> Result<Late, Memory> {
     if text.is_empty() {
         return Ok(Late::Unreadable);
@@ -63,7 +63,7 @@ fn late_of(alloc: Global, text: &[u8]) -> Result<Late, Memory> {
     Ok(Late::Readable(trace(alloc, text)?))
 }
 
-/// Inputs of these texts. Empty ones make unreadable inputs.
+/// Makes an input of each text, as `late_of` does.
 fn lates(alloc: Global, texts: &[&[u8]]) -> Result<Vec<Late>, Fail> {
     let mut inputs = Vec::new(alloc);
     for text in texts {
@@ -105,7 +105,7 @@ pub(super) fn check_report<R: AllocGlobal + Abort>(
     }
 }
 
-/// The second of four inputs is rejected. Job 0 has two of the others.
+/// Collects four inputs with three jobs. The second input is rejected, and job 0 has two of the others.
 fn by_three<R: Threads + Wait + Sync + AllocGlobal + Abort>(rt: &R) -> Result<(), Fail> {
     let inputs = lates(rt.alloc(), &[SMALL, b"DA:1,1", OTHERS, SMALL])?;
     let collected = collected_of(rt, inputs, 3);
@@ -120,7 +120,7 @@ fn collected_into_a_book(rt: HostRuntime) -> Result<(), Fail> {
     by_three(&rt)
 }
 
-/// Whether the answer is that a submission was accepted, with this number.
+/// Whether the answer accepts a submission as number `wanted`.
 pub(super) fn is_accepted(answer: Option<&Answered>, wanted: u64) -> bool {
     match answer {
         Some(kept) => match &kept.answer {
@@ -131,7 +131,7 @@ pub(super) fn is_accepted(answer: Option<&Answered>, wanted: u64) -> bool {
     }
 }
 
-/// Whether the answer is a clash of this line.
+/// Whether the answer is a clash at line `wanted`.
 pub(super) fn is_clash(answer: Option<&Answered>, wanted: u64) -> bool {
     match answer {
         Some(kept) => match &kept.answer {
@@ -142,7 +142,7 @@ pub(super) fn is_clash(answer: Option<&Answered>, wanted: u64) -> bool {
     }
 }
 
-/// The second input has another checksum for the line, so it clashes with the first.
+/// Collects two inputs with different checksums for one line. The second input clashes with the first.
 fn two_versions<R: Threads + Wait + Sync + AllocGlobal + Abort>(rt: &R) -> Result<(), Fail> {
     let texts: [&[u8]; 2] = [
         b"TN:t\nSF:/a.c\nDA:7,1,one\nend_of_record\n",
@@ -162,7 +162,7 @@ fn the_answers_are_kept(rt: HostRuntime) -> Result<(), Fail> {
     two_versions(&rt)
 }
 
-/// Whether this number of jobs stops at the input with this index. Of five inputs, the second and the fourth are unreadable.
+/// Whether `jobs` jobs report input `wanted` as unreadable. Of five inputs, the second and the fourth are unreadable.
 fn stops_at<R: Threads + Wait + Sync + AllocGlobal>(
     rt: &R,
     jobs: u32,
@@ -175,7 +175,7 @@ fn stops_at<R: Threads + Wait + Sync + AllocGlobal>(
     }
 }
 
-/// The first unreadable input is reported, whichever jobs reach the others first.
+/// The first unreadable input is reported, even if a job reaches a later one first.
 #[test]
 fn the_first_unread_input(rt: HostRuntime) -> Result<(), Fail> {
     assert!(rt; stops_at(&rt, 1, 1)?);
@@ -185,7 +185,7 @@ fn the_first_unread_input(rt: HostRuntime) -> Result<(), Fail> {
     Ok(())
 }
 
-/// Whether two jobs stop at these four inputs with this error.
+/// Whether collecting these four inputs with two jobs ends with the error `wanted`.
 fn ends_with<R: Threads + Wait + Sync + AllocGlobal>(
     rt: &R,
     texts: [&[u8]; 4],
@@ -198,8 +198,8 @@ fn ends_with<R: Threads + Wait + Sync + AllocGlobal>(
     }
 }
 
-/// An unreadable input takes precedence over memory that runs out for a later one. If memory runs out for an earlier one, `Memory`
-/// is reported, since that input may be unreadable too.
+/// An unreadable input takes precedence if memory runs out for a later input. If memory runs out for an earlier input, `Memory` is
+/// reported, since that earlier input may be unreadable too.
 #[test]
 fn an_unread_input_beside_refused_memory(rt: HostRuntime) -> Result<(), Fail> {
     let memory = IntoBookFault::Collect(CollectFault::Memory);

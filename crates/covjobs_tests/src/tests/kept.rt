@@ -1,6 +1,6 @@
-//! The logs of a shared book's jobs, gathered with its history. `gather` finds what no contract of a single call excludes: an
-//! answer from an old copy of the book, and a closed history that is another legal one. A book that rejects all steps, which the
-//! contracts allow, fails these tests.
+//! Checks the logs of a shared book's jobs against the book's history. `gather` finds two errors that no contract of a single call
+//! excludes: an answer from an old copy of the book, and a closed history that isn't the book's own but another legal one. The
+//! contracts also allow a book that rejects all steps; these tests don't.
 
 ghost use Rattle.std.specs.Prelude.{◌≡◌};
 
@@ -16,7 +16,7 @@ use std::process::Abort;
 use std::sync::Wait;
 use std::test::*;
 
-/// Lets two jobs perform the operations that the lines name, in turn, and stores each receipt in the job's log.
+/// Lets two jobs take turns to perform the operations that `lines` names, and stores each receipt in the job's log.
 fn keep_turns<L: Name, R: Wait + Abort>(
     rt: &R,
     alloc: Global,
@@ -56,8 +56,8 @@ fn in_turn<L: Name, R: Wait + Abort + AllocGlobal>(
     (history_of(rt, book, seats), logs)
 }
 
-/// Lets two jobs perform the operations that the lines name, in turn, on one book. Returns the book's history, and the log of each
-/// job.
+/// Opens a book, and lets two jobs take turns to perform the operations that `lines` names. Returns the book's history and the
+/// logs.
 fn history<R: Wait + Abort + AllocGlobal>(
     rt: &R,
     lines: &[u8],
@@ -70,7 +70,7 @@ fn second(logs: &[JobLog]) -> Option<&Receipt> {
     logs.get(1)?.receipts.get().first()
 }
 
-/// The answer to a report of a book that holds one submission.
+/// The answer to a report, from a book with one submission.
 fn old_report<R: Wait + Abort + AllocGlobal>(rt: &R) -> Result<Answer, Fail> {
     let (_entries, logs) = history(rt, b"submit\nreport")?;
     Ok(second_answer(rt, rt.alloc(), logs.as_slice()))
@@ -119,7 +119,7 @@ end_of_record
 
 ";
 
-/// A rename has an entry like any other operation, and its receipt is gathered too.
+/// A rename has an entry like any other operation, and `gather` accepts the rename's receipt.
 #[test]
 fn a_rename_among_six_calls(rt: HostRuntime) -> Result<(), Fail> {
     let (entries, logs) = history(&rt, b"submit\nsubmit\nsummary\nrename\nreport\nsummary")?;
@@ -134,7 +134,7 @@ fn check_differs(rt: &impl Abort, entries: &Entries, logs: &[JobLog]) {
     assert!(rt; told == Err(GatherFault::Differs { log: 0, index: 0 }));
 }
 
-/// A log of job 0 with one receipt: of a report at index 4, with this answer.
+/// A log of job 0 with one receipt: for a report, with the index 4 and the answer `answer`.
 fn report_log(rt: &impl Abort, alloc: Global, answer: Answer) -> JobLog {
     let mut log = JobLog {
         job: 0,
@@ -150,7 +150,7 @@ fn report_log(rt: &impl Abort, alloc: Global, answer: Answer) -> JobLog {
     log
 }
 
-/// Replaces the first log by this one.
+/// Replaces the first log by `first`.
 fn put_first(logs: &mut [JobLog], first: JobLog) {
     if let Some(log) = logs.first_mut() {
         *log = first;
@@ -167,7 +167,7 @@ fn answer_from_an_old_copy(rt: HostRuntime) -> Result<(), Fail> {
     Ok(())
 }
 
-/// `gather` rejects the history of another book, although it is legal and as long as that of the logs.
+/// `gather` rejects the history of another book, although this history is legal and has as many entries as the logs have receipts.
 #[test]
 fn another_history(rt: HostRuntime) -> Result<(), Fail> {
     let (_entries, logs) = history(&rt, ASKED)?;

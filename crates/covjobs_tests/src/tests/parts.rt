@@ -15,7 +15,7 @@ use std::sync::Wait;
 use std::test::*;
 use std::thread::Threads;
 
-/// An input whose parts are these texts. An empty text makes it unreadable there.
+/// An input with one part per text. At an empty text, the input can't be read.
 #[derive(Drop)]
 struct Pieces<'a> {
     texts: &'a [&'a [u8]],
@@ -51,7 +51,7 @@ impl<'a> LateInput<Global> for Pieces<'a> {
     }
 }
 
-/// Reads one packed part. An empty text is unreadable, and `TOO_LARGE` runs out of memory.
+/// Reads one part as a packed submission. An empty text can't be read, and for `TOO_LARGE` memory runs out.
 fn read_piece(alloc: Global, text: &[u8]) -> Result<PackedRef, LateFault> {
     if text.is_empty() {
         return Err(LateFault::Unreadable);
@@ -68,7 +68,7 @@ fn read_piece(alloc: Global, text: &[u8]) -> Result<PackedRef, LateFault> {
     }
 }
 
-/// Collects inputs with these parts, with `jobs` jobs.
+/// Collects the inputs with `jobs` jobs. Each input is a list of its parts.
 fn answered<R: Threads + Wait + Sync + AllocGlobal>(
     rt: &R,
     inputs: &[&[&[u8]]],
@@ -83,7 +83,7 @@ fn answered<R: Threads + Wait + Sync + AllocGlobal>(
     collect_into_book(rt, rt.alloc(), pieces, jobs, &NoGate)
 }
 
-/// Collects inputs with these parts, with `jobs` jobs. Panics on an error.
+/// Collects the inputs with `jobs` jobs. Each input is a list of its parts. Panics on an error.
 fn collected_of<R: Threads + Wait + Sync + AllocGlobal + Abort>(
     rt: &R,
     inputs: &[&[&[u8]]],
@@ -104,8 +104,7 @@ fn three_parts(rt: HostRuntime) {
     check_report(&rt, &collected, ADDED_UP);
 }
 
-/// The third part of the second input is invalid, so it and the rest of the input are rejected. The two parts before it stay
-/// submitted.
+/// The third part of the second input is invalid, so this part and the rest are rejected. The first two parts stay submitted.
 #[test]
 fn a_fault_after_two_parts(rt: HostRuntime) {
     let collected = collected_of(&rt, &[&[SMALL], &[OTHERS, SMALL, b"DA:1,1", SMALL]], 1);
@@ -119,7 +118,7 @@ const ONE: &[u8] = b"TN:t\nSF:/a.c\nDA:7,1,one\nend_of_record\n";
 
 const TWO: &[u8] = b"TN:t\nSF:/a.c\nDA:7,1,two\nend_of_record\n";
 
-/// The entries come in the order of the parts: the second part clashes with the first. So does the second input.
+/// Entries come in the order of the parts: the first input's second part clashes with its first part. So does the second input.
 #[test]
 fn the_order_of_parts(rt: HostRuntime) {
     let collected = collected_of(&rt, &[&[ONE, TWO, SMALL], &[TWO]], 1);
@@ -131,7 +130,7 @@ fn the_order_of_parts(rt: HostRuntime) {
     assert!(rt; is_clash(kept.get(3), 7));
 }
 
-/// Job 0 has the first input and the third, and job 1 the second, which is rejected after its first part.
+/// Job 0 has the first and the third input. Job 1 has the second input, which is rejected after its first part.
 #[test]
 fn parts_of_two_jobs(rt: HostRuntime) {
     let collected = collected_of(&rt, &[&[SMALL], &[OTHERS, b"DA:1,1"], &[SMALL]], 2);
@@ -140,7 +139,7 @@ fn parts_of_two_jobs(rt: HostRuntime) {
     check_report(&rt, &collected, ADDED_UP);
 }
 
-/// Whether two jobs stop at these inputs with this error.
+/// Whether collecting the inputs with two jobs ends with the error `wanted`.
 fn ends_with<R: Threads + Wait + Sync + AllocGlobal>(
     rt: &R,
     inputs: &[&[&[u8]]],
@@ -152,7 +151,7 @@ fn ends_with<R: Threads + Wait + Sync + AllocGlobal>(
     }
 }
 
-/// An input that can't be read after its first part is reported by its index. So is one without a part.
+/// `Unread` is returned for an input that can't be read after its first part, and for an input without parts.
 #[test]
 fn unreadable_after_a_part(rt: HostRuntime) {
     let second = IntoBookFault::Unread { index: 1 };
@@ -167,7 +166,7 @@ fn unreadable_after_a_part(rt: HostRuntime) {
     assert!(rt; ends_with(&rt, &[&[SMALL], &[], &[SMALL, b""]], second));
 }
 
-/// The job stops if memory runs out for a later part of an input. This input may be unreadable too, so no later one is reported.
+/// A job stops if memory runs out for a later part of an input. That input may be unreadable too, so no later `Unread` is returned.
 #[test]
 fn refused_memory_after_a_part(rt: HostRuntime) {
     let memory = IntoBookFault::Collect(CollectFault::Memory);

@@ -1,4 +1,4 @@
-//! Readers of the totals, which need no lock.
+//! Readers that get a book's totals without a lock.
 
 ghost use Rattle.std.specs.Prelude.{◌≡◌};
 
@@ -13,7 +13,7 @@ use std::sync::Wait;
 use std::test::*;
 use std::thread::{Threads, join};
 
-/// A reader of the book.
+/// Makes a reader of the book. Panics on an error.
 fn reader_of<L: Name, R: Wait + Abort>(rt: &R, book: &Shared<L>) -> Live<L> {
     match reader(rt, book) {
         Ok(live) => live,
@@ -21,7 +21,7 @@ fn reader_of<L: Name, R: Wait + Abort>(rt: &R, book: &Shared<L>) -> Live<L> {
     }
 }
 
-/// Checks the reading's number of entries, and how many lines are found and hit after them. Nothing else is found.
+/// Checks that the reading covers `upto` entries, and that its totals are `found` lines, `hit` of them hit, and nothing else.
 fn check_reading(rt: &impl Abort, reading: Reading, upto: u64, found: u64, hit: u64) {
     let totals = reading.totals;
     assert_eq!(rt; reading.upto, upto);
@@ -39,12 +39,12 @@ fn check_small<L: Name>(rt: &impl Abort, live: &mut Live<L>, upto: u64) {
     check_reading(rt, totals(live), upto, 2, 1);
 }
 
-/// Checks that the news are of `upto` entries, after which the totals are those of the small tracefile.
+/// Checks that the news cover `upto` entries, and have the totals of the small tracefile.
 fn check_news<L: Name>(rt: &impl Abort, news: &News<L>, upto: u64) {
     check_reading(rt, reading(news), upto, 2, 1);
 }
 
-/// Job 0 submits the small tracefile.
+/// Lets job 0 submit the small tracefile, and returns the news.
 fn submitted<L: Name, R: Wait + Abort>(
     rt: &R,
     alloc: Global,
@@ -81,8 +81,8 @@ fn a_submit_is_read(rt: HostRuntime) -> Result<(), Fail> {
     Ok(())
 }
 
-/// Three readers of a book that is closed after its only entry: one has read this entry; one was made before it and one after it,
-/// and neither has read. The early one reports no entries until it learns the news.
+/// Closes a book after its only entry. `asked`, which read this entry before the close, still reports it. So does `late`, which was
+/// made after the entry. `early`, which was made before the entry, reports no entries until it learns the news.
 fn kept_over_close<L: Name, R: Wait + Abort + AllocGlobal>(rt: &R, start: Start)
     requires name { start.name ≡ L.name }
     requires jobs { start.jobs ≡ L.parts }
@@ -132,7 +132,7 @@ fn has_no_place<L: Name, R: Wait>(rt: &R, book: &Shared<L>) -> bool {
     }
 }
 
-/// After a call there are places for 64 readers, and for no more. The readers are dropped before the book is closed.
+/// Checks that after a call, a book has places for 64 readers, and for no more. Drops the readers before it closes the book.
 fn all_places<L: Name, R: Wait + Abort + AllocGlobal>(rt: &R, start: Start)
     requires name { start.name ≡ L.name }
     requires jobs { start.jobs ≡ L.parts }
@@ -169,7 +169,7 @@ struct Told<L: Name> {
     last: Option<News<L>>,
 }
 
-/// Job 0 submits the small tracefile `TIMES` times.
+/// Lets job 0 submit the small tracefile `TIMES` times.
 fn submit_often<L: Name, R: Wait + Abort>(
     rt: &R,
     alloc: Global,
@@ -196,7 +196,7 @@ fn empty_log(alloc: Global) -> JobLog {
     }
 }
 
-/// Submits, keeps the receipt in the log, and returns the news.
+/// Performs `op`, appends the receipt to the log, and returns the news.
 fn submit_once<L: Name, R: Wait + Abort>(
     rt: &R,
     alloc: Global,
@@ -230,7 +230,7 @@ fn watch<L: Name>(rt: &impl Abort, alloc: Global, mut live: Live<L>) -> Watched<
     Watched { live, readings }
 }
 
-/// Checks that the reading has at least `seen` entries and at most `TIMES`, and the totals after them.
+/// Checks that the reading covers at least `seen` and at most `TIMES` entries, and has the totals after these entries.
 fn check_rises(rt: &impl Abort, reading: Reading, seen: u64) {
     assert!(rt; seen <= reading.upto);
     assert!(rt; reading.upto <= TIMES);
@@ -247,7 +247,7 @@ fn keep_reading(rt: &impl Abort, readings: &mut Readings, reading: Reading) {
     }
 }
 
-/// The reader learns the last news, and reads once more. Returns all of its readings.
+/// Lets the reader learn the last news and read once more. Returns all readings of the reader.
 fn read_last<L: Name>(rt: &impl Abort, watched: Watched<L>, last: Option<News<L>>) -> Readings {
     let Watched {
         mut live,

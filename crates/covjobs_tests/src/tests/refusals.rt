@@ -29,13 +29,13 @@ fn summaries<L: Name, A: Allocator + Copy, R: Wait>(
     (most, None)
 }
 
-/// Checks that the seat made `calls` successful calls, and that it saw no other entries than theirs.
+/// Checks that `calls` of the seat's calls succeeded, and that the seat saw only the entries of these calls.
 fn check_seat<L: Name>(rt: &impl Abort, seat: &Seat<L>, calls: u64) {
     assert_eq!(rt; (seat.calls(), seat.seen()), (calls, calls));
 }
 
-/// Asks for summaries until the heap is full, and returns how many were answered. Holds a part of the heap back meanwhile and frees
-/// it at the end. The failed call doesn't change the seat.
+/// Asks for summaries until the heap is full, and returns how many were answered. Checks that the failed call doesn't change the
+/// seat. At the end, frees a block that it reserved at the start.
 fn fill_heap<L: Name, A: Allocator + Copy, R: Wait + Abort>(
     rt: &R,
     alloc: A,
@@ -53,7 +53,7 @@ fn fill_heap<L: Name, A: Allocator + Copy, R: Wait + Abort>(
     succeeded
 }
 
-/// The seat fills the heap. With memory again, the same call is answered with the next index.
+/// Fills the heap with the seat's calls. Checks that the same call succeeds once memory is free again, and gets the next index.
 fn check_refusal<L: Name, A: Allocator + Copy, R: Wait + Abort>(
     rt: &R,
     alloc: A,
@@ -68,7 +68,7 @@ fn check_refusal<L: Name, A: Allocator + Copy, R: Wait + Abort>(
     check_seat(rt, seat, succeeded.wrapping_add(1));
 }
 
-/// The only seat fills the heap, and works again after memory is freed.
+/// Fills the heap with calls of a book's only seat. Checks that the seat works again after memory is freed.
 fn no_room<L: Name, A: Allocator + Copy, R: Wait + Abort>(rt: &R, alloc: A, start: Start<A>)
     requires name { start.name ≡ L.name }
     requires jobs { start.jobs ≡ L.parts }
@@ -81,7 +81,7 @@ fn no_room<L: Name, A: Allocator + Copy, R: Wait + Abort>(rt: &R, alloc: A, star
     check_length(rt, book, seats);
 }
 
-/// Closes the book, and checks that its history has one entry per call that the only seat counts.
+/// Closes the book, and checks that its history has one entry per successful call of the only seat.
 fn check_length<L: Name, A: Allocator, R: Wait + Abort>(
     rt: &R,
     book: Shared<L, A>,
@@ -92,7 +92,7 @@ fn check_length<L: Name, A: Allocator, R: Wait + Abort>(
     assert_eq!(rt; entries.get().len() as u64, calls);
 }
 
-/// How many calls the only seat counts.
+/// The number of successful calls of the only seat.
 fn calls_of<L: Name>(rt: &impl Abort, seats: &[Seat<L>]) -> u64 {
     match seats.first() {
         Some(seat) => seat.calls(),

@@ -1,4 +1,4 @@
-//! Receipts and entries in words, as bytes.
+//! Writes receipts and entries as text.
 
 use covbook::{Answer, Entry, Op, Receipt};
 use std::alloc::AllocError;
@@ -17,7 +17,7 @@ fn put_accepted(text: &mut Vec<u8>, number: u64, items: u64, odd: u64) -> Result
     put_number(text, odd)
 }
 
-/// Appends the word of an operation.
+/// Appends the name of the operation.
 fn put_op(text: &mut Vec<u8>, op: &Op) -> Result<(), AllocError> {
     let word: &[u8] = match op {
         Op::Submit(_) | Op::SubmitPacked(_) => b"submit: ",
@@ -31,7 +31,7 @@ fn put_op(text: &mut Vec<u8>, op: &Op) -> Result<(), AllocError> {
     text.extend_from_slice(word)
 }
 
-/// Appends an answer with its numbers or its text, and a line feed. Of a clash only the word is appended.
+/// Appends the answer with its numbers or its text, and a line feed. For a clash, appends only the word `clash`.
 fn put_answer(text: &mut Vec<u8>, answer: &Answer) -> Result<(), AllocError> {
     match answer {
         Answer::Accepted { number, items, odd } => put_accepted(text, *number, *items, *odd)?,

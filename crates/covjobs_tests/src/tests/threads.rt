@@ -17,7 +17,7 @@ use std::thread::Threads;
 
 const MERGED: &[u8] = b"TN:t\nSF:/a.c\nDA:1,400\nDA:2,0\nLF:2\nLH:1\nend_of_record\n";
 
-/// The job asks for this operation fifty times, and keeps the receipts.
+/// Performs `op` fifty times with the seat, and appends the receipts to the log.
 fn ask_often<L: Name, R: Wait + Abort>(
     rt: &R,
     alloc: Global,
@@ -31,7 +31,7 @@ fn ask_often<L: Name, R: Wait + Abort>(
     }
 }
 
-/// Each job asks for this operation fifty times, in a thread of its own.
+/// Lets each job perform `op` fifty times, in a thread of its own.
 fn ask_at_once<L: Name + Send + Sync, R: Threads + Wait + Abort + Sync>(
     rt: &R,
     alloc: Global,
@@ -52,7 +52,7 @@ fn ask_at_once<L: Name + Send + Sync, R: Threads + Wait + Abort + Sync>(
     });
 }
 
-/// Checks that the receipt has this place, and that its answer is this text.
+/// Checks that the receipt has the index `place`, and that its answer is `text`.
 fn check_text(rt: &impl Abort, receipt: &Receipt, place: u64, text: &[u8]) {
     assert_eq!(rt; receipt.place, place);
     match &receipt.answer {
@@ -61,7 +61,7 @@ fn check_text(rt: &impl Abort, receipt: &Receipt, place: u64, text: &[u8]) {
     }
 }
 
-/// Whether the entry is an accepted submission, and its number is the one after `number_before`.
+/// Whether the entry is an accepted submission whose number is greater by 1 than `number_before`.
 fn has_next_number(entry: &Entry, number_before: u64) -> bool {
     match &entry.answer {
         Answer::Accepted { number, .. } => {
@@ -71,7 +71,7 @@ fn has_next_number(entry: &Entry, number_before: u64) -> bool {
     }
 }
 
-/// How many entries come before the first that isn't an accepted submission with the next number. The first number is 1.
+/// How many entries at the front are accepted submissions with the numbers 1, 2, 3 and so on.
 fn accepted_first(entries: &[Entry]) -> usize {
     for (place, entry) in entries.iter().enumerate() {
         if !has_next_number(entry, place as u64) {
@@ -81,7 +81,7 @@ fn accepted_first(entries: &[Entry]) -> usize {
     entries.len()
 }
 
-/// Once the threads have ended, the first job asks for the report twice. Checks both receipts.
+/// Lets the first job ask for the report twice, after the threads have ended. Checks both receipts.
 fn check_reports<L: Name, R: Wait + Abort + AllocGlobal>(
     rt: &R,
     book: &Shared<L>,
@@ -97,7 +97,7 @@ fn check_reports<L: Name, R: Wait + Abort + AllocGlobal>(
     }
 }
 
-/// Checks that the history has the calls of all jobs, and that `gather` accepts it with the logs.
+/// Checks that the history has the calls of all jobs, and that `gather` accepts the history with the logs.
 fn check_history(rt: &impl Abort, entries: &[Entry], logs: &[JobLog]) {
     assert_eq!(rt; entries.len(), 202);
     assert_eq!(rt; accepted_first(entries), 200);

@@ -67,7 +67,7 @@ end_of_record
 /// The operations that the two jobs ask for in turn, one on each line.
 pub(super) const ASKED: &[u8] = b"submit\nsubmit\nsummary\ndrop\nreport\nsummary";
 
-/// Two jobs take turns to ask for the operations of `ASKED`. Checks the words of all receipts.
+/// Lets two jobs take turns to perform the operations of `ASKED`. Checks the text of all receipts.
 fn check_answers<L: Name, R: Wait + Abort>(
     rt: &R,
     alloc: Global,
@@ -92,7 +92,7 @@ fn put(rt: &impl Abort, text: &mut Vec<u8>, receipt: &Receipt) {
     }
 }
 
-/// Checks the words of all entries, as by `put_entries`.
+/// Checks the text of all entries, as `put_entries` writes it.
 pub(super) fn check_entries(rt: &(impl Abort + AllocGlobal), entries: &[Entry], wanted: &[u8]) {
     let mut text = Vec::new(rt.alloc());
     if put_entries(&mut text, entries).is_err() {
@@ -101,7 +101,7 @@ pub(super) fn check_entries(rt: &(impl Abort + AllocGlobal), entries: &[Entry], 
     check_bytes(rt, text.as_slice(), wanted);
 }
 
-/// Appends the job of each seat, how many of its calls succeeded, and what it has seen.
+/// Appends three numbers for each seat: its job, its successful calls, and the entries that it has seen.
 fn put_seats<L: Name>(numbers: &mut Vec<u64>, seats: &[Seat<L>]) -> Result<(), AllocError> {
     for seat in seats {
         numbers.push(seat.job() as u64)?;
@@ -111,7 +111,7 @@ fn put_seats<L: Name>(numbers: &mut Vec<u64>, seats: &[Seat<L>]) -> Result<(), A
     Ok(())
 }
 
-/// Checks the numbers of the seats, as by `put_seats`.
+/// Checks the numbers of the seats, as `put_seats` appends them.
 fn check_seats<L: Name>(rt: &(impl Abort + AllocGlobal), seats: &[Seat<L>], wanted: &[u64]) {
     let mut numbers = Vec::new(rt.alloc());
     if put_seats(&mut numbers, seats).is_err() {

@@ -1,4 +1,4 @@
-//! Calls in functions without contracts. A test looks only at values, and its proof is faster without contracts.
+//! Wraps calls in functions without `ensures` clauses: tests look only at values, and are proved faster without such clauses.
 
 ghost use Rattle.std.specs.Prelude.{◌≡◌};
 
@@ -29,7 +29,7 @@ pub(super) fn open<L: Name, A: Allocator + Copy>(
     open_book::<L, A>(alloc, start)
 }
 
-/// The answer of the book to the call.
+/// Performs the operation with the seat, and returns the receipt and the news.
 pub(super) fn done<L: Name, A: Allocator + Copy, R: Wait>(
     rt: &R,
     alloc: A,
@@ -74,19 +74,19 @@ pub(super) fn reading<L: Name>(news: &News<L>) -> Reading {
     news.reading()
 }
 
-/// No seats.
+/// An empty list of seats.
 pub(super) fn none<L: Name>(alloc: Global) -> Vec<Seat<L>> {
     Seats::new(alloc).into_vec()
 }
 
-/// The seats with one more.
+/// Appends `seat` to the seats.
 pub(super) fn with<L: Name>(seats: Vec<Seat<L>>, seat: Seat<L>) -> Result<Vec<Seat<L>>, Memory> {
     let mut seats = Seats::of(seats);
     seats.push(seat)?;
     Ok(seats.into_vec())
 }
 
-/// The operation that submits the text.
+/// The operation that submits the tracefile `text`.
 pub(super) fn submit(alloc: Global, text: &[u8]) -> Option<Op> {
     let trace = read_trace(alloc, text).ok()?;
     Some(Op::Submit(SubRef::of(alloc, trace).ok()?))
