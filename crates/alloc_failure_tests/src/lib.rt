@@ -1,5 +1,5 @@
-//! Tests in which memory runs out: each allocation of a call fails in turn. This crate has nothing but its tests: a crate with
-//! functions would be proved a second time for tests of its own.
+//! Tests in which memory runs out: each allocation of a call fails in turn. The tests are a crate of their own, so that no crate
+//! with functions is proved a second time for its tests.
 #![tactic(auto)]
 
 #[cfg(test)]

@@ -1,5 +1,5 @@
-//! Tries each call in a heap without capacity, and then with more and more capacity, until the call succeeds. Expected values were
-//! worked out by hand from the formats.
+//! Tries each call in a heap without capacity, and then in heaps with more and more capacity, until the call succeeds. Expected
+//! values were worked out by hand from the formats.
 
 use std::process::Abort;
 use std::test::*;
@@ -19,13 +19,13 @@ mod texts;
 mod values;
 mod wrappers;
 
-/// Checks that the bytes are as expected. The tests call this, since a comparison in a test's own body would be a part of that
-/// test's proof.
+/// Checks that `given` and `wanted` are the same bytes. The tests call this function, since a comparison in a test's own body would
+/// be part of the test's proof.
 fn check_bytes(rt: &impl Abort, given: &[u8], wanted: &[u8]) {
     assert_eq!(rt; given, wanted);
 }
 
-/// The result of a call with ample memory. Panics if the call failed.
+/// Returns the value of a call that had ample memory. Panics if the call failed.
 fn made<T, E: Drop>(rt: &impl Abort, given: Result<T, E>) -> T {
     match given {
         Ok(value) => value,

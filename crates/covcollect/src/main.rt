@@ -1,9 +1,9 @@
-//! covcollect, a coverage collector for lcov tracefiles. Without a subcommand it reads commands from standard input and answers
-//! them on standard output. A subcommand reads the files that its arguments name, and prints one text. An error that ends the
-//! program is reported on standard error and by the exit status.
+//! covcollect, a coverage collector for lcov tracefiles. A call without a subcommand reads commands from standard input and answers
+//! each command on standard output. A subcommand reads the files that its arguments name, and prints one text. An error that ends
+//! the program is reported on standard error and by the exit status.
 //!
 //! `main` only collects the arguments and makes the streams; the rest of the program is covrun's `run`. By the laws of covlaws, the
-//! output of `merge`, `extract`, `remove` and `gcov` reads back.
+//! output of `merge`, `extract`, `remove` and `gcov` reads back: a merge of this output alone prints the same text.
 //!
 //! ```text
 //! $ covcollect <<'END'
@@ -49,7 +49,7 @@ fn main(rt: HostRuntime) -> ExitCode {
     ExitCode::from(status)
 }
 
-/// The arguments as strings, the program's name first. Fails for an argument that isn't UTF-8.
+/// Returns the arguments as strings, the program's name first. Fails if an argument isn't UTF-8 or memory runs out.
 fn words_of_call<R: Env + AllocGlobal>(rt: &R) -> Result<Vec<String>, CommandFault> {
     let mut words = Vec::new(rt.alloc());
     for index in 0..usize::MAX {
@@ -64,7 +64,7 @@ fn words_of_call<R: Env + AllocGlobal>(rt: &R) -> Result<Vec<String>, CommandFau
     Ok(words)
 }
 
-/// The bytes of the argument with this index. Returns `None` if the index is too large. The program's name has the index 0.
+/// Returns the bytes of the argument at `index`, or `None` if there are fewer arguments. The program's name has index 0.
 fn bytes_of_word<R: Env + AllocGlobal>(
     rt: &R,
     index: usize,

@@ -3,7 +3,7 @@
 use crate::names::Names;
 use covline::Bytes;
 
-/// A parsed command line: a command, how strict it is, how long its tracefiles may be, and where its output goes.
+/// A parsed command line: the command, its strictness, its size limit for tracefiles, and its output file.
 #[derive(Drop)]
 pub struct Asked {
     /// The command.
@@ -16,14 +16,14 @@ pub struct Asked {
     pub output: Option<String>,
 }
 
-/// A parsed command line.
+/// The command of a command line: a subcommand with its arguments, or a session.
 #[derive(Drop)]
 pub enum Command {
     /// No subcommand: a session over standard input and output.
     Session,
     /// `merge`: the merged tracefile of the files.
     Merge {
-        /// Which tracefiles are read.
+        /// Which versions of tracefiles are read.
         version: LcovVersion,
         /// How many jobs read at once, from 1 to 64.
         jobs: u32,
@@ -34,7 +34,7 @@ pub enum Command {
     },
     /// `summary`: how many lines, functions and branches are hit.
     Summary {
-        /// Which tracefiles are read.
+        /// Which versions of tracefiles are read.
         version: LcovVersion,
         /// How many jobs read at once, from 1 to 64.
         jobs: u32,
@@ -47,9 +47,9 @@ pub enum Command {
         /// The files' paths, at least one.
         names: Names,
     },
-    /// `list`: how many lines, functions and branches are hit in each source file and in all (lcov(1), `--list`).
+    /// `list`: how many lines, functions and branches are hit in each source file and in total (lcov(1), `--list`).
     List {
-        /// Which tracefiles are read.
+        /// Which versions of tracefiles are read.
         version: LcovVersion,
         /// How many jobs read at once, from 1 to 64.
         jobs: u32,
@@ -62,14 +62,14 @@ pub enum Command {
     },
     /// `extract`: the tracefile's sections of source files that match a pattern.
     Extract {
-        /// Which tracefiles are read.
+        /// Which versions of tracefiles are read.
         version: LcovVersion,
         /// The tracefile's path, followed by the patterns, at least one.
         names: Names,
     },
     /// `remove`: the tracefile's sections of source files that match no pattern.
     Remove {
-        /// Which tracefiles are read.
+        /// Which versions of tracefiles are read.
         version: LcovVersion,
         /// The tracefile's path, followed by the patterns, at least one.
         names: Names,
@@ -81,9 +81,9 @@ pub enum Command {
         /// The files' paths, at least one.
         names: Names,
     },
-    /// `check`: a summary of each file, with its skipped lines.
+    /// `check`: a summary of each file, including skipped lines.
     Check {
-        /// How the files are read.
+        /// The format of the files.
         format: TextFormat,
         /// How many files are read at once, from 1 to 64.
         jobs: u32,
@@ -92,22 +92,22 @@ pub enum Command {
     },
 }
 
-/// The choice of source files, by shell patterns of their paths. Each list has the patterns in their order, and is empty if none
-/// are given.
+/// The choice of source files, by shell patterns for their paths. Each list has the patterns of one option in order, and is empty
+/// without that option.
 #[derive(Drop)]
 pub struct SourceFilter {
-    /// `--include`: a file must match at least one of these, unless the list is empty.
+    /// `--include`: a file must match at least one of these patterns, unless the list is empty.
     pub includes: Names,
-    /// `--exclude`: a file must match none of these.
+    /// `--exclude`: a file must match none of these patterns.
     pub excludes: Names,
 }
 
 /// Whether files and patterns that look wrong, but can be used, are accepted.
 #[derive(Clone, Copy)]
 pub enum Strictness {
-    /// Without `--strict`: they are accepted. A session and `gcov`, which have no such flag, are always lenient.
+    /// Without `--strict`: such files and patterns are accepted. A session and `gcov`, which lack this flag, are always lenient.
     Lenient,
-    /// With `--strict`: a file with no item, an inconsistent line or a skipped line is rejected, and so is a pattern that matches
+    /// With `--strict`: a file is rejected if it has no item, or has an inconsistent or a skipped line, and a pattern if it matches
     /// no source file.
     Strict,
 }
@@ -115,7 +115,7 @@ pub enum Strictness {
 /// How long a tracefile may be.
 #[derive(Clone, Copy)]
 pub enum TextSize {
-    /// Without `--large`: a file above 64 MiB is rejected. A session and `gcov`, which have no such flag, are always limited.
+    /// Without `--large`: a file above 64 MiB is rejected. A session and `gcov`, which lack this flag, are always limited.
     Limited,
     /// With `--large`: a tracefile above 64 MiB is read in chunks of whole sections.
     Large,
@@ -130,15 +130,15 @@ pub enum TotalsForm {
     Json,
 }
 
-/// The thresholds (lcov(1) of LCOV 2.x, `--fail-under-lines`): the arguments of `--fail-under-..`, unchanged, or `None` for an
-/// option that isn't given. They aren't parsed here.
+/// The thresholds: the unparsed arguments of `--fail-under-..` (lcov(1) of LCOV 2.x, `--fail-under-lines`), or `None` for a missing
+/// option.
 #[derive(Drop)]
 pub struct Limits {
-    /// `--fail-under-lines`: the percentage of lines.
+    /// `--fail-under-lines`: the required percentage of lines hit.
     pub lines: Option<Bytes>,
-    /// `--fail-under-functions`: the percentage of functions.
+    /// `--fail-under-functions`: the required percentage of functions hit.
     pub functions: Option<Bytes>,
-    /// `--fail-under-branches`: the percentage of branches.
+    /// `--fail-under-branches`: the required percentage of branches hit.
     pub branches: Option<Bytes>,
 }
 
@@ -154,8 +154,8 @@ pub enum TextFormat {
 /// The versions of tracefiles that are read.
 #[derive(Clone, Copy)]
 pub enum LcovVersion {
-    /// Only those of LCOV 1.x.
+    /// Only tracefiles of LCOV 1.x.
     One,
-    /// Also those of LCOV 2.x.
+    /// Also tracefiles of LCOV 2.x.
     Two,
 }

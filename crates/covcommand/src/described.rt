@@ -9,7 +9,7 @@ use crate::help;
 use clap::{Arg, ArgAction, Command, value_parser};
 use std::alloc::{AllocError, Global};
 
-/// The command line with its subcommands.
+/// Returns the description of the command line, with its subcommands.
 pub(crate) fn described<'a>(alloc: Global) -> Result<Command<'a>, AllocError>
     ensures { IfOk result (λ c. app_of c ≡ line.covcollect) }
 {
@@ -23,7 +23,7 @@ pub(crate) fn described<'a>(alloc: Global) -> Result<Command<'a>, AllocError>
         .subcommand(check(alloc)?)
 }
 
-/// The program without its subcommands.
+/// Returns the description of the program, without its subcommands.
 fn program<'a>(alloc: Global) -> Command<'a>
     ensures { app_of result ≡ line.program }
 {
@@ -60,15 +60,15 @@ fn list<'a>(alloc: Global) -> Result<Command<'a>, AllocError>
     Ok(list.about(help::LIST).after_help(help::LIST_END))
 }
 
-/// A command like those of `merging` that prints totals, with `--json`.
+/// Returns the subcommand `name`, which prints totals: that of `merging` with the flag `--json`.
 fn listing<'a>(alloc: Global, name: &'a str) -> Result<Command<'a>, AllocError>
     ensures { IfOk result (HasNoGlobals (line.listing name.entry.now)) }
 {
     merging(alloc, name)?.arg(json(alloc))
 }
 
-/// A command for tracefiles, with a number of jobs, an output file, three flags, and patterns of the source files to include and to
-/// exclude.
+/// Returns the subcommand `name` for tracefiles, with options for the number of jobs, the output file and the patterns of source
+/// files, and with three flags.
 fn merging<'a>(alloc: Global, name: &'a str) -> Result<Command<'a>, AllocError>
     ensures { IfOk result (HasNoGlobals (line.merging name.entry.now)) }
 {
@@ -98,7 +98,7 @@ fn remove<'a>(alloc: Global) -> Result<Command<'a>, AllocError>
     Ok(remove.about(help::REMOVE).after_help(help::REMOVE_END))
 }
 
-/// A command for a tracefile and patterns, with an output file and three flags.
+/// Returns the subcommand `name` for one tracefile and patterns, with an option for the output file and three flags.
 fn filter<'a>(alloc: Global, name: &'a str) -> Result<Command<'a>, AllocError>
     ensures { IfOk result (HasNoGlobals (line.filtering name.entry.now)) }
 {
@@ -149,7 +149,7 @@ fn several<'a>(alloc: Global, id: &'a str, help: &'a str) -> Arg<'a>
         .help(help)
 }
 
-/// The tracefile that is filtered.
+/// The argument for the tracefile that is filtered.
 fn tracefile<'a>(alloc: Global) -> Arg<'a>
     ensures { IsRule (line.single (codes "TRACEFILE")) result }
 {
@@ -197,7 +197,7 @@ fn test<'a>(alloc: Global) -> Arg<'a>
         .help(help::TEST)
 }
 
-/// An option for a pattern, which may be repeated.
+/// A repeatable option for a pattern.
 fn patterns<'a>(alloc: Global, id: &'a str, help: &'a str) -> Arg<'a>
     ensures { IsRule (line.patterns id.entry.now) result }
 {
@@ -208,7 +208,7 @@ fn patterns<'a>(alloc: Global, id: &'a str, help: &'a str) -> Arg<'a>
         .help(help)
 }
 
-/// An option for a threshold, which may be given once.
+/// An option for a threshold, allowed at most once.
 fn limit<'a>(alloc: Global, id: &'a str, help: &'a str) -> Arg<'a>
     ensures { IsRule (line.limit id.entry.now) result }
 {

@@ -1,23 +1,23 @@
-//! Why a command line gives no command.
+//! The errors of parsing a command line.
 
 use clap::error::{Error as LineError, ErrorKind};
 use covline::Memory;
 use std::alloc::{AllocError, AllocFailed, Global};
 use thiserror::Error;
 
-/// Why a command line gives no command, with the text to print.
+/// Why parsing a command line returned no command, with the text to print.
 #[derive(Debug, Drop, Error)]
 pub enum CommandFault {
-    /// Fault 1: help was requested. This is its text, for standard output.
+    /// Fault 1: help was requested. The value is the help text, for standard output.
     #[error("{0}")]
     Help(String),
-    /// Fault 2: the command line is invalid. The text says why, and how to call the program, for standard error.
+    /// Fault 2: the command line is invalid. The value is a text for standard error: why, and how to call the program.
     #[error("{0}")]
     Line(String),
     /// Fault 3: an allocation failed.
     #[error("out of memory")]
     Memory,
-    /// Fault 4: the version was requested. This is its text, for standard output.
+    /// Fault 4: the version was requested. The value is the version's text, for standard output.
     #[error("{0}")]
     Version(String),
 }

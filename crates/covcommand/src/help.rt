@@ -1,12 +1,12 @@
-//! The texts of help. Lines have at most 80 columns, since clap doesn't wrap them.
+//! The help texts. Each line has at most 80 columns, since clap doesn't wrap lines.
 
-/// The program's version, which `--version` prints. The package and the manual page take it from this line.
+/// The program's version, which `--version` prints. The package and the manual page take the version from this line.
 pub const VERSION: &str = "0.9.0";
 
 /// What the program is for.
 pub(crate) const PROGRAM: &str = "Merges, filters and sums up coverage data of lcov and gcov";
 
-/// The end of the program's help, after the list of subcommands: the session, the calls of lcov, the exit statuses.
+/// The end of the program's help, after the list of subcommands: the session, replacements for lcov's calls, and the exit statuses.
 pub(crate) const PROGRAM_END: &str = "\
 Without a subcommand a session is read from standard input: a command on each
 line, answered on standard output. covcollect(1) has its commands.
@@ -172,12 +172,12 @@ pub(crate) const TEST: &str = "Test that the counts are of; --test= is the empty
 /// The help of `--lcov2`.
 pub(crate) const LCOV2: &str = "Tracefiles of LCOV 2 are read too";
 
-/// The help of `--strict`, in two lines: the longest option of `summary` leaves 46 columns.
+/// The help of `--strict`. It has two lines because the longest option of `summary` leaves only 46 columns.
 pub(crate) const STRICT: &str = "\
 Refuse files with no items, odd or skipped
 lines; unmatched patterns";
 
-/// The help of `--strict` of `check`.
+/// The help of `--strict` for `check`.
 pub(crate) const STRICT_CHECK: &str = "Fail for odd or skipped lines too";
 
 /// The help of `--large`.

@@ -1,4 +1,4 @@
-//! Laws of single command lines: what clap's definitions say of these arguments for this program's command line.
+//! Laws of example command lines: how clap's definitions parse or reject each of them for this program.
 
 ghost use Rattle.std.specs.Prelude.{◌≡◌, [], ◌∷◌, Option, Some, None, String, true, codes, option_map};
 ghost use Rattle.std.specs.String.{string_bytes};
@@ -16,7 +16,7 @@ ghost use Rattle.covcommand.specs.declared.asked.TotalsForm.TheVariants.{Words, 
 ghost use Rattle.covcommand.specs.declared.asked.TextFormat.TheVariants as format;
 ghost use Rattle.covcommand.specs.declared.asked.LcovVersion.TheVariants.{One, Two};
 
-/// A command line of each kind is accepted: for these arguments the only error of `command` is `Memory`.
+/// Accepted command lines of each kind. For each of them, the only error of `command` is `Memory`.
 pub fn calls_are_taken()
     ensures session { takes covcollect (codes "covcollect" ∷ []) ≡ true }
     ensures merge { takes covcollect (codes "covcollect" ∷ codes "merge" ∷ codes "--jobs" ∷ codes "64" ∷ codes "a.info" ∷ []) ≡ true }
@@ -59,9 +59,8 @@ pub fn calls_are_taken()
     ensures check_large { takes covcollect (codes "covcollect" ∷ codes "check" ∷ codes "--large" ∷ codes "--strict" ∷ codes "--gcov" ∷ codes "a.c.gcov" ∷ []) ≡ true }
 {}
 
-/// The format that command lines of `check` choose. With the flag `--gcov`, before or after the files, the files are gcov's, also
-/// beside `--lcov2`; without it they are tracefiles, with `--lcov2` also those of LCOV 2. After `--`, the argument `--gcov` is the
-/// name of a file.
+/// The format that `check` chooses. It is gcov's output with the flag `--gcov`, which may stand after the files or beside
+/// `--lcov2`. Otherwise it is tracefiles, also of LCOV 2 with the flag `--lcov2`. An argument `--gcov` after `--` is a file's name.
 pub fn checks_by_their_words()
     ensures tracefile { AsksFor (subcommand_of covcollect (codes "covcollect" ∷ codes "check" ∷ codes "a.info" ∷ []))
         (Check (format.Tracefile One) 1 (codes "a.info" ∷ [])) }
@@ -79,8 +78,8 @@ pub fn checks_by_their_words()
         (Check format.Gcov 3 (codes "a.c.gcov" ∷ codes "b.c.gcov" ∷ [])) }
 {}
 
-/// The patterns that `--include` and `--exclude` give `merge` and `summary`: all patterns of each, in their order, or none without
-/// these options. After `--`, the options are names of files.
+/// The source filter of `merge` and `summary`: all patterns of `--include` and all of `--exclude`, each list in order, and empty
+/// without its option. After `--`, these options are names of files.
 pub fn filters_by_their_words()
     ensures merge { AsksFor (subcommand_of covcollect (codes "covcollect" ∷ codes "merge" ∷ codes "--include" ∷ codes "b" ∷ codes "--exclude" ∷ codes "x" ∷ codes "--include=a" ∷ codes "--exclude" ∷ codes "y" ∷ codes "f" ∷ []))
         (Merge One 1 (record { includes = codes "b" ∷ codes "a" ∷ []; excludes = codes "x" ∷ codes "y" ∷ [] }) (codes "f" ∷ [])) }
@@ -92,9 +91,9 @@ pub fn filters_by_their_words()
         (Merge One 1 (record { includes = []; excludes = [] }) (codes "--include" ∷ codes "a" ∷ [])) }
 {}
 
-/// Command lines of `summary` and `list` give a form and thresholds. The form is JSON with the flag `--json` and text without it.
-/// The threshold of each option `--fail-under-..` is its argument, whatever it is, or none. After `--`, the argument `--json` is
-/// the name of a file.
+/// The form of `summary` and `list` is JSON with the flag `--json`, and text without the flag. A threshold of `summary` is the
+/// argument of its option `--fail-under-..`, even if the argument is no number, or `None` without the option. An argument `--json`
+/// after `--` is a file's name.
 pub fn totals_by_their_words()
     ensures summary { AsksFor (subcommand_of covcollect (codes "covcollect" ∷ codes "summary" ∷ codes "--json" ∷ codes "--fail-under-lines" ∷ codes "80" ∷ codes "--fail-under-branches" ∷ codes "79.5" ∷ codes "a" ∷ []))
         (Summary One 1 (record { includes = []; excludes = [] }) Json (record { lines = Some (codes "80"); functions = None; branches = Some (codes "79.5") }) (codes "a" ∷ [])) }
@@ -106,8 +105,8 @@ pub fn totals_by_their_words()
         (commands.List One 1 (record { includes = []; excludes = [] }) Words (codes "--json" ∷ [])) }
 {}
 
-/// `--output` or `-o` gives the output file of a command line. It is the argument after the option, after `=`, or joined to `-o`.
-/// It is standard output (`None`) without the option, with it after `--`, and for `check`.
+/// The output file of a command line is the argument of `--output` or `-o`: the next argument, or the text after `=` or joined to
+/// `-o`. The output is standard output (`None`) without the option, with the option after `--`, and for `check`.
 pub fn outputs_by_their_words()
     ensures merge { (output : Option (String Global)) → Some (codes "out") ≡ option_map string_bytes output
         → AsksForAll (subcommand_of covcollect (codes "covcollect" ∷ codes "merge" ∷ codes "-o" ∷ codes "out" ∷ codes "f" ∷ []))
@@ -132,8 +131,8 @@ pub fn outputs_by_their_words()
         (record { command = Check (format.Tracefile One) 1 (codes "f" ∷ []); strictness = Lenient; size = Limited; output = None }) }
 {}
 
-/// `--strict` decides how strict a command line is. It is `Strict` with the flag, before, between or after other arguments, and
-/// `Lenient` without it. A session and `gcov`, which don't have the flag, are lenient. After `--` it is the name of a file.
+/// A command line is `Strict` with the flag `--strict`, before, between or after other arguments, and `Lenient` without the flag. A
+/// session and `gcov`, which don't have the flag, are lenient. An argument `--strict` after `--` is a file's name.
 pub fn strict_by_their_words()
     ensures merge { AsksForAll (subcommand_of covcollect (codes "covcollect" ∷ codes "merge" ∷ codes "--strict" ∷ codes "f" ∷ []))
         (record { command = Merge One 1 (record { includes = []; excludes = [] }) (codes "f" ∷ []); strictness = Strict; size = Limited; output = None }) }
@@ -161,9 +160,9 @@ pub fn strict_by_their_words()
         (record { command = Merge One 1 (record { includes = []; excludes = [] }) (codes "--strict" ∷ []); strictness = Lenient; size = Limited; output = None }) }
 {}
 
-/// `--large` decides how long the tracefiles of a command line may be. It is `Large` with the flag, before, between or after other
-/// arguments, and `Limited` without it. A session and `gcov`, which don't have the flag, are limited. After `--` it is the name of
-/// a file.
+/// The size limit of a command line is `Large` with the flag `--large`, before, between or after other arguments, and `Limited`
+/// without the flag. A session and `gcov`, which don't have the flag, are limited. An argument `--large` after `--` is a file's
+/// name.
 pub fn large_by_their_words()
     ensures merge { AsksForAll (subcommand_of covcollect (codes "covcollect" ∷ codes "merge" ∷ codes "--large" ∷ codes "f" ∷ []))
         (record { command = Merge One 1 (record { includes = []; excludes = [] }) (codes "f" ∷ []); strictness = Lenient; size = Large; output = None }) }
@@ -193,7 +192,7 @@ pub fn large_by_their_words()
         (record { command = Merge One 1 (record { includes = []; excludes = [] }) (codes "--large" ∷ []); strictness = Lenient; size = Limited; output = None }) }
 {}
 
-/// Command lines that are rejected, with clap's kind of error for each. The program has `--version`, but its subcommands don't.
+/// Rejected command lines, with clap's kind of error for each. The program has the option `--version`, but its subcommands don't.
 pub fn calls_are_refused()
     ensures jobs { fault_of covcollect (codes "covcollect" ∷ codes "merge" ∷ codes "--jobs" ∷ codes "65" ∷ codes "a.info" ∷ [])
         ≡ kind.ValueValidation ∷ [] }

@@ -1,10 +1,10 @@
-//! The command line of the coverage collector: parses it, and has the texts of its help.
+//! The command line of the coverage collector: its parser and its help texts.
 //!
-//! `word_at` makes a `String` of an argument, if it is UTF-8. `described` describes the command line to clap. `command` parses the
-//! arguments. `help` has the texts for the user.
+//! `word_at` returns an argument as a `String` if the argument is UTF-8. `described` describes the command line to clap. `command`
+//! parses the arguments. `help` has the texts for the user.
 //!
-//! An example, proved and run in `covuses`: a function that returns the files of a merge, if the command is one. The other commands
-//! are variants of [`Command`] too.
+//! An example, proved and run in `covuses`: a function that returns the number of jobs and the files of a `merge`, and `None` for
+//! any other variant of [`Command`].
 //!
 //! ```text
 //! pub fn merge_of(alloc: Global, words: &[String]) -> Result<Option<(u32, Names)>, CommandFault> {

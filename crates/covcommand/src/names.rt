@@ -1,10 +1,10 @@
-//! The names on a command line.
+//! A list of names on a command line.
 
 use covline::Memory;
 use std::alloc::Global;
 use std::marker::Model;
 
-/// Arguments in their order: paths, and patterns. Contracts see a list with the bytes of each argument.
+/// A list of arguments, such as paths and patterns, in order. Contracts see a list with the bytes of each argument.
 #[derive(Drop)]
 pub struct Names {
     words: Vec<String>,
@@ -41,7 +41,7 @@ impl Names {
         Ok(())
     }
 
-    /// Appends a copy of each argument, in order.
+    /// Appends a copy of each argument of `words`, in order.
     pub(crate) fn push_copies(&mut self, alloc: Global, words: &[&str]) -> Result<(), Memory>
         ensures { OnOk result (self.new ≡ self.old ++ map (λ w. w.now) words.now) }
     {

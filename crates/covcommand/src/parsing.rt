@@ -19,10 +19,10 @@ use clap::ArgMatches;
 use covline::{Bytes, Memory};
 use std::alloc::Global;
 
-/// Parses the arguments. The first one is the program's name.
+/// Parses the arguments `words`. The first one is the program's name.
 ///
-/// Errors: `Help` or `Version` if one of these is requested, `Line` if the command line is invalid, each with its text; and
-/// `Memory`. If clap accepts the arguments, `Memory` is the only error.
+/// Errors: `Help` or `Version` if the user requested it, `Line` if the command line is invalid, each with the text to print; and
+/// `Memory`. `Memory` is the only error if clap accepts the arguments.
 pub fn command(alloc: Global, words: &[String]) -> Result<Asked, CommandFault>
     ensures asks { IfOk result (λ asked. AsksFor (subcommand_of covcollect (map string_bytes words.now)) asked.command) }
     ensures strictness { IfOk result (λ asked. HasStrictness (rows_met (subcommand_of covcollect (map string_bytes words.now))) asked.command asked.strictness) }
@@ -49,7 +49,7 @@ pub fn command(alloc: Global, words: &[String]) -> Result<Asked, CommandFault>
     }
 }
 
-/// Makes the parsed command line of this subcommand.
+/// Returns the parsed command line of the subcommand `name`, with the values that clap found.
 fn asked_from(alloc: Global, name: &str, found: &ArgMatches<'_>) -> Result<Asked, CommandFault>
     requires { Fits name.now (rows_of (found_of found.now)) }
     ensures asks { IfOk result (λ asked. AsksFor (Some (name.now, rows_of (found_of found.now))) asked.command) }
@@ -71,7 +71,7 @@ fn asked_from(alloc: Global, name: &str, found: &ArgMatches<'_>) -> Result<Asked
     })
 }
 
-/// How strict the command is, from what clap found.
+/// Returns the strictness of `command`: lenient for a session and `gcov`, else by the flag `--strict`.
 fn strictness_for(command: &Command, found: &ArgMatches<'_>) -> Strictness
     requires { TellsFlags (rows_of (found_of found.now)) command.now }
     ensures { HasStrictness (rows_of (found_of found.now)) command.now result }
@@ -82,7 +82,7 @@ fn strictness_for(command: &Command, found: &ArgMatches<'_>) -> Strictness
     }
 }
 
-/// How strict the command is: strict if clap found the flag `--strict`, else lenient.
+/// Returns `Strict` if clap found the flag `--strict`, else `Lenient`.
 fn strictness_of(found: &ArgMatches<'_>) -> Strictness
     requires { HasFlag (codes "strict") (rows_of (found_of found.now)) }
     ensures { IsStrictnessOf (rows_of (found_of found.now)) result }
@@ -94,7 +94,7 @@ fn strictness_of(found: &ArgMatches<'_>) -> Strictness
     }
 }
 
-/// How long a tracefile of the command may be, from what clap found.
+/// Returns the size limit of `command`: limited for a session and `gcov`, else by the flag `--large`.
 fn size_for(command: &Command, found: &ArgMatches<'_>) -> TextSize
     requires { TellsFlags (rows_of (found_of found.now)) command.now }
     ensures { HasSize (rows_of (found_of found.now)) command.now result }
@@ -105,7 +105,7 @@ fn size_for(command: &Command, found: &ArgMatches<'_>) -> TextSize
     }
 }
 
-/// How long a tracefile may be: above the size limit if clap found the flag `--large`, else within it.
+/// Returns `Large` if clap found the flag `--large`, else `Limited`.
 fn size_of(found: &ArgMatches<'_>) -> TextSize
     requires { HasFlag (codes "large") (rows_of (found_of found.now)) }
     ensures { IsSizeOf (rows_of (found_of found.now)) result }
@@ -117,7 +117,7 @@ fn size_of(found: &ArgMatches<'_>) -> TextSize
     }
 }
 
-/// The output file of the command, from what clap found.
+/// Returns the output file of `command`: none for a session and `check`, else the argument of `--output`.
 fn output_for(
     alloc: Global,
     command: &Command,
@@ -131,7 +131,7 @@ fn output_for(
     }
 }
 
-/// The argument of `--output`. Returns `None` if the option isn't given.
+/// Returns the argument of `--output`, or `None` without the option.
 fn output_of(alloc: Global, found: &ArgMatches<'_>) -> Result<Option<String>, Memory>
     ensures { IfOk result (IsOutputOf (rows_of (found_of found.now))) }
 {
@@ -141,7 +141,7 @@ fn output_of(alloc: Global, found: &ArgMatches<'_>) -> Result<Option<String>, Me
     }
 }
 
-/// Makes the command of this subcommand, with the values that clap found.
+/// Returns the command of the subcommand `name`, with the values that clap found.
 fn command_from(alloc: Global, name: &str, found: &ArgMatches<'_>) -> Result<Command, CommandFault>
     requires { Fits name.now (rows_of (found_of found.now)) }
     ensures asks { IfOk result (AsksFor (Some (name.now, rows_of (found_of found.now)))) }
@@ -221,7 +221,7 @@ fn source_filter_of(alloc: Global, found: &ArgMatches<'_>) -> Result<SourceFilte
     })
 }
 
-/// The arguments of a pattern option, in their order.
+/// The patterns of the option `id`, in order.
 fn patterns_of(alloc: Global, found: &ArgMatches<'_>, id: &str) -> Result<Names, Memory>
     ensures { IfOk result (λ n. n ≡ values_of id.now (rows_of (found_of found.now))) }
 {
@@ -253,7 +253,7 @@ fn limits_of(alloc: Global, found: &ArgMatches<'_>) -> Result<Limits, Memory>
     })
 }
 
-/// The argument of a threshold option. Returns `None` if the option isn't given.
+/// Returns the argument of the threshold option `id`, or `None` without the option.
 fn limit_of(alloc: Global, found: &ArgMatches<'_>, id: &str) -> Result<Option<Bytes>, Memory>
     ensures { IfOk result (IsLimitOf id.now (rows_of (found_of found.now))) }
 {
@@ -263,7 +263,7 @@ fn limit_of(alloc: Global, found: &ArgMatches<'_>, id: &str) -> Result<Option<By
     }
 }
 
-/// The name of the tracefile, and the patterns.
+/// The name of the tracefile, followed by the patterns.
 fn filter_of(alloc: Global, found: &ArgMatches<'_>) -> Result<Names, Memory>
     requires { HasFilter (rows_of (found_of found.now)) }
     ensures names { IfOk result (λ n. n ≡ tracefile_and_patterns (rows_of (found_of found.now))) }
@@ -284,7 +284,7 @@ fn test_of(alloc: Global, found: &ArgMatches<'_>) -> Result<Bytes, Memory>
     Bytes::of(alloc, name.as_bytes())
 }
 
-/// The versions of tracefiles: also LCOV 2 if clap found the flag `--lcov2`.
+/// The versions of tracefiles to read: also LCOV 2 if clap found the flag `--lcov2`, else only LCOV 1.
 fn version_of(found: &ArgMatches<'_>) -> LcovVersion
     requires { HasFlag (codes "lcov2") (rows_of (found_of found.now)) }
     ensures { IsVersionOf (rows_of (found_of found.now)) result }
@@ -296,8 +296,8 @@ fn version_of(found: &ArgMatches<'_>) -> LcovVersion
     }
 }
 
-/// The format of the files: gcov's if clap found the flag `--gcov`, else tracefiles. `--gcov` makes `--lcov2` meaningless. Both are
-/// accepted together, since clap's result is exactly defined only for arguments that exclude no others.
+/// The format of the files: gcov's output if clap found the flag `--gcov`, else tracefiles. Beside `--gcov`, `--lcov2` has no
+/// effect, but is accepted: clap's result is exactly defined only for arguments that exclude no others.
 fn format_of(found: &ArgMatches<'_>) -> TextFormat
     requires gcov { HasFlag (codes "gcov") (rows_of (found_of found.now)) }
     requires lcov2 { HasFlag (codes "lcov2") (rows_of (found_of found.now)) }
@@ -310,7 +310,7 @@ fn format_of(found: &ArgMatches<'_>) -> TextFormat
     }
 }
 
-/// Appends the arguments that clap found, in their order.
+/// Appends the values that clap found for the argument `id`, in order.
 fn push_values(
     names: &mut Names,
     alloc: Global,

@@ -1,4 +1,4 @@
-//! Arguments of the command line, which must be UTF-8.
+//! Turns arguments of the command line into `String`s. Each argument must be UTF-8.
 
 ghost use Rattle.std.specs.Prelude.{◌≡◌, ◌++◌, ◌∷◌, [], IfOk, IfErr, OnOk, codes, encode_utf8, map};
 ghost use Rattle.std.specs.Str.{IsUtf8};
@@ -11,10 +11,10 @@ use covline::Memory;
 use itoa::Buffer;
 use std::alloc::Global;
 
-/// Makes a `String` of the argument at index `place`. The program's name has the index 1.
+/// Returns the argument `word` as a `String`. The argument has the index `place`, and the program's name has index 1.
 ///
-/// Errors: `Line` if the argument isn't UTF-8, with its index and the argument in its text, `?` for each byte that isn't printable
-/// ASCII; and `Memory`.
+/// Errors: `Line` if the argument isn't UTF-8, and `Memory`. The text of `Line` has the argument's index, and the argument with `?`
+/// for each byte that isn't printable ASCII.
 pub fn word_at(alloc: Global, place: usize, word: &[u8]) -> Result<String, CommandFault>
     ensures text { IfOk result (λ text. string_bytes text ≡ word.now) }
     ensures takes { IsUtf8 word.now → IfErr result (λ fault. fault ≡ faults.Memory) }
@@ -26,7 +26,7 @@ pub fn word_at(alloc: Global, place: usize, word: &[u8]) -> Result<String, Comma
     }
 }
 
-/// The line about an argument that isn't UTF-8.
+/// Returns the error's text: the argument `word` at index `place` isn't UTF-8.
 fn not_text(alloc: Global, place: usize, word: &[u8]) -> Result<String, Memory>
     ensures { IfOk result (λ text. string_bytes text ≡ not_text place word.now) }
 {
@@ -38,7 +38,7 @@ fn not_text(alloc: Global, place: usize, word: &[u8]) -> Result<String, Memory>
     Ok(text)
 }
 
-/// Appends the bytes in printed form.
+/// Appends the printed form of each byte to `text`.
 fn push_shown(text: &mut String, bytes: &[u8]) -> Result<(), Memory>
     ensures { OnOk result (string_bytes text.new ≡ string_bytes text.old ++ map shown bytes.now) }
 {
@@ -48,7 +48,7 @@ fn push_shown(text: &mut String, bytes: &[u8]) -> Result<(), Memory>
     Ok(())
 }
 
-/// The printed form of a byte: printable ASCII, also the space, is unchanged; any other byte is a question mark.
+/// The printed form of a byte: printable ASCII, including the space, is unchanged; any other byte becomes a question mark.
 fn shown(byte: u8) -> char
     ensures { encode_utf8 result ≡ shown byte ∷ [] }
 {

@@ -1,5 +1,5 @@
-//! Tests of the command line: parsed commands, errors, and the texts of help. This is a crate of its own, so that the command line
-//! is proved once, and its mutants are tried while the tests are proved.
+//! Tests of the command line: parsed commands, errors, and help texts. The tests are a crate of their own, so that the command line
+//! is proved only once, and its mutants are tried while the tests are proved.
 #![tactic(auto)]
 
 #[cfg(test)]

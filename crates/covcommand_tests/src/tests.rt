@@ -1,6 +1,7 @@
 //! Command lines and their parsed commands. Expected values were worked out by hand. The texts of errors are clap's.
 //!
-//! Examples are text, so that they cost the proof of these tests nothing: a line has a command line and, after ` => `, its result.
+//! Each line of an example has a command line and, after ` => `, the expected result. The examples are text, so that they cost no
+//! proof.
 
 use covcommand::{
     Asked, Command, CommandFault, LcovVersion, Limits, Names, SourceFilter, Strictness, TextFormat,
@@ -14,12 +15,12 @@ mod command_lines;
 mod help;
 mod words;
 
-/// Parses the arguments. This function has no contract: a test looks only at the result, and its proof is faster this way.
+/// Parses the arguments `words`. This function has no contract: tests look only at its result, and are proved faster this way.
 fn asked(alloc: Global, words: &[String]) -> Result<Asked, CommandFault> {
     command(alloc, words)
 }
 
-/// Splits a command line at spaces into arguments, and removes the quotes of patterns.
+/// Splits the command line `call` at white space into arguments, and strips the quotes of patterns.
 fn words_of(alloc: Global, call: &str) -> Result<Vec<String>, Fail> {
     let mut words = Vec::new(alloc);
     for word in call.split_whitespace() {
@@ -28,7 +29,7 @@ fn words_of(alloc: Global, call: &str) -> Result<Vec<String>, Fail> {
     Ok(words)
 }
 
-/// Prints the parsed command line, or the error, in words.
+/// Returns the parsed command line `call`, or its error, as text.
 fn answer(alloc: Global, call: &str) -> Result<String, Fail> {
     let words = words_of(alloc, call)?;
     match asked(alloc, words.as_slice()) {
@@ -37,22 +38,22 @@ fn answer(alloc: Global, call: &str) -> Result<String, Fail> {
     }
 }
 
-/// Prints the error in words: its number and exit status, and the first line of its text.
+/// Returns the error as text: its number, its exit status, and the first line of its message.
 fn refused(alloc: Global, fault: &CommandFault) -> Result<String, Fail> {
     let text = format!(in alloc; "{fault}")?;
     let first = text.as_str().lines().next().unwrap_or("");
     Ok(format!(in alloc; "{} {} {first}", fault.number(), fault.status())?)
 }
 
-/// Prints the parsed command line in words: the command, its strictness, its size limit, and the output file.
+/// Returns the parsed command line as text: the command, its strictness, its size limit, and the output file.
 fn told(alloc: Global, whole: &Asked) -> Result<String, Fail> {
     let command = command_in_words(alloc, &whole.command)?;
     let command = with_strictness(command, &whole.strictness)?;
     with_output(with_size(command, &whole.size)?, &whole.output)
 }
 
-/// Prints the command in words: its subcommand, its version of LCOV, its number of jobs, its test or its format, then its filter,
-/// its form, its thresholds and its names.
+/// Returns the command as text: the subcommand, in parentheses the LCOV version, format or test name and the number of jobs, then
+/// the source filter, the form, the thresholds and the names.
 fn command_in_words(alloc: Global, command: &Command) -> Result<String, Fail> {
     match command {
         Command::Session => Ok(String::from_str(alloc, "session")?),
@@ -115,7 +116,7 @@ fn command_in_words(alloc: Global, command: &Command) -> Result<String, Fail> {
     }
 }
 
-/// The number of the version.
+/// The LCOV version as a number.
 fn number_of(version: &LcovVersion) -> u8 {
     match version {
         LcovVersion::One => 1,
@@ -123,7 +124,7 @@ fn number_of(version: &LcovVersion) -> u8 {
     }
 }
 
-/// Appends the patterns: `+` before those to include, and `-` before those to exclude.
+/// Appends each pattern to include as ` +[..]`, and then each pattern to exclude as ` -[..]`.
 fn with_filter(text: String, filter: &SourceFilter) -> Result<String, Fail> {
     let text = with_marked(text, " +[", &filter.includes)?;
     with_marked(text, " -[", &filter.excludes)
@@ -137,7 +138,7 @@ fn with_form(mut text: String, form: &TotalsForm) -> Result<String, Fail> {
     Ok(text)
 }
 
-/// Appends each threshold after the name of its kind.
+/// Appends each threshold, after `lines`, `functions` or `branches`.
 fn with_limits(alloc: Global, mut text: String, limits: &Limits) -> Result<String, Fail> {
     if let Some(lines) = &limits.lines {
         text = with_limit(alloc, text, "lines", lines.get())?;
@@ -151,7 +152,7 @@ fn with_limits(alloc: Global, mut text: String, limits: &Limits) -> Result<Strin
     Ok(text)
 }
 
-/// Appends a threshold in parentheses.
+/// Appends `of`, and then the threshold `limit` in parentheses.
 fn with_limit(alloc: Global, text: String, of: &str, limit: &[u8]) -> Result<String, Fail> {
     let limit: String = String::from_utf8_lossy(alloc, limit)?;
     Ok(format!(in alloc; "{text} {of}({limit})")?)
@@ -173,7 +174,7 @@ fn with_size(mut text: String, size: &TextSize) -> Result<String, Fail> {
     Ok(text)
 }
 
-/// Appends the path of the output file, if there is one: in brackets, with `>` before them.
+/// Appends the path of the output file, if there is one, as ` >[..]`.
 fn with_output(mut text: String, output: &Option<String>) -> Result<String, Fail> {
     if let Some(path) = output {
         text.push_str(" >[")?;
@@ -188,7 +189,7 @@ fn with_names(text: String, names: &Names) -> Result<String, Fail> {
     with_marked(text, " [", names)
 }
 
-/// Appends each name in brackets, with the mark before them.
+/// Appends each name between `mark` and a closing bracket.
 fn with_marked(mut text: String, mark: &str, names: &Names) -> Result<String, Fail> {
     for name in names.get() {
         text.push_str(mark)?;
@@ -198,7 +199,7 @@ fn with_marked(mut text: String, mark: &str, names: &Names) -> Result<String, Fa
     Ok(text)
 }
 
-/// Checks that each line's command line has the line's result.
+/// Checks that the command line of each example has the example's expected result.
 fn check_all(rt: &(impl Abort + AllocGlobal), examples: &str) -> Result<(), Fail> {
     for line in examples.lines() {
         if let Some((call, wanted)) = line.split_once(" => ") {
@@ -208,7 +209,7 @@ fn check_all(rt: &(impl Abort + AllocGlobal), examples: &str) -> Result<(), Fail
     Ok(())
 }
 
-/// Checks that the command line has this result.
+/// Checks that the command line `call` has the result `wanted`.
 fn check(rt: &(impl Abort + AllocGlobal), call: &str, wanted: &str) -> Result<(), Fail> {
     let given = answer(rt.alloc(), call)?;
     assert!(rt; given.as_str() == wanted, "{call} => {given}");

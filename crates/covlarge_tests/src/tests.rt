@@ -17,7 +17,7 @@ mod longer;
 mod pieces;
 mod texts;
 
-/// A source of bytes. A read gives at most `most` of them. Every read from number `fails` on, counted from 1, fails.
+/// A source of `bytes`. A read returns at most `most` bytes. Read number `fails`, counted from 1, and all later reads fail.
 #[derive(Drop)]
 struct Given<'a> {
     bytes: &'a [u8],
@@ -47,20 +47,20 @@ impl<'a> Source for Given<'a> {
     }
 }
 
-/// How a source gives its bytes: how many per read, and the number of the first read that fails.
+/// How a source behaves: the largest number of bytes per read, and the number of the first read that fails.
 #[derive(Clone, Copy)]
 struct Way {
     most: usize,
     fails: u64,
 }
 
-/// Reads as files do.
+/// Long reads that don't fail, like a file's.
 const WELL: Way = Way {
     most: 1_000_000,
     fails: 1_000_000_000,
 };
 
-/// Prints an error in words.
+/// Returns the error as text.
 fn fault_words(alloc: Global, fault: PieceFault) -> Result<String, Fail> {
     match fault {
         PieceFault::Refused(fault) => Ok(format!(in alloc; "refused {fault}")?),
@@ -69,14 +69,14 @@ fn fault_words(alloc: Global, fault: PieceFault) -> Result<String, Fail> {
     }
 }
 
-/// Prints the summary of the whole, in covcheck's words, with a line feed.
+/// Returns the summary of the whole tracefile as covcheck prints it, with a line feed.
 fn held_words(alloc: Global, held: &Held) -> Result<String, Fail> {
     let line = summary_line(alloc, &held.summary())?;
     Ok(String::from_utf8_lossy(alloc, line.as_slice())?)
 }
 
-/// Appends a summary of a chunk: the test of its first section, or `-` if it has none, and its numbers of sections, items and
-/// inconsistent lines.
+/// Appends a line about the chunk `piece`: the test of its first section, or `-` if there is no section, and its numbers of
+/// sections, items and inconsistent lines.
 fn push_piece(alloc: Global, told: &mut String, piece: &PackedSubmission) -> Result<(), Fail> {
     let test: String = match piece.sects().next() {
         Some(first) => String::from_utf8_lossy(alloc, first.test)?,
@@ -92,8 +92,8 @@ fn push_piece(alloc: Global, told: &mut String, piece: &PackedSubmission) -> Res
     Ok(())
 }
 
-/// Prints a line for each chunk of the tracefile, and one for its end: the summary of the whole, `end` if none was collected, or
-/// the error.
+/// Returns a line for each chunk of the tracefile, and a last line: the summary of the whole tracefile, `end` if no summary was
+/// collected, or the error.
 fn pieces_of<S: Source + Drop>(alloc: Global, large: LargeTracefile<S>) -> Result<String, Fail> {
     let mut told = String::new(alloc);
     let mut left = large;
@@ -123,7 +123,7 @@ fn pieces_of<S: Source + Drop>(alloc: Global, large: LargeTracefile<S>) -> Resul
     Ok(told)
 }
 
-/// Reads a tracefile in chunks, from a source that gives its bytes in this way, and prints the chunks.
+/// Reads the tracefile `text` in chunks, from a source that behaves as in `way`. Returns the lines of `pieces_of`.
 fn read_pieces(alloc: Global, version: LcovVersion, text: &[u8], way: Way) -> Result<String, Fail> {
     let source = Given {
         bytes: text,
@@ -135,7 +135,7 @@ fn read_pieces(alloc: Global, version: LcovVersion, text: &[u8], way: Way) -> Re
     pieces_of(alloc, LargeTracefile::new(alloc, version, source))
 }
 
-/// Like `read_pieces`, followed by the summary of the whole tracefile.
+/// Like `read_pieces`, with the summary of the whole tracefile at the end.
 fn read_summed(alloc: Global, version: LcovVersion, text: &[u8], way: Way) -> Result<String, Fail> {
     let source = Given {
         bytes: text,
@@ -147,7 +147,7 @@ fn read_summed(alloc: Global, version: LcovVersion, text: &[u8], way: Way) -> Re
     pieces_of(alloc, LargeTracefile::summed(alloc, version, source))
 }
 
-/// Checks the whole tracefile and prints the result.
+/// Checks the whole tracefile by `check_large`. Returns the summary or the error as text.
 fn check_whole(alloc: Global, version: LcovVersion, text: &[u8], way: Way) -> Result<String, Fail> {
     let source = Given {
         bytes: text,
@@ -165,7 +165,7 @@ fn check_whole(alloc: Global, version: LcovVersion, text: &[u8], way: Way) -> Re
     }
 }
 
-/// Checks the printed words.
+/// Checks that `told` equals `wanted`.
 fn check_words(rt: &impl Abort, told: &String, wanted: &str) {
     assert!(rt; told.as_str() == wanted, "{told}");
 }

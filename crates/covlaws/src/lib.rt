@@ -1,8 +1,8 @@
 //! Laws of reading, adding up and printing together. Each law is the contract of a function that does nothing.
 //!
-//! A printed tracefile reads back: if it is read and submitted to an empty book, the book's report is the same tracefile, byte for
-//! byte. This holds for at most 67,108,864 bytes, and only if a line of a tracefile can hold each new name of a rename
-//! (`covline::good_test`). A book itself accepts any new name.
+//! A printed tracefile reads back: an empty book to which it is submitted reports the same tracefile, byte for byte. This holds for
+//! at most 67,108,864 bytes, and only if each new name of a rename is a valid test name (`covline::good_test`). A book itself
+//! accepts any new name.
 //!
 //! So merges can be merged. Several machines each print a report. A book with these reports prints the same texts as a book with
 //! all submissions of all machines, provided that
@@ -11,8 +11,9 @@
 //! - no machine drops or renames a test before its report,
 //! - each report has at most 67,108,864 bytes.
 //!
-//! The laws are about definitions in `specs/`. The contracts of `covread::read_trace` and `covbook::Book` connect them to the code:
-//! `read_trace` returns what its input is read as, and a book's answers are those of a run of lawful operations.
+//! The laws are about definitions in `specs/`. The contracts of `covread::read_trace` and `covbook::Book` connect these definitions
+//! to the code: `read_trace` returns the submission that the definitions assign to the input, and a book gives the answers that the
+//! definitions assign to a run of lawful operations.
 #![tactic(auto)]
 
 ghost use Rattle.std.specs.Prelude.{◌≡◌, ◌≤◌, ◌++◌, ◌∷◌, ℕ, List, length, map, filter};
@@ -40,9 +41,9 @@ use covline::lines_are_the_text;
 use covread::each_text_has_one_outcome;
 use covstore::laws::{order_of_rows_does_not_matter, the_first_clash_is_told};
 
-/// The text of each report, extract and remove of a run of lawful operations reads back: it is read as a lawful submission without
-/// inconsistent lines, and an empty book accepts this submission and then reports the same text. This holds if a line can hold each
-/// new name of a rename, and the text has at most 67,108,864 bytes.
+/// The text of each report, extract and remove after a run of lawful operations reads back: the text is read as a lawful submission
+/// without inconsistent lines, and an empty book accepts this submission and then reports the same text. This holds if each new
+/// name of a rename is a valid test name, and the text has at most 67,108,864 bytes.
 pub fn reports_read_back()
     ensures { (ops : List OpData) → AreLawfulOps ops → HaveGoodNames ops → (op : OpData) → IsReport op → (text : List ℕ) → answer_of (table_of ops) op ≡ TextAnswer text → length text ≤ max_bytes → ReadsBack text }
 {
@@ -52,8 +53,8 @@ pub fn reports_read_back()
     no_versions_are_mixed();
 }
 
-/// In a legal history with lawful operations, the text of each report, extract and remove reads back. This holds if a line can hold
-/// each new name of a rename before the entry, and the text has at most 67,108,864 bytes.
+/// The text of each report, extract and remove in a legal history with lawful operations reads back. This holds if each new name of
+/// an earlier rename is a valid test name, and the text has at most 67,108,864 bytes.
 pub fn each_report_of_a_history_reads_back()
     ensures { (entries : List EntryData) → IsLegal entries → AreLawfulOps (ops_in entries) → (before after : List EntryData) (entry : EntryData) → entries ≡ before ++ entry ∷ after → HaveGoodNames (ops_in before)
         → IsReport entry.op → (text : List ℕ) → entry.answer ≡ TextAnswer text → length text ≤ max_bytes → ReadsBack text }
@@ -61,15 +62,15 @@ pub fn each_report_of_a_history_reads_back()
     reports_read_back();
 }
 
-/// A merge of merges is the merge of all. Lawful submissions are divided into parts, one for each machine. The merge of a part is
-/// the submission that the part's report is read as. Other submissions may follow the merges. The law requires that
+/// A merge of merges is the merge of all submissions. Lawful submissions are divided into parts, one for each machine. The merge of
+/// a part is the submission that is read from the part's report. Other submissions may follow the merges. The law requires that
 ///
 /// - the checksums of all submissions agree,
-/// - nothing is dropped or renamed before a report, so that it is the report of a run of only the part's submissions,
+/// - no test is dropped or renamed before a part's report, so that the report has exactly the part's submissions,
 /// - each report has at most 67,108,864 bytes.
 ///
 /// Then the merges are lawful, so they can be merged again. The checksums of the merges and the other submissions agree. A book
-/// with the merges and the others prints the same texts as a book with the parts' submissions and the others.
+/// with the merges and the other submissions prints the same texts as a book with all parts' submissions and the other submissions.
 pub fn a_merge_of_merges_is_the_merge_of_all()
     ensures lawful { (parts : List (List SubmissionData)) (merges : List SubmissionData) → AllByRecursion IsLawful (flat_map (λ part. part) parts) → AreAgreeing (flat_map (λ part. part) parts) → AreMergesOf parts merges → AllByRecursion IsLawful merges }
     ensures agree { (parts : List (List SubmissionData)) (merges others : List SubmissionData) → AllByRecursion IsLawful (flat_map (λ part. part) parts) → AreAgreeing (flat_map (λ part. part) parts ++ others) → AreMergesOf parts merges → AreAgreeing (merges ++ others) }
@@ -83,7 +84,7 @@ pub fn a_merge_of_merges_is_the_merge_of_all()
     order_of_rows_does_not_matter();
 }
 
-/// The text of printable sections is read as the submission that they show (`submission_shown`), and this submission is lawful.
+/// The text of printable sections is read as the submission of these sections (`submission_shown`), and this submission is lawful.
 /// This holds if the text has at most 67,108,864 bytes.
 pub fn printed_sections_read_back()
     ensures reads { (sections : List SectionData) → IsPrintable sections → length (flat_map section_text sections) ≤ max_bytes → Reads (lines_of (flat_map section_text sections)) (submission_shown sections) }
@@ -93,15 +94,15 @@ pub fn printed_sections_read_back()
     lines_are_the_text();
 }
 
-/// The content of lawful rows is printable if their checksums agree. The sections of chosen files are the content of these files'
-/// rows. All rows after a run of lawful operations with good new names are lawful.
+/// The content of lawful rows is printable if the rows' checksums agree. The sections of chosen files are the content of these
+/// files' rows. All rows after a run of lawful operations are lawful if each new name of a rename is a valid test name.
 pub fn lawful_rows_are_printable()
     ensures printable { (rows : List Row) → AllByRecursion IsLawfulRow rows → Agree (checksums_in rows) → IsPrintable (content_of rows) }
     ensures chosen { (choice : ChoiceData) (rows : List Row) → filter (λ s. is_chosen choice s.key.file) (content_of rows) ≡ content_of (filter (λ row. is_chosen choice row.file) rows) }
     ensures run { (ops : List OpData) → AreLawfulOps ops → HaveGoodNames ops → AllByRecursion IsLawfulRow (all_rows (table_of ops)) }
 {}
 
-/// A report represents its rows: the rows that it is read as have the same content, also together with any other rows.
+/// A report stands for its rows: reading the report returns rows of the same content, alone or together with any other rows.
 pub fn a_report_stands_for_its_rows()
     ensures { (rows others : List Row) → content_of (rows_of (submission_shown (content_of rows)) ++ others) ≡ content_of (rows ++ others) }
 {}

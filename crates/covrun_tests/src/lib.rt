@@ -1,5 +1,5 @@
-//! Tests of whole runs of the program: arguments and files in, the two streams and the exit status out. This is a crate of its own,
-//! so that `run` is proved once, and its mutants are tried while the tests are proved.
+//! Tests of whole runs of the program: from arguments and files to the two output streams and the exit status. The tests are a
+//! crate of their own, so that covrun is proved only once, and its mutants are tried while the tests are proved.
 #![tactic(auto)]
 
 #[cfg(test)]

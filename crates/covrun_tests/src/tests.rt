@@ -1,5 +1,5 @@
 //! Runs the program with streams and folders that no real program has, and once for each subcommand with ample memory. All other
-//! runs are text, which scripts/e2e plays with the built program: e2e/calls. Expected values were worked out by hand.
+//! runs are text files in e2e/calls, which scripts/e2e plays with the built program. Expected values were worked out by hand.
 
 ghost use Rattle.std.specs.Prelude.{◌<◌, ◌^◌};
 
@@ -19,7 +19,7 @@ mod folders;
 mod outputs;
 mod printing;
 
-/// Runs the program and returns its exit status. Deliberately without a contract: a test looks only at the result, and its proof is
+/// Runs the program and returns its exit status. Deliberately without an `ensures`: a test looks only at the result, and is proved
 /// faster this way.
 fn called<
     R: Files<File: Send, Dir: Send> + RandomSource + AllocGlobal + Threads + Wait + Sync,
@@ -51,7 +51,7 @@ struct Told {
     faults: Vec<u8>,
 }
 
-/// Runs the program with these arguments and this input.
+/// Runs the program with the arguments `words` and the standard input `input`.
 fn call<R: Files<File: Send, Dir: Send> + RandomSource + AllocGlobal + Threads + Wait + Sync>(
     rt: &R,
     words: &[String],
@@ -81,7 +81,7 @@ fn words_of(alloc: Global, text: &str) -> Result<Vec<String>, Fail> {
     Ok(words)
 }
 
-/// Checks the text that a run wrote. If `wanted` ends in `...`, the text must only begin with what is before the `...`.
+/// Checks that a run's text `given` equals `wanted`, or begins with the part of `wanted` before a final `...`.
 fn check_text(
     rt: &(impl Abort + AllocGlobal),
     asked: &str,

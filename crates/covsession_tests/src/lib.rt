@@ -1,5 +1,5 @@
-//! Tests of sessions: their input and their expected output. This is a crate of its own, so that the session is proved once, and
-//! its mutants are tried while the tests are proved.
+//! Tests of sessions: each input with its expected output. The tests are a crate of their own, so that covsession is proved only
+//! once, and its mutants are tried while the tests are proved.
 #![tactic(auto)]
 
 #[cfg(test)]

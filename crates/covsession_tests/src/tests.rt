@@ -1,6 +1,6 @@
 //! Tests of sessions with sources and sinks that no program has, and of two whole sessions with ample memory. All other sessions
-//! are text, which scripts/e2e plays with the built program: e2e/sessions. What no session reaches is tested by covread_tests,
-//! covstore_tests, covbook_tests and covjobs_tests, with the public calls of the crates below.
+//! are text files in e2e/sessions, which scripts/e2e plays with the built program. Calls that no session makes are tested by
+//! covread_tests, covstore_tests, covbook_tests and covjobs_tests.
 
 ghost use Rattle.std.specs.Prelude.{◌<◌, ◌^◌};
 
@@ -12,8 +12,8 @@ use std::test::*;
 
 mod streams;
 
-/// Runs a session and returns how it ended. Deliberately without a contract: a test looks only at the result, and its proof is
-/// faster this way.
+/// Runs a session and returns its result. Deliberately without an `ensures`: a test looks only at the result, and is proved faster
+/// this way.
 fn session_end<I: Source, O: Sink>(
     alloc: Global,
     source: &mut I,
@@ -26,7 +26,7 @@ fn session_end<I: Source, O: Sink>(
     session(alloc, source, sink)
 }
 
-/// Runs a session on these bytes. Returns how it ended, and its output.
+/// Runs a session on `input`. Returns the session's result and output.
 fn run(alloc: Global, input: &[u8]) -> (Result<(), SessionFault>, Vec<u8>) {
     let mut output: Vec<u8> = Vec::new(alloc);
     let ended = {
@@ -37,7 +37,7 @@ fn run(alloc: Global, input: &[u8]) -> (Result<(), SessionFault>, Vec<u8>) {
     (ended, output)
 }
 
-/// Checks that a session on these bytes ends without an error, and writes exactly `wanted`.
+/// Checks that a session on `input` ends without an error, and writes exactly `wanted`.
 fn check(rt: &(impl Abort + AllocGlobal), input: &[u8], wanted: &[u8]) {
     let (ended, output) = run(rt.alloc(), input);
     if ended.is_err() || output.as_slice() != wanted {

@@ -1,5 +1,5 @@
-//! Copies of texts, pattern lists, submissions, operations and answers. A copy equals its original. If a copy can't be allocated,
-//! the original is still whole, and can be copied with more capacity.
+//! Copies texts, pattern lists, submissions, operations and answers. A copy equals its original. A failed allocation leaves the
+//! original unchanged, and the original can then be copied with more capacity.
 
 use super::heap::{check_none, check_rising, narrow, widen};
 use super::said::check_answer;
@@ -60,7 +60,7 @@ fn texts_and_lists(rt: HostRuntime) {
     check_rising(&rt, |heap, room| copies_submission(&rt, heap, room));
 }
 
-/// Copies the operation of these words.
+/// Copies the operation `op_of(words)`.
 fn copies_op(rt: &impl Abort, heap: &Bump, room: usize, words: &[u8]) -> bool {
     let op = op_of(rt, heap, words);
     narrow(rt, heap, room);

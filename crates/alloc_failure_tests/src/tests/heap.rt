@@ -7,10 +7,11 @@ use std::alloc::AllocError;
 use std::process::Abort;
 use std::test::*;
 
-/// The capacity of a heap, in addition to the first capacity that a call is tried with.
+/// How many bytes of capacity a heap has beyond the first limit that is tried, and how many heaps are tried at most.
 const AMPLE: usize = 60_000;
 
-/// A heap with at least this capacity. It has several blocks, so it never reuses freed memory: each allocation needs new capacity.
+/// Returns a heap with at least `room` bytes of capacity. The heap has several blocks, so it never reuses freed memory: each
+/// allocation needs new capacity.
 fn new_heap(rt: &(impl Abort + AllocGlobal), room: usize) -> Bump {
     let heap = Bump::new(rt.alloc());
     take(rt, &heap, 1);
@@ -27,7 +28,7 @@ fn take(rt: &impl Abort, heap: &Bump, bytes: usize) {
     }
 }
 
-/// Limits the heap to exactly this capacity: uses up the rest, and forbids further blocks.
+/// Limits the heap to exactly `room` bytes of capacity: uses up the rest, and forbids further blocks.
 pub(super) fn narrow(rt: &impl Abort, heap: &Bump, room: usize) {
     let left = heap.chunk_capacity();
     assert!(rt; room <= left, "a heap is too small");
@@ -42,7 +43,7 @@ pub(super) fn widen(heap: &Bump) {
 }
 
 /// Tries a call in heaps with a capacity of 0, 1, 2 and so on, until the call succeeds. `is_refused` makes the call, and returns
-/// whether an allocation failed, as one must in the first heap.
+/// whether an allocation failed. In the first heap, an allocation must fail.
 pub(super) fn check_rising<R: Abort + AllocGlobal, F: Fn(&Bump, usize) -> bool>(
     rt: &R,
     is_refused: F,
@@ -52,8 +53,8 @@ pub(super) fn check_rising<R: Abort + AllocGlobal, F: Fn(&Bump, usize) -> bool>(
     check_rising_by(rt, 1, 1, is_refused);
 }
 
-/// Like `check_rising`, for a call that allocates much: after the heap without capacity, the capacities begin at `first` and rise
-/// by `more` bytes. With less capacity than `first`, the call's first allocation is known to fail.
+/// Like `check_rising`, for a call that allocates much: the capacities are 0, then `first`, and then rise by `more` bytes.
+/// Capacities between 0 and `first` aren't tried, since the call's first allocation is known to fail with less than `first`.
 pub(super) fn check_rising_by<R: Abort + AllocGlobal, F: Fn(&Bump, usize) -> bool>(
     rt: &R,
     first: usize,
@@ -76,7 +77,7 @@ pub(super) fn check_rising_by<R: Abort + AllocGlobal, F: Fn(&Bump, usize) -> boo
     panic!(rt; "refused in each heap");
 }
 
-/// Checks that a call succeeds in a heap without capacity, so that it never allocates.
+/// Checks that the call of `is_refused` succeeds in a heap without capacity, and so never allocates.
 pub(super) fn check_none<R: Abort + AllocGlobal, F: Fn(&Bump, usize) -> bool>(rt: &R, is_refused: F)
     requires { F.IsAlwaysCallable is_refused }
 {

@@ -12,18 +12,18 @@ use std::alloc::Allocator;
 use std::process::Abort;
 use std::test::*;
 
-/// A list whose elements are made of numbers. An element needs no memory of its own.
+/// A list whose elements each have a number. An element needs no memory of its own.
 trait List<A: Allocator + Copy>: Drop {
     /// The empty list.
     fn none(alloc: A) -> Self;
 
-    /// Appends the element of this number.
+    /// Appends an element with the number `number`.
     fn put(&mut self, alloc: A, number: u32) -> Result<(), Memory>;
 
-    /// How many elements there are.
+    /// How many elements the list has.
     fn count(&self) -> usize;
 
-    /// The number of the element at this index.
+    /// The number of the element at index `at`.
     fn number_at(&self, at: usize) -> Option<u64>;
 }
 
@@ -194,7 +194,8 @@ fn check_list<A: Allocator + Copy, T: List<A>>(rt: &impl Abort, list: &T, number
     }
 }
 
-/// Appends nine elements to a list. If one can't be allocated, appends it again, with ample capacity.
+/// Appends nine elements to a list, and returns whether an allocation failed. An element that can't be allocated is appended again,
+/// with ample capacity.
 fn puts<'h, T: List<&'h Bump>>(rt: &impl Abort, heap: &'h Bump, room: usize) -> bool {
     let mut list = T::none(heap);
     let mut is_refused = false;

@@ -1,5 +1,5 @@
-//! Stages a run of items into a map, and makes a map of the images of its values. A failed allocation doesn't change the committed
-//! entries. After a rollback, the whole run can be staged with ample capacity, and the images can be made.
+//! Stages a run of addends into a map, and makes a map of the images of the values. A failed allocation doesn't change the
+//! committed entries. With ample capacity, the images can be made, and the whole run can be staged after a rollback.
 
 use super::heap::{check_rising, narrow, widen};
 use super::made;
@@ -54,7 +54,7 @@ fn one_entry<A: Allocator + Copy>(alloc: A) -> Result<StagedMap<u64, u64, A>, Al
     Ok(map)
 }
 
-/// The numbers of the committed entries: each key, and its value after it.
+/// The numbers of the committed entries: each key, followed by its value.
 fn entries<A: Allocator + Copy>(
     alloc: A,
     map: &StagedMap<u64, u64, A>,
@@ -67,12 +67,12 @@ fn entries<A: Allocator + Copy>(
     Ok(numbers)
 }
 
-/// Checks that the numbers are as expected.
+/// Checks that `given` and `wanted` are the same numbers.
 fn check_numbers(rt: &impl Abort, given: &[u64], wanted: &[u64]) {
     assert_eq!(rt; given, wanted);
 }
 
-/// Stages a run with keys before, at and after the only committed key, and commits it.
+/// Stages a run with keys before, at and after the only committed key, and commits the run.
 fn a_run(rt: &impl Abort, heap: &Bump, room: usize) -> bool {
     let run = [
         (2, Newest { value: 21 }),
@@ -117,7 +117,7 @@ impl Image<u64> for Wrapped {
     }
 }
 
-/// The images of a map's values.
+/// Returns a map with the images of the values of `map`.
 fn images_of<A: Allocator + Copy>(
     alloc: A,
     map: &StagedMap<u64, u64, A>,

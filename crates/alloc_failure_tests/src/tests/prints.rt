@@ -14,7 +14,7 @@ use std::alloc::Allocator;
 use std::process::Abort;
 use std::test::*;
 
-/// Prints a line after another one. A failed allocation doesn't change the text.
+/// Prints `line` after another line. A failed allocation doesn't change the text.
 fn puts_line(rt: &impl Abort, heap: &Bump, room: usize, line: &[u8]) -> bool {
     let mut text = made(rt, bytes(heap, b"TN:t\n"));
     let record = made(rt, read_line(line));
@@ -30,7 +30,7 @@ fn puts_line(rt: &impl Abort, heap: &Bump, room: usize, line: &[u8]) -> bool {
     is_refused
 }
 
-/// Checks that the text is the line `TN:t` followed by this line.
+/// Checks that the text is the line `TN:t` followed by `line`.
 fn check_line(rt: &impl Abort, text: &[u8], line: &[u8]) {
     let behind = text
         .strip_prefix(b"TN:t\n")
@@ -38,7 +38,7 @@ fn check_line(rt: &impl Abort, text: &[u8], line: &[u8]) {
     assert_eq!(rt; behind, Some(line));
 }
 
-/// Lines of all kinds, as they are printed.
+/// Printed lines of all kinds.
 const LINES: &[u8] = b"\
 TN:another test
 SF:/src/a.c
@@ -89,7 +89,7 @@ fn patterns(rt: HostRuntime) {
     }
 }
 
-/// Prints a store that holds this text. The report must equal the text.
+/// Prints a store with only the tracefile `text`. The report must equal `text`.
 fn prints_all(rt: &impl Abort, heap: &Bump, room: usize, text: &[u8]) -> bool {
     let store = holding(rt, heap, text);
     narrow(rt, heap, room);
@@ -103,7 +103,7 @@ fn prints_all(rt: &impl Abort, heap: &Bump, room: usize, text: &[u8]) -> bool {
     is_refused
 }
 
-/// Prints the files of `SMALL` that match a pattern: it has only one file, which matches.
+/// Prints the files of `SMALL` that match a pattern. The only file of `SMALL` matches.
 fn prints_chosen(rt: &impl Abort, heap: &Bump, room: usize) -> bool {
     let store = holding(rt, heap, SMALL);
     let choice = Choice::Extract(list_of(rt, heap, b"*.c"));

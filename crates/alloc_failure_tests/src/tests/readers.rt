@@ -1,4 +1,4 @@
-//! Reads inputs, and checks all that was read by printing it.
+//! Reads inputs, and checks each submission by its printed report.
 
 use super::heap::{check_rising_by, narrow, widen};
 use super::stores::{stored, stored_packed};
@@ -16,7 +16,7 @@ use covreport::Choice;
 use std::process::Abort;
 use std::test::*;
 
-/// Checks the number of items of the submission, that no line is inconsistent, and the printed report.
+/// Checks that the submission has `items` items, no inconsistent line, and the printed report `wanted`.
 fn check_read<'h>(
     rt: &impl Abort,
     heap: &'h Bump,
@@ -98,7 +98,7 @@ fn packed_tracefiles(rt: HostRuntime) {
     );
 }
 
-/// An input in another format. The printed report of each is `TRACED`.
+/// An input in another format. The printed report of each input is `TRACED`.
 #[derive(Clone, Copy)]
 enum Other {
     /// gcov's annotated source, as counts of the test `t`.
@@ -107,7 +107,7 @@ enum Other {
     Lcov2,
 }
 
-/// Reads the input.
+/// Reads the input `other`.
 fn read_other(heap: &Bump, other: Other) -> Result<Submission<&Bump>, ReadFault> {
     match other {
         Other::Annotated => read_annotated(heap, b"t", ANNOTATED),
@@ -115,7 +115,7 @@ fn read_other(heap: &Bump, other: Other) -> Result<Submission<&Bump>, ReadFault>
     }
 }
 
-/// The number of items of the input. In a tracefile a function has two: its start line and its count.
+/// The number of items of the input. In a tracefile, a function has two items: its start line and its count.
 fn items_of(other: Other) -> u64 {
     match other {
         Other::Annotated => 8,
@@ -123,7 +123,7 @@ fn items_of(other: Other) -> u64 {
     }
 }
 
-/// Reads the text.
+/// Reads the input `other`, and checks the submission. Returns whether an allocation failed.
 fn reads_other(rt: &impl Abort, heap: &Bump, room: usize, other: Other) -> bool {
     narrow(rt, heap, room);
     let first = read_other(heap, other);
@@ -139,7 +139,7 @@ fn reads_other(rt: &impl Abort, heap: &Bump, room: usize, other: Other) -> bool 
     is_refused
 }
 
-/// Reads the input into a packed submission.
+/// Reads the input `other` into a packed submission.
 fn read_other_packed(heap: &Bump, other: Other) -> Result<PackedSubmission<&Bump>, ReadFault> {
     match other {
         Other::Annotated => read_annotated_packed(heap, b"t", ANNOTATED),
@@ -147,7 +147,7 @@ fn read_other_packed(heap: &Bump, other: Other) -> Result<PackedSubmission<&Bump
     }
 }
 
-/// Reads the text into a packed submission.
+/// Like `reads_other`, with a packed submission.
 fn packs_other(rt: &impl Abort, heap: &Bump, room: usize, other: Other) -> bool {
     narrow(rt, heap, room);
     let first = read_other_packed(heap, other);

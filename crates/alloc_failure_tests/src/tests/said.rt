@@ -1,4 +1,4 @@
-//! Operations, answers and totals in words, as bytes.
+//! Prints operations, answers and totals as text, and checks these texts.
 
 use super::{check_bytes, made};
 use covbook::{Answer, Entry, Op};
@@ -19,7 +19,7 @@ fn put_word(text: &mut Vec<u8>, word: &[u8]) -> Result<(), AllocError> {
     text.extend_from_slice(word)
 }
 
-/// Appends the word `accepted` and the numbers of an accepted submission.
+/// Appends the word `accepted`, and the submission's number, items and inconsistent lines.
 fn put_accepted(text: &mut Vec<u8>, number: u64, items: u64, odd: u64) -> Result<(), AllocError> {
     put_word(text, b"accepted")?;
     put_number(text, number)?;
@@ -33,7 +33,7 @@ fn put_sections(text: &mut Vec<u8>, word: &[u8], sections: u64) -> Result<(), Al
     put_number(text, sections)
 }
 
-/// Appends the place of a clash, and the two checksums.
+/// Appends the word `clash`, the file and line of the clash, and the two checksums.
 fn put_clash(
     text: &mut Vec<u8>,
     file: &[u8],
@@ -86,14 +86,14 @@ fn word_of<A: Allocator>(op: &Op<A>) -> &'static [u8] {
     }
 }
 
-/// Appends how many lines are found and hit.
+/// Appends `|` and the numbers of lines found and hit.
 fn put_totals(text: &mut Vec<u8>, totals: &Totals) -> Result<(), AllocError> {
     put_word(text, b"|")?;
     put_number(text, totals.lf)?;
     put_number(text, totals.lh)
 }
 
-/// Prints the operation and its answer in words, and the number of lines found and hit after it.
+/// Returns the operation and its answer as text, followed by the numbers of lines found and hit after the operation.
 fn told<A: Allocator>(
     alloc: Global,
     op: &Op<A>,
@@ -106,7 +106,7 @@ fn told<A: Allocator>(
     Ok(text)
 }
 
-/// Checks the words that `told` returns for this operation, answer and totals.
+/// Checks that `told` returns `wanted` for the operation, its answer and the totals.
 pub(super) fn check_told<A: Allocator>(
     rt: &(impl Abort + AllocGlobal),
     op: &Op<A>,
@@ -121,7 +121,7 @@ pub(super) fn check_told<A: Allocator>(
     );
 }
 
-/// Checks that there is an entry of this job, and the words that `told` returns for it.
+/// Checks that `entry` is an entry of `job`, and that `told` returns `wanted` for this entry.
 pub(super) fn check_entry<A: Allocator>(
     rt: &(impl Abort + AllocGlobal),
     entry: Option<&Entry<A>>,
@@ -135,7 +135,7 @@ pub(super) fn check_entry<A: Allocator>(
     check_told(rt, &entry.op, &entry.answer, &entry.after, wanted);
 }
 
-/// Checks the words that `put_answer` appends for this answer.
+/// Checks that `put_answer` appends `wanted` for the answer.
 pub(super) fn check_answer<A: Allocator>(
     rt: &(impl Abort + AllocGlobal),
     answer: &Answer<A>,
@@ -146,10 +146,10 @@ pub(super) fn check_answer<A: Allocator>(
     check_bytes(rt, text.as_slice(), wanted);
 }
 
-/// The words of `told` for the entry of a book before a call is tried in it: a submitted text, with two lines found and one hit.
+/// The text of `told` for the first entry of a book in which an operation is tried: a submission with two lines found and one hit.
 pub(super) const BEGUN: &[u8] = b"submit accepted 1 2 0 | 2 1";
 
-/// The operations that are tried in such a book. The words after `>` are those of `told` for the step.
+/// The operations that are tried in a book with the entry `BEGUN`. After each `>` stands the text of `told` for the operation.
 pub(super) const STEPS: &[u8] = b"\
 submit>submit accepted 2 2 0 | 2 1
 clash>submit clash /a.c 1 abc abd | 2 1
@@ -164,14 +164,14 @@ extract *.c>extract TN:t;SF:/a.c;DA:1,2,abc;DA:2,0;LF:2;LH:1;end_of_record; | 2 
 remove *.c>remove  | 2 1
 summary>summary Summary coverage rate:;  lines......: 50.0% (1 of 2 lines);  functions..: no data found;  branches...: no data found; | 2 1";
 
-/// A row of `STEPS`: the operation to try, and the expected words.
+/// A row of `STEPS`: the operation to try, and the expected text of `told`.
 #[derive(Clone, Copy)]
 pub(super) struct Step<'a> {
     pub(super) asked: &'a [u8],
     pub(super) wanted: &'a [u8],
 }
 
-/// Parses a row.
+/// Parses a row of `STEPS`.
 pub(super) fn step_of<'a>(rt: &impl Abort, row: &'a [u8]) -> Step<'a> {
     let mut parts = row.split(|byte| *byte == b'>');
     let (Some(asked), Some(wanted)) = (parts.next(), parts.next()) else {

@@ -1,4 +1,4 @@
-//! Sessions in which memory runs out. Such a session has written a prefix of what it would have written with ample memory.
+//! Sessions in which memory runs out. The output of such a session is a prefix of the session's output with ample memory.
 
 ghost use Rattle.std.specs.Prelude.{◌<◌, ◌^◌, None};
 
@@ -13,7 +13,7 @@ use std::cell::Cell;
 use std::process::Abort;
 use std::test::*;
 
-/// A source that gives one byte per read, so that each answer is written before the next command is read.
+/// A source that returns one byte per read, so that each answer is written before the next command is read.
 #[derive(Drop)]
 struct Slow<'a> {
     input: &'a [u8],
@@ -44,7 +44,7 @@ impl<'a> Source for Slow<'a> {
     }
 }
 
-/// Runs a session and returns how it ended. Deliberately without a contract.
+/// Runs a session and returns its result. Deliberately without an `ensures`.
 fn session_end<I: Source, O: Sink, A: Allocator + Copy>(
     alloc: A,
     source: &mut I,
@@ -57,7 +57,7 @@ fn session_end<I: Source, O: Sink, A: Allocator + Copy>(
     session(alloc, source, sink)
 }
 
-/// Runs a session on these bytes. Returns how it ended, and its output.
+/// Runs a session on `input`. Returns the session's result and output.
 fn run<A: Allocator + Copy>(
     global: Global,
     alloc: A,
@@ -72,8 +72,8 @@ fn run<A: Allocator + Copy>(
     (ended, output)
 }
 
-/// Whether a session on these bytes runs out of memory. Checks that it then has written a prefix of `wanted`, and otherwise all of
-/// it.
+/// Whether a session on `input` runs out of memory. Checks that the output is then a prefix of `wanted`, and otherwise equals
+/// `wanted`.
 fn is_refused(
     rt: &(impl Abort + AllocGlobal),
     heap: &Bump,
@@ -126,7 +126,7 @@ fn push_line(text: &mut Vec<u8>, line: &[u8]) -> Result<(), AllocError> {
 /// The size of a session's first allocation, its block for reading.
 const BLOCK: usize = 65_536;
 
-/// Checks a session on these streams, with more and more capacity.
+/// Checks a session on `streams` with more and more capacity.
 fn check(rt: &(impl Abort + AllocGlobal), streams: &Streams) {
     let input = streams.input.as_slice();
     let wanted = streams.wanted.as_slice();
@@ -250,7 +250,7 @@ drop u
 /// The input of a session that submits a tracefile, and asks for a summary.
 const SMALL: &[u8] = b"trace\nTN:t\nSF:/a.c\nDA:1,2\nend_of_record\n.\nsummary\n";
 
-/// The answers to `SMALL`: two, of 25 and 119 bytes.
+/// The two answers to `SMALL`, of 25 and 119 bytes.
 const SMALL_ANSWER: &[u8] = b"\
 accepted 1 items 1 odd 0
 Summary coverage rate:
@@ -260,8 +260,9 @@ Summary coverage rate:
 .
 ";
 
-/// Whether a session that reads all commands at once, so that all its answers are buffered, runs out of memory. Checks that it then
-/// has written no answer or the first one, and raises `noted` to the largest number of bytes that such a session has written.
+/// Whether a session on `SMALL` runs out of memory. The session reads all commands at once, so all its answers are buffered. Checks
+/// that a session that runs out of memory has written no answer or only the first one, and raises `noted` to the number of bytes
+/// that it has written.
 fn is_refused_at_once(
     rt: &(impl Abort + AllocGlobal),
     heap: &Bump,
@@ -297,7 +298,7 @@ fn answers_before_a_refusal(rt: HostRuntime) {
     assert_eq!(rt; noted.get(), 25);
 }
 
-/// Annotated source, and its report.
+/// The streams of a session that submits annotated source and prints the report.
 fn of_annotated(alloc: Global) -> Result<Streams, AllocError> {
     let mut streams = Streams {
         input: Vec::from_slice(alloc, b"gcov t\n")?,

@@ -1,4 +1,4 @@
-//! A shared book, used by one thread. A failed allocation changes neither its history, nor its seat, nor what readers see.
+//! Tests of a shared book, used by one thread. A failed allocation changes neither the history, nor the seat, nor what readers see.
 
 ghost use Rattle.std.specs.Prelude.{◌≡◌};
 
@@ -49,7 +49,7 @@ fn reader<L: Name, A: Allocator, R: Wait>(
     book.reader(rt)
 }
 
-/// Closes the book with all of its seats, and returns its history.
+/// Closes the book with all its seats, and returns the book's history.
 fn history_of<L: Name, A: Allocator, R: Wait + Abort>(
     rt: &R,
     book: Shared<L, A>,
@@ -61,7 +61,7 @@ fn history_of<L: Name, A: Allocator, R: Wait + Abort>(
     }
 }
 
-/// Checks how many entries the reader reports, and their totals.
+/// Checks that the reader `live` reports `upto` entries and the totals `totals`.
 fn check_live<L: Name, A: Allocator>(
     rt: &impl Abort,
     live: &mut Live<L, A>,
@@ -73,12 +73,13 @@ fn check_live<L: Name, A: Allocator>(
     assert_eq!(rt; reading.totals, totals);
 }
 
-/// Checks that the seat made `calls` successful calls, and that it saw no other entries than theirs.
+/// Checks that the seat made `calls` successful calls, and has seen as many entries.
 fn check_seat<L: Name>(rt: &impl Abort, seat: &Seat<L>, calls: u64) {
     assert_eq!(rt; (seat.calls(), seat.seen()), (calls, calls));
 }
 
-/// Whether a book is opened. Checks that it then has three seats, no entry, and a reader that reports none.
+/// Opens a book, and returns whether that succeeded. An open book must have three seats, no entry, and a reader that reports no
+/// entry.
 fn opens<L: Name, A: Allocator + Copy, R: Wait + Abort>(rt: &R, alloc: A, start: Start<A>) -> bool
     requires name { start.name ≡ L.name }
     requires jobs { start.jobs ≡ L.parts }
@@ -94,12 +95,13 @@ fn opens<L: Name, A: Allocator + Copy, R: Wait + Abort>(rt: &R, alloc: A, start:
     true
 }
 
-/// Whether a new book for three jobs is opened. Making its `Start` never allocates.
+/// Opens a new book for three jobs, and returns whether that succeeded. Making the book's `Start` never allocates.
 fn opens_anew<A: Allocator + Copy>(rt: &(impl Wait + Abort), alloc: A) -> bool {
     opens::<Brand, A, _>(rt, alloc, made(rt, start(alloc, 3)))
 }
 
-/// Whether no book is opened with this capacity. A failure drops the book's `Start`, so a new one is tried with ample capacity.
+/// Whether a book can't be opened with a capacity of `room`. A failure drops the book's `Start`, so the second try, with ample
+/// capacity, makes a new `Start`.
 fn is_not_opened(rt: &(impl Wait + Abort), heap: &Bump, room: usize) -> bool {
     narrow(rt, heap, room);
     let is_opened = opens_anew(rt, heap);
@@ -113,7 +115,7 @@ fn books_are_opened(rt: HostRuntime) {
     check_rising_by(&rt, 1, 64, |heap, room| is_not_opened(&rt, heap, room));
 }
 
-/// Makes a `Start`, which never allocates, and returns whether that failed.
+/// Makes a `Start`, and returns whether that failed. A `Start` must not allocate.
 fn starts(rt: &impl Abort, heap: &Bump, room: usize) -> bool {
     narrow(rt, heap, room);
     let first = start(heap, 64);
@@ -125,7 +127,8 @@ fn starts_take_no_memory(rt: HostRuntime) {
     check_none(&rt, |heap, room| starts(&rt, heap, room));
 }
 
-/// Performs the tried operation in a book that holds a text and has a reader. Checks the history at the end.
+/// Performs the operation of `tried` in a book with one submission and a reader. Checks the history at the end. Returns whether an
+/// allocation failed.
 fn performs<L: Name, A: Allocator + Copy, R: Wait + Abort + AllocGlobal>(
     rt: &R,
     alloc: A,
@@ -149,7 +152,7 @@ fn performs<L: Name, A: Allocator + Copy, R: Wait + Abort + AllocGlobal>(
     is_refused
 }
 
-/// The operation to try, and the capacity of the heap for it.
+/// The operation to try, the heap, and the heap's capacity for the operation.
 #[derive(Clone, Copy)]
 struct Narrow<'a> {
     heap: &'a Bump,
@@ -157,7 +160,7 @@ struct Narrow<'a> {
     row: Step<'a>,
 }
 
-/// Submits a text, and then tries the operation with the limited capacity.
+/// Submits a text, and then tries the operation of `tried` with the limited capacity. Returns whether an allocation failed.
 fn asks<L: Name, A: Allocator + Copy, R: Wait + Abort + AllocGlobal>(
     rt: &R,
     alloc: A,
@@ -227,7 +230,7 @@ fn shared_steps(rt: HostRuntime) {
     }
 }
 
-/// Makes a reader with this capacity of the heap, and returns whether that failed.
+/// Makes a reader with a capacity of `room`, and returns whether that failed.
 fn reads<L: Name, A: Allocator + Copy, R: Wait + Abort>(
     rt: &R,
     alloc: A,
@@ -262,7 +265,8 @@ fn readers_take_no_memory(rt: HostRuntime) {
     check_none(&rt, |heap, room| reads_anew(&rt, heap, room));
 }
 
-/// Appends the seats of nine jobs to a list. A seat that can't be appended is dropped, and the list is unchanged.
+/// Appends the seats of nine jobs to a list, and returns whether an allocation failed. A failed allocation drops the seat and
+/// leaves the list unchanged.
 fn hands_in<L: Name, A: Allocator + Copy, R: Wait + Abort>(
     rt: &R,
     alloc: A,
@@ -290,7 +294,7 @@ fn hands_in<L: Name, A: Allocator + Copy, R: Wait + Abort>(
     refused.is_some()
 }
 
-/// Checks that the seats are those of nine jobs, in ascending order, without the dropped one.
+/// Checks that the seats are those of the jobs 0 to 8 in ascending order, without the job `given_up`.
 fn check_jobs<L: Name>(rt: &impl Abort, seats: &[Seat<L>], given_up: Option<u32>) {
     let mut jobs = (0..9u32).filter(|job| given_up != Some(*job));
     for seat in seats {

@@ -18,7 +18,8 @@ fn begun<A: Allocator + Copy>(rt: &impl Abort, alloc: A) -> Book<A> {
     book
 }
 
-/// Checks the number of entries of the book, and the last one, by `check_entry`. Its totals must be the book's.
+/// Checks that the book has `entries` entries, and checks the last one by `check_entry`. The last entry's totals must be the
+/// book's.
 fn check_book<A: Allocator + Copy>(
     rt: &(impl Abort + AllocGlobal),
     book: &Book<A>,
@@ -32,7 +33,7 @@ fn check_book<A: Allocator + Copy>(
     assert!(rt; last.is_some_and(|entry| entry.after == book.totals()));
 }
 
-/// Performs a step as job 4, in one call or in two halves.
+/// Performs the step `op` as job 4, in one call or in two halves.
 fn taken<A: Allocator + Copy>(
     alloc: A,
     book: &mut Book<A>,
@@ -46,7 +47,8 @@ fn taken<A: Allocator + Copy>(
     }
 }
 
-/// Performs the row's step in the book of `begun`, and checks it. Returns whether it failed with this capacity.
+/// Performs the step of `row` in the book of `begun`, and checks the result. Returns whether the step failed with a capacity of
+/// `room`.
 fn takes(
     rt: &(impl Abort + AllocGlobal),
     heap: &Bump,

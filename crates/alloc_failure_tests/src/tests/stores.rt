@@ -1,4 +1,5 @@
-//! A store that prepares a submission or a rename. A failed allocation changes neither its sections nor its totals.
+//! Tests of a store that prepares a submission or a rename. A failed allocation changes neither the store's sections nor its
+//! totals.
 
 ghost use Rattle.std.specs.Prelude.{◌<◌, OnErr};
 ghost use Rattle.covstore.specs.Store.{max_members};
@@ -36,7 +37,7 @@ const OF_SMALL: Totals = Totals {
     bh: 0,
 };
 
-/// A store that holds the submission alone.
+/// Returns a store with only the submission `given`.
 pub(super) fn stored<A: Allocator + Copy>(
     rt: &impl Abort,
     alloc: A,
@@ -50,7 +51,7 @@ pub(super) fn stored<A: Allocator + Copy>(
     store
 }
 
-/// A store that holds the packed submission alone.
+/// Returns a store with only the packed submission `given`.
 pub(super) fn stored_packed<A: Allocator + Copy>(
     rt: &impl Abort,
     alloc: A,
@@ -64,13 +65,13 @@ pub(super) fn stored_packed<A: Allocator + Copy>(
     store
 }
 
-/// A store that holds the text alone.
+/// Returns a store with only the submission of the tracefile `text`.
 pub(super) fn holding<A: Allocator + Copy>(rt: &impl Abort, alloc: A, text: &[u8]) -> Store<A> {
     let given = made(rt, read(alloc, text));
     stored(rt, alloc, &given)
 }
 
-/// Checks that the store prints this text, and has these totals.
+/// Checks that the store has the totals `totals`, and prints `text`.
 fn check_store<A: Allocator + Copy>(
     rt: &impl Abort,
     alloc: A,
@@ -101,7 +102,8 @@ fn hold<A: Allocator + Copy>(
     }
 }
 
-/// Adds `SMALL` to the store. The store must print the first of `texts` after a failed allocation, and the second one at last.
+/// Adds `SMALL` to the store, and returns whether an allocation failed. The store must print the first of `texts` after a failed
+/// allocation, and the second of `texts` at the end.
 fn holds<'h>(
     rt: &impl Abort,
     room: usize,
@@ -133,7 +135,7 @@ fn first_text(rt: &impl Abort, heap: &Bump, room: usize) -> bool {
     holds(rt, room, heap, store, (b"", SMALL))
 }
 
-/// A store that holds the submission alone, as by `stored`, with the promise that it has capacity for another one.
+/// Like `stored`, with the promise that the store has capacity for another submission.
 fn begun<A: Allocator + Copy>(rt: &impl Abort, alloc: A, given: &Submission<A>) -> Store<A>
     ensures { result.members < max_members }
 {
@@ -145,7 +147,7 @@ fn begun<A: Allocator + Copy>(rt: &impl Abort, alloc: A, given: &Submission<A>) 
     store
 }
 
-/// Adds `SMALL` to a store that holds it already.
+/// Adds `SMALL` to a store that already has the same submission.
 fn second_text(rt: &impl Abort, heap: &Bump, room: usize) -> bool {
     let store = begun(rt, heap, &made(rt, read(heap, SMALL)));
     check_store(rt, heap, &store, SMALL, OF_SMALL);
@@ -168,7 +170,7 @@ const OF_ONE: Totals = Totals {
     bh: 0,
 };
 
-/// Renames the test, and returns the number of its sections, or the error. Only `prepare_rename` can fail, not `commit_rename`.
+/// Renames the test `old` to `new`, and returns the number of its sections. Only `prepare_rename` can fail, not `commit_rename`.
 fn rename<A: Allocator + Copy>(
     alloc: A,
     store: &mut Store<A>,
@@ -185,7 +187,7 @@ fn rename<A: Allocator + Copy>(
     }
 }
 
-/// Renames the test `t`, as the row says, in a store that holds the text `held`.
+/// Renames the test `t` as `row` says, in a store with only the tracefile `held`. Returns whether an allocation failed.
 fn renames(rt: &impl Abort, heap: &Bump, room: usize, held: &[u8], row: Renamed<'_>) -> bool {
     let mut store = holding(rt, heap, held);
     narrow(rt, heap, room);
@@ -204,7 +206,7 @@ fn renames(rt: &impl Abort, heap: &Bump, room: usize, held: &[u8], row: Renamed<
     is_refused
 }
 
-/// The new name, the printed report after the rename, and the totals, which a rename doesn't change.
+/// A rename: the new name, the printed report after the rename, and the totals, which must stay the same.
 #[derive(Clone, Copy)]
 struct Renamed<'a> {
     new: &'a [u8],
@@ -222,7 +224,7 @@ fn a_new_name(rt: HostRuntime) {
     check_rising(&rt, |heap, room| renames(&rt, heap, room, SMALL, row));
 }
 
-/// Adds up the counts of one line if a test with the new name exists.
+/// A rename to the name of another test adds up the counts of a line that both tests have.
 #[test]
 fn a_name_that_is_there(rt: HostRuntime) {
     let row = Renamed {

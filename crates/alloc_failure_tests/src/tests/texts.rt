@@ -1,6 +1,6 @@
-//! Inputs, and the reports printed of them.
+//! Inputs, and their printed reports.
 
-/// A tracefile with two lines of one file, one of them hit. Its report is the same text.
+/// A tracefile with two lines of one file, one line hit. The tracefile's report is the same text.
 pub(super) const SMALL: &[u8] = b"TN:t\nSF:/a.c\nDA:1,2\nDA:2,0\nLF:2\nLH:1\nend_of_record\n";
 
 /// The report after `SMALL` was submitted twice.
@@ -28,7 +28,7 @@ end_of_record
 /// The report of `APART` after `t` was renamed to `u`.
 pub(super) const JOINED: &[u8] = b"TN:u\nSF:/a.c\nDA:1,5\nLF:1\nLH:1\nend_of_record\n";
 
-/// A tracefile of LCOV 2 with the same records as `TRACED`.
+/// A tracefile of LCOV 2 whose printed report is `TRACED`.
 pub(super) const LCOV2: &[u8] = b"\
 TN:t
 SF:tmp.c

@@ -1,4 +1,4 @@
-//! Makes values from others: texts from bytes, and shareable texts and submissions.
+//! Makes values from other values: texts from bytes, and shareable texts and submissions from plain ones.
 
 use super::heap::{check_rising, narrow, widen};
 use super::texts::SMALL;
@@ -8,7 +8,7 @@ use bumpalo::Bump;
 use std::process::Abort;
 use std::test::*;
 
-/// Makes a text of bytes.
+/// Makes a text from bytes.
 fn text_of(rt: &impl Abort, heap: &Bump, room: usize) -> bool {
     narrow(rt, heap, room);
     let first = bytes(heap, SMALL);

@@ -1,5 +1,4 @@
-//! Calls of the crates below, in functions without contracts. A test looks only at values, and its proof is faster without
-//! contracts.
+//! Calls other crates from functions without contracts. A test looks only at values, and is proved faster without contracts.
 
 use super::made;
 use super::texts::{CHECKED, CLASHING, SMALL};
@@ -119,7 +118,7 @@ pub(super) fn step<A: Allocator + Copy>(
     book.step(alloc, job, op)
 }
 
-/// A step in its two halves.
+/// Performs a step in two halves.
 pub(super) fn step_in_halves<A: Allocator + Copy>(
     alloc: A,
     book: &mut Book<A>,
@@ -130,7 +129,7 @@ pub(super) fn step_in_halves<A: Allocator + Copy>(
     Ok(book.finish(ready))
 }
 
-/// The list of the patterns, which have bars between them.
+/// Returns the list of `patterns`, which are separated by `|`.
 pub(super) fn list_of<A: Allocator + Copy>(
     rt: &impl Abort,
     alloc: A,
@@ -143,21 +142,21 @@ pub(super) fn list_of<A: Allocator + Copy>(
     list
 }
 
-/// The operation that submits the text.
+/// Returns the operation that submits the tracefile `text`.
 fn submit<A: Allocator + Copy>(rt: &impl Abort, alloc: A, text: &[u8]) -> Op<A> {
     let given = made(rt, read(alloc, text));
     Op::Submit(made(rt, shared(alloc, given)))
 }
 
-/// The operation that submits the text packed.
+/// Returns the operation that submits the tracefile `text` as a packed submission.
 fn submit_packed<A: Allocator + Copy>(rt: &impl Abort, alloc: A, text: &[u8]) -> Op<A> {
     let given = made(rt, read_packed(alloc, text));
     Op::SubmitPacked(made(rt, shared_packed(alloc, given)))
 }
 
-/// Makes the operation of these words: its name, and then the tests' names or patterns, with a space before each. `begin` submits
-/// `CHECKED`, `clash` submits `CLASHING`, and `packed` and `packed-clash` submit `SMALL` and `CLASHING` packed. An unknown name is
-/// a summary.
+/// Returns the operation that `words` describe: its name and then, each after a space, names of tests or patterns separated by `|`.
+/// `submit`, `begin` and `clash` submit `SMALL`, `CHECKED` and `CLASHING`. `packed` and `packed-clash` submit `SMALL` and
+/// `CLASHING` as packed submissions. An unknown name is a summary.
 pub(super) fn op_of<A: Allocator + Copy>(rt: &impl Abort, alloc: A, words: &[u8]) -> Op<A> {
     let mut words = words.split(|byte| *byte == b' ');
     let Some(name) = words.next() else {

@@ -5,7 +5,7 @@ use std::alloc::Global;
 use std::process::Abort;
 use std::test::*;
 
-/// Command lines of only the program's name, with `--` after it, and without any argument.
+/// Three command lines: only the program's name, the name and `--`, and no argument at all.
 #[test]
 fn without_a_subcommand(rt: HostRuntime) -> Result<(), Fail> {
     check_all(
@@ -18,7 +18,7 @@ covcollect -- => session
     )
 }
 
-/// Each subcommand, with its names in their order.
+/// Each subcommand, with its names in order.
 #[test]
 fn subcommands(rt: HostRuntime) -> Result<(), Fail> {
     check_all(
@@ -92,7 +92,7 @@ covcollect extract -j 2 a.info '*.c' => 2 2 error: unexpected argument '-j' foun
     )
 }
 
-/// The flag `--lcov2`, before, between and after the names. Beside `--gcov` it changes nothing.
+/// The flag `--lcov2`, before, between and after the names. Beside `--gcov`, the flag changes nothing.
 #[test]
 fn versions(rt: HostRuntime) -> Result<(), Fail> {
     check_all(
@@ -152,8 +152,8 @@ covcollect check --gcov --strict main.c.gcov => check (gcov 1) [main.c.gcov] str
     )
 }
 
-/// Rejects `--strict` if it is given twice, has a value, is misspelt, stands without the required arguments, or isn't allowed
-/// there.
+/// Rejects `--strict` if it is repeated, has a value, is misspelt, stands without the required arguments, or isn't an option at its
+/// place.
 #[test]
 fn strict_that_is_refused(rt: HostRuntime) -> Result<(), Fail> {
     check_all(
@@ -206,7 +206,8 @@ covcollect check --gcov --large main.c.gcov => check (gcov 1) [main.c.gcov] larg
     )
 }
 
-/// Rejects `--large` if it is given twice, has a value, is misspelt, stands without the required arguments, or isn't allowed there.
+/// Rejects `--large` if it is repeated, has a value, is misspelt, stands without the required arguments, or isn't an option at its
+/// place.
 #[test]
 fn large_that_is_refused(rt: HostRuntime) -> Result<(), Fail> {
     check_all(
@@ -229,8 +230,7 @@ covcollect list -l a.info => 2 2 error: unexpected argument '-l' found
     )
 }
 
-/// The options `--include` and `--exclude`: each several times, mixed with each other and with other arguments. Each has one
-/// argument.
+/// The options `--include` and `--exclude`: repeated, and mixed with each other and with other arguments. Each takes one argument.
 #[test]
 fn filters(rt: HostRuntime) -> Result<(), Fail> {
     check_all(
@@ -257,7 +257,7 @@ covcollect summary include exclude => summary (1 1) [include] [exclude]
     )
 }
 
-/// Rejects a filter that lacks its pattern or a file, isn't allowed there, or is misspelt.
+/// Rejects `--include` or `--exclude` if it lacks its pattern, stands without a file, is misspelt, or isn't an option at its place.
 #[test]
 fn filters_that_are_refused(rt: HostRuntime) -> Result<(), Fail> {
     check_all(
@@ -279,8 +279,8 @@ covcollect merge -i '*.c' a.info => 2 2 error: unexpected argument '-i' found
     )
 }
 
-/// The flag `--json` and the options `--fail-under-..`, alone, together, and mixed with other arguments. Any argument is a
-/// threshold here.
+/// The flag `--json` and the options `--fail-under-..`, alone, together, and mixed with other arguments. Any text is accepted as a
+/// threshold.
 #[test]
 fn totals(rt: HostRuntime) -> Result<(), Fail> {
     check_all(
@@ -304,7 +304,8 @@ covcollect list --lcov2 --jobs 4 --include b --exclude x --include c --json f g 
     )
 }
 
-/// Rejects a flag or a threshold that is given twice, lacks its argument or a file, or isn't allowed there.
+/// Rejects `--json` or `--fail-under-..` if it is repeated, lacks its argument, stands without a file, or isn't an option at its
+/// place.
 #[test]
 fn totals_that_are_refused(rt: HostRuntime) -> Result<(), Fail> {
     check_all(
@@ -337,7 +338,7 @@ covcollect summary --fail-under 80 a => 2 2 error: unexpected argument '--fail-u
 }
 
 /// The option `--output` or `-o` of each subcommand that has it, before, between and after other arguments. Its argument may be an
-/// input, empty, or anything that is no option.
+/// input's path, empty, or even `-o` after a `=`.
 #[test]
 fn outputs(rt: HostRuntime) -> Result<(), Fail> {
     check_all(
@@ -374,7 +375,8 @@ covcollect gcov -o unit.info --test= main.c.gcov util.c.gcov => gcov () [main.c.
     )
 }
 
-/// Rejects an output that is given twice, lacks its argument or the required arguments, or isn't allowed there.
+/// Rejects `--output` or `-o` if it is repeated, lacks its argument, stands without the required arguments, or isn't an option at
+/// its place.
 #[test]
 fn outputs_that_are_refused(rt: HostRuntime) -> Result<(), Fail> {
     check_all(
@@ -435,7 +437,7 @@ covcollect merge -V a.info => 2 2 error: unexpected argument '-V' found
     )
 }
 
-/// A name is any argument: with spaces in it, empty, in any script.
+/// A name may be any argument: with spaces, empty, or not ASCII.
 #[test]
 fn names_as_they_are(rt: HostRuntime) -> Result<(), Fail> {
     let alloc = rt.alloc();
@@ -453,7 +455,7 @@ fn names_as_they_are(rt: HostRuntime) -> Result<(), Fail> {
     )
 }
 
-/// Checks that the arguments have this result.
+/// Checks that parsing `words` has the result `wanted`.
 fn check_words(
     rt: &(impl Abort + AllocGlobal),
     words: &[String],
@@ -464,7 +466,7 @@ fn check_words(
     Ok(())
 }
 
-/// Prints the parsed command line, or the text of its error.
+/// Parses `words`. Returns the result or the error as text.
 fn told_of(alloc: Global, words: &[String]) -> Result<String, Fail> {
     match asked(alloc, words) {
         Ok(whole) => told(alloc, &whole),

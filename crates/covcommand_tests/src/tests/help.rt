@@ -1,4 +1,4 @@
-//! Tests of help.
+//! Tests of the help texts.
 
 use super::{asked, check, check_all, told, words_of};
 use covcommand::{CommandFault, VERSION};
@@ -39,7 +39,7 @@ fn version(rt: HostRuntime) -> Result<(), Fail> {
     check(&rt, "covcollect --version merge", wanted.as_str())
 }
 
-/// The text of the version if it is requested, and otherwise no text.
+/// Returns the version's text if `call` requests it, else the empty text.
 fn version_of(alloc: Global, call: &str) -> Result<String, Fail> {
     let words = words_of(alloc, call)?;
     match asked(alloc, words.as_slice()) {
@@ -48,7 +48,7 @@ fn version_of(alloc: Global, call: &str) -> Result<String, Fail> {
     }
 }
 
-/// The version is one line: the program's name and its number.
+/// The version's text is one line: the program's name and the version number.
 #[test]
 fn the_whole_version(rt: HostRuntime) -> Result<(), Fail> {
     let text = version_of(rt.alloc(), "covcollect --version")?;
@@ -56,7 +56,7 @@ fn the_whole_version(rt: HostRuntime) -> Result<(), Fail> {
     check_text(&rt, text.as_str(), wanted.as_str())
 }
 
-/// The text of help if it is requested, and otherwise no text.
+/// Returns the help text if `call` requests it, else the empty text.
 fn help_of(alloc: Global, call: &str) -> Result<String, Fail> {
     let words = words_of(alloc, call)?;
     match asked(alloc, words.as_slice()) {
@@ -116,7 +116,7 @@ Exit status:
     )
 }
 
-/// The whole help of a subcommand.
+/// The whole help of `gcov`, a subcommand with a required option.
 #[test]
 fn the_whole_help_of_gcov(rt: HostRuntime) -> Result<(), Fail> {
     let help = help_of(rt.alloc(), "covcollect gcov --help")?;
@@ -144,7 +144,7 @@ it without options, or by -b -c with functions and branches:
     )
 }
 
-/// The whole help of a subcommand with patterns as names.
+/// The whole help of `remove`, a subcommand with patterns as arguments.
 #[test]
 fn the_whole_help_of_remove(rt: HostRuntime) -> Result<(), Fail> {
     let help = help_of(rt.alloc(), "covcollect remove --help")?;
@@ -182,7 +182,7 @@ and to put the result in place of the tracefile
     )
 }
 
-/// The whole help of a subcommand with options that have a short form.
+/// The whole help of `summary`, a subcommand with options that have a short form.
 #[test]
 fn the_whole_help_of_summary(rt: HostRuntime) -> Result<(), Fail> {
     let help = help_of(rt.alloc(), "covcollect summary --help")?;
@@ -227,7 +227,7 @@ and to end with status 6 where too little is hit
     )
 }
 
-/// The whole help of a subcommand with options of both kinds, but without thresholds.
+/// The whole help of `list`, a subcommand like `summary` but without thresholds.
 #[test]
 fn the_whole_help_of_list(rt: HostRuntime) -> Result<(), Fail> {
     let help = help_of(rt.alloc(), "covcollect list --help")?;
@@ -267,7 +267,7 @@ and as JSON
     )
 }
 
-/// The whole help of a subcommand with flags.
+/// The whole help of `check`, a subcommand with its own help for `--strict`.
 #[test]
 fn the_whole_help_of_check(rt: HostRuntime) -> Result<(), Fail> {
     let help = help_of(rt.alloc(), "covcollect check --help")?;
@@ -312,7 +312,7 @@ fn check_text(rt: &impl Abort, given: &str, wanted: &str) -> Result<(), Fail> {
     Ok(())
 }
 
-/// Each example of a call in the texts of help is a valid command line, with the subcommand of that text.
+/// Each example call in the help texts is valid, and is parsed as the subcommand that it names.
 #[test]
 fn examples_are_taken(rt: HostRuntime) -> Result<(), Fail> {
     check_examples(&rt, "covcollect --help", 5)?;
@@ -325,7 +325,7 @@ fn examples_are_taken(rt: HostRuntime) -> Result<(), Fail> {
     check_examples(&rt, "covcollect check --help", 4)
 }
 
-/// Checks the number of examples in the help, and that each is valid.
+/// Checks that the help of `call` has `wanted` examples, and that each is valid.
 fn check_examples(rt: &(impl Abort + AllocGlobal), call: &str, wanted: usize) -> Result<(), Fail> {
     let help = help_of(rt.alloc(), call)?;
     let mut examples: usize = 0;
@@ -339,8 +339,8 @@ fn check_examples(rt: &(impl Abort + AllocGlobal), call: &str, wanted: usize) ->
     Ok(())
 }
 
-/// Finds the example of a call in a line of help. Such a line is indented, and only a call of lcov may come before the example.
-/// Returns the example without the program's name, and without ` > ` and what follows.
+/// Returns the example call in a line of help: without the program's name, and without ` > ` and what follows. Such a line is
+/// indented, and only a call of lcov may come before the example.
 fn example_in(line: &str) -> Option<&str> {
     let (before, call) = line.strip_prefix("  ")?.split_once("covcollect ")?;
     if !before.is_empty() && !before.starts_with("lcov ") {
@@ -352,7 +352,7 @@ fn example_in(line: &str) -> Option<&str> {
     )
 }
 
-/// Checks that the command line is valid, and has the subcommand that is its first argument.
+/// Checks that `call`, a command line without the program's name, is valid and is parsed as the subcommand that it names.
 fn check_example(rt: &(impl Abort + AllocGlobal), call: &str) -> Result<(), Fail> {
     let given = told_after_name(rt.alloc(), call)?;
     let wanted = call.split_whitespace().next().unwrap_or("");
@@ -360,7 +360,7 @@ fn check_example(rt: &(impl Abort + AllocGlobal), call: &str) -> Result<(), Fail
     Ok(())
 }
 
-/// Prints the parsed command line, which is given without the program's name.
+/// Parses `call`, a command line without the program's name. Returns the result or the error as text.
 fn told_after_name(alloc: Global, call: &str) -> Result<String, Fail> {
     let call = format!(in alloc; "covcollect {call}")?;
     let words = words_of(alloc, call.as_str())?;

@@ -1,4 +1,4 @@
-//! Arguments as text.
+//! Tests of `word_at`: arguments as text.
 
 use super::refused;
 use covcommand::{CommandFault, word_at};
@@ -6,8 +6,8 @@ use std::alloc::Global;
 use std::process::Abort;
 use std::test::*;
 
-/// A UTF-8 argument is returned unchanged. Any other argument is reported with its index and its bytes, with `?` for those that
-/// can't be printed.
+/// A UTF-8 argument is returned unchanged. The error of any other argument has its index, and its bytes with `?` for each
+/// unprintable one.
 #[test]
 fn words_as_text(rt: HostRuntime) -> Result<(), Fail> {
     check_word(&rt, 2, b"my files/a.info", "my files/a.info")?;
@@ -27,7 +27,7 @@ fn words_as_text(rt: HostRuntime) -> Result<(), Fail> {
     )
 }
 
-/// Checks that the argument with this index is returned as `wanted`, or that its error has this text.
+/// Checks that `word_at` returns `wanted` for the argument `word` at index `place`, or an error with the text `wanted`.
 fn check_word(
     rt: &(impl Abort + AllocGlobal),
     place: usize,
@@ -39,12 +39,12 @@ fn check_word(
     Ok(())
 }
 
-/// The argument as text, or its error. This function has no contract.
+/// Calls `word_at`. This function has no contract.
 fn taken(alloc: Global, place: usize, word: &[u8]) -> Result<String, CommandFault> {
     word_at(alloc, place, word)
 }
 
-/// The text, or the error in words.
+/// Returns the text in `taken`, or its error as text.
 fn told_of(alloc: Global, taken: Result<String, CommandFault>) -> Result<String, Fail> {
     match taken {
         Ok(text) => Ok(text),

@@ -8,8 +8,8 @@ use std::alloc::Global;
 use std::process::Abort;
 use std::test::*;
 
-/// Reads `bytes` after `text`, at most `most` bytes and 100. Returns the text and the number of reads. The source gives at most two
-/// bytes per read and is asked for at most three.
+/// Appends at most `most` bytes, and at most 100, of the source `bytes` to `text`. Returns the text and the number of reads. Each
+/// read asks for at most three bytes, and returns at most two.
 fn read(
     alloc: Global,
     text: &[u8],
@@ -32,7 +32,7 @@ fn read(
     }
 }
 
-/// Checks the bytes that are read, and the number of reads.
+/// Checks that `read` returns the text and the number of reads in `wanted`.
 fn check(
     rt: &(impl Abort + AllocGlobal),
     text: &[u8],
@@ -49,7 +49,7 @@ fn check(
     Ok(())
 }
 
-/// Bytes are appended until there are enough of them, or the source is at its end.
+/// Bytes are appended until the limit or the end of the source is reached.
 #[test]
 fn reads(rt: HostRuntime) -> Result<(), Fail> {
     check(&rt, b"", b"abcdef", 4, (b"abcd", 2))?;
@@ -60,7 +60,7 @@ fn reads(rt: HostRuntime) -> Result<(), Fail> {
     check(&rt, b"xy", b"abc", 0, (b"xy", 0))
 }
 
-/// A failed read is the error. A read that isn't needed isn't made, and so can't fail.
+/// A failed read ends with the error `Read`. A read that isn't needed isn't made, and so can't fail.
 #[test]
 fn failed_reads(rt: HostRuntime) -> Result<(), Fail> {
     let first = read(rt.alloc(), b"x", b"abc", 1, 4)?;

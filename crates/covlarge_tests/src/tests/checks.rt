@@ -5,7 +5,7 @@ use super::{WELL, Way, check_whole, check_words};
 use covcommand::LcovVersion;
 use std::test::*;
 
-/// Skipped lines in the second and third chunk, and inconsistent ones in the first and third.
+/// Skipped lines in the second and third chunk, and inconsistent lines in the first and third chunk.
 #[test]
 fn several_pieces(rt: HostRuntime) -> Result<(), Fail> {
     let mut text = Vec::from_slice(rt.alloc(), b"TN:t\nSF:/b.c\nFNDA:1,f\nend_of_record\n")?;
@@ -28,7 +28,7 @@ fn several_pieces(rt: HostRuntime) -> Result<(), Fail> {
     Ok(())
 }
 
-/// A tracefile of one chunk, an empty one, and the ways in which reading ends early.
+/// An empty tracefile, a tracefile of one chunk, and the ways in which reading ends early.
 #[test]
 fn other_ends(rt: HostRuntime) -> Result<(), Fail> {
     let told = check_whole(rt.alloc(), LcovVersion::One, b"", WELL)?;

@@ -32,7 +32,7 @@ fn three(rt: HostRuntime) -> Result<(), Fail> {
     Ok(())
 }
 
-/// Each chunk reduces the number of chunks that may follow by one.
+/// Each chunk that is read lowers by one the number of chunks that may follow.
 #[test]
 fn pieces_that_are_left(rt: HostRuntime) -> Result<(), Fail> {
     let text = three_pieces(rt.alloc(), b"")?;
@@ -54,7 +54,7 @@ fn pieces_that_are_left(rt: HostRuntime) -> Result<(), Fail> {
     Ok(())
 }
 
-/// Errors in the last chunk have their line numbers in the whole, and the chunks before it are read.
+/// An error in the last chunk has its line number in the whole tracefile, and the earlier chunks are read.
 #[test]
 fn faults(rt: HostRuntime) -> Result<(), Fail> {
     let examples: [(&[u8], &str); 4] = [
@@ -74,8 +74,8 @@ fn faults(rt: HostRuntime) -> Result<(), Fail> {
     Ok(())
 }
 
-/// A section of 8 MiB, and the state carried over to it: the test's name, and in LCOV 2 that totals of functions are ignored. A
-/// name follows it.
+/// A section of 8 MiB takes over the state before it: the test's name and, in LCOV 2, that totals of functions are ignored. Another
+/// test's name follows the section.
 #[test]
 fn a_long_section(rt: HostRuntime) -> Result<(), Fail> {
     let mut text = Vec::from_slice(
@@ -95,7 +95,7 @@ fn a_long_section(rt: HostRuntime) -> Result<(), Fail> {
     Ok(())
 }
 
-/// A section of 64 MiB is too long. Reading reports this after the section before it.
+/// A section of 64 MiB is too long. This error is reported after the sections before.
 #[test]
 fn a_section_that_is_too_long(rt: HostRuntime) -> Result<(), Fail> {
     let mut text = Vec::from_slice(rt.alloc(), b"SF:/a.c\nDA:1,1\nend_of_record\n")?;
@@ -109,7 +109,8 @@ fn a_section_that_is_too_long(rt: HostRuntime) -> Result<(), Fail> {
     Ok(())
 }
 
-/// A section at the size limit, and one byte above it: 15 + 67,108,834 + 15, or five less with the prefix `TN:t`.
+/// A section at the size limit, and a section one byte above the limit. Each has 15 bytes before its long line and 15 after, and
+/// five more with a line `TN:t`.
 #[test]
 fn the_longest_section(rt: HostRuntime) -> Result<(), Fail> {
     let examples: [(&[u8], usize, &str); 4] = [
@@ -131,7 +132,8 @@ fn the_longest_section(rt: HostRuntime) -> Result<(), Fail> {
     Ok(())
 }
 
-/// A failed read in the first chunk, which needs 64 reads of 64 KiB, or in the second one, which needs 17 and one more at the end.
+/// A failed read in the first chunk, which needs 64 reads of 64 KiB, or in the second chunk, which needs 17 reads and one at the
+/// end of the source.
 #[test]
 fn failed_reads(rt: HostRuntime) -> Result<(), Fail> {
     let mut text = Vec::from_slice(rt.alloc(), b"")?;

@@ -11,7 +11,7 @@ use std::test::*;
 const TWO: &[u8] =
     b"TN:t\nSF:/a.c\nFN:1,f\nFNDA:2,f\nDA:1,2,x\nDA:2,0\nLF:3\nend_of_record\n\nx\nSF:/b.c\nend_of_record\n";
 
-/// The submission of the only chunk is that of the whole tracefile, and no chunk follows.
+/// The only chunk is the submission of the whole tracefile, and no chunk follows.
 #[test]
 fn one_piece(rt: HostRuntime) -> Result<(), Fail> {
     let source = Given {
@@ -51,7 +51,7 @@ fn small_reads(rt: HostRuntime) -> Result<(), Fail> {
     Ok(())
 }
 
-/// Checks a tracefile: the printed words of its only chunk and of its end.
+/// Checks that `read_pieces` returns `wanted` for the tracefile `text`.
 fn check(
     rt: &(impl Abort + AllocGlobal),
     version: LcovVersion,

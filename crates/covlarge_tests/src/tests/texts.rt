@@ -3,7 +3,7 @@
 use std::alloc::Global;
 use std::test::*;
 
-/// Repeats the text 2^`times` times.
+/// Returns `text` repeated 2^`times` times.
 pub(super) fn doubled(alloc: Global, text: &[u8], times: usize) -> Result<Vec<u8>, Fail> {
     let mut all = Vec::from_slice(alloc, text)?;
     for _time in 0..times {
@@ -13,8 +13,8 @@ pub(super) fn doubled(alloc: Global, text: &[u8], times: usize) -> Result<Vec<u8
     Ok(all)
 }
 
-/// Appends the section `SF:/a.c` with the line `DA:1,1`, `times` times. The line's count has 524,288 leading zeros, so the section
-/// has 524,317 bytes, and a chunk of 4 MiB has seven of them.
+/// Appends `times` copies of the section `SF:/a.c` with the line `DA:1,1`. The line's count has 524,288 leading zeros, so the
+/// section has 524,317 bytes, and a chunk of 4 MiB has seven such sections.
 pub(super) fn push_sections(alloc: Global, text: &mut Vec<u8>, times: usize) -> Result<(), Fail> {
     let zeros = doubled(alloc, b"0", 19)?;
     for _time in 0..times {
@@ -25,7 +25,7 @@ pub(super) fn push_sections(alloc: Global, text: &mut Vec<u8>, times: usize) -> 
     Ok(())
 }
 
-/// 9 MiB: 18 of these sections in the test `t`, followed by the lines `last`, which begin at line 56.
+/// Returns a tracefile of 9 MiB: 18 sections of `push_sections` in the test `t`, followed by `last`, which begins at line 56.
 pub(super) fn three_pieces(alloc: Global, last: &[u8]) -> Result<Vec<u8>, Fail> {
     let mut text = Vec::from_slice(alloc, b"TN:t\n")?;
     push_sections(alloc, &mut text, 18)?;
@@ -33,7 +33,7 @@ pub(super) fn three_pieces(alloc: Global, last: &[u8]) -> Result<Vec<u8>, Fail> 
     Ok(text)
 }
 
-/// The section `SF:/b.c` with a line of 2^`times` bytes and more, which is skipped.
+/// Appends the section `SF:/b.c` with a line of 2^`times` bytes, which is skipped.
 pub(super) fn push_long_section(
     alloc: Global,
     text: &mut Vec<u8>,

@@ -1,4 +1,4 @@
-//! Runs whose input or output fails: the reported errors, and the output. Only a check prints anything then.
+//! Runs whose input or output fails: the exit status, the reported errors, and the output before the failure.
 
 ghost use Rattle.std.specs.Prelude.{None};
 
@@ -11,7 +11,7 @@ use std::sync::Wait;
 use std::test::*;
 use std::thread::Threads;
 
-/// An output that takes no byte, or one that takes all bytes and can't send them on.
+/// An output that takes no byte or, if `takes` is true, takes all bytes but can't flush them.
 #[derive(Drop)]
 struct Closed {
     takes: bool,
@@ -61,7 +61,7 @@ fn call_closed<
     Ok((status, faults))
 }
 
-/// Checks that a run with a `Closed` output ends with status 1 and this error stream.
+/// Checks that a run of `asked` with a `Closed` output ends with status 1 and the error stream `told`.
 fn check_closed<
     R: Files<File: Send, Dir: Send> + RandomSource + AllocGlobal + Threads + Wait + Abort + Sync,
 >(rt: &R, asked: &str, takes: bool, told: &str) -> Result<(), Fail> {
@@ -71,7 +71,7 @@ fn check_closed<
     Ok(())
 }
 
-/// An output that fails at once, and one that fails when it is flushed.
+/// An output that fails at once, and an output that fails when it is flushed.
 #[test]
 fn a_closed_output(rt: HostRuntime) -> Result<(), Fail> {
     for takes in [false, true] {
@@ -93,7 +93,7 @@ fn a_closed_output(rt: HostRuntime) -> Result<(), Fail> {
     )
 }
 
-/// A summary that can't be written is the only reported error, although /dev/null is below each threshold.
+/// Only the failed write is reported, although /dev/null is below each threshold.
 #[test]
 fn a_closed_output_with_a_limit(rt: HostRuntime) -> Result<(), Fail> {
     for takes in [false, true] {
@@ -107,7 +107,7 @@ fn a_closed_output_with_a_limit(rt: HostRuntime) -> Result<(), Fail> {
     Ok(())
 }
 
-/// A check that can't write a file's line reports its complaints about this file and those before it, and none about later files.
+/// A `check` that can't write a file's line reports the errors of this file and of earlier files, but not of later files.
 #[test]
 fn a_check_with_a_closed_output(rt: HostRuntime) -> Result<(), Fail> {
     for asked in [
@@ -126,7 +126,7 @@ fn a_check_with_a_closed_output(rt: HostRuntime) -> Result<(), Fail> {
     Ok(())
 }
 
-/// An output that takes `left` whole writes and then fails. It stores the bytes that it took.
+/// An output that takes `left` whole writes, stores their bytes, and then fails.
 #[derive(Drop)]
 pub(super) struct Closing {
     pub(super) left: u64,
@@ -155,8 +155,8 @@ impl Sink for Closing {
     }
 }
 
-/// The output takes one line and then fails. A check of three files has written the whole line of the first one and no byte of
-/// the second one's, and doesn't look at the third.
+/// A `check` of three files whose output fails after one line. The output has the whole line of the first file and nothing of the
+/// second. The third file isn't reported.
 #[test]
 fn a_check_whose_output_takes_one_line(rt: HostRuntime) -> Result<(), Fail> {
     let words = words_of(
@@ -240,7 +240,7 @@ fn check_broken<
     Ok(())
 }
 
-/// Only a session reads the input.
+/// Only a session reads standard input.
 #[test]
 fn a_broken_input(rt: HostRuntime) -> Result<(), Fail> {
     check_broken(&rt, "covcollect", 1, 1)?;

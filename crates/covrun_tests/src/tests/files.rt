@@ -1,4 +1,4 @@
-//! Runs on files of std with ample memory, one for each subcommand.
+//! Runs on real files with ample memory, one run for each subcommand.
 
 use super::{call, check_text, words_of};
 use std::fs;
@@ -9,10 +9,11 @@ use std::sync::Wait;
 use std::test::*;
 use std::thread::Threads;
 
-/// A tracefile, as it is printed.
+/// A tracefile in printed form.
 const TEXT: &str = "TN:t\nSF:/a.c\nDA:1,2\nDA:2,0\nLF:2\nLH:1\nend_of_record\n";
 
-/// Checks that a run ends with status 0, this output and an empty error stream. Its arguments are those before and after a path.
+/// Checks that a run with the arguments `before`, `path` and `after` ends with status 0, the output `output` and an empty error
+/// stream.
 fn check<
     R: Files<File: Send, Dir: Send> + RandomSource + AllocGlobal + Threads + Wait + Abort + Sync,
 >(rt: &R, before: &str, path: &str, after: &str, output: &str) -> Result<(), Fail> {

@@ -1,5 +1,5 @@
-//! Runs that read from folders in memory. The contract of one folder gives its files' bytes. The files of the other fail while they
-//! are read.
+//! Runs that read from in-memory folders. For one folder, contracts see the file's bytes. The files of the other folder fail while
+//! they are read.
 
 ghost use Rattle.std.specs.Prelude.{◌≡◌, ◌≢◌, None, Some};
 
@@ -12,7 +12,7 @@ use std::sync::Wait;
 use std::test::*;
 use std::thread::Threads;
 
-/// Runs the program with these arguments and this folder.
+/// Runs the program with the arguments `words` on the files of `folder`.
 fn call_over<R: AllocGlobal + Threads + Wait + Sync, F: Folder<File: Send> + Sync>(
     rt: &R,
     folder: &F,
@@ -42,7 +42,7 @@ fn call_over<R: AllocGlobal + Threads + Wait + Sync, F: Folder<File: Send> + Syn
     }
 }
 
-/// Checks that a run with this folder ends with status 1, and writes `output` and `faults`.
+/// Checks that a run of `asked` on the files of `folder` ends with status 1, and writes `output` and `faults`.
 fn check_over<R: AllocGlobal + Threads + Wait + Abort + Sync, F: Folder<File: Send> + Sync>(
     rt: &R,
     folder: &F,
@@ -58,7 +58,7 @@ fn check_over<R: AllocGlobal + Threads + Wait + Abort + Sync, F: Folder<File: Se
     Ok(())
 }
 
-/// A folder of one file, whose contract gives the file's bytes.
+/// A folder of one file. Contracts see the file's bytes.
 #[derive(Clone, Copy)]
 pub(super) struct OneFile<'a> {
     pub(super) name: &'a str,
@@ -108,7 +108,7 @@ fn a_folder_of_one_file(rt: HostRuntime) -> Result<(), Fail> {
     )
 }
 
-/// A file whose first read gives one byte, and whose later reads fail.
+/// A file whose first read returns one byte, and whose later reads fail.
 #[derive(Drop)]
 struct Torn {
     reads: u64,
@@ -137,7 +137,7 @@ impl Source for Torn {
     }
 }
 
-/// A folder that opens a torn file under each name.
+/// A folder that opens a `Torn` file for each name.
 #[derive(Clone, Copy)]
 struct TornFiles;
 
@@ -161,7 +161,7 @@ impl Folder for TornFiles {
     }
 }
 
-/// If a read of a file fails, the bytes before it aren't accepted as the file's content.
+/// A failed read rejects the file: the bytes before aren't accepted as the file's content.
 #[test]
 fn a_read_fails_within_a_file(rt: HostRuntime) -> Result<(), Fail> {
     for asked in [

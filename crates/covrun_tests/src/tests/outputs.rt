@@ -43,14 +43,14 @@ impl OutputFolder for NoFiles {
     }
 }
 
-/// A file of a shelf.
+/// A finished file of a `Shelf`.
 #[derive(Drop)]
 struct Kept {
     name: String,
     text: Vec<u8>,
 }
 
-/// An output folder in memory, whose contract gives each file's bytes. It accepts `room` files and then fails.
+/// An in-memory output folder. Contracts see each file's bytes. `finish` fails when `room` is 0.
 #[derive(Drop)]
 struct Shelf {
     alloc: Global,
@@ -102,7 +102,8 @@ impl OutputFolder for Shelf {
     }
 }
 
-/// Runs the program with this output folder. Returns the exit status and the error stream. Checks that the output is empty.
+/// Runs the command line `asked` with the output folder `files`. Returns the exit status and the error stream. Checks that the
+/// standard output is empty.
 fn call_onto<R: AllocGlobal + Threads + Wait + Abort + Sync, P: OutputFolder>(
     rt: &R,
     asked: &str,
@@ -151,7 +152,7 @@ fn shelf_of(alloc: Global, room: u64) -> Shelf
     }
 }
 
-/// The text goes only into the named file. Rates below their thresholds are reported after that.
+/// The text goes only into the file of `--output`. Rates below their thresholds are reported afterwards.
 #[test]
 fn a_text_goes_onto_a_shelf(rt: HostRuntime) -> Result<(), Fail> {
     let mut files = shelf_of(rt.alloc(), 1);
@@ -174,7 +175,7 @@ fn a_text_goes_onto_a_shelf(rt: HostRuntime) -> Result<(), Fail> {
     check_shelf(&rt, &files, "s.txt", text)
 }
 
-/// Checks that the shelf has one file, with this name and this text.
+/// Checks that the shelf has only the file `name`, with the text `text`.
 fn check_shelf(
     rt: &(impl Abort + AllocGlobal),
     files: &Shelf,
@@ -188,7 +189,8 @@ fn check_shelf(
     check_text(rt, name, kept.text.as_slice(), text)
 }
 
-/// A file that can't be begun or finished is reported with its printed name, and rates below their thresholds aren't.
+/// A file that can't be begun or finished is reported, with its name in printed form. Rates below their thresholds aren't reported
+/// then.
 #[test]
 fn a_file_cannot_be_written(rt: HostRuntime) -> Result<(), Fail> {
     let mut full = shelf_of(rt.alloc(), 0);
@@ -210,7 +212,7 @@ fn a_file_cannot_be_written(rt: HostRuntime) -> Result<(), Fail> {
     Ok(())
 }
 
-/// An unfinished file that takes some writes, and then fails.
+/// An unfinished file that takes `left` writes, and then fails.
 #[derive(Drop)]
 struct Short {
     left: u64,
@@ -238,7 +240,7 @@ impl Sink for Short {
     }
 }
 
-/// An output folder whose files fail while they are written. It counts the abandoned ones.
+/// An output folder whose files fail at their first write. `abandoned` counts the abandoned files.
 #[derive(Drop)]
 struct Shorts {
     alloc: Global,

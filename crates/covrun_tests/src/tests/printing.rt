@@ -14,7 +14,8 @@ use std::sync::Wait;
 use std::test::*;
 use std::thread::Threads;
 
-/// Runs the program with these arguments, this folder and this output. Returns the exit status and the error stream.
+/// Runs the program with the arguments `words`, the files of `folder` and the output `output`. Returns the exit status and the
+/// error stream.
 fn call_into<R: AllocGlobal + Threads + Wait + Sync, F: Folder<File: Send> + Sync, O: Sink>(
     rt: &R,
     folder: &F,
@@ -41,8 +42,8 @@ fn call_into<R: AllocGlobal + Threads + Wait + Sync, F: Folder<File: Send> + Syn
     (status, faults)
 }
 
-/// Merges this tracefile into an output that takes `writes` whole writes and then fails. Returns the exit status, the error stream
-/// and the output.
+/// Merges the tracefile `text` into an output that takes `writes` whole writes and then fails. Returns the exit status, the error
+/// stream and the output.
 fn merge_into<R: AllocGlobal + Threads + Wait + Sync>(
     rt: &R,
     text: &[u8],
@@ -62,8 +63,8 @@ fn merge_into<R: AllocGlobal + Threads + Wait + Sync>(
     Ok((status, faults, output))
 }
 
-/// Checks merges of a tracefile that is printed unchanged, in `blocks` writes. An output that fails before one of them has a prefix
-/// of the text, and the failure is reported. An output that takes all of them has the whole text.
+/// Checks merges of the tracefile `text`, which must be printed unchanged in `blocks` writes. An output that fails earlier must
+/// have a proper prefix of `text`, and the failure must be reported. An output that takes all writes must have all of `text`.
 fn check_blocks<R: AllocGlobal + Threads + Wait + Abort + Sync>(
     rt: &R,
     text: &[u8],
@@ -94,7 +95,7 @@ fn check_blocks<R: AllocGlobal + Threads + Wait + Abort + Sync>(
     Ok(())
 }
 
-/// A tracefile of 20,000 lines as it is printed. It has 208,938 bytes.
+/// A tracefile of 20,000 lines in printed form, of 208,938 bytes.
 fn many_lines(alloc: Global) -> Result<String, Fail> {
     let mut text = String::from_str(alloc, "TN:\nSF:/a.c\n")?;
     for line in 1..=20_000 {
@@ -105,14 +106,14 @@ fn many_lines(alloc: Global) -> Result<String, Fail> {
     Ok(text)
 }
 
-/// The text needs four blocks, and no record is split between two of them.
+/// A text that is printed in four blocks.
 #[test]
 fn a_text_of_four_blocks(rt: HostRuntime) -> Result<(), Fail> {
     let text = many_lines(rt.alloc())?;
     check_blocks(&rt, text.as_str().as_bytes(), 4)
 }
 
-/// A tracefile whose file has a name of 200,000 bytes, as it is printed.
+/// A tracefile in printed form. Its source file has a name of 200,000 bytes.
 fn a_long_name(alloc: Global) -> Result<String, Fail> {
     let mut text = String::from_str(alloc, "TN:\nSF:")?;
     for _byte in 0..200_000 {
@@ -122,7 +123,8 @@ fn a_long_name(alloc: Global) -> Result<String, Fail> {
     Ok(text)
 }
 
-/// The bytes before the name are one write, followed by three blocks of the name, and its rest with the bytes after it.
+/// A name that is printed in several blocks. The five writes are the bytes before the name, three blocks of the name, and the rest
+/// of the name with the bytes after it.
 #[test]
 fn a_name_longer_than_a_block(rt: HostRuntime) -> Result<(), Fail> {
     let text = a_long_name(rt.alloc())?;

@@ -1,4 +1,4 @@
-//! Sources and sinks that are slow or narrow, that fail, that hold bytes back, or that give or take very many bytes.
+//! Sources and sinks that are slow or narrow, fail, hold bytes back, or pass very many bytes.
 
 ghost use Rattle.std.specs.Prelude.{None, length, ◌-◌};
 
@@ -10,7 +10,8 @@ use std::cell::Cell;
 use std::io::{self, Read, Write};
 use std::test::*;
 
-/// A session: one tracefile twice, a report and a summary, 133 bytes together. The commands end after 59, 118, 125 and 133 bytes.
+/// The input of a session, 133 bytes: one tracefile twice, a report and a summary. The commands end after 59, 118, 125 and 133
+/// bytes.
 const INPUT: &[u8] = b"\
 trace
 TN:t
@@ -34,7 +35,7 @@ report
 summary
 ";
 
-/// The answers to `INPUT`, 222 bytes together. They end after 25, 50, 103 and 222 bytes.
+/// The answers to `INPUT`, 222 bytes. The answers end after 25, 50, 103 and 222 bytes.
 const ANSWER: &[u8] = b"\
 accepted 1 items 2 odd 0
 accepted 2 items 2 odd 0
@@ -53,7 +54,7 @@ Summary coverage rate:
 .
 ";
 
-/// A source that gives one byte per read. Only read number `good_reads` + 1 fails.
+/// A source that returns one byte per read. Only read number `good_reads` + 1 fails.
 #[derive(Drop)]
 struct Slow<'a> {
     input: &'a [u8],
@@ -129,8 +130,9 @@ impl Sink for Narrow {
     }
 }
 
-/// Runs a session on `INPUT`, one byte per read, at most `width` bytes per write. Read number `good_reads` + 1 fails, and write
-/// number `good_writes` + 1. Returns the session's result, the number of bytes written, and whether they are a prefix of `ANSWER`.
+/// Runs a session on `INPUT`, with one byte per read and at most `width` bytes per write. Read number `good_reads` + 1 and write
+/// number `good_writes` + 1 fail. Returns the session's result, the number of bytes written, and whether these bytes are a prefix
+/// of `ANSWER`.
 fn by_pieces(
     alloc: Global,
     good_reads: usize,
@@ -163,7 +165,7 @@ fn one_byte_at_a_time(rt: HostRuntime) {
     }
 }
 
-/// The number of bytes that are written before the next read, after the first `bytes` bytes of `INPUT` are read.
+/// The number of bytes that a session has written after it has read `bytes` bytes of `INPUT`, and before the next read.
 fn answered_to(bytes: usize) -> usize {
     match bytes {
         0..=58 => 0,
@@ -174,7 +176,8 @@ fn answered_to(bytes: usize) -> usize {
     }
 }
 
-/// Each read in turn fails, also the one at the end of the input. The session ends there, after answering all complete commands.
+/// Each read in turn fails, even the read at the end of the input. The failed read ends the session, after the answers to all
+/// complete commands.
 #[test]
 fn each_read_fails(rt: HostRuntime) {
     for good_reads in 0..=133 {
@@ -185,7 +188,7 @@ fn each_read_fails(rt: HostRuntime) {
     assert_eq!(rt; by_pieces(rt.alloc(), 134, 1, 1_000), (Ok(()), 222, true));
 }
 
-/// Each write of a byte in turn fails. The session ends there, after the bytes before this one.
+/// Each write of a byte in turn fails. The failed write ends the session, after the bytes before.
 #[test]
 fn each_write_fails(rt: HostRuntime) {
     for good_writes in 0..222 {
@@ -251,8 +254,8 @@ impl Sink for Holding {
     }
 }
 
-/// Runs a session on `INPUT` with a sink that holds bytes back until it is flushed. Returns the session's result, and whether all
-/// of `ANSWER` was sent on.
+/// Runs a session on `INPUT` with a sink that holds bytes back until it is flushed. A flush fails unless `can_send` is true.
+/// Returns the session's result, and whether all of `ANSWER` was flushed.
 fn by_flushes(alloc: Global, can_send: bool) -> (Result<(), SessionFault>, bool) {
     let mut source = FromRead::new(INPUT);
     let mut sink = Holding {
@@ -282,8 +285,8 @@ struct Wire {
     flushes: Cell<usize>,
 }
 
-/// A source that gives one byte per read, and notes a read before all output is flushed. A user who waits for each answer before
-/// the next command would then wait for ever.
+/// A source that returns one byte per read. `starved` notes whether a read came before all output was flushed: a user who waits for
+/// each answer before the next command would then wait for ever.
 #[derive(Drop)]
 struct Waiting<'a> {
     input: &'a [u8],
@@ -353,8 +356,8 @@ impl<'a> Sink for Buffered<'a> {
     }
 }
 
-/// Runs a session over a wire on which only flush number `good_flushes` + 1 fails. Returns how it ended, how many bytes it wrote,
-/// how often it flushed them, and whether a read came before all was flushed.
+/// Runs a session on `INPUT` in which only flush number `good_flushes` + 1 fails. Returns the session's result, the number of bytes
+/// written, the number of successful flushes, and whether a read came before all output was flushed.
 fn over_a_wire(
     alloc: Global,
     good_flushes: usize,
@@ -381,14 +384,14 @@ fn over_a_wire(
 }
 
 /// Each answer is flushed before the next read. There are five flushes: one before the first read, and one after each of the four
-/// answers. Before every other read nothing new was written, so there is no flush.
+/// answers. No other read needs a flush, since nothing new was written.
 #[test]
 fn answers_are_sent_on_before_a_read(rt: HostRuntime) {
     let ended = over_a_wire(rt.alloc(), 1_000);
     assert_eq!(rt; ended, (Ok(()), 222, 5, false));
 }
 
-/// Each flush in turn fails. The session ends there, and answers nothing more.
+/// Each flush in turn fails. The failed flush ends the session without further answers.
 #[test]
 fn each_flush_fails(rt: HostRuntime) {
     let mut good_flushes = 0;
@@ -424,7 +427,7 @@ fn a_writer_that_cannot_send_on(rt: HostRuntime) {
     );
 }
 
-/// A reader and writer of std. Only its first call fails, unless `failed` is already set.
+/// A reader and writer of std. Only the first call fails, and no call if `failed` is set from the start.
 #[derive(Drop)]
 struct FailsOnce {
     failed: bool,
@@ -454,7 +457,7 @@ impl Write for FailsOnce {
     }
 }
 
-/// A failed call of std isn't repeated, whatever the kind of its error is.
+/// A failed call of std isn't repeated, not even after the error `Interrupted`.
 #[test]
 fn a_failed_call_is_not_made_again(rt: HostRuntime) {
     let mut source = FromRead::new(FailsOnce { failed: false });
@@ -472,7 +475,7 @@ fn a_failed_call_is_not_made_again(rt: HostRuntime) {
 }
 
 /// Runs a session on `INPUT` with a std writer that has capacity for `bytes` bytes. Returns the session's result, and whether the
-/// writer got a full prefix of `ANSWER`.
+/// writer is filled with a prefix of `ANSWER`.
 fn into_room(alloc: Global, bytes: usize) -> Result<(Result<(), SessionFault>, bool), Fail> {
     let mut room = vec![in alloc; b'?'; bytes]?;
     let ended = {
@@ -483,7 +486,7 @@ fn into_room(alloc: Global, bytes: usize) -> Result<(Result<(), SessionFault>, b
     Ok((ended, ANSWER.starts_with(room.as_slice())))
 }
 
-/// A full writer of std takes 0 bytes: at its first call if it has no capacity, and otherwise at a later one.
+/// A session ends with the error `Write` when its std writer is full: at the first write if the writer has no capacity, else later.
 #[test]
 fn a_writer_that_is_full(rt: HostRuntime) -> Result<(), Fail> {
     for bytes in 0..222 {
@@ -498,7 +501,7 @@ fn a_writer_that_is_full(rt: HostRuntime) -> Result<(), Fail> {
     Ok(())
 }
 
-/// A source that gives the command `summary` at each of its first `commands` reads.
+/// A source whose first `commands` reads each return the command `summary`.
 #[derive(Drop)]
 struct Repeated {
     commands: u64,
@@ -548,8 +551,8 @@ impl Sink for Counting {
     }
 }
 
-/// Runs a session of `commands` summaries of nothing. Returns the exit status, and how many bytes it writes as answers and about
-/// its error.
+/// Runs a session of `commands` summaries of an empty book. Returns the exit status, and the numbers of bytes in the answers and in
+/// the error message.
 fn summaries(alloc: Global, commands: u64) -> (u8, u64, u64) {
     let mut source = Repeated { commands, reads: 0 };
     let mut sink = Counting { bytes: 0 };
@@ -558,8 +561,8 @@ fn summaries(alloc: Global, commands: u64) -> (u8, u64, u64) {
     (status, sink.bytes, faults.bytes)
 }
 
-/// A session's history has at most 1,048,576 entries. Each summary of nothing has 112 bytes with the dot after it, and `book full`
-/// is a line of 10 bytes.
+/// A session's history has at most 1,048,576 entries. Each summary of an empty book has 112 bytes, including the last line `.`, and
+/// the error message `book full` has 10 bytes.
 #[test]
 fn a_full_book(rt: HostRuntime) {
     let most = 1_048_576;
@@ -568,7 +571,7 @@ fn a_full_book(rt: HostRuntime) {
     assert_eq!(rt; summaries(rt.alloc(), most + 1), (3, bytes, 10));
 }
 
-/// A source that gives the same 24 commands at each of its first `blocks` reads.
+/// A source whose first `blocks` reads each return the same 24 commands.
 #[derive(Drop)]
 struct Blocks {
     blocks: u64,
@@ -596,9 +599,8 @@ impl Source for Blocks {
     }
 }
 
-/// A session that ends because its history is full has written the answers to all commands before: to 1,048,576 drops in a book
-/// without tests, with a line of 13 bytes each. The last 16 of these commands are in the block where the session ends, the
-/// 43,691st.
+/// A session that ends because its history is full has answered all earlier commands: 1,048,576 drops in an empty book, each with a
+/// line of 13 bytes. The last 16 of these commands are in block 43,691, in which the session ends.
 #[test]
 fn a_full_book_loses_no_answer(rt: HostRuntime) {
     let mut source = Blocks {
@@ -612,8 +614,7 @@ fn a_full_book_loses_no_answer(rt: HostRuntime) {
     assert_eq!(rt; source.reads, 43_691);
 }
 
-/// Runs a session whose reads and writes fail as in `by_pieces`. Returns the exit status, and whether the line about its error is
-/// `words`.
+/// Runs a session whose reads and writes fail as in `by_pieces`. Returns the exit status, and whether the error message is `words`.
 fn end_of(alloc: Global, good_reads: usize, good_writes: usize, words: &[u8]) -> (u8, bool) {
     let mut source = Slow {
         input: INPUT,
