@@ -5,8 +5,8 @@ use covline::Memory;
 use covlock::OpenFault;
 use thiserror::Error;
 
-/// Why inputs couldn't be collected. A job submits nothing more after its first `Full` or `Memory`, but all jobs run to their end.
-/// Then the error of the lowest-numbered job that has one is returned, or `Memory` if the list of workers couldn't be allocated.
+/// Why inputs couldn't be collected. A job submits nothing more after its first `Full` or `Memory`, but the other jobs go on. When
+/// all have ended, the error of the lowest-numbered failed job is returned. `Memory` if the list of workers couldn't be allocated.
 #[derive(Clone, Copy, Debug, PartialEq, Eq, Error)]
 pub enum CollectFault {
     /// Fault 1: the number of jobs is 0 or more than 64. This is checked first.

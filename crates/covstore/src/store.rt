@@ -299,7 +299,7 @@ impl<A: Allocator + Copy> Store<A> {
         }
     }
 
-    /// Performs the prepared rename. The store must be as `prepare_rename` left it. If both tests have a point, the two values are
+    /// Performs the prepared rename. The store must be as `prepare_rename` left it. The values of a point that both tests have are
     /// added up. The totals don't change. Never allocates.
     pub fn commit_rename(&mut self, renaming: Renaming<A>)
         requires { (old new : List ℕ) × IsRenamingOf self.old old new renaming }

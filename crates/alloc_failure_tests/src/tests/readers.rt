@@ -71,7 +71,7 @@ fn tracefiles(rt: HostRuntime) {
     );
 }
 
-/// Reads a tracefile of two items into a packed submission.
+/// Like `reads_trace`, with a packed submission. Returns whether an allocation failed.
 fn packs_trace(rt: &impl Abort, heap: &Bump, room: usize, text: &[u8]) -> bool {
     narrow(rt, heap, room);
     let first = read_packed(heap, text);

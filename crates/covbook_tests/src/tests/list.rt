@@ -308,7 +308,7 @@ fn without(alloc: Global, rows: &[Row], test: usize) -> Result<Vec<Row>, Fail> {
     Ok(others)
 }
 
-/// How many sections with a row the test has.
+/// How many of the test's two sections have a row.
 fn sections_with(rows: &[Row], test: usize) -> u64 {
     let in_first = has_section(rows, test);
     let in_second = has_section(rows, test.wrapping_add(3));
