@@ -17,6 +17,7 @@
 #![tactic(auto)]
 
 mod json_text;
+pub mod laws;
 mod numbers;
 mod shown;
 mod table;
