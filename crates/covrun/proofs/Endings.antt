@@ -1,5 +1,6 @@
 -- How a call that collects files ends, from the results of its steps.
-use Rattle.std.proofs.Common.{◌≡◌, ◌⊎◌, inl, inr, ℕ, ◌-◌, Bool, true, false, if◌then◌else◌, List, [], ◌∷◌, ◌++◌, length, slice_get, Option, Some, None, Result, Ok, Err, IfOk, flat_map, refl, sym, subst, ap, ◌∙◌, append-nil, length-append, arith}
+use Rattle.std.proofs.Common.{◌≡◌, ◌⊎◌, inl, inr, ℕ, ◌-◌, Bool, true, false, if◌then◌else◌, List, [], ◌∷◌, ◌++◌, length, slice_get, Option, Some, None, Result, Ok, Err, IfOk, flat_map, refl, sym, subst, ap, ◌∙◌, append-nil, length-append, arith, ◌==◌}
+use Rattle.std.proofs.lemmas.Bool.{eqb-true}
 use Rattle.std.proofs.lemmas.List.{flat_map_more, map-append}
 use Rattle.std.specs.Io.KnownBytes.{Appends}
 use Rattle.covsession.specs.Session.{said, clash_text}
@@ -205,6 +206,11 @@ unless_none report (b ∷ lines) ending other none is = absurd cc
 unless_some : (report : List ℕ → EndingData) (lines : List ℕ) (other : EndingData) → (lines ≡ [] → ⊥) → report lines ≡ unless_any report lines other
 unless_some report [] other some = absurd (some refl)
 unless_some report (b ∷ lines) other some = refl
+
+-- a list whose length is zero has no lines
+pub none_counted : (lines : List ℕ) → (length lines == 0) ≡ true → lines ≡ []
+none_counted [] is = refl
+none_counted (b ∷ bs) is = let none : length (b ∷ bs) ≡ 0 = eqb-true (length (b ∷ bs)) 0 is in absurd (omega (arith, none))
 
 -- memory didn't run out for an input
 ends_unless : (naming : Naming) (files : List (List ℕ)) (strictness : Strictness) (asks : QuestionData) (all : List EntryData) (refused : List (RefusedInput TextFault)) (ending : EndingData) → ran_out refused ≡ false
