@@ -1,167 +1,125 @@
-//! Calls of covbook that no session makes: receipts, entries, copies, and the length of a history.
+//! Histories: their answers, entries and totals, steps that are prepared and dropped, and the length of a history.
 
-use super::script::{check_new, check_words};
-use super::wrappers::{bytes_of, entries, step};
-use covbook::{Answer, Book, BookFault, Entries, Entry, Op, Receipt, Receipts, TextRef};
-use covline::Memory;
-use covstore::Totals;
+use super::steps::{Step, check_lines, check_steps};
+use super::words::op_of;
+use super::wrappers::{entries, ready, step, totals};
+use covbook::{Book, BookFault, Op, Ready};
 use std::alloc::Global;
 use std::process::Abort;
 use std::test::*;
 
-#[test]
-fn a_history(rt: HostRuntime) -> Result<(), Fail> {
-    check_new(
-        &rt,
-        b"5 submit DA:1,2;DA:2,0
-6 extract *.h|/a.?
-7 remove *.h|/a.?|x
-5 report",
-        b"0 submit 2 > accepted 1 2 0 ; 2 1 
-1 extract 2 > TN:t
-SF:/a.c
-DA:1,2
-DA:2,0
-LF:2
-LH:1
-end_of_record
-; 2 1 
-2 remove 3 > ; 2 1 
-3 report > TN:t
-SF:/a.c
-DA:1,2
-DA:2,0
-LF:2
-LH:1
-end_of_record
-; 2 1 
-",
-    )
-}
+/// The report of the submission `DA:1,2;DA:2,0`.
+const REPORT: &[u8] = b"TN:t\nSF:/a.c\nDA:1,2\nDA:2,0\nLF:2\nLH:1\nend_of_record\n";
+
+const TEXTS: &[Step<'static>] = &[
+    (5, b"submit DA:1,2;DA:2,0", b"a120", 2, 1),
+    (6, b"extract *.h|/a.?", REPORT, 2, 1),
+    (7, b"remove *.h|/a.?|x", b"", 2, 1),
+    (5, b"report", REPORT, 2, 1),
+];
 
 /// A clash has an entry, like every other answer, but takes no submission number.
-#[test]
-fn a_history_with_a_clash(rt: HostRuntime) -> Result<(), Fail> {
-    check_new(
-        &rt,
-        b"1 submit DA:7,1,abc;LF:9
-2 submit DA:7,1,abd
-1 submit DA:7,1,abc;LF:9",
-        b"0 submit 1 > accepted 1 1 1 ; 1 1 
-1 submit 1 > clash /a.c 7 abc abd ; 1 1 
-2 submit 1 > accepted 2 1 1 ; 1 1 
-",
-    )
-}
+const CLASHES: &[Step<'static>] = &[
+    (1, b"submit DA:7,1,k;LF:9", b"a111", 1, 1),
+    (2, b"submit DA:7,1,l", b"c7kl", 1, 1),
+    (1, b"submit DA:7,1,k;LF:9", b"a211", 1, 1),
+];
 
 /// A drop removes the test's counts from the totals, but the number of the test's submission isn't used again. The drop of an
 /// unknown test has an entry too.
+const DROPS: &[Step<'static>] = &[
+    (5, b"submit DA:1,2;DA:2,0", b"a120", 2, 1),
+    (6, b"drop tt", b"n", 2, 1),
+    (7, b"drop t", b"d1", 0, 0),
+    (7, b"drop t", b"n", 0, 0),
+    (5, b"submit DA:1,2;DA:2,0", b"a220", 2, 1),
+];
+
+/// Packed submissions add up with unpacked ones. A packed submission that clashes adds nothing.
+const PACKED: &[Step<'static>] = &[
+    (0, b"packed DA:1,2,k;DA:2,0", b"a120", 2, 1),
+    (8, b"submit DA:2,3", b"a210", 2, 2),
+    (8, b"packed DA:1,5,l", b"c1kl", 2, 2),
+    (8, b"packed DA:1,1", b"a310", 2, 2),
+    (
+        0,
+        b"report",
+        b"TN:t\nSF:/a.c\nDA:1,3,k\nDA:2,3\nLF:2\nLH:2\nend_of_record\n",
+        2,
+        2,
+    ),
+];
+
+/// Performs the steps in a new book, which has no lines, and checks each step.
+fn check_new(rt: &(impl Abort + AllocGlobal), steps: &[Step<'_>]) -> Result<(), Fail> {
+    let mut book = Book::new(rt.alloc());
+    check_lines(rt, &totals(&book), 0, 0);
+    check_steps(rt, &mut book, steps)
+}
+
 #[test]
-fn a_history_with_drops(rt: HostRuntime) -> Result<(), Fail> {
-    check_new(
+fn histories(rt: HostRuntime) -> Result<(), Fail> {
+    for steps in [TEXTS, CLASHES, DROPS, PACKED] {
+        check_new(&rt, steps)?;
+    }
+    Ok(())
+}
+
+/// Checks that the entry of a prepared step is job 3's, that the entry has the totals after the step, and how many lines these
+/// have found and hit.
+fn check_ready(rt: &impl Abort, ready: &Ready, found: u64, hit: u64) {
+    let entry = ready.entry();
+    assert!(rt; entry.job == 3 && entry.after == ready.after());
+    check_lines(rt, &entry.after, found, hit);
+}
+
+/// Prepares a step of job 3, checks it, and drops it.
+fn check_prepared(
+    rt: &(impl Abort + AllocGlobal),
+    book: &mut Book,
+    words: &[u8],
+    found: u64,
+    hit: u64,
+) -> Result<(), Fail> {
+    let op = op_of(rt.alloc(), words)?;
+    match ready(rt.alloc(), book, 3, &op) {
+        Ok(ready) => check_ready(rt, &ready, found, hit),
+        Err(_fault) => panic!(rt; "a step is refused"),
+    }
+    Ok(())
+}
+
+/// A step can be done in two halves. Without the second half, the step has no effect.
+#[test]
+fn halves_of_a_step(rt: HostRuntime) -> Result<(), Fail> {
+    let mut book = Book::new(rt.alloc());
+    check_prepared(&rt, &mut book, b"submit DA:1,2;DA:2,0", 2, 1)?;
+    check_steps(
         &rt,
-        b"5 submit DA:1,2;DA:2,0
-6 drop tt
-7 drop t
-7 drop t
-5 submit DA:1,2;DA:2,0",
-        b"0 submit 2 > accepted 1 2 0 ; 2 1 
-1 drop tt > no such test; 2 1 
-2 drop t > dropped 1 ; 0 0 
-3 drop t > no such test; 0 0 
-4 submit 2 > accepted 2 2 0 ; 2 1 
-",
-    )
+        &mut book,
+        &[(8, b"submit DA:1,2;DA:2,0", b"a120", 2, 1)],
+    )?;
+    check_prepared(&rt, &mut book, b"packed DA:2,1;DA:3,0", 3, 2)?;
+    check_steps(&rt, &mut book, &[(0, b"report", REPORT, 2, 1)])
 }
 
-/// The answer that is `text`, as a copy of a shared text.
-fn shared(alloc: Global, text: &[u8]) -> Result<Answer, Memory> {
-    let text = TextRef::of(alloc, bytes_of(alloc, text)?)?;
-    Ok(Answer::Text(text.copy()?))
-}
-
-/// A list of one entry.
-fn one_entry(alloc: Global) -> Result<Entries, Memory> {
-    let answer = shared(alloc, b"ab")?;
-    let mut entries = Entries::new(alloc);
-    entries.push(Entry {
-        job: 7,
-        op: Op::Report,
-        answer,
-        after: Totals::default(),
-    })?;
-    Ok(entries)
-}
-
-#[test]
-fn a_list_of_entries(rt: HostRuntime) -> Result<(), Fail> {
-    let entries = one_entry(rt.alloc())?;
-    match entries.get() {
-        [entry] => {
-            assert_eq!(rt; entry.job, 7);
-            check_words(&rt, &entry.op, &entry.answer, b"report > ab")
-        }
-        _ => panic!(rt; "not one entry"),
-    }
-}
-
-/// A list of one receipt.
-fn one_receipt(alloc: Global) -> Result<Receipts, Memory> {
-    let answer = shared(alloc, b"ab")?;
-    let mut receipts = Receipts::new(alloc);
-    receipts.push(Receipt {
-        place: 3,
-        op: Op::Summary,
-        answer,
-    })?;
-    Ok(receipts)
-}
-
-#[test]
-fn a_list_of_receipts(rt: HostRuntime) -> Result<(), Fail> {
-    let receipts = one_receipt(rt.alloc())?;
-    match receipts.get() {
-        [receipt] => {
-            assert_eq!(rt; receipt.place, 3);
-            check_words(&rt, &receipt.op, &receipt.answer, b"summary > ab")
-        }
-        _ => panic!(rt; "not one receipt"),
-    }
-}
-
-/// Performs the book's next step, a summary, and returns whether the receipt's index is `place`.
-fn is_next(alloc: Global, book: &mut Book, place: u64) -> bool {
+/// Whether the book's next step, a summary, gets this index or this error.
+fn is_next(alloc: Global, book: &mut Book, wanted: Result<u64, BookFault>) -> bool {
     match step(alloc, book, 0, &Op::Summary) {
-        Ok(receipt) => receipt.place == place,
-        Err(_fault) => false,
+        Ok(receipt) => wanted == Ok(receipt.place),
+        Err(fault) => wanted == Err(fault),
     }
-}
-
-/// Whether the book rejects a step because its history is full.
-fn is_full(alloc: Global, book: &mut Book) -> bool {
-    match step(alloc, book, 0, &Op::Summary) {
-        Ok(_receipt) => false,
-        Err(fault) => fault == BookFault::Full,
-    }
-}
-
-/// Performs the first `steps` steps of the book, and returns whether they have the indices from 0 on, in order.
-fn is_filled(alloc: Global, book: &mut Book, steps: u64) -> bool {
-    for place in 0..steps {
-        if !is_next(alloc, book, place) {
-            return false;
-        }
-    }
-    true
 }
 
 /// A history can have 1,048,576 entries and no more.
 #[test]
 fn a_full_book(rt: HostRuntime) {
     let mut book = Book::new(rt.alloc());
-    assert!(rt; is_filled(rt.alloc(), &mut book, 1_048_576));
-    assert!(rt; is_full(rt.alloc(), &mut book));
-    assert_eq!(rt; entries(&book).len(), 1_048_576);
+    for place in 0..1_048_576u64 {
+        assert!(rt; is_next(rt.alloc(), &mut book, Ok(place)));
+    }
+    assert!(rt; is_next(rt.alloc(), &mut book, Err(BookFault::Full)));
+    assert!(rt; entries(&book).len() == 1_048_576);
 }
 
 #[test]
