@@ -122,4 +122,35 @@ def three_tests(player, folder):
     play(player, folder, [*commands, "summary", "drop t2", "summary", "drop t1", "summary", "drop t0", "summary"], wanted)
 
 
-JOBS = (three_tests, *(functools.partial(random_session, seed) for seed in range(SESSIONS)))
+def shuffled_sections(player, folder):
+    """Long sections whose lines don't ascend: each item is counted once. A section with checksums isn't sorted by line, so the first
+    clash of the text is the one that is told."""
+    player.row("shuffled sections")
+    # A prime, so the first 2,003 multiples of 1,000 have different remainders.
+    number = 2003
+    shuffled = [[f"BRDA:{line},0,1,{line}", f"DA:{line},{line}"] for line in (at * 1000 % number + 1 for at in range(number))]
+    falling = [[f"BRDA:{line},0,1,{line}", f"DA:{line},{line}"] for line in range(number, 0, -1)]
+    sections = [["TN:t", "SF:/m", *sum(it, []), "end_of_record"] for it in (shuffled, falling)]
+    clashing = ["TN:t", "SF:/n", "DA:1000,1,x", "DA:1000,1,y", *sum(falling, []), "DA:500,1,p", "DA:500,1,q", "end_of_record"]
+    merged = [f"BRDA:{line},0,1,{2 * line}" for line in range(1, number + 1)] + [f"BRF:{number}", f"BRH:{number}"]
+    merged += [f"DA:{line},{2 * line}" for line in range(1, number + 1)] + [f"LF:{number}", f"LH:{number}"]
+    wanted = [f"accepted 1 items {4 * number} odd 0", "clash /n 1000 x y", "TN:t", "SF:/m", *merged, "end_of_record", "."]
+    play(player, folder, ["trace", *sum(sections, []), ".", "trace", *clashing, ".", "report"], wanted)
+
+
+def many_points(player, folder):
+    """A section of a million lines, and a test of 10,000 files, of which 5,000 have a test of the new name already. Work that grows
+    with the square of these numbers wouldn't end in time."""
+    player.row("a million lines")
+    lines = [f"DA:{line},1" for line in range(1, 1_000_001)]
+    totals = summary(functions=(0, 0), branches=(0, 0), lines=(1_000_000, 1_000_000))
+    play(player, folder, ["trace", "SF:/m", *lines, "end_of_record", ".", "summary"], ["accepted 1 items 1000000 odd 0", *totals])
+    player.row("ten thousand files")
+    files = [line for file in range(10_000) for line in ("TN:t", f"SF:/{file}", "DA:1,1", "end_of_record")]
+    files += [line for file in range(5_000) for line in ("TN:u", f"SF:/{file}", "DA:1,1", "DA:2,0", "end_of_record")]
+    totals = summary(functions=(0, 0), branches=(0, 0), lines=(10_000, 15_000))
+    wanted = ["accepted 1 items 20000 odd 0", "renamed 10000", *totals, "renamed 10000", "no such test", "dropped 10000"]
+    play(player, folder, ["trace", *files, ".", "rename", "t", "u", "summary", "rename", "u", "t", "drop u", "drop t"], wanted)
+
+
+JOBS = (three_tests, shuffled_sections, many_points, *(functools.partial(random_session, seed) for seed in range(SESSIONS)))

@@ -2,9 +2,8 @@
 
 ghost use Rattle.std.specs.Prelude.{◌≡◌};
 
-use super::{check_bytes, push_line};
 use covmap::{Addend, StagedMap};
-use std::alloc::Global;
+use std::alloc::{AllocError, Global};
 use std::test::*;
 
 /// An addend that replaces the value of its key.
@@ -25,14 +24,46 @@ impl Addend<u64> for Newest {
     }
 }
 
-/// Returns the committed entries as text, each on a line: the key, a space and the value.
-fn printed(alloc: Global, map: &StagedMap<u64, u64, Global>) -> Result<Vec<u8>, Fail> {
-    let mut text = Vec::new(alloc);
-    for (key, value) in map.entries() {
-        let line = format!(in alloc; "{key} {value}")?;
-        push_line(&mut text, line.as_bytes())?;
+/// Stages the values of keys.
+pub(super) fn stage_all(
+    alloc: Global,
+    map: &mut StagedMap<u64, u64, Global>,
+    pairs: &[(u64, u64)],
+) -> Result<(), AllocError> {
+    for (key, value) in pairs {
+        map.stage(alloc, *key, *value)?;
     }
-    Ok(text)
+    Ok(())
+}
+
+/// Whether the key has this committed and this staged value.
+pub(super) fn holds(
+    map: &mut StagedMap<u64, u64, Global>,
+    key: u64,
+    committed: Option<u64>,
+    staged: Option<u64>,
+) -> bool {
+    map.lookup(key) == committed && map.lookup_staged(key) == staged
+}
+
+/// Whether this is the wanted key with its value.
+fn is_pair(wanted: Option<&(u64, u64)>, key: u64, value: u64) -> bool {
+    match wanted {
+        Some((wanted_key, wanted_value)) => *wanted_key == key && *wanted_value == value,
+        None => false,
+    }
+}
+
+/// Whether the map's committed keys and values are these, in this order.
+pub(super) fn is_committed(map: &StagedMap<u64, u64, Global>, pairs: &[(u64, u64)]) -> bool {
+    let mut count: usize = 0;
+    for (key, value) in map.entries() {
+        if !is_pair(pairs.get(count), *key, *value) {
+            return false;
+        }
+        count = count.wrapping_add(1);
+    }
+    count == pairs.len()
 }
 
 /// Only `lookup_staged` sees staged values. A commit turns staged values into committed values, and a rollback discards staged
@@ -40,38 +71,47 @@ fn printed(alloc: Global, map: &StagedMap<u64, u64, Global>) -> Result<Vec<u8>, 
 #[test]
 fn staged_values(rt: HostRuntime) -> Result<(), Fail> {
     let mut map = StagedMap::new(rt.alloc());
-    map.stage(rt.alloc(), 7, 70)?;
-    map.stage(rt.alloc(), 3, 30)?;
-    check_bytes(&rt, &printed(rt.alloc(), &map)?, b"");
-    assert!(rt; map.is_empty());
-    assert_eq!(rt; (map.lookup(7), map.lookup_staged(7)), (None, Some(70)));
+    stage_all(rt.alloc(), &mut map, &[(7, 70), (3, 30)])?;
+    assert!(rt; is_committed(&map, &[]) && map.is_empty());
+    assert!(rt; holds(&mut map, 7, None, Some(70)));
     map.rollback();
-    assert_eq!(rt; map.lookup_staged(7), None);
-    map.stage(rt.alloc(), 7, 71)?;
-    map.stage(rt.alloc(), 3, 31)?;
+    assert!(rt; holds(&mut map, 7, None, None));
+    stage_all(rt.alloc(), &mut map, &[(7, 71), (3, 31)])?;
     map.commit();
-    check_bytes(&rt, &printed(rt.alloc(), &map)?, b"3 31\n7 71\n");
+    assert!(rt; is_committed(&map, &[(3, 31), (7, 71)]));
     Ok(())
 }
 
-/// Stages a sum, and then another with the first sum's place as the guess. Replaces and removes committed values without a commit.
+/// Stages a sum for the committed key 7, and then one for the new key 5, with the first sum's place as the guess. Returns whether
+/// the values before and after are right.
+fn sums_are_staged(
+    alloc: Global,
+    map: &mut StagedMap<u64, u64, Global>,
+) -> Result<bool, AllocError> {
+    let first = map.stage_sum(alloc, 7, Newest { value: 72 }, map.cursor())?;
+    let second = map.stage_sum(alloc, 5, Newest { value: 50 }, first.place)?;
+    let is_first = first.before == Some(71) && first.after == 72;
+    Ok(is_first && second.before == None && second.after == 50)
+}
+
+/// Replaces the committed value of the key, or removes it, without a commit. Returns whether there was a value.
+fn is_replaced(map: &mut StagedMap<u64, u64, Global>, key: u64, value: Option<u64>) -> bool {
+    let is_there = map.lookup(key).is_some();
+    if is_there {
+        map.replace(key, value);
+    }
+    is_there
+}
+
 #[test]
 fn sums_and_replaced_values(rt: HostRuntime) -> Result<(), Fail> {
     let mut map = StagedMap::new(rt.alloc());
-    map.stage(rt.alloc(), 7, 71)?;
+    stage_all(rt.alloc(), &mut map, &[(7, 71)])?;
     map.commit();
-    let sum = map.stage_sum(rt.alloc(), 7, Newest { value: 72 }, map.cursor())?;
-    assert_eq!(rt; (sum.before, sum.after), (Some(71), 72));
-    let sum = map.stage_sum(rt.alloc(), 5, Newest { value: 50 }, sum.place)?;
-    assert_eq!(rt; (sum.before, sum.after), (None, 50));
+    assert!(rt; sums_are_staged(rt.alloc(), &mut map)?);
     map.commit();
-    check_bytes(&rt, &printed(rt.alloc(), &map)?, b"5 50\n7 72\n");
-    if map.lookup(7).is_some() {
-        map.replace(7, Some(73));
-    }
-    if map.lookup(5).is_some() {
-        map.replace(5, None);
-    }
-    check_bytes(&rt, &printed(rt.alloc(), &map)?, b"7 73\n");
+    assert!(rt; is_committed(&map, &[(5, 50), (7, 72)]));
+    assert!(rt; is_replaced(&mut map, 7, Some(73)) && is_replaced(&mut map, 5, None));
+    assert!(rt; is_committed(&map, &[(7, 73)]));
     Ok(())
 }

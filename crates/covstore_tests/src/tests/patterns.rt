@@ -41,41 +41,44 @@ fn check_list(rt: &impl Abort, patterns: &Patterns, count: usize, paths: &[u8]) 
     }
 }
 
-#[test]
-fn a_list(rt: HostRuntime) -> Result<(), Fail> {
-    let longer = repeated(rt.alloc(), b"a", 1_025)?;
+/// A list of these patterns.
+fn list_of(rt: &(impl Abort + AllocGlobal), all: &[&[u8]]) -> Patterns {
     let mut patterns = Patterns::new(rt.alloc());
-    assert!(rt; is_refused(rt.alloc(), &mut patterns, &longer, PatternFault::TooLong));
-    check_list(&rt, &patterns, 0, b"-");
-    add(rt.alloc(), &mut patterns, b"*.c")?;
-    add(rt.alloc(), &mut patterns, b"")?;
-    let copy = copied_patterns(rt.alloc(), &patterns)?;
-    add(rt.alloc(), &mut patterns, b"*")?;
-    check_list(&rt, &patterns, 3, b"a.h");
-    check_list(&rt, &copy, 2, b"a.c||-a.h");
-    Ok(())
+    for pattern in all {
+        assert!(rt; add(rt.alloc(), &mut patterns, pattern).is_ok());
+    }
+    patterns
 }
 
-/// A list that has the pattern 64 times.
-fn full_list(alloc: Global, pattern: &[u8]) -> Result<Patterns, PatternFault> {
-    let mut patterns = Patterns::new(alloc);
-    for _time in 0..64 {
-        add(alloc, &mut patterns, pattern)?;
+/// A copy of the list.
+fn copy_of(rt: &(impl Abort + AllocGlobal), patterns: &Patterns) -> Patterns {
+    match copied_patterns(rt.alloc(), patterns) {
+        Ok(copy) => copy,
+        Err(_refused) => panic!(rt; "out of memory"),
     }
-    Ok(patterns)
+}
+
+#[test]
+fn a_list(rt: HostRuntime) {
+    let longer = repeated(&rt, b"a", 1_025);
+    let mut patterns = list_of(&rt, &[b"*.c", b""]);
+    assert!(rt; is_refused(rt.alloc(), &mut patterns, &longer, PatternFault::TooLong));
+    let copy = copy_of(&rt, &patterns);
+    assert!(rt; add(rt.alloc(), &mut patterns, b"*").is_ok());
+    check_list(&rt, &patterns, 3, b"a.h");
+    check_list(&rt, &copy, 2, b"a.c||-a.h");
 }
 
 /// A list can have 64 patterns of 1,024 bytes. A full list reports `TooMany` even for a pattern that is too long.
 #[test]
-fn a_full_list(rt: HostRuntime) -> Result<(), Fail> {
-    let most = repeated(rt.alloc(), b"a", 1_024)?;
-    let longer = repeated(rt.alloc(), b"a", 1_025)?;
-    let mut patterns = full_list(rt.alloc(), &most)?;
+fn a_full_list(rt: HostRuntime) {
+    let most = repeated(&rt, b"a", 1_024);
+    let mut patterns = list_of(&rt, &[most.as_slice(); 64]);
     assert!(rt; is_refused(rt.alloc(), &mut patterns, b"b", PatternFault::TooMany));
+    let longer = repeated(&rt, b"a", 1_025);
     assert!(rt; is_refused(rt.alloc(), &mut patterns, &longer, PatternFault::TooMany));
     check_list(&rt, &patterns, 64, &most);
     check_list(&rt, &patterns, 64, b"-b");
-    Ok(())
 }
 
 #[test]
@@ -85,17 +88,18 @@ fn numbers_of_pattern_faults(rt: HostRuntime) {
     assert_eq!(rt; PatternFault::Memory.number(), 3);
 }
 
+/// Whether `patterns` copies of the pattern match a path of 10,000 letters `a` and then `last`.
+fn match_long(rt: &(impl Abort + AllocGlobal), pattern: &[u8], patterns: usize, last: u8) -> bool {
+    let mut path = repeated(rt, b"a", 10_000);
+    assert!(rt; path.push(last).is_ok());
+    is_match(&repeated(rt, pattern, patterns), &path)
+}
+
 /// Patterns with many stars are matched in time. A matcher that tries each way to divide the path among the stars wouldn't end.
 #[test]
-fn many_stars(rt: HostRuntime) -> Result<(), Fail> {
-    let stars = repeated(rt.alloc(), b"*", 1_024)?;
-    let pairs = repeated(rt.alloc(), b"*a", 512)?;
-    let long = repeated(rt.alloc(), b"a", 10_000)?;
-    let mut other = repeated(rt.alloc(), b"a", 10_000)?;
-    other.push(b'b')?;
-    assert!(rt; is_match(&stars, b""));
-    assert!(rt; is_match(&stars, &other));
-    assert!(rt; !is_match(&pairs, &other));
-    assert!(rt; is_match(&pairs, &long));
-    Ok(())
+fn many_stars(rt: HostRuntime) {
+    assert!(rt; is_match(&repeated(&rt, b"*", 1_024), b""));
+    assert!(rt; match_long(&rt, b"*", 1_024, b'b'));
+    assert!(rt; !match_long(&rt, b"*a", 512, b'b'));
+    assert!(rt; match_long(&rt, b"*a", 512, b'a'));
 }

@@ -1,10 +1,7 @@
 //! Renames tests.
 
-use super::check_bytes;
-use super::held::{held, store_of};
-use covline::Memory;
-use covstore::{Renaming, Store, Totals};
-use std::alloc::Global;
+use super::held::{check_held, has_test, store_of};
+use covstore::{Store, Totals};
 use std::process::Abort;
 use std::test::*;
 
@@ -23,83 +20,64 @@ const OF_SHARED: Totals = Totals {
     bh: 1,
 };
 
+/// The content of the store before a rename.
+const APART: &[u8] = b"TN:t\nSF:/a.c\nFN:5,f\nFNDA:2,f\nBRDA:1,0,0,-\nDA:1,2,k\nDA:2,1\n\
+    TN:u\nSF:/a.c\nFN:3,f\nFNDA:0,f\nBRDA:1,0,0,4\nDA:1,1\nDA:3,0\nTN:t\nSF:/b.c\nDA:1,1\n";
+
 /// The content of the store after `t` was renamed to `u`.
 const JOINED: &[u8] =
     b"TN:u\nSF:/a.c\nFN:3,f\nFNDA:2,f\nBRDA:1,0,0,4\nDA:1,3,k\nDA:2,1\nDA:3,0\nTN:u\nSF:/b.c\nDA:1,1\n";
 
-/// Prepares a rename.
-fn prepared(alloc: Global, store: &mut Store, old: &[u8], new: &[u8]) -> Result<Renaming, Memory> {
-    store.prepare_rename(alloc, old, new)
+/// The content of the store after `u` was renamed to `x`.
+const RENAMED: &[u8] = b"TN:t\nSF:/a.c\nFN:5,f\nFNDA:2,f\nBRDA:1,0,0,-\nDA:1,2,k\nDA:2,1\n\
+    TN:x\nSF:/a.c\nFN:3,f\nFNDA:0,f\nBRDA:1,0,0,4\nDA:1,1\nDA:3,0\nTN:t\nSF:/b.c\nDA:1,1\n";
+
+/// Prepares a rename and drops it. Returns the number of the test's sections.
+fn prepared(rt: &(impl Abort + AllocGlobal), store: &mut Store, old: &[u8], new: &[u8]) -> u64 {
+    match store.prepare_rename(rt.alloc(), old, new) {
+        Ok(renaming) => renaming.sections(),
+        Err(_refused) => panic!(rt; "refused"),
+    }
 }
 
-/// Renames a test, and checks the number of its sections.
-fn rename(
-    rt: &(impl Abort + AllocGlobal),
-    store: &mut Store,
-    old: &[u8],
-    new: &[u8],
-    sections: u64,
-) {
+/// Renames a test. Returns the number of its sections.
+fn renamed(rt: &(impl Abort + AllocGlobal), store: &mut Store, old: &[u8], new: &[u8]) -> u64 {
     match store.prepare_rename(rt.alloc(), old, new) {
         Ok(renaming) => {
-            assert_eq!(rt; renaming.sections(), sections);
+            let sections = renaming.sections();
             store.commit_rename(renaming);
+            sections
         }
         Err(_refused) => panic!(rt; "refused"),
     }
 }
 
-/// Checks the printed content of the store.
-fn check_held(rt: &(impl Abort + AllocGlobal), store: &Store, wanted: &[u8]) -> Result<(), Fail> {
-    let text = held(rt.alloc(), store)?;
-    check_bytes(rt, text.get(), wanted);
-    Ok(())
-}
+/// Tests that are renamed in turn, each with its new name, the number of its sections, and then the store's content.
+const RENAMES: &[(&[u8], &[u8], u64, &[u8])] = &[
+    (b"u", b"u", 1, APART),
+    (b"t", b"u", 2, JOINED),
+    (b"t", b"u", 0, JOINED),
+    (b"u", b"u", 2, JOINED),
+];
 
 #[test]
-fn a_test_is_renamed(rt: HostRuntime) -> Result<(), Fail> {
+fn tests_are_renamed(rt: HostRuntime) -> Result<(), Fail> {
     let mut store = store_of(&rt, SHARED)?;
-    assert_eq!(rt; store.totals(), OF_SHARED);
-    rename(&rt, &mut store, b"t", b"u", 2);
-    assert_eq!(rt; store.totals(), OF_SHARED);
-    assert!(rt; !store.has_test(b"t") && store.has_test(b"u"));
-    check_held(&rt, &store, JOINED)?;
-    rename(&rt, &mut store, b"t", b"u", 0);
-    rename(&rt, &mut store, b"u", b"u", 2);
-    check_held(&rt, &store, JOINED)
+    for (old, new, sections, text) in RENAMES {
+        assert!(rt; renamed(&rt, &mut store, old, new) == *sections);
+        check_held(&rt, &store, text, OF_SHARED);
+    }
+    assert!(rt; !has_test(&store, b"t") && has_test(&store, b"u"));
+    Ok(())
 }
 
 /// A rename that is prepared but not committed leaves nothing visible, and doesn't affect the next rename.
 #[test]
 fn a_rename_that_is_dropped(rt: HostRuntime) -> Result<(), Fail> {
     let mut store = store_of(&rt, SHARED)?;
-    let before = held(rt.alloc(), &store)?;
-    let renaming = prepared(rt.alloc(), &mut store, b"t", b"x")?;
-    assert_eq!(rt; renaming.sections(), 2);
-    assert!(rt; store.has_test(b"t") && !store.has_test(b"x"));
-    check_held(&rt, &store, before.get())?;
-    rename(&rt, &mut store, b"u", b"x", 1);
-    let wanted = b"TN:t\nSF:/a.c\nFN:5,f\nFNDA:2,f\nBRDA:1,0,0,-\nDA:1,2,k\nDA:2,1\n\
-        TN:x\nSF:/a.c\nFN:3,f\nFNDA:0,f\nBRDA:1,0,0,4\nDA:1,1\nDA:3,0\nTN:t\nSF:/b.c\nDA:1,1\n";
-    check_held(&rt, &store, wanted)
-}
-
-/// Renames a test of 10,000 files, of which 5,000 already have a test of the new name. Then renames the test back.
-#[test]
-fn ten_thousand_files(rt: HostRuntime) -> Result<(), Fail> {
-    let mut text = Vec::new(rt.alloc());
-    for file in 0..10_000u64 {
-        let section = format!(in rt.alloc(); "TN:t\nSF:/{file}\nDA:1,1\nend_of_record\n")?;
-        text.extend_from_slice(section.as_bytes())?;
-    }
-    for half in 0..5_000u64 {
-        let section = format!(in rt.alloc(); "TN:u\nSF:/{half}\nDA:1,1\nDA:2,0\nend_of_record\n")?;
-        text.extend_from_slice(section.as_bytes())?;
-    }
-    let mut store = store_of(&rt, &text)?;
-    rename(&rt, &mut store, b"t", b"u", 10_000);
-    assert_eq!(rt; (store.totals().lf, store.totals().lh), (15_000, 10_000));
-    rename(&rt, &mut store, b"u", b"t", 10_000);
-    assert!(rt; store.has_test(b"t") && !store.has_test(b"u"));
+    assert!(rt; prepared(&rt, &mut store, b"t", b"x") == 2);
+    check_held(&rt, &store, APART, OF_SHARED);
+    assert!(rt; renamed(&rt, &mut store, b"u", b"x") == 1);
+    check_held(&rt, &store, RENAMED, OF_SHARED);
     Ok(())
 }

@@ -1,8 +1,9 @@
 //! Stages runs into a map. A run is a list of items that are staged at once, each a key and an addend.
 
-use super::{check_bytes, push_line};
+use super::maps::{holds, is_committed, stage_all};
 use covmap::{Addend, ReportingAddend, StagedMap};
 use std::alloc::{AllocError, Global};
+use std::process::Abort;
 use std::test::*;
 
 /// An addend that sets flags in the value of its key.
@@ -66,59 +67,27 @@ fn run_of(
     Ok(run)
 }
 
-/// Returns keys with values as text, each pair on a line: the key, a space and the value.
-fn printed(alloc: Global, pairs: &[(u64, u64)]) -> Result<Vec<u8>, Fail> {
-    let mut text = Vec::new(alloc);
-    for (key, value) in pairs {
-        let line = format!(in alloc; "{key} {value}")?;
-        push_line(&mut text, line.as_bytes())?;
-    }
-    Ok(text)
-}
+/// A run whose keys don't ascend, and which has one key twice.
+const RUN: &[(u64, Flags)] = &[
+    (7, Flags { bits: 4 }),
+    (3, Flags { bits: 4 }),
+    (5, Flags { bits: 8 }),
+    (5, Flags { bits: 16 }),
+    (9, Flags { bits: 32 }),
+];
 
-/// The committed entries.
-fn committed(
-    alloc: Global,
-    map: &StagedMap<u64, u64, Global>,
-) -> Result<Vec<(u64, u64), Global>, AllocError> {
-    let mut pairs = Vec::new(alloc);
-    for (key, value) in map.entries() {
-        pairs.push((*key, *value))?;
-    }
-    Ok(pairs)
-}
-
-/// Stages a run whose keys don't ascend, and which has one key twice. Committed values don't change until the commit. New reports
-/// are appended to an earlier report.
+/// Committed values don't change until the commit. New reports are appended to an earlier report.
 #[test]
 fn a_run_in_any_order(rt: HostRuntime) -> Result<(), Fail> {
-    let alloc = rt.alloc();
-    let mut map = StagedMap::new(alloc);
-    map.stage(alloc, 3, 1)?;
-    map.stage(alloc, 7, 2)?;
+    let mut map = StagedMap::new(rt.alloc());
+    stage_all(rt.alloc(), &mut map, &[(3, 1), (7, 2)])?;
     map.commit();
-    let mut reports = Vec::new(alloc);
-    reports.push((1, 1))?;
-    let run = [
-        (7, Flags { bits: 4 }),
-        (3, Flags { bits: 4 }),
-        (5, Flags { bits: 8 }),
-        (5, Flags { bits: 16 }),
-        (9, Flags { bits: 32 }),
-    ];
-    stage(alloc, &mut map, &run, &mut reports)?;
-    check_bytes(&rt, &printed(alloc, &reports)?, b"1 1\n5 8\n9 32\n");
-    check_bytes(
-        &rt,
-        &printed(alloc, &committed(alloc, &map)?)?,
-        b"3 1\n7 2\n",
-    );
+    let mut reports = Vec::from_slice(rt.alloc(), &[(1, 1)])?;
+    stage(rt.alloc(), &mut map, RUN, &mut reports)?;
+    assert!(rt; reports.as_slice() == [(1, 1), (5, 8), (9, 32)].as_slice());
+    assert!(rt; is_committed(&map, &[(3, 1), (7, 2)]));
     map.commit();
-    check_bytes(
-        &rt,
-        &printed(alloc, &committed(alloc, &map)?)?,
-        b"3 5\n5 24\n7 6\n9 32\n",
-    );
+    assert!(rt; is_committed(&map, &[(3, 5), (5, 24), (7, 6), (9, 32)]));
     Ok(())
 }
 
@@ -135,28 +104,56 @@ fn alternate(map: &StagedMap<u64, u64, Global>, count: u64, even: u64, odd: u64)
     next == count
 }
 
-/// Stages runs of more keys than fit on a page. All keys of the first run are new. In the second run, new keys come between keys of
-/// the map, and after all of them. The last two runs have no new keys.
-#[test]
-fn runs_over_pages(rt: HostRuntime) -> Result<(), Fail> {
-    let alloc = rt.alloc();
-    let mut map = StagedMap::new(alloc);
-    let mut reports = Vec::new(alloc);
-    stage(alloc, &mut map, &run_of(alloc, 600, 2, 1)?, &mut reports)?;
+/// Stages a run of `run_of`.
+fn stage_many(
+    rt: &(impl Abort + AllocGlobal),
+    map: &mut StagedMap<u64, u64, Global>,
+    run: (u64, u64, u64),
+    reports: &mut Vec<(u64, u64), Global>,
+) {
+    let (count, step, bits) = run;
+    let is_staged = match run_of(rt.alloc(), count, step, bits) {
+        Ok(run) => stage(rt.alloc(), map, &run, reports).is_ok(),
+        Err(_refused) => false,
+    };
+    assert!(rt; is_staged);
+}
+
+/// Stages two runs, and checks values and reports. All keys of the first run are new. In the second run, new keys come between keys
+/// of the map, and after all of them.
+fn check_new_keys(
+    rt: &(impl Abort + AllocGlobal),
+    map: &mut StagedMap<u64, u64, Global>,
+    reports: &mut Vec<(u64, u64), Global>,
+) {
+    stage_many(rt, map, (600, 2, 1), reports);
     map.commit();
-    assert_eq!(rt; reports.len(), 600);
-    stage(alloc, &mut map, &run_of(alloc, 1200, 1, 2)?, &mut reports)?;
-    assert_eq!(rt; (map.lookup(4), map.lookup_staged(4)), (Some(1), Some(3)));
-    assert_eq!(rt; (map.lookup(5), map.lookup_staged(5)), (None, Some(2)));
+    assert!(rt; reports.len() == 600);
+    stage_many(rt, map, (1200, 1, 2), reports);
+    assert!(rt; holds(map, 4, Some(1), Some(3)) && holds(map, 5, None, Some(2)));
     map.commit();
-    assert_eq!(rt; reports.len(), 1200);
-    assert!(rt; alternate(&map, 1200, 3, 2));
-    stage(alloc, &mut map, &run_of(alloc, 600, 2, 8)?, &mut reports)?;
+    assert!(rt; reports.len() == 1200 && alternate(map, 1200, 3, 2));
+}
+
+/// Stages two runs without new keys, and checks values and reports. The first run is discarded.
+fn check_old_keys(
+    rt: &(impl Abort + AllocGlobal),
+    map: &mut StagedMap<u64, u64, Global>,
+    reports: &mut Vec<(u64, u64), Global>,
+) {
+    stage_many(rt, map, (600, 2, 8), reports);
     map.rollback();
-    assert!(rt; alternate(&map, 1200, 3, 2));
-    stage(alloc, &mut map, &run_of(alloc, 600, 2, 4)?, &mut reports)?;
+    assert!(rt; alternate(map, 1200, 3, 2));
+    stage_many(rt, map, (600, 2, 4), reports);
     map.commit();
-    assert_eq!(rt; reports.len(), 1200);
-    assert!(rt; alternate(&map, 1200, 7, 2));
-    Ok(())
+    assert!(rt; reports.len() == 1200 && alternate(map, 1200, 7, 2));
+}
+
+/// Runs of more keys than fit on a page.
+#[test]
+fn runs_over_pages(rt: HostRuntime) {
+    let mut map = StagedMap::new(rt.alloc());
+    let mut reports = Vec::new(rt.alloc());
+    check_new_keys(&rt, &mut map, &mut reports);
+    check_old_keys(&rt, &mut map, &mut reports);
 }

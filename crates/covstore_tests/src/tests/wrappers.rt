@@ -6,6 +6,7 @@ use covpacked::PackedSubmission;
 use covread::{ReadFault, read_trace, read_trace_packed};
 use covreport::{PatternFault, Patterns, matches};
 use std::alloc::Global;
+use std::process::Abort;
 use std::test::*;
 
 pub(super) fn put_line(record: &TraceLine<'_>, text: &mut Bytes) -> Result<(), Memory> {
@@ -40,9 +41,12 @@ pub(super) fn any_matches(patterns: &Patterns, path: &[u8]) -> bool {
     patterns.any_matches(path)
 }
 
-/// Makes a list of `patterns`, which are separated by bars.
+/// Makes a list of `patterns`, which are separated by bars. Makes the empty list if there are no bytes.
 pub(super) fn list_of(alloc: Global, patterns: &[u8]) -> Result<Patterns, PatternFault> {
     let mut list = Patterns::new(alloc);
+    if patterns.is_empty() {
+        return Ok(list);
+    }
     for pattern in patterns.split(|byte| *byte == b'|') {
         add(alloc, &mut list, pattern)?;
     }
@@ -50,10 +54,10 @@ pub(super) fn list_of(alloc: Global, patterns: &[u8]) -> Result<Patterns, Patter
 }
 
 /// Returns `times` copies of `bytes`, one after another.
-pub(super) fn repeated(alloc: Global, bytes: &[u8], times: usize) -> Result<Vec<u8>, Fail> {
-    let mut all = Vec::new(alloc);
+pub(super) fn repeated(rt: &(impl Abort + AllocGlobal), bytes: &[u8], times: usize) -> Vec<u8> {
+    let mut all = Vec::new(rt.alloc());
     for _time in 0..times {
-        all.extend_from_slice(bytes)?;
+        assert!(rt; all.extend_from_slice(bytes).is_ok());
     }
-    Ok(all)
+    all
 }
