@@ -7,7 +7,7 @@ use super::texts::{ANNOTATED, TRACED};
 use super::{check_bytes, made};
 use bumpalo::Bump;
 use covsession::session::{SessionFault, session};
-use covsession::{Failed, FromRead, FromWrite, Sink, Source};
+use covstream::{Failed, FromRead, FromWrite, Sink, Source};
 use std::alloc::{AllocError, Allocator, Global};
 use std::cell::Cell;
 use std::process::Abort;
