@@ -9,7 +9,6 @@ mod heap;
 mod mixed;
 mod packs;
 mod points;
-mod read_texts;
 mod reads;
 mod refused;
 mod removes;

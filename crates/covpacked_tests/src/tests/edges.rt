@@ -1,9 +1,10 @@
 //! Numbers at the limits of each packed width are read back as they were pushed.
 
 use super::made;
+use super::mixed::branch_of;
 use super::same::check_item;
 use super::wrappers::{push_branch, push_function, push_line};
-use covpacked::{ItemRef, PackedItems, PackedSects};
+use covpacked::{ItemRef, PackedSects};
 use std::process::Abort;
 use std::test::*;
 
@@ -48,9 +49,10 @@ const TAKEN: [Option<u128>; 6] = [
     Some(340_282_366_920_938_463_463_374_607_431_768_211_455),
 ];
 
-/// Checks that no item is left.
-fn check_end(rt: &impl Abort, items: &mut PackedItems<'_>) {
-    assert!(rt; items.next().is_none(), "there is one more item");
+/// Checks that the last item pushed is read back as `wanted`.
+fn check_last(rt: &impl Abort, sects: &PackedSects, wanted: ItemRef<'_>) {
+    let place = sects.open_len().wrapping_sub(1);
+    check_item(rt, place, sects.items().get(place), wanted);
 }
 
 /// Checks that lines with each number and count are read back as they were pushed.
@@ -59,20 +61,14 @@ fn check_lines(rt: &(impl Abort + AllocGlobal), checksum: Option<&[u8]>) {
     for line in LINES {
         for count in COUNTS {
             made(rt, push_line(&mut sects, line, count, checksum));
-        }
-    }
-    let mut items = sects.items();
-    for line in LINES {
-        for count in COUNTS {
             let wanted = ItemRef::Line {
                 line,
                 count,
                 checksum,
             };
-            check_item(rt, line as usize, items.next(), wanted);
+            check_last(rt, &sects, wanted);
         }
     }
-    check_end(rt, &mut items);
 }
 
 /// Checks that functions with each start line and count are read back as they were pushed.
@@ -81,76 +77,49 @@ fn check_functions(rt: &(impl Abort + AllocGlobal), name: &[u8]) {
     for line in LINES {
         for count in COUNTS {
             made(rt, push_function(&mut sects, name, line, count));
+            check_last(rt, &sects, ItemRef::Func { name, line, count });
         }
     }
-    let mut items = sects.items();
-    for line in LINES {
-        for count in COUNTS {
-            check_item(
-                rt,
-                line as usize,
-                items.next(),
-                ItemRef::Func { name, line, count },
-            );
-        }
-    }
-    check_end(rt, &mut items);
 }
 
-/// Checks that branches with each block, number in the block and `taken` are read back as they were pushed.
-fn check_branches(rt: &(impl Abort + AllocGlobal), line: u64) {
+/// Checks that branches with each number in the block and `taken` are read back as they were pushed.
+fn check_branches(rt: &(impl Abort + AllocGlobal), line: u64, block: u64) {
     let mut sects = PackedSects::new(rt.alloc());
-    for block in QUARTERS {
-        for branch in QUARTERS {
-            for taken in TAKEN {
-                made(rt, push_branch(&mut sects, line, block, branch, taken));
-            }
+    for branch in QUARTERS {
+        for taken in TAKEN {
+            made(rt, push_branch(&mut sects, line, block, branch, taken));
+            check_last(rt, &sects, branch_of(line, block, branch, taken));
         }
     }
-    let mut items = sects.items();
-    for block in QUARTERS {
-        for branch in QUARTERS {
-            for taken in TAKEN {
-                let wanted = ItemRef::Branch {
-                    line,
-                    block,
-                    branch,
-                    taken,
-                };
-                check_item(rt, block as usize, items.next(), wanted);
-            }
-        }
-    }
-    check_end(rt, &mut items);
-}
-
-#[test]
-fn lines(rt: HostRuntime) {
-    check_lines(&rt, None);
-}
-
-#[test]
-fn lines_with_checksums(rt: HostRuntime) {
-    check_lines(&rt, Some(b"a"));
-    check_lines(&rt, Some(b"1B2M2Y8AsgTpgAmY7PhCfg=="));
 }
 
 /// An empty checksum differs from a missing checksum.
 #[test]
-fn lines_with_empty_checksums(rt: HostRuntime) {
-    check_lines(&rt, Some(b""));
+fn lines(rt: HostRuntime) {
+    let checksums: [Option<&[u8]>; 4] = [
+        None,
+        Some(b""),
+        Some(b"a"),
+        Some(b"1B2M2Y8AsgTpgAmY7PhCfg=="),
+    ];
+    for checksum in checksums {
+        check_lines(&rt, checksum);
+    }
 }
 
 #[test]
 fn functions(rt: HostRuntime) {
-    check_functions(&rt, b"f");
-    check_functions(&rt, b"void f(int, char)\xff");
-    check_functions(&rt, b"");
+    let names: [&[u8]; 3] = [b"", b"f", b"void f(int, char)\xff"];
+    for name in names {
+        check_functions(&rt, name);
+    }
 }
 
 #[test]
 fn branches(rt: HostRuntime) {
     for line in LINES {
-        check_branches(&rt, line);
+        for block in QUARTERS {
+            check_branches(&rt, line, block);
+        }
     }
 }

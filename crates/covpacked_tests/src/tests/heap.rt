@@ -6,7 +6,7 @@ use std::process::Abort;
 use std::test::*;
 
 /// A capacity in bytes that is enough for every test.
-const AMPLE: usize = 20_000;
+pub(super) const AMPLE: usize = 20_000;
 
 /// A heap with ample capacity. Because the heap has several blocks, it never reuses freed memory: each allocation needs new
 /// capacity.
@@ -32,27 +32,13 @@ pub(super) fn narrow(rt: &impl Abort, heap: &Bump, room: usize) {
     assert!(rt; room <= left, "a heap is too small");
     take(rt, heap, left.wrapping_sub(room));
     heap.set_allocation_limit(Some(0));
-    assert_eq!(rt; heap.chunk_capacity(), room);
+    assert!(rt;
+        heap.chunk_capacity() == room,
+        "a heap has another capacity"
+    );
 }
 
 /// Allows further blocks again, so that the heap has ample capacity.
 pub(super) fn widen(heap: &Bump) {
     heap.set_allocation_limit(None);
-}
-
-/// Tries a call in heaps with a capacity of 0, 1, 2 and so on, until the call succeeds. `is_refused` makes the call, and returns
-/// whether an allocation failed. An allocation must fail in the first heap.
-pub(super) fn check_rising<R: Abort + AllocGlobal, F: Fn(&Bump, usize) -> bool>(
-    rt: &R,
-    is_refused: F,
-)
-    requires { F.IsAlwaysCallable is_refused }
-{
-    assert!(rt; is_refused(&new_heap(rt), 0), "no growth is met");
-    for room in 1..AMPLE {
-        if !is_refused(&new_heap(rt), room) {
-            return;
-        }
-    }
-    panic!(rt; "refused in each heap");
 }

@@ -2,10 +2,10 @@
 
 use super::made;
 use super::mixed::item;
-use super::sections::{ALL_SECTS, Section, check_sections, nth_section};
+use super::sections::{Section, check_sections, samples};
 use super::wrappers::{bytes, packed, unpacked};
 use covline::{Bytes, Item, Items, Sect, Sects, Submission};
-use covpacked::{ItemRef, PackedSubmission};
+use covpacked::{ItemRef, PackedSubmission, ReadText};
 use std::alloc::Allocator;
 use std::process::Abort;
 use std::test::*;
@@ -23,7 +23,7 @@ fn checksum_of<A: Allocator>(
 }
 
 /// Returns an owned copy of the item.
-pub(super) fn owned<A: Allocator>(rt: &impl Abort, alloc: A, item: ItemRef<'_>) -> Item<A> {
+fn owned<A: Allocator>(rt: &impl Abort, alloc: A, item: ItemRef<'_>) -> Item<A> {
     match item {
         ItemRef::Line {
             line,
@@ -62,13 +62,9 @@ fn items_of<A: Allocator + Copy>(rt: &impl Abort, alloc: A, numbers: &[usize]) -
     items
 }
 
-/// The sample section with this number.
-fn sect_of<A: Allocator + Copy>(rt: &impl Abort, alloc: A, number: usize) -> Sect<A> {
-    let Section {
-        test,
-        file,
-        numbers,
-    } = nth_section(number);
+/// The section in memory of its own.
+fn sect_of<A: Allocator + Copy>(rt: &impl Abort, alloc: A, section: &Section<'_>) -> Sect<A> {
+    let (test, file, numbers) = section;
     Sect {
         test: made(rt, bytes(alloc, test)),
         file: made(rt, bytes(alloc, file)),
@@ -76,50 +72,81 @@ fn sect_of<A: Allocator + Copy>(rt: &impl Abort, alloc: A, number: usize) -> Sec
     }
 }
 
-/// A submission of the first `count` sample sections, with `odd` inconsistent lines.
+/// A submission of these sections, with `odd` inconsistent lines.
 pub(super) fn submission_of<A: Allocator + Copy>(
     rt: &impl Abort,
     alloc: A,
-    count: usize,
+    sections: &[Section<'_>],
     odd: u64,
 ) -> Submission<A> {
     let mut sects = Sects::new(alloc);
-    for number in 0..count {
-        made(rt, sects.push(sect_of(rt, alloc, number)));
+    for section in sections {
+        made(rt, sects.push(sect_of(rt, alloc, section)));
     }
     made(rt, Submission::of(sects, odd))
 }
 
-/// Checks that `packed` has the first `count` sample sections, `items` items and `odd` inconsistent lines.
+/// A packed submission of these sections, with `odd` inconsistent lines.
+pub(super) fn packed_of<A: Allocator + Copy>(
+    rt: &impl Abort,
+    alloc: A,
+    sections: &[Section<'_>],
+    odd: u64,
+) -> PackedSubmission<A> {
+    made(rt, packed(alloc, &submission_of(rt, alloc, sections, odd)))
+}
+
+/// A submission of the first sample sections: the numbers of its sections, items and inconsistent lines, and its last test.
+pub(super) type Sample = (usize, u64, u64, Option<&'static [u8]>);
+
+fn check_number(rt: &impl Abort, given: u64, wanted: u64) {
+    assert!(rt; given == wanted, "{given} instead of {wanted}");
+}
+
+/// Checks the counts and the last test of a submission, packed or not.
+fn check_read<S: ReadText>(rt: &impl Abort, read: &S, wanted: &Sample) {
+    check_number(rt, read.count_sections(), wanted.0 as u64);
+    check_number(rt, read.count_items(), wanted.1);
+    check_number(rt, read.count_odd(), wanted.2);
+    assert!(rt;
+        read.last_test() == wanted.3,
+        "another test is the last one"
+    );
+}
+
+/// Checks that `packed` is the sample.
 pub(super) fn check_packed<A: Allocator>(
     rt: &impl Abort,
     packed: &PackedSubmission<A>,
-    count: usize,
-    items: u64,
-    odd: u64,
+    wanted: &Sample,
 ) {
-    check_sections(rt, packed.sects(), count);
-    assert_eq!(rt; packed.items(), items);
-    assert_eq!(rt; packed.odd(), odd);
+    check_sections(rt, packed.sects(), samples(wanted.0));
+    check_read(rt, packed, wanted);
 }
 
-/// Packs, unpacks and packs again a submission of the first `count` sample sections. Checks each result.
-fn check(rt: &(impl Abort + AllocGlobal), count: usize, items: u64, odd: u64) {
-    let given = submission_of(rt, rt.alloc(), count, odd);
+/// Packs the sample, and checks the result. Then unpacks it, and packs it again.
+fn check(rt: &(impl Abort + AllocGlobal), wanted: &Sample) {
+    let given = submission_of(rt, rt.alloc(), samples(wanted.0), wanted.2);
+    check_read(rt, &given, wanted);
     let first = made(rt, packed(rt.alloc(), &given));
-    check_packed(rt, &first, count, items, odd);
+    check_packed(rt, &first, wanted);
     let own = made(rt, unpacked(rt.alloc(), &first));
-    assert!(rt; own.is_same(&given), "{count} sections");
-    let second = made(rt, packed(rt.alloc(), &own));
-    check_packed(rt, &second, count, items, odd);
+    check_packed(rt, &made(rt, packed(rt.alloc(), &own)), wanted);
 }
 
 #[test]
 fn there_and_back(rt: HostRuntime) {
-    check(&rt, 0, 0, 0);
-    check(&rt, 0, 0, 3);
-    check(&rt, 1, 2, 0);
-    check(&rt, 2, 2, 1);
-    check(&rt, 3, 5, 0);
-    check(&rt, ALL_SECTS, 9, 18_446_744_073_709_551_615);
+    let all: [Sample; 8] = [
+        (0, 0, 0, None),
+        (0, 0, 3, None),
+        (1, 2, 7, Some(b"t")),
+        (2, 2, 1, Some(b"t")),
+        (3, 5, 18_446_744_073_709_551_615, Some(b"")),
+        (4, 6, 0, Some(b"unit tests, all")),
+        (5, 8, 1, Some(b"t")),
+        (6, 10, 0, Some(b"u")),
+    ];
+    for wanted in all {
+        check(&rt, &wanted);
+    }
 }

@@ -2,6 +2,7 @@
 
 use super::heap::{narrow, new_heap};
 use super::made;
+use super::mixed::{branch_of, function_of, line_of};
 use super::wrappers::{close, push};
 use covpacked::{ItemRef, PackedSects};
 use std::process::Abort;
@@ -17,53 +18,31 @@ fn check(rt: &(impl Abort + AllocGlobal), item: ItemRef<'_>, bytes: usize) {
     }
 }
 
-/// Checks the memory that lines with this checksum take. The numbers are the largest that take few bytes.
-fn check_line(rt: &(impl Abort + AllocGlobal), count: u128, checksum: Option<&[u8]>, bytes: usize) {
-    let item = ItemRef::Line {
-        line: 1_073_741_823,
-        count,
-        checksum,
-    };
-    check(rt, item, bytes);
-}
-
-/// Checks the memory that branches take. The numbers are the largest that take few bytes.
-fn check_branch(rt: &(impl Abort + AllocGlobal), taken: Option<u128>, bytes: usize) {
-    let item = ItemRef::Branch {
-        line: 1_073_741_823,
-        block: 65_535,
-        branch: 65_535,
-        taken,
-    };
-    check(rt, item, bytes);
-}
-
+/// Lines, branches and a function. The numbers are the largest that take few bytes. Eight of the second line's 32 bytes, and of the
+/// function's 64, are a text.
 #[test]
-fn lines(rt: HostRuntime) {
-    check_line(&rt, 2_147_483_647, None, 8);
-}
-
-/// Eight of the 32 bytes are the checksum's text.
-#[test]
-fn lines_with_checksums(rt: HostRuntime) {
-    check_line(&rt, 4_294_967_295, Some(b"abcdefgh"), 32);
-}
-
-#[test]
-fn branches(rt: HostRuntime) {
-    check_branch(&rt, Some(4_294_967_295), 16);
-    check_branch(&rt, None, 16);
-}
-
-/// Eight of the 64 bytes are the name's text.
-#[test]
-fn functions(rt: HostRuntime) {
-    let item = ItemRef::Func {
-        name: b"function",
-        line: 18_446_744_073_709_551_615,
-        count: 340_282_366_920_938_463_463_374_607_431_768_211_455,
-    };
-    check(&rt, item, 64);
+fn items(rt: HostRuntime) {
+    let most = 18_446_744_073_709_551_615;
+    let all = [
+        (line_of(1_073_741_823, 2_147_483_647, None), 8),
+        (line_of(1_073_741_823, 4_294_967_295, Some(b"abcdefgh")), 32),
+        (
+            branch_of(1_073_741_823, 65_535, 65_535, Some(4_294_967_295)),
+            16,
+        ),
+        (branch_of(1_073_741_823, 65_535, 65_535, None), 16),
+        (
+            function_of(
+                b"function",
+                most,
+                340_282_366_920_938_463_463_374_607_431_768_211_455,
+            ),
+            64,
+        ),
+    ];
+    for (item, bytes) in all {
+        check(&rt, item, bytes);
+    }
 }
 
 /// The sections of one test share its name: 16 names of 1,000 bytes wouldn't fit.
