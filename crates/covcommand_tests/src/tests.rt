@@ -1,13 +1,14 @@
 //! Command lines and their parsed commands. Expected values were worked out by hand. The texts of errors are clap's.
 //!
-//! Each line of an example has a command line and, after ` => `, the expected result. The examples are text, so that they cost no
-//! proof.
+//! An example is a line with a command line and, after ` => `, the expected result. The examples are text, so that they cost no
+//! proof. Functions append to a text and panic if memory runs out: each `?` would have to drop the text.
 
 use covcommand::{
     Asked, Command, CommandFault, LcovVersion, Limits, Names, SourceFilter, Strictness, TextFormat,
     TextSize, TotalsForm, command,
 };
 use std::alloc::Global;
+use std::fmt::Write;
 use std::process::Abort;
 use std::test::*;
 
@@ -20,51 +21,116 @@ fn asked(alloc: Global, words: &[String]) -> Result<Asked, CommandFault> {
     command(alloc, words)
 }
 
-/// Splits the command line `call` at white space into arguments, and strips the quotes of patterns.
-fn words_of(alloc: Global, call: &str) -> Result<Vec<String>, Fail> {
-    let mut words = Vec::new(alloc);
-    for word in call.split_whitespace() {
-        words.push(String::from_str(alloc, word.trim_matches('\''))?)?;
+/// Appends a copy of the argument `word`.
+fn push_word(rt: &(impl Abort + AllocGlobal), words: &mut Vec<String>, word: &str) {
+    if let Ok(word) = String::from_str(rt.alloc(), word) {
+        if words.push(word).is_ok() {
+            return;
+        }
     }
-    Ok(words)
+    panic!(rt; "out of memory");
+}
+
+/// Splits the command line `call` at white space into arguments, and strips the quotes of patterns.
+fn words_of(rt: &(impl Abort + AllocGlobal), call: &str) -> Vec<String> {
+    let mut words = Vec::new(rt.alloc());
+    for word in call.split_whitespace() {
+        push_word(rt, &mut words, word.trim_matches('\''));
+    }
+    words
+}
+
+/// Returns the parsed arguments, or the error, as text.
+fn told(rt: &(impl Abort + AllocGlobal), words: &[String]) -> String {
+    let mut text = String::new(rt.alloc());
+    put_told(rt, &mut text, words);
+    text
+}
+
+/// Appends the parsed arguments, or the error. No other function has both as a value: freeing it takes long to prove.
+fn put_told(rt: &(impl Abort + AllocGlobal), text: &mut String, words: &[String]) {
+    match asked(rt.alloc(), words) {
+        Ok(whole) => put_asked(rt, text, &whole),
+        Err(fault) => put_fault(rt, text, &fault),
+    }
 }
 
 /// Returns the parsed command line `call`, or its error, as text.
-fn answer(alloc: Global, call: &str) -> Result<String, Fail> {
-    let words = words_of(alloc, call)?;
-    match asked(alloc, words.as_slice()) {
-        Ok(whole) => told(alloc, &whole),
-        Err(fault) => refused(alloc, &fault),
+fn answer(rt: &(impl Abort + AllocGlobal), call: &str) -> String {
+    told(rt, words_of(rt, call).as_slice())
+}
+
+/// Appends `piece`.
+fn put(rt: &impl Abort, text: &mut String, piece: &str) {
+    if text.push_str(piece).is_err() {
+        panic!(rt; "out of memory");
     }
 }
 
-/// Returns the error as text: its number, its exit status, and the first line of its message.
-fn refused(alloc: Global, fault: &CommandFault) -> Result<String, Fail> {
-    let text = format!(in alloc; "{fault}")?;
-    let first = text.as_str().lines().next().unwrap_or("");
-    Ok(format!(in alloc; "{} {} {first}", fault.number(), fault.status())?)
+/// Appends the error: its number, its exit status, and the first line of its message.
+fn put_fault(rt: &(impl Abort + AllocGlobal), text: &mut String, fault: &CommandFault) {
+    let number = fault.number();
+    let status = fault.status();
+    if write!(text, "{number} {status} ").is_err() {
+        panic!(rt; "out of memory");
+    }
+    put_first_line(rt, text, printed(rt, fault).as_str());
 }
 
-/// Returns the parsed command line as text: the command, its strictness, its size limit, and the output file.
-fn told(alloc: Global, whole: &Asked) -> Result<String, Fail> {
-    let command = command_in_words(alloc, &whole.command)?;
-    let command = with_strictness(command, &whole.strictness)?;
-    with_output(with_size(command, &whole.size)?, &whole.output)
+/// Returns the error's message.
+fn printed(rt: &(impl Abort + AllocGlobal), fault: &CommandFault) -> String {
+    match format!(in rt.alloc(); "{fault}") {
+        Ok(message) => message,
+        Err(_refused) => panic!(rt; "out of memory"),
+    }
 }
 
-/// Returns the command as text: the subcommand, in parentheses the LCOV version, format or test name and the number of jobs, then
-/// the source filter, the form, the thresholds and the names.
-fn command_in_words(alloc: Global, command: &Command) -> Result<String, Fail> {
+/// Appends the first line of `message`.
+fn put_first_line(rt: &impl Abort, text: &mut String, message: &str) {
+    if let Some(line) = message.lines().next() {
+        put(rt, text, line);
+    }
+}
+
+/// Appends the parsed command line: the command, its strictness, its size limit, and the output file.
+fn put_asked(rt: &impl Abort, text: &mut String, whole: &Asked) {
+    put_command(rt, text, &whole.command);
+    put(rt, text, strict_word(&whole.strictness));
+    put(rt, text, large_word(&whole.size));
+    if let Some(path) = &whole.output {
+        put_marked(rt, text, " >[", path.as_str());
+    }
+}
+
+/// The word for a strict run.
+fn strict_word(strictness: &Strictness) -> &'static str {
+    match strictness {
+        Strictness::Lenient => "",
+        Strictness::Strict => " strict",
+    }
+}
+
+/// The word for a run with `--large`.
+fn large_word(size: &TextSize) -> &'static str {
+    match size {
+        TextSize::Limited => "",
+        TextSize::Large => " large",
+    }
+}
+
+/// Appends the subcommand, in parentheses the LCOV version, format or test name and the number of jobs, then the source filter, the
+/// form, the thresholds and the names.
+fn put_command(rt: &impl Abort, text: &mut String, command: &Command) {
     match command {
-        Command::Session => Ok(String::from_str(alloc, "session")?),
+        Command::Session => put(rt, text, "session"),
         Command::Merge {
             version,
             jobs,
             filter,
             names,
         } => {
-            let merge = format!(in alloc; "merge ({} {jobs})", number_of(version))?;
-            with_names(with_filter(merge, filter)?, names)
+            put_inputs(rt, text, "merge", version, *jobs, filter);
+            put_names(rt, text, names);
         }
         Command::Summary {
             version,
@@ -74,9 +140,8 @@ fn command_in_words(alloc: Global, command: &Command) -> Result<String, Fail> {
             limits,
             names,
         } => {
-            let summary = format!(in alloc; "summary ({} {jobs})", number_of(version))?;
-            let summary = with_form(with_filter(summary, filter)?, form)?;
-            with_names(with_limits(alloc, summary, limits)?, names)
+            put_inputs(rt, text, "summary", version, *jobs, filter);
+            put_summary(rt, text, form, limits, names);
         }
         Command::List {
             version,
@@ -85,133 +150,174 @@ fn command_in_words(alloc: Global, command: &Command) -> Result<String, Fail> {
             form,
             names,
         } => {
-            let list = format!(in alloc; "list ({} {jobs})", number_of(version))?;
-            with_names(with_form(with_filter(list, filter)?, form)?, names)
+            put_inputs(rt, text, "list", version, *jobs, filter);
+            put_list(rt, text, form, names);
         }
-        Command::Extract { version, names } => {
-            with_names(
-                format!(in alloc; "extract ({})", number_of(version))?,
-                names,
-            )
-        }
-        Command::Remove { version, names } => {
-            with_names(format!(in alloc; "remove ({})", number_of(version))?, names)
-        }
-        Command::Gcov { test, names } => {
-            let test: String = String::from_utf8_lossy(alloc, test.get())?;
-            with_names(format!(in alloc; "gcov ({test})")?, names)
-        }
+        Command::Extract { version, names } => put_chosen(rt, text, "extract", version, names),
+        Command::Remove { version, names } => put_chosen(rt, text, "remove", version, names),
+        Command::Gcov { test, names } => put_gcov(rt, text, test.get(), names),
         Command::Check {
             format,
             jobs,
             names,
-        } => {
-            let format = match format {
-                TextFormat::Tracefile(LcovVersion::One) => "tracefile 1",
-                TextFormat::Tracefile(LcovVersion::Two) => "tracefile 2",
-                TextFormat::Gcov => "gcov",
-            };
-            with_names(format!(in alloc; "check ({format} {jobs})")?, names)
-        }
+        } => put_check(rt, text, format, *jobs, names),
+    }
+}
+
+/// Appends `word`, in parentheses the LCOV version and the number of jobs, and then the source filter.
+fn put_inputs(
+    rt: &impl Abort,
+    text: &mut String,
+    word: &str,
+    version: &LcovVersion,
+    jobs: u32,
+    filter: &SourceFilter,
+) {
+    put_head(rt, text, word, version_word(version));
+    put_jobs(rt, text, jobs);
+    put_each(rt, text, " +[", &filter.includes);
+    put_each(rt, text, " -[", &filter.excludes);
+}
+
+/// Appends `word`, an opening parenthesis and `first`.
+fn put_head(rt: &impl Abort, text: &mut String, word: &str, first: &str) {
+    put(rt, text, word);
+    put(rt, text, " (");
+    put(rt, text, first);
+}
+
+/// Appends the number of jobs and a closing parenthesis.
+fn put_jobs(rt: &impl Abort, text: &mut String, jobs: u32) {
+    if write!(text, " {jobs})").is_err() {
+        panic!(rt; "out of memory");
     }
 }
 
 /// The LCOV version as a number.
-fn number_of(version: &LcovVersion) -> u8 {
+fn version_word(version: &LcovVersion) -> &'static str {
     match version {
-        LcovVersion::One => 1,
-        LcovVersion::Two => 2,
+        LcovVersion::One => "1",
+        LcovVersion::Two => "2",
     }
 }
 
-/// Appends each pattern to include as ` +[..]`, and then each pattern to exclude as ` -[..]`.
-fn with_filter(text: String, filter: &SourceFilter) -> Result<String, Fail> {
-    let text = with_marked(text, " +[", &filter.includes)?;
-    with_marked(text, " -[", &filter.excludes)
+/// Appends the rest of a summary: the form, the thresholds and the names.
+fn put_summary(
+    rt: &impl Abort,
+    text: &mut String,
+    form: &TotalsForm,
+    limits: &Limits,
+    names: &Names,
+) {
+    put(rt, text, form_word(form));
+    put_limits(rt, text, limits);
+    put_names(rt, text, names);
 }
 
-/// Appends `json` if totals are printed as JSON.
-fn with_form(mut text: String, form: &TotalsForm) -> Result<String, Fail> {
-    if let TotalsForm::Json = form {
-        text.push_str(" json")?;
+/// Appends the rest of a list: the form and the names.
+fn put_list(rt: &impl Abort, text: &mut String, form: &TotalsForm, names: &Names) {
+    put(rt, text, form_word(form));
+    put_names(rt, text, names);
+}
+
+/// The word for totals as JSON.
+fn form_word(form: &TotalsForm) -> &'static str {
+    match form {
+        TotalsForm::Words => "",
+        TotalsForm::Json => " json",
     }
-    Ok(text)
 }
 
-/// Appends each threshold, after `lines`, `functions` or `branches`.
-fn with_limits(alloc: Global, mut text: String, limits: &Limits) -> Result<String, Fail> {
+/// Appends each threshold.
+fn put_limits(rt: &impl Abort, text: &mut String, limits: &Limits) {
     if let Some(lines) = &limits.lines {
-        text = with_limit(alloc, text, "lines", lines.get())?;
+        put_limit(rt, text, " lines(", lines.get());
     }
     if let Some(functions) = &limits.functions {
-        text = with_limit(alloc, text, "functions", functions.get())?;
+        put_limit(rt, text, " functions(", functions.get());
     }
     if let Some(branches) = &limits.branches {
-        text = with_limit(alloc, text, "branches", branches.get())?;
+        put_limit(rt, text, " branches(", branches.get());
     }
-    Ok(text)
 }
 
-/// Appends `of`, and then the threshold `limit` in parentheses.
-fn with_limit(alloc: Global, text: String, of: &str, limit: &[u8]) -> Result<String, Fail> {
-    let limit: String = String::from_utf8_lossy(alloc, limit)?;
-    Ok(format!(in alloc; "{text} {of}({limit})")?)
+/// Appends a threshold after `mark` and before a closing parenthesis.
+fn put_limit(rt: &impl Abort, text: &mut String, mark: &str, limit: &[u8]) {
+    put(rt, text, mark);
+    put(rt, text, text_of(limit));
+    put(rt, text, ")");
 }
 
-/// Appends `strict` for a strict run.
-fn with_strictness(mut text: String, strictness: &Strictness) -> Result<String, Fail> {
-    if let Strictness::Strict = strictness {
-        text.push_str(" strict")?;
-    }
-    Ok(text)
+/// The bytes as text. An argument's bytes are UTF-8.
+fn text_of(bytes: &[u8]) -> &str {
+    str::from_utf8(bytes).unwrap_or("not UTF-8")
 }
 
-/// Appends `large` for a run with `--large`.
-fn with_size(mut text: String, size: &TextSize) -> Result<String, Fail> {
-    if let TextSize::Large = size {
-        text.push_str(" large")?;
-    }
-    Ok(text)
+/// Appends `word`, the LCOV version in parentheses, and the names: the tracefile and the patterns.
+fn put_chosen(
+    rt: &impl Abort,
+    text: &mut String,
+    word: &str,
+    version: &LcovVersion,
+    names: &Names,
+) {
+    put_head(rt, text, word, version_word(version));
+    put(rt, text, ")");
+    put_names(rt, text, names);
 }
 
-/// Appends the path of the output file, if there is one, as ` >[..]`.
-fn with_output(mut text: String, output: &Option<String>) -> Result<String, Fail> {
-    if let Some(path) = output {
-        text.push_str(" >[")?;
-        text.push_str(path.as_str())?;
-        text.push(']')?;
+/// Appends the command `gcov`, the test's name in parentheses, and the names.
+fn put_gcov(rt: &impl Abort, text: &mut String, test: &[u8], names: &Names) {
+    put_head(rt, text, "gcov", text_of(test));
+    put(rt, text, ")");
+    put_names(rt, text, names);
+}
+
+/// Appends the command `check`, in parentheses the format and the number of jobs, and the names.
+fn put_check(rt: &impl Abort, text: &mut String, format: &TextFormat, jobs: u32, names: &Names) {
+    put_head(rt, text, "check", format_word(format));
+    put_jobs(rt, text, jobs);
+    put_names(rt, text, names);
+}
+
+/// The words for the format.
+fn format_word(format: &TextFormat) -> &'static str {
+    match format {
+        TextFormat::Tracefile(LcovVersion::One) => "tracefile 1",
+        TextFormat::Tracefile(LcovVersion::Two) => "tracefile 2",
+        TextFormat::Gcov => "gcov",
     }
-    Ok(text)
 }
 
 /// Appends each name in brackets.
-fn with_names(text: String, names: &Names) -> Result<String, Fail> {
-    with_marked(text, " [", names)
+fn put_names(rt: &impl Abort, text: &mut String, names: &Names) {
+    put_each(rt, text, " [", names);
 }
 
 /// Appends each name between `mark` and a closing bracket.
-fn with_marked(mut text: String, mark: &str, names: &Names) -> Result<String, Fail> {
+fn put_each(rt: &impl Abort, text: &mut String, mark: &str, names: &Names) {
     for name in names.get() {
-        text.push_str(mark)?;
-        text.push_str(name.as_str())?;
-        text.push(']')?;
+        put_marked(rt, text, mark, name.as_str());
     }
-    Ok(text)
+}
+
+/// Appends `name` between `mark` and a closing bracket.
+fn put_marked(rt: &impl Abort, text: &mut String, mark: &str, name: &str) {
+    put(rt, text, mark);
+    put(rt, text, name);
+    put(rt, text, "]");
 }
 
 /// Checks that the command line of each example has the example's expected result.
-fn check_all(rt: &(impl Abort + AllocGlobal), examples: &str) -> Result<(), Fail> {
+fn check_all(rt: &(impl Abort + AllocGlobal), examples: &str) {
     for line in examples.lines() {
         if let Some((call, wanted)) = line.split_once(" => ") {
-            check(rt, call, wanted)?;
+            check_told(rt, call, answer(rt, call).as_str(), wanted);
         }
     }
-    Ok(())
 }
 
-/// Checks that the command line `call` has the result `wanted`.
-fn check(rt: &(impl Abort + AllocGlobal), call: &str, wanted: &str) -> Result<(), Fail> {
-    let given = answer(rt.alloc(), call)?;
-    assert!(rt; given.as_str() == wanted, "{call} => {given}");
-    Ok(())
+/// Checks that the result of `call` is the one that is wanted.
+fn check_told(rt: &impl Abort, call: &str, given: &str, wanted: &str) {
+    assert!(rt; given == wanted, "{call} => {given}");
 }

@@ -1,29 +1,21 @@
 //! Tests of parsed command lines, and of their errors.
 
-use super::{asked, check_all, told};
-use std::alloc::Global;
-use std::process::Abort;
+use super::{check_all, check_told, push_word, told};
 use std::test::*;
 
-/// Three command lines: only the program's name, the name and `--`, and no argument at all.
 #[test]
-fn without_a_subcommand(rt: HostRuntime) -> Result<(), Fail> {
-    check_all(
-        &rt,
-        "\
+fn command_lines(rt: HostRuntime) {
+    check_all(&rt, EXAMPLES);
+}
+
+/// The examples. A line that begins with `#` says what the lines below it are about.
+const EXAMPLES: &str = "\
+# Three command lines: only the program's name, the name and `--`, and no argument at all.
 covcollect => session
 covcollect -- => session
  => session
-",
-    )
-}
 
-/// Each subcommand, with its names in order.
-#[test]
-fn subcommands(rt: HostRuntime) -> Result<(), Fail> {
-    check_all(
-        &rt,
-        "\
+# Each subcommand, with its names in order.
 covcollect merge a.info => merge (1 1) [a.info]
 covcollect merge b.info a.info b.info => merge (1 1) [b.info] [a.info] [b.info]
 covcollect summary b.info a.info => summary (1 1) [b.info] [a.info]
@@ -44,16 +36,8 @@ covcollect check --gcov main.c.gcov util.c.gcov => check (gcov 1) [main.c.gcov] 
 covcollect check main.c.gcov --gcov util.c.gcov => check (gcov 1) [main.c.gcov] [util.c.gcov]
 covcollect check -- --gcov => check (tracefile 1 1) [--gcov]
 covcollect check gcov => check (tracefile 1 1) [gcov]
-",
-    )
-}
 
-/// The number of jobs, from 1 to 64.
-#[test]
-fn jobs(rt: HostRuntime) -> Result<(), Fail> {
-    check_all(
-        &rt,
-        "\
+# The number of jobs, from 1 to 64.
 covcollect merge --jobs 1 a.info => merge (1 1) [a.info]
 covcollect merge --jobs 64 a.info => merge (1 64) [a.info]
 covcollect merge --jobs=7 a.info => merge (1 7) [a.info]
@@ -88,16 +72,8 @@ covcollect check -j 2 --jobs 3 a.info => 2 2 error: the argument '--jobs <N>' ca
 covcollect check a.info -j => 2 2 error: a value is required for '--jobs <N>' but none was supplied
 covcollect check -j 2 => 2 2 error: the following required arguments were not provided:
 covcollect extract -j 2 a.info '*.c' => 2 2 error: unexpected argument '-j' found
-",
-    )
-}
 
-/// The flag `--lcov2`, before, between and after the names. Beside `--gcov`, the flag changes nothing.
-#[test]
-fn versions(rt: HostRuntime) -> Result<(), Fail> {
-    check_all(
-        &rt,
-        "\
+# The flag `--lcov2`, before, between and after the names. Beside `--gcov`, the flag changes nothing.
 covcollect merge --lcov2 a.info b.info => merge (2 1) [a.info] [b.info]
 covcollect merge --lcov2 -j 4 a.info => merge (2 4) [a.info]
 covcollect merge a.info --lcov2 b.info => merge (2 1) [a.info] [b.info]
@@ -121,16 +97,8 @@ covcollect check --lcov2 a.info --lcov2 => 2 2 error: the argument '--lcov2' can
 covcollect summary --lcov2=true a.info => 2 2 error: unexpected value 'true' for '--lcov2' found; no more were expected
 covcollect extract --lcov2 a.info => 2 2 error: the following required arguments were not provided:
 covcollect --lcov2 merge a.info => 2 2 error: unexpected argument '--lcov2' found
-",
-    )
-}
 
-/// The flag `--strict` of each subcommand that has it, before, between and after other arguments.
-#[test]
-fn strict(rt: HostRuntime) -> Result<(), Fail> {
-    check_all(
-        &rt,
-        "\
+# The flag `--strict` of each subcommand that has it, before, between and after other arguments.
 covcollect merge --strict a.info => merge (1 1) [a.info] strict
 covcollect merge a.info --strict b.info => merge (1 1) [a.info] [b.info] strict
 covcollect merge -j2 --strict -o out.info --lcov2 --exclude x a.info => merge (2 2) -[x] [a.info] strict >[out.info]
@@ -148,17 +116,9 @@ covcollect remove a.info --strict '/usr/*' -o a.info => remove (1) [a.info] [/us
 covcollect check --strict a.info => check (tracefile 1 1) [a.info] strict
 covcollect check a.info -j 3 --lcov2 --strict b.info => check (tracefile 2 3) [a.info] [b.info] strict
 covcollect check --gcov --strict main.c.gcov => check (gcov 1) [main.c.gcov] strict
-",
-    )
-}
 
-/// Rejects `--strict` if it is repeated, has a value, is misspelt, stands without the required arguments, or isn't an option at its
-/// place.
-#[test]
-fn strict_that_is_refused(rt: HostRuntime) -> Result<(), Fail> {
-    check_all(
-        &rt,
-        "\
+# Rejects `--strict` if it is repeated, has a value, is misspelt, stands without the required arguments, or isn't an option at its
+# place.
 covcollect gcov --strict --test unit main.c.gcov => 2 2 error: unexpected argument '--strict' found
 covcollect gcov --test unit main.c.gcov --strict => 2 2 error: unexpected argument '--strict' found
 covcollect --strict => 2 2 error: unexpected argument '--strict' found
@@ -172,16 +132,8 @@ covcollect merge --strict => 2 2 error: the following required arguments were no
 covcollect extract --strict a.info => 2 2 error: the following required arguments were not provided:
 covcollect summary --stricter a.info => 2 2 error: unexpected argument '--stricter' found
 covcollect list -s a.info => 2 2 error: unexpected argument '-s' found
-",
-    )
-}
 
-/// The flag `--large` of each subcommand that has it, before, between and after other arguments, and beside `--strict`.
-#[test]
-fn large(rt: HostRuntime) -> Result<(), Fail> {
-    check_all(
-        &rt,
-        "\
+# The flag `--large` of each subcommand that has it, before, between and after other arguments, and beside `--strict`.
 covcollect merge --large a.info => merge (1 1) [a.info] large
 covcollect merge a.info --large b.info => merge (1 1) [a.info] [b.info] large
 covcollect merge -j2 --large -o out.info --lcov2 --exclude x a.info => merge (2 2) -[x] [a.info] large >[out.info]
@@ -202,17 +154,9 @@ covcollect remove --strict a.info '*.h' --large => remove (1) [a.info] [*.h] str
 covcollect check --large a.info => check (tracefile 1 1) [a.info] large
 covcollect check a.info -j 3 --lcov2 --large b.info => check (tracefile 2 3) [a.info] [b.info] large
 covcollect check --gcov --large main.c.gcov => check (gcov 1) [main.c.gcov] large
-",
-    )
-}
 
-/// Rejects `--large` if it is repeated, has a value, is misspelt, stands without the required arguments, or isn't an option at its
-/// place.
-#[test]
-fn large_that_is_refused(rt: HostRuntime) -> Result<(), Fail> {
-    check_all(
-        &rt,
-        "\
+# Rejects `--large` if it is repeated, has a value, is misspelt, stands without the required arguments, or isn't an option at its
+# place.
 covcollect gcov --large --test unit main.c.gcov => 2 2 error: unexpected argument '--large' found
 covcollect gcov --test unit main.c.gcov --large => 2 2 error: unexpected argument '--large' found
 covcollect --large => 2 2 error: unexpected argument '--large' found
@@ -226,16 +170,8 @@ covcollect merge --large => 2 2 error: the following required arguments were not
 covcollect extract --large a.info => 2 2 error: the following required arguments were not provided:
 covcollect summary --larger a.info => 2 2 error: unexpected argument '--larger' found
 covcollect list -l a.info => 2 2 error: unexpected argument '-l' found
-",
-    )
-}
 
-/// The options `--include` and `--exclude`: repeated, and mixed with each other and with other arguments. Each takes one argument.
-#[test]
-fn filters(rt: HostRuntime) -> Result<(), Fail> {
-    check_all(
-        &rt,
-        "\
+# The options `--include` and `--exclude`: repeated, and mixed with each other and with other arguments. Each takes one argument.
 covcollect merge --include '*/src/*' a.info => merge (1 1) +[*/src/*] [a.info]
 covcollect merge --exclude '/usr/*' a.info => merge (1 1) -[/usr/*] [a.info]
 covcollect merge --include=*.c a.info --include '*.h' b.info --include=*.c => merge (1 1) +[*.c] +[*.h] +[*.c] [a.info] [b.info]
@@ -253,16 +189,8 @@ covcollect merge --exclude=-j --include=--exclude a.info => merge (1 1) +[--excl
 covcollect merge --include=a=b a.info => merge (1 1) +[a=b] [a.info]
 covcollect merge -- --include a => merge (1 1) [--include] [a]
 covcollect summary include exclude => summary (1 1) [include] [exclude]
-",
-    )
-}
 
-/// Rejects `--include` or `--exclude` if it lacks its pattern, stands without a file, is misspelt, or isn't an option at its place.
-#[test]
-fn filters_that_are_refused(rt: HostRuntime) -> Result<(), Fail> {
-    check_all(
-        &rt,
-        "\
+# Rejects `--include` or `--exclude` if it lacks its pattern, stands without a file, is misspelt, or isn't an option at its place.
 covcollect merge a.info --include => 2 2 error: a value is required for '--include <PATTERN>' but none was supplied
 covcollect summary a.info --exclude => 2 2 error: a value is required for '--exclude <PATTERN>' but none was supplied
 covcollect list a.info --include => 2 2 error: a value is required for '--include <PATTERN>' but none was supplied
@@ -275,17 +203,9 @@ covcollect check --exclude '*.c' a.info => 2 2 error: unexpected argument '--exc
 covcollect --include '*.c' merge a.info => 2 2 error: unexpected argument '--include' found
 covcollect merge --includes '*.c' a.info => 2 2 error: unexpected argument '--includes' found
 covcollect merge -i '*.c' a.info => 2 2 error: unexpected argument '-i' found
-",
-    )
-}
 
-/// The flag `--json` and the options `--fail-under-..`, alone, together, and mixed with other arguments. Any text is accepted as a
-/// threshold.
-#[test]
-fn totals(rt: HostRuntime) -> Result<(), Fail> {
-    check_all(
-        &rt,
-        "\
+# The flag `--json` and the options `--fail-under-..`, alone, together, and mixed with other arguments. Any text is accepted as a
+# threshold.
 covcollect summary --json a.info => summary (1 1) json [a.info]
 covcollect summary a.info --json b.info => summary (1 1) json [a.info] [b.info]
 covcollect summary --json --fail-under-lines 80 --fail-under-branches 79.5 a => summary (1 1) json lines(80) branches(79.5) [a]
@@ -300,17 +220,9 @@ covcollect summary json fail-under-lines => summary (1 1) [json] [fail-under-lin
 covcollect list --json a.info => list (1 1) json [a.info]
 covcollect list a.info b.info --json => list (1 1) json [a.info] [b.info]
 covcollect list --lcov2 --jobs 4 --include b --exclude x --include c --json f g => list (2 4) +[b] +[c] -[x] json [f] [g]
-",
-    )
-}
 
-/// Rejects `--json` or `--fail-under-..` if it is repeated, lacks its argument, stands without a file, or isn't an option at its
-/// place.
-#[test]
-fn totals_that_are_refused(rt: HostRuntime) -> Result<(), Fail> {
-    check_all(
-        &rt,
-        "\
+# Rejects `--json` or `--fail-under-..` if it is repeated, lacks its argument, stands without a file, or isn't an option at its
+# place.
 covcollect summary --json --json a => 2 2 error: the argument '--json' cannot be used multiple times
 covcollect list --json a --json => 2 2 error: the argument '--json' cannot be used multiple times
 covcollect summary --fail-under-lines 1 --fail-under-lines 1 a => 2 2 error: the argument '--fail-under-lines <N>' cannot be used multiple times
@@ -333,17 +245,9 @@ covcollect check --json a => 2 2 error: unexpected argument '--json' found
 covcollect gcov --test unit --json a => 2 2 error: unexpected argument '--json' found
 covcollect --json summary a => 2 2 error: unexpected argument '--json' found
 covcollect summary --fail-under 80 a => 2 2 error: unexpected argument '--fail-under' found
-",
-    )
-}
 
-/// The option `--output` or `-o` of each subcommand that has it, before, between and after other arguments. Its argument may be an
-/// input's path, empty, or even `-o` after a `=`.
-#[test]
-fn outputs(rt: HostRuntime) -> Result<(), Fail> {
-    check_all(
-        &rt,
-        "\
+# The option `--output` or `-o` of each subcommand that has it, before, between and after other arguments. Its argument may be an
+# input's path, empty, or even `-o` after a `=`.
 covcollect merge -o out.info a.info => merge (1 1) [a.info] >[out.info]
 covcollect merge --output out.info a.info b.info => merge (1 1) [a.info] [b.info] >[out.info]
 covcollect merge --output=out.info a.info => merge (1 1) [a.info] >[out.info]
@@ -371,17 +275,9 @@ covcollect remove --output=out a.info '/usr/*' => remove (1) [a.info] [/usr/*] >
 covcollect remove a.info '/usr/*' -oa.info => remove (1) [a.info] [/usr/*] >[a.info]
 covcollect gcov --test unit -o unit.info main.c.gcov => gcov (unit) [main.c.gcov] >[unit.info]
 covcollect gcov -o unit.info --test= main.c.gcov util.c.gcov => gcov () [main.c.gcov] [util.c.gcov] >[unit.info]
-",
-    )
-}
 
-/// Rejects `--output` or `-o` if it is repeated, lacks its argument, stands without the required arguments, or isn't an option at
-/// its place.
-#[test]
-fn outputs_that_are_refused(rt: HostRuntime) -> Result<(), Fail> {
-    check_all(
-        &rt,
-        "\
+# Rejects `--output` or `-o` if it is repeated, lacks its argument, stands without the required arguments, or isn't an option at
+# its place.
 covcollect merge -o a -o b c => 2 2 error: the argument '--output <FILE>' cannot be used multiple times
 covcollect merge -o a --output a c => 2 2 error: the argument '--output <FILE>' cannot be used multiple times
 covcollect summary --output=a b --output=a => 2 2 error: the argument '--output <FILE>' cannot be used multiple times
@@ -401,16 +297,8 @@ covcollect -o x => 2 2 error: unexpected argument '-o' found
 covcollect --output x merge a.info => 2 2 error: unexpected argument '--output' found
 covcollect merge -O out a.info => 2 2 error: unexpected argument '-O' found
 covcollect merge --output-file out a.info => 2 2 error: unexpected argument '--output-file' found
-",
-    )
-}
 
-/// Rejects missing, repeated and unknown arguments.
-#[test]
-fn refusals(rt: HostRuntime) -> Result<(), Fail> {
-    check_all(
-        &rt,
-        "\
+# Rejects missing, repeated and unknown arguments.
 covcollect merge => 2 2 error: the following required arguments were not provided:
 covcollect merge --jobs 2 => 2 2 error: the following required arguments were not provided:
 covcollect merge a.info --jobs => 2 2 error: a value is required for '--jobs <N>' but none was supplied
@@ -433,43 +321,16 @@ covcollect Merge a.info => 2 2 error: unrecognized subcommand 'Merge'
 covcollect help => 2 2 error: unrecognized subcommand 'help'
 covcollect merge --version a.info => 2 2 error: unexpected argument '--version' found
 covcollect merge -V a.info => 2 2 error: unexpected argument '-V' found
-",
-    )
-}
+";
 
 /// A name may be any argument: with spaces, empty, or not ASCII.
 #[test]
-fn names_as_they_are(rt: HostRuntime) -> Result<(), Fail> {
-    let alloc = rt.alloc();
-    let words = [
-        String::from_str(alloc, "covcollect")?,
-        String::from_str(alloc, "summary")?,
-        String::from_str(alloc, "my files/a.info")?,
-        String::from_str(alloc, "")?,
-        String::from_str(alloc, "größe.info")?,
-    ];
-    check_words(
-        &rt,
-        words.as_slice(),
-        "summary (1 1) [my files/a.info] [] [größe.info]",
-    )
-}
-
-/// Checks that parsing `words` has the result `wanted`.
-fn check_words(
-    rt: &(impl Abort + AllocGlobal),
-    words: &[String],
-    wanted: &str,
-) -> Result<(), Fail> {
-    let given = told_of(rt.alloc(), words)?;
-    assert!(rt; given.as_str() == wanted, "{given}");
-    Ok(())
-}
-
-/// Parses `words`. Returns the result or the error as text.
-fn told_of(alloc: Global, words: &[String]) -> Result<String, Fail> {
-    match asked(alloc, words) {
-        Ok(whole) => told(alloc, &whole),
-        Err(fault) => Ok(format!(in alloc; "{fault}")?),
+fn names_as_they_are(rt: HostRuntime) {
+    let call = "covcollect|summary|my files/a.info||größe.info";
+    let mut words = Vec::new(rt.alloc());
+    for word in call.split('|') {
+        push_word(&rt, &mut words, word);
     }
+    let wanted = "summary (1 1) [my files/a.info] [] [größe.info]";
+    check_told(&rt, call, told(&rt, words.as_slice()).as_str(), wanted);
 }

@@ -1,74 +1,94 @@
 //! Tests that the examples in the help texts are valid. The whole texts are end-to-end tests.
 
-use super::{asked, told, words_of};
+use super::{answer, asked, words_of};
 use covcommand::CommandFault;
-use std::alloc::Global;
 use std::process::Abort;
 use std::test::*;
 
-/// Returns the help text if `call` requests it, else the empty text.
-fn help_of(alloc: Global, call: &str) -> Result<String, Fail> {
-    let words = words_of(alloc, call)?;
-    match asked(alloc, words.as_slice()) {
-        Err(CommandFault::Help(text)) => Ok(text),
-        _ => Ok(String::new(alloc)),
-    }
-}
+/// Each call that requests help, with the number of examples in the help text.
+const HELPS: [(&str, usize); 8] = [
+    ("covcollect --help", 5),
+    ("covcollect merge --help", 6),
+    ("covcollect summary --help", 4),
+    ("covcollect list --help", 3),
+    ("covcollect extract --help", 3),
+    ("covcollect remove --help", 3),
+    ("covcollect gcov --help", 1),
+    ("covcollect check --help", 4),
+];
 
 /// Each example call in the help texts is valid, and is parsed as the subcommand that it names.
 #[test]
-fn examples_are_taken(rt: HostRuntime) -> Result<(), Fail> {
-    check_examples(&rt, "covcollect --help", 5)?;
-    check_examples(&rt, "covcollect merge --help", 6)?;
-    check_examples(&rt, "covcollect summary --help", 4)?;
-    check_examples(&rt, "covcollect list --help", 3)?;
-    check_examples(&rt, "covcollect extract --help", 3)?;
-    check_examples(&rt, "covcollect remove --help", 3)?;
-    check_examples(&rt, "covcollect gcov --help", 1)?;
-    check_examples(&rt, "covcollect check --help", 4)
+fn examples_are_taken(rt: HostRuntime) {
+    for (call, wanted) in HELPS {
+        check_help(&rt, call, wanted);
+    }
 }
 
 /// Checks that the help of `call` has `wanted` examples, and that each is valid.
-fn check_examples(rt: &(impl Abort + AllocGlobal), call: &str, wanted: usize) -> Result<(), Fail> {
-    let help = help_of(rt.alloc(), call)?;
+fn check_help(rt: &(impl Abort + AllocGlobal), call: &str, wanted: usize) {
+    let examples = check_examples(rt, help_of(rt, call).as_str());
+    assert!(rt; examples == wanted, "{call} has {examples}");
+}
+
+/// Returns the help text that `call` requests.
+fn help_of(rt: &(impl Abort + AllocGlobal), call: &str) -> String {
+    match asked(rt.alloc(), words_of(rt, call).as_slice()) {
+        Err(CommandFault::Help(text)) => text,
+        _ => panic!(rt; "no help"),
+    }
+}
+
+/// Checks that each example in the help text is valid, and returns the number of examples.
+fn check_examples(rt: &(impl Abort + AllocGlobal), help: &str) -> usize {
     let mut examples: usize = 0;
-    for line in help.as_str().lines() {
+    for line in help.lines() {
         if let Some(example) = example_in(line) {
-            check_example(rt, example)?;
+            check_example(rt, example);
             examples = examples.saturating_add(1);
         }
     }
-    assert!(rt; examples == wanted, "{call} has {examples}");
-    Ok(())
+    examples
 }
 
-/// Returns the example call in a line of help: without the program's name, and without ` > ` and what follows. Such a line is
-/// indented, and only a call of lcov may come before the example.
+/// Returns the example call in a line of help, without the program's name, and without ` > ` and what follows.
 fn example_in(line: &str) -> Option<&str> {
-    let (before, call) = line.strip_prefix("  ")?.split_once("covcollect ")?;
-    if !before.is_empty() && !before.starts_with("lcov ") {
-        return None;
+    let call = example_line(line)?;
+    match call.split_once(" > ") {
+        Some((words, _output)) => Some(words),
+        None => Some(call),
     }
-    Some(
-        call.split_once(" > ")
-            .map_or(call, |(words, _output)| words),
-    )
+}
+
+/// Returns what comes after the program's name in a line of help with an example. Such a line is indented, and only a call of lcov
+/// may come before the program's name.
+fn example_line(line: &str) -> Option<&str> {
+    let (before, call) = line.strip_prefix("  ")?.split_once("covcollect ")?;
+    if before.is_empty() || before.starts_with("lcov ") {
+        Some(call)
+    } else {
+        None
+    }
 }
 
 /// Checks that `call`, a command line without the program's name, is valid and is parsed as the subcommand that it names.
-fn check_example(rt: &(impl Abort + AllocGlobal), call: &str) -> Result<(), Fail> {
-    let given = told_after_name(rt.alloc(), call)?;
-    let wanted = call.split_whitespace().next().unwrap_or("");
-    assert!(rt; given.as_str().starts_with(wanted), "{call} => {given}");
-    Ok(())
+fn check_example(rt: &(impl Abort + AllocGlobal), call: &str) {
+    let given = told_after_name(rt, call);
+    assert!(rt;
+        given.as_str().starts_with(first_word(call)),
+        "{call} => {given}"
+    );
+}
+
+/// The first word of `call`.
+fn first_word(call: &str) -> &str {
+    call.split_whitespace().next().unwrap_or("")
 }
 
 /// Parses `call`, a command line without the program's name. Returns the result or the error as text.
-fn told_after_name(alloc: Global, call: &str) -> Result<String, Fail> {
-    let call = format!(in alloc; "covcollect {call}")?;
-    let words = words_of(alloc, call.as_str())?;
-    match asked(alloc, words.as_slice()) {
-        Ok(whole) => told(alloc, &whole),
-        Err(fault) => Ok(format!(in alloc; "{fault}")?),
+fn told_after_name(rt: &(impl Abort + AllocGlobal), call: &str) -> String {
+    match format!(in rt.alloc(); "covcollect {call}") {
+        Ok(call) => answer(rt, call.as_str()),
+        Err(_refused) => panic!(rt; "out of memory"),
     }
 }
