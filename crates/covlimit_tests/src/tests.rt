@@ -3,19 +3,13 @@
 //! Each example is a line of text, so that examples add nothing to the proof of these tests.
 
 use covlimit::{Limits, Rate, shortfall_lines};
-use covline::{Bytes, Memory};
+use covline::Bytes;
 use covstore::Totals;
-use std::alloc::Global;
 use std::process::Abort;
 use std::test::*;
 
 /// Arguments that are rates, some of them with leading zeros.
-#[test]
-fn rates(rt: HostRuntime) -> Result<(), Fail> {
-    check_words(
-        &rt,
-        true,
-        "\
+const RATES: &str = "\
 0
 80
 100
@@ -27,17 +21,10 @@ fn rates(rt: HostRuntime) -> Result<(), Fail> {
 100.000000
 000.1
 0.123456
-",
-    )
-}
+";
 
 /// Arguments that aren't rates, the first of them empty.
-#[test]
-fn other_words(rt: HostRuntime) -> Result<(), Fail> {
-    check_words(
-        &rt,
-        false,
-        "\n\
+const OTHER_WORDS: &str = "\n\
 .
 ..
 -1
@@ -62,15 +49,34 @@ fn other_words(rt: HostRuntime) -> Result<(), Fail> {
 0100
 1000
 18446744073709551616
-",
-    )
+";
+
+#[test]
+fn rates(rt: HostRuntime) {
+    check_words(&rt, RATES, true);
+    check_words(&rt, OTHER_WORDS, false);
+}
+
+/// Checks that each argument is a rate if `wanted` is `true`, or that none is if it is `false`.
+fn check_words(rt: &(impl Abort + AllocGlobal), words: &str, wanted: bool) {
+    for word in words.lines() {
+        assert!(rt; rate(rt, word).is_some() == wanted, "'{word}'");
+    }
+}
+
+/// Parses a rate. Returns `None` if `word` isn't a rate.
+fn rate(rt: &(impl Abort + AllocGlobal), word: &str) -> Option<Rate> {
+    match Bytes::of(rt.alloc(), word.as_bytes()) {
+        Ok(word) => Rate::of(word),
+        Err(_refused) => panic!(rt; "out of memory"),
+    }
 }
 
 /// Each example has a rate, the numbers of lines hit and found, and after ` => ` whether these lines reach the rate or are below
 /// it. The comparison is exact.
 #[test]
-fn comparisons(rt: HostRuntime) -> Result<(), Fail> {
-    check_lines(
+fn comparisons(rt: HostRuntime) {
+    check_comparisons(
         &rt,
         "\
 80 4 5 => reached
@@ -98,92 +104,39 @@ fn comparisons(rt: HostRuntime) -> Result<(), Fail> {
 0.000001 184467440737 18446744073709551615 => below
 0.000001 184467440738 18446744073709551615 => reached
 ",
-    )
-}
-
-/// The lines for thresholds of all three kinds, of some kinds and of none, and for thresholds that are reached.
-#[test]
-fn all_kinds(rt: HostRuntime) -> Result<(), Fail> {
-    let none = shortfall(rt.alloc(), "", "", "")?;
-    check_text(&rt, &none, "");
-    let lines = shortfall(rt.alloc(), "80", "", "")?;
-    check_text(&rt, &lines, "lines: 3996 of 5000 is below 80%\n");
-    let three = shortfall(rt.alloc(), "080.", "66.7", "0")?;
-    check_text(
-        &rt,
-        &three,
-        "\
-lines: 3996 of 5000 is below 080.%
-functions: 2 of 3 is below 66.7%
-branches: 0 of 0 is below 0%
-",
     );
-    let reached = shortfall(rt.alloc(), "79.92", "66.6", "")?;
-    check_text(&rt, &reached, "");
-    let middle = shortfall(rt.alloc(), "79.92", "66.7", "")?;
-    check_text(&rt, &middle, "functions: 2 of 3 is below 66.7%\n");
-    Ok(())
-}
-
-/// Checks that each argument is a rate if `wanted` is `true`, or that none is if it is `false`.
-fn check_words(rt: &(impl Abort + AllocGlobal), wanted: bool, words: &str) -> Result<(), Fail> {
-    for word in words.lines() {
-        let is_rate = rate(rt.alloc(), word)?.is_some();
-        assert!(rt; is_rate == wanted, "'{word}' is a rate: {is_rate}");
-    }
-    Ok(())
-}
-
-/// Parses a rate. Returns `Ok(None)` if `word` isn't a rate.
-fn rate(alloc: Global, word: &str) -> Result<Option<Rate>, Memory> {
-    Ok(Rate::of(Bytes::of(alloc, word.as_bytes())?))
 }
 
 /// Checks the example in each line.
-fn check_lines(rt: &(impl Abort + AllocGlobal), examples: &str) -> Result<(), Fail> {
+fn check_comparisons(rt: &(impl Abort + AllocGlobal), examples: &str) {
     for line in examples.lines() {
         if let Some((asked, wanted)) = line.split_once(" => ") {
-            check_line(rt, asked, wanted)?;
+            assert!(rt; comparison(rt, asked) == wanted, "{line}");
         }
     }
-    Ok(())
 }
 
-/// Checks one example: `asked` is a rate and the numbers of lines hit and found, `wanted` is `reached` or `below`.
-fn check_line(rt: &(impl Abort + AllocGlobal), asked: &str, wanted: &str) -> Result<(), Fail> {
-    let mut fields = asked.split(' ');
-    let word = fields.next().unwrap_or("");
-    let hit = number(fields.next().unwrap_or(""));
-    let found = number(fields.next().unwrap_or(""));
-    let rate = rate(rt.alloc(), word)?;
-    let is_rate = rate.is_some();
-    let told = told_of_lines(rt.alloc(), rate, hit, found)?;
-    let given = if told.get().is_empty() {
-        "reached"
-    } else {
-        "below"
-    };
-    assert!(rt; is_rate && given == wanted, "{asked} => {given}");
-    Ok(())
+/// Compares the rate in the first field of `asked` with the numbers of lines hit and found in the other two. Returns `reached` or
+/// `below`, or `no rate` if the first field isn't a rate.
+fn comparison(rt: &(impl Abort + AllocGlobal), asked: &str) -> &'static str {
+    match rate(rt, field(asked, 0)) {
+        Some(rate) => compared(rt, rate, number(asked, 1), number(asked, 2)),
+        None => "no rate",
+    }
 }
 
-/// Parses a number. Returns 7 if `word` isn't a number.
-fn number(word: &str) -> u64 {
-    word.parse().unwrap_or(7)
+/// The field of `asked` at the index `at`.
+fn field(asked: &str, at: usize) -> &str {
+    asked.split(' ').nth(at).unwrap_or("")
 }
 
-/// The line about `hit` of `found` source lines with the threshold `lines`, or an empty text if the threshold is reached.
-fn told_of_lines(
-    alloc: Global,
-    lines: Option<Rate>,
-    hit: u64,
-    found: u64,
-) -> Result<Bytes, Memory> {
-    let limits = Limits {
-        lines,
-        functions: None,
-        branches: None,
-    };
+/// The number in the field of `asked` at the index `at`, or 7 if the field isn't a number.
+fn number(asked: &str, at: usize) -> u64 {
+    field(asked, at).parse().unwrap_or(7)
+}
+
+/// Whether `hit` of `found` source lines have reached the rate or are below it.
+fn compared(rt: &(impl Abort + AllocGlobal), rate: Rate, hit: u64, found: u64) -> &'static str {
     let totals = Totals {
         lf: found,
         lh: hit,
@@ -192,16 +145,58 @@ fn told_of_lines(
         bf: 0,
         bh: 0,
     };
-    shortfall_lines(alloc, &limits, &totals)
+    if told(rt, Some(rate), None, None, &totals).get().is_empty() {
+        "reached"
+    } else {
+        "below"
+    }
 }
 
-/// The lines about 3996 of 5000 lines, 2 of 3 functions, and no branches, with these thresholds. An empty argument is no threshold.
-fn shortfall(alloc: Global, lines: &str, functions: &str, branches: &str) -> Result<Bytes, Memory> {
+/// The lines about `totals` with these thresholds.
+fn told(
+    rt: &(impl Abort + AllocGlobal),
+    lines: Option<Rate>,
+    functions: Option<Rate>,
+    branches: Option<Rate>,
+    totals: &Totals,
+) -> Bytes {
     let limits = Limits {
-        lines: rate(alloc, lines)?,
-        functions: rate(alloc, functions)?,
-        branches: rate(alloc, branches)?,
+        lines,
+        functions,
+        branches,
     };
+    match shortfall_lines(rt.alloc(), &limits, totals) {
+        Ok(told) => told,
+        Err(_refused) => panic!(rt; "out of memory"),
+    }
+}
+
+/// The lines about totals below their thresholds, with thresholds of all three kinds, of some kinds and of none, and with
+/// thresholds that are reached.
+#[test]
+fn all_kinds(rt: HostRuntime) {
+    check_kinds(&rt, ["", "", ""], "");
+    check_kinds(&rt, ["80", "", ""], "lines: 3996 of 5000 is below 80%\n");
+    check_kinds(
+        &rt,
+        ["080.", "66.7", "0"],
+        "\
+lines: 3996 of 5000 is below 080.%
+functions: 2 of 3 is below 66.7%
+branches: 0 of 0 is below 0%
+",
+    );
+    check_kinds(&rt, ["79.92", "66.6", ""], "");
+    check_kinds(
+        &rt,
+        ["79.92", "66.7", ""],
+        "functions: 2 of 3 is below 66.7%\n",
+    );
+}
+
+/// Checks the lines about 3996 of 5000 lines, 2 of 3 functions, and no branches, with these thresholds. An empty text is no
+/// threshold.
+fn check_kinds(rt: &(impl Abort + AllocGlobal), words: [&str; 3], wanted: &str) {
     let totals = Totals {
         lf: 5000,
         lh: 3996,
@@ -210,10 +205,13 @@ fn shortfall(alloc: Global, lines: &str, functions: &str, branches: &str) -> Res
         bf: 0,
         bh: 0,
     };
-    shortfall_lines(alloc, &limits, &totals)
-}
-
-/// Checks that `given` is the text `wanted`.
-fn check_text(rt: &impl Abort, given: &Bytes, wanted: &str) {
-    assert_eq!(rt; given.get(), wanted.as_bytes());
+    let [lines, functions, branches] = words;
+    let told = told(
+        rt,
+        rate(rt, lines),
+        rate(rt, functions),
+        rate(rt, branches),
+        &totals,
+    );
+    assert_eq!(rt; told.get(), wanted.as_bytes());
 }
