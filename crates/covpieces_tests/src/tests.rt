@@ -69,10 +69,3 @@ fn pass(
     }
     Ok(true)
 }
-
-/// Appends a line.
-fn push_line(text: &mut Vec<u8>, line: &[u8]) -> Result<(), Fail> {
-    text.extend_from_slice(line)?;
-    text.push(b'\n')?;
-    Ok(())
-}
