@@ -1,4 +1,4 @@
-use Rattle.covjobs_tests.proofs.tests.turns.six_calls.Given as goal
+use Rattle.covjobs_tests.proofs.tests.turns.history.Given as goal
 
 -- the name of the book that is about to be opened, and its number of jobs
 abbrev pub ghosts-in_turn-L-Ledger : goal.ghosts-in_turn-L-Ledger
