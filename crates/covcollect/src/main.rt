@@ -24,7 +24,7 @@ pub use covlaws::{
     a_merge_of_merges_is_the_merge_of_all, each_report_of_a_history_reads_back, reports_read_back,
 };
 use covrun::{FromFiles, IntoFiles, refuse, run};
-use covsession::{FromRead, FromWrite};
+use covstream::{FromRead, FromWrite};
 use std::env::FillError;
 use std::io;
 use std::process::ExitCode;

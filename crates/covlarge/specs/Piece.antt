@@ -12,11 +12,18 @@ use Rattle.covpieces.specs.Pieces.{CarriedData, told}
 use Rattle.covread.specs.Outcome as trace
 use Rattle.covread.specs.declared.fault.ReadFault.{ReadFault}
 use Rattle.covread.specs.declared.fault.ReadFault.TheVariants as faults
+use Rattle.covstream.specs.declared.fault.BlockFault.{BlockFault}
+use Rattle.covstream.specs.declared.fault.BlockFault.TheVariants as blocks
 
 -- the answer of a reader is what the text is read as, or memory ran out
 abbrev pub AnswersOf : LcovVersion → List ℕ → Result SubmissionData ReadFault → Type 0
 AnswersOf One text answer = trace.Answers text answer
 AnswersOf Two text answer = lcov2.Answers text answer
+
+-- a fault of reading blocks, as that of the whole tracefile
+abbrev pub of_block : BlockFault → PieceFault
+of_block blocks.Unreadable = Unreadable
+of_block blocks.Memory = Memory
 
 -- a reader's fault in a piece, as that of the whole tracefile
 abbrev pub IsFaultOf : CarriedData → ReadFault → PieceFault → Type 0

@@ -7,7 +7,7 @@ use crate::fault::PieceFault;
 use crate::held::Held;
 use crate::large_tracefile::{LargeTracefile, NextPiece};
 use covcommand::LcovVersion;
-use covsession::Source;
+use covstream::Source;
 use std::alloc::Global;
 
 /// Reads the rest of the source as a tracefile and returns its summary. Stores one chunk at a time.

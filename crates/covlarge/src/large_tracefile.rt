@@ -8,17 +8,16 @@ ghost use Rattle.covline.specs.Row.{SubmissionData};
 ghost use Rattle.covpieces.specs.Pieces.{front_text};
 ghost use Rattle.covread.specs.declared.fault.ReadFault.{ReadFault as Fault};
 
-use crate::blocks::BLOCK_BYTES;
 use crate::fault::PieceFault;
 use crate::held::Held;
 use crate::piece_text::{Found, PieceText};
 use crate::so_far::SoFar;
-use covbook::PackedRef;
 use covcommand::LcovVersion;
 use covline::{Bytes, Memory};
+use covpacked::PackedSubmission;
 use covpieces::{Carried, pieces_are_read_one_by_one};
 use covread::ReadFault;
-use covsession::Source;
+use covstream::{BLOCK_BYTES, Source};
 use std::alloc::Global;
 use std::marker::Model;
 
@@ -57,9 +56,9 @@ impl<S: Source> Model for LargeTracefile<S> {
 #[derive(Drop)]
 pub enum NextPiece<S: Source> {
     /// The last chunk, and the summary of the whole tracefile if one was collected.
-    Last(PackedRef, Option<Held>),
+    Last(PackedSubmission, Option<Held>),
     /// A chunk, and the rest of the tracefile.
-    More(PackedRef, LargeTracefile<S>),
+    More(PackedSubmission, LargeTracefile<S>),
 }
 
 impl<S: Source + Drop> LargeTracefile<S> {

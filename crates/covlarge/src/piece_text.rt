@@ -1,16 +1,15 @@
 //! The input of the reader for one chunk: its prefix (`front`), then bytes of the tracefile.
 
 ghost use Rattle.std.specs.Prelude.{◌≡◌, ◌<◌, ◌≤◌, ◌+◌, ◌-◌, ◌^◌, ◌++◌, length, take, drop, None, IfOk, IfErr, IfSome};
-ghost use Rattle.covlarge.specs.Blocks.{IsReadFault};
 ghost use Rattle.covlarge.specs.Found.{HasFound, HasReadUntil, IsFound};
 ghost use Rattle.covpieces.specs.Pieces.{front_text};
 ghost use Rattle.covread.specs.Outcome.{max_bytes};
+ghost use Rattle.covstream.specs.Blocks.{IsReadFault};
 
-use crate::blocks::read_at_most;
 use covline::{Bytes, Memory};
 use covpieces::{Carried, whole_sections};
 use covread::MAX_BYTES;
-use covsession::{SessionFault, Source};
+use covstream::{BlockFault, Source, read_at_most};
 use std::alloc::Global;
 use std::marker::Model;
 
@@ -63,7 +62,7 @@ impl PieceText {
         self,
         source: &mut S,
         block: &mut [u8],
-    ) -> Result<(PieceText, Found), SessionFault>
+    ) -> Result<(PieceText, Found), BlockFault>
         requires some { 0 < length block.old }
         requires reads { S.reads source.old < 2 ^ 61 }
         requires failed_reads { S.failed_reads source.old < 2 ^ 61 }
@@ -112,7 +111,7 @@ fn read_on<S: Source>(
     block: &mut [u8],
     least: usize,
     most: usize,
-) -> Result<(Bytes, Found), SessionFault>
+) -> Result<(Bytes, Found), BlockFault>
     requires front { front ≤ length text }
     requires some { 0 < length block.old }
     requires least { 0 < least }

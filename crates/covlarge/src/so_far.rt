@@ -10,7 +10,6 @@ ghost use Rattle.covread.specs.Outcome.{max_bytes};
 use crate::fault::PieceFault;
 use crate::held::Held;
 use crate::piece_text::PieceText;
-use covbook::PackedRef;
 use covcommand::LcovVersion;
 use covlcov2::read_lcov2_packed;
 use covline::Memory;
@@ -34,7 +33,7 @@ impl SoFar {
         self,
         alloc: Global,
         text: &PieceText,
-    ) -> Result<(PackedRef, Option<Held>), PieceFault>
+    ) -> Result<(PackedSubmission, Option<Held>), PieceFault>
         requires { length text.now.front + length text.now.bytes ≤ max_bytes }
         ensures { IsLastPiece self.version self.carried self.held text.now.front text.now.bytes result }
     {
@@ -52,7 +51,7 @@ impl SoFar {
             text.bytes(),
             &submission,
         )?;
-        Ok((PackedRef::of(alloc, submission)?, held))
+        Ok((submission, held))
     }
 
     /// Reads the first `len` bytes after the prefix as a chunk, and goes on to the next chunk.
@@ -61,7 +60,7 @@ impl SoFar {
         alloc: Global,
         text: &PieceText,
         len: usize,
-    ) -> Result<PackedRef, PieceFault>
+    ) -> Result<PackedSubmission, PieceFault>
         requires within { len ≤ length text.now.bytes }
         requires few { length text.now.front + len ≤ max_bytes }
         requires ends { EndsSection (take len text.now.bytes) }
@@ -81,7 +80,7 @@ impl SoFar {
             &submission,
         )?;
         pass(&mut self.carried, alloc, self.version, piece, &submission)?;
-        Ok(PackedRef::of(alloc, submission)?)
+        Ok(submission)
     }
 }
 

@@ -4,7 +4,7 @@
 ghost use Rattle.std.specs.Prelude.{◌<◌, ◌^◌};
 
 use covrun::{FromFiles, IntoFiles, run};
-use covsession::{FromRead, FromWrite, Sink, Source};
+use covstream::{FromRead, FromWrite, Sink, Source};
 use std::alloc::Global;
 use std::process::Abort;
 use std::random::RandomSource;

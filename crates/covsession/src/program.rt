@@ -7,7 +7,7 @@ ghost use Rattle.covsession.specs.Session.{said};
 
 use crate::session::output::put_bytes;
 use crate::session::{SessionFault, session};
-use crate::stream::{Sink, Source};
+use covstream::{Sink, Source};
 use std::alloc::Allocator;
 
 /// The exit status of a program that ended with this error: 1 if a stream failed, 3 if memory ran out or the history was full.

@@ -6,7 +6,7 @@ use super::check_bytes;
 use super::heap::{Call, check_rising_by, narrow, widen};
 use bumpalo::Bump;
 use covsession::session::{SessionFault, session};
-use covsession::{Failed, FromRead, FromWrite, Sink, Source};
+use covstream::{Failed, FromRead, FromWrite, Sink, Source};
 use std::alloc::{Allocator, Global};
 use std::cell::Cell;
 use std::process::Abort;

@@ -3,7 +3,7 @@
 ghost use Rattle.std.specs.Prelude.{None};
 
 use super::{called, check_text, words_of};
-use covsession::{Failed, FromRead, FromWrite, Sink, Source};
+use covstream::{Failed, FromRead, FromWrite, Sink, Source};
 use std::process::Abort;
 use std::random::RandomSource;
 use std::rt::Files;

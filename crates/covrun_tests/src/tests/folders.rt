@@ -6,7 +6,7 @@ ghost use Rattle.std.specs.Prelude.{◌≡◌, ◌≢◌, None, Some};
 use super::outputs::NoFiles;
 use super::{Told, check_text, words_of};
 use covrun::{Folder, Opened, run};
-use covsession::{Failed, FromRead, FromWrite, Source};
+use covstream::{Failed, FromRead, FromWrite, Source};
 use std::process::Abort;
 use std::sync::Wait;
 use std::test::*;

@@ -6,7 +6,7 @@ ghost use Rattle.std.specs.String.{string_bytes};
 use super::folders::OneFile;
 use super::{check_text, words_of};
 use covrun::{OutputFault, OutputFolder, run};
-use covsession::{Failed, FromRead, FromWrite, Sink};
+use covstream::{Failed, FromRead, FromWrite, Sink};
 use std::alloc::Global;
 use std::process::Abort;
 use std::sync::Wait;

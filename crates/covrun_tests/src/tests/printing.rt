@@ -7,7 +7,7 @@ use super::folders::OneFile;
 use super::outputs::NoFiles;
 use super::{check_text, words_of};
 use covrun::{Folder, run};
-use covsession::{FromRead, FromWrite, Sink};
+use covstream::{FromRead, FromWrite, Sink};
 use std::alloc::Global;
 use std::process::Abort;
 use std::sync::Wait;

@@ -10,10 +10,10 @@ ghost use Rattle.covsession.specs.declared.session.fault.SessionFault.TheVariant
 
 use crate::session::fault::SessionFault;
 use crate::session::output::Output;
-use crate::stream::Sink;
 use covbook::Answer;
 use covline::LineFault;
 use covread::ReadFault;
+use covstream::Sink;
 use itoa::Buffer;
 use std::alloc::Allocator;
 

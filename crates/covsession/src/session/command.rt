@@ -17,10 +17,10 @@ use crate::session::SessionBook;
 use crate::session::answers::say_answer;
 use crate::session::fault::SessionFault;
 use crate::session::output::Output;
-use crate::stream::Sink;
 use covbook::Op;
 use covline::Bytes;
 use covreport::{PatternFault, Patterns};
+use covstream::Sink;
 use std::alloc::Allocator;
 pub use word::{Format, Pick, Word, word_of};
 

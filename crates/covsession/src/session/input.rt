@@ -12,7 +12,7 @@ use crate::session::fault::SessionFault;
 use crate::session::lines::whole_lines_len;
 use crate::session::output::Output;
 use crate::session::text::{LineEnd, Text};
-use crate::stream::{Sink, Source};
+use covstream::{Sink, Source};
 use memchr::memchr;
 use std::alloc::Allocator;
 use std::marker::Model;

@@ -8,7 +8,7 @@ ghost use Rattle.covsession.specs.Streams.{Says};
 ghost use Rattle.covsession.specs.declared.session.fault.SessionFault.TheVariants as session_faults;
 
 use crate::session::fault::SessionFault;
-use crate::stream::Sink;
+use covstream::Sink;
 use std::alloc::Allocator;
 use std::marker::Model;
 

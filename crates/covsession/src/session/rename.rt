@@ -16,9 +16,9 @@ use crate::session::fault::SessionFault;
 use crate::session::input::SessionInput;
 use crate::session::output::Output;
 use crate::session::text::{LineEnd, Text};
-use crate::stream::{Sink, Source};
 use covbook::Op;
 use covline::{Bytes, without_returns};
+use covstream::{Sink, Source};
 use std::alloc::Allocator;
 
 /// The names of a rename.

@@ -20,10 +20,10 @@ use crate::session::fault::SessionFault;
 use crate::session::input::SessionInput;
 use crate::session::output::Output;
 use crate::session::text::{CollectedText, LineEnd, Text};
-use crate::stream::{Sink, Source};
 use covbook::{Op, PackedRef};
 use covpacked::PackedSubmission;
 use covread::{MAX_BYTES, ReadFault, read_gcov_packed, read_trace_packed};
+use covstream::{Sink, Source};
 use std::alloc::Allocator;
 
 /// The length of the longest text whose buffer is reused for the next text.

@@ -1,22 +1,24 @@
 //! Reads the bytes of a source, block by block.
 
 ghost use Rattle.std.specs.Prelude.{◌≡◌, ◌<◌, ◌≤◌, ◌+◌, ◌^◌, length, IfOk, IfErr};
-ghost use Rattle.covlarge.specs.Blocks.{HasReadBlock, HasReadOn, IsReadFault};
+ghost use Rattle.covstream.specs.Blocks.{HasReadBlock, HasReadOn, IsReadFault};
 
+use crate::fault::BlockFault;
+use crate::stream::Source;
 use covline::Bytes;
-use covsession::{SessionFault, Source};
 
 /// The number of bytes that one read requests.
 pub const BLOCK_BYTES: usize = 65_536;
 
-/// Reads the rest of the source, at most `most` bytes, and appends it to the text. Each read fills a part of `block`. `most` is a
-/// parameter so that no proof has to count up to the size limit. Fails with `Read` if a read failed, and otherwise with `Memory`.
+/// Reads the rest of the source, at most `most` bytes, and appends them to `text`. Each read fills a part of `block`. `most` is a
+/// parameter so that no proof has to count up to a caller's limit. Fails with `Unreadable` if a read failed, and otherwise with
+/// `Memory`.
 pub fn read_at_most<S: Source>(
     text: Bytes,
     source: &mut S,
     block: &mut [u8],
     most: usize,
-) -> Result<Bytes, SessionFault>
+) -> Result<Bytes, BlockFault>
     requires some { 0 < length block.old }
     requires most { most < 2 ^ 62 }
     requires reads { S.reads source.old < 2 ^ 62 }
@@ -39,13 +41,13 @@ pub fn read_at_most<S: Source>(
     Ok(all)
 }
 
-/// Reads at most `room` bytes into the block in one read, appends them to the text, and returns their number.
+/// Reads at most `room` bytes into `block` in one read, appends them to `text`, and returns their number.
 fn read_some<S: Source>(
     source: &mut S,
     block: &mut [u8],
     room: usize,
     text: &mut Bytes,
-) -> Result<usize, SessionFault>
+) -> Result<usize, BlockFault>
     requires some { 0 < length block.old }
     requires reads { S.reads source.old < 2 ^ 63 }
     requires failed_reads { S.failed_reads source.old < 2 ^ 63 }
@@ -59,12 +61,12 @@ fn read_some<S: Source>(
     Ok(got)
 }
 
-/// Fills the block by one read, appends the bytes to the text, and returns their number.
+/// Reads bytes into `block` in one read, appends them to `text`, and returns their number.
 fn read_block<S: Source>(
     source: &mut S,
     block: &mut [u8],
     text: &mut Bytes,
-) -> Result<usize, SessionFault>
+) -> Result<usize, BlockFault>
     requires reads { S.reads source.old < 2 ^ 63 }
     requires failed_reads { S.failed_reads source.old < 2 ^ 63 }
     ensures read { IfOk result (HasReadBlock (S.left source.old) (S.left source.new) text.old text.new (length block.old)) }
@@ -73,7 +75,7 @@ fn read_block<S: Source>(
     ensures failed { IfErr result (IsReadFault (S.left source.old) (S.left source.new) (S.failed_reads source.old) (S.failed_reads source.new)) }
 {
     let Ok(got) = source.read(block) else {
-        return Err(SessionFault::Read);
+        return Err(BlockFault::Unreadable);
     };
     text.append(&block[..got])?;
     Ok(got)

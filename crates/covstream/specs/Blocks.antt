@@ -1,10 +1,8 @@
--- Private steps: how blocks of a source are read.
+-- What is read of a source block by block, and why nothing is read.
 use Rattle.std.specs.Io.KnownBytes.{Consumes, IsAtEnd}
 use Rattle.std.specs.Prelude.{◌≡◌, ◌⊎◌, ◌<◌, ◌≤◌, ℕ, suc, List, ◌++◌, length, Option}
-use Rattle.covlarge.specs.declared.fault.PieceFault.{PieceFault}
-use Rattle.covlarge.specs.declared.fault.PieceFault.TheVariants.{Unreadable, Memory}
-use Rattle.covsession.specs.declared.session.fault.SessionFault.{SessionFault}
-use Rattle.covsession.specs.declared.session.fault.SessionFault.TheVariants as faults
+use Rattle.covstream.specs.declared.fault.BlockFault.{BlockFault}
+use Rattle.covstream.specs.declared.fault.BlockFault.TheVariants.{Unreadable, Memory}
 
 -- all bytes that were left were read, or exactly `most` bytes
 abbrev pub HasReadAtMost : ℕ → Option (List ℕ) → Option (List ℕ) → List ℕ → Type 0
@@ -23,15 +21,6 @@ HasReadBlock left left_after text text_after room count =
     × (count ≡ 0 → 0 < room → IsAtEnd left_after)
 
 -- why no text was read: a read failed after these bytes, or memory ran out
-abbrev pub IsReadFault : (left left_after : Option (List ℕ)) → (failed failed_after : ℕ) → SessionFault → Type 0
-IsReadFault left left_after failed failed_after faults.Read = (bytes : List ℕ) × Consumes left left_after bytes × (failed_after ≡ suc failed)
-IsReadFault left left_after failed failed_after faults.Memory = Unit {0}
-IsReadFault left left_after failed failed_after faults.Write = ⊥
-IsReadFault left left_after failed failed_after faults.Full = ⊥
-
--- a fault of reading, as the fault of a piece
-abbrev pub of_read : SessionFault → PieceFault
-of_read faults.Memory = Memory
-of_read faults.Read = Unreadable
-of_read faults.Write = Unreadable
-of_read faults.Full = Unreadable
+abbrev pub IsReadFault : (left left_after : Option (List ℕ)) → (failed failed_after : ℕ) → BlockFault → Type 0
+IsReadFault left left_after failed failed_after Unreadable = (bytes : List ℕ) × Consumes left left_after bytes × (failed_after ≡ suc failed)
+IsReadFault left left_after failed failed_after Memory = Unit {0}

@@ -1,4 +1,4 @@
-//! The traits of a session's streams: a source of commands, and a sink of answers.
+//! The traits of byte streams, a source and a sink, and their implementations over std's readers and writers.
 
 ghost use Rattle.std.specs.Prelude.{◌≡◌, ◌≢◌, ℕ, ◌+◌, ◌^◌, ◌<◌, ◌≤◌, List, [], Option, None, length, take, MatchResult, IfOk, OnOk, OnErr};
 ghost use Rattle.std.specs.Io.KnownBytes.{Consumes, Appends, Keeps, IsAtEnd, ReadConsumes, WriteAppends};
@@ -9,7 +9,7 @@ use std::io;
 #[derive(Clone, Copy, Debug, PartialEq, Eq)]
 pub struct Failed;
 
-/// A source of bytes, in order. It counts its reads, and the failed ones.
+/// A source of bytes, in order, that counts its reads and its failed reads.
 pub trait Source {
     // The bytes that are left, if they are known.
     ghost left: { Self → Option (List ℕ) };
@@ -17,11 +17,11 @@ pub trait Source {
     // How many reads were made.
     ghost reads: { Self → ℕ };
 
-    // How many of them failed.
+    // How many reads failed.
     ghost failed_reads: { Self → ℕ };
 
-    /// Reads bytes into the front of the buffer, and returns how many: 0 only at the end or for an empty buffer. A failed read
-    /// consumes no bytes.
+    /// Reads bytes into the front of `buffer`, and returns how many: 0 only at the source's end or for an empty `buffer`. A failed
+    /// read consumes no bytes.
     fn read(&mut self, buffer: &mut [u8]) -> Result<usize, Failed>
         requires few { reads self.old < 2 ^ 63 }
         requires few_failed { failed_reads self.old < 2 ^ 63 }
@@ -32,18 +32,18 @@ pub trait Source {
         ensures failed { OnErr result (failed_reads self.new ≡ failed_reads self.old + 1) };
 }
 
-/// A sink of bytes, in order. It counts its failed calls.
+/// A sink of bytes, in order, that counts its failed calls.
 pub trait Sink {
-    // The bytes that it has taken, if they are known.
+    // The bytes that the sink has taken, if they are known.
     ghost written: { Self → Option (List ℕ) };
 
-    // How many of the taken bytes it may still hold back.
+    // How many of the taken bytes the sink may still hold back.
     ghost held: { Self → ℕ };
 
     // How many calls failed.
     ghost failed_writes: { Self → ℕ };
 
-    /// Takes some of these bytes, from the front, and returns how many. Fails if it can take none of a non-empty slice. A failed
+    /// Takes some of `bytes`, from the front, and returns how many. Fails if the sink can take none of a non-empty slice. A failed
     /// write takes no bytes.
     fn write(&mut self, bytes: &[u8]) -> Result<usize, Failed>
         requires { failed_writes self.old < 2 ^ 63 }
@@ -104,7 +104,7 @@ impl<R: io::Read> Source for FromRead<R> {
     }
 }
 
-/// A writer of std as a sink. It may hold back what was written since its last flush.
+/// A writer of std as a sink. The writer may hold back what was written since the last flush.
 #[derive(Drop)]
 pub struct FromWrite<W> {
     writer: W,

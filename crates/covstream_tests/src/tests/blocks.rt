@@ -1,12 +1,32 @@
 //! Tests of `read_at_most`.
 
-use super::Given;
-use covlarge::read_at_most;
 use covline::Bytes;
-use covsession::SessionFault;
+use covstream::{BlockFault, FromRead, read_at_most};
 use std::alloc::Global;
+use std::io::{self, Read};
 use std::process::Abort;
 use std::test::*;
+
+/// A reader of std that gives at most two bytes per read. Every read from number `fails` on, counted from 1, fails.
+#[derive(Drop)]
+struct Given<'a> {
+    bytes: &'a [u8],
+    fails: u64,
+    reads: u64,
+}
+
+impl<'a> Read for Given<'a> {
+    fn read(&mut self, buffer: &mut [u8]) -> io::Result<usize> {
+        self.reads = self.reads.saturating_add(1);
+        if self.reads >= self.fails {
+            return Err(io::Error::from(io::ErrorKind::Interrupted));
+        }
+        let count = self.bytes.len().min(2).min(buffer.len());
+        buffer[..count].copy_from_slice(&self.bytes[..count]);
+        self.bytes = &self.bytes[count..];
+        Ok(count)
+    }
+}
 
 /// Appends at most `most` bytes, and at most 100, of the source `bytes` to `text`. Returns the text and the number of reads. Each
 /// read asks for at most three bytes, and returns at most two.
@@ -16,18 +36,20 @@ fn read(
     bytes: &[u8],
     fails: u64,
     most: usize,
-) -> Result<Result<(Bytes, u64), SessionFault>, Fail> {
-    let mut source = Given {
+) -> Result<Result<(Bytes, u64), BlockFault>, Fail> {
+    let mut reader = Given {
         bytes,
-        most: 2,
         fails,
         reads: 0,
-        failed: 0,
     };
     let mut block = vec![in alloc; 0; 3]?;
     let begun = Bytes::of(alloc, text)?;
-    match read_at_most(begun, &mut source, block.as_mut_slice(), most.min(100)) {
-        Ok(all) => Ok(Ok((all, source.reads))),
+    let read = {
+        let mut source = FromRead::new(&mut reader);
+        read_at_most(begun, &mut source, block.as_mut_slice(), most.min(100))
+    };
+    match read {
+        Ok(all) => Ok(Ok((all, reader.reads))),
         Err(fault) => Ok(Err(fault)),
     }
 }
@@ -64,9 +86,15 @@ fn reads(rt: HostRuntime) -> Result<(), Fail> {
 #[test]
 fn failed_reads(rt: HostRuntime) -> Result<(), Fail> {
     let first = read(rt.alloc(), b"x", b"abc", 1, 4)?;
-    assert!(rt; matches!(first, Err(SessionFault::Read)), "the first read");
+    assert!(rt;
+        matches!(first, Err(BlockFault::Unreadable)),
+        "the first read"
+    );
     let third = read(rt.alloc(), b"", b"abcdef", 3, 5)?;
-    assert!(rt; matches!(third, Err(SessionFault::Read)), "the third read");
+    assert!(rt;
+        matches!(third, Err(BlockFault::Unreadable)),
+        "the third read"
+    );
     let two = read(rt.alloc(), b"", b"abcdef", 3, 4)?;
     assert!(rt; matches!(two, Ok((_, 2))), "two reads");
     Ok(())

@@ -1,7 +1,7 @@
 use Rattle.std.proofs.Common.{refl, ◌∙◌, arith}
 use Rattle.std.proofs.lemmas.Result.{err_from_is_err_and}
-use Rattle.covlarge.proofs.ReadBlocks.{read_begun, read_on, read_long, read_so_long, read_over, read_failed}
-use Rattle.covlarge.proofs.blocks.read_at_most.Goals as goal
+use Rattle.covstream.proofs.ReadBlocks.{read_begun, read_on, read_long, read_so_long, read_over, read_failed}
+use Rattle.covstream.proofs.blocks.read_at_most.Goals as goal
 
 pub loop-room-init : goal.loop-room-init
 loop-room-init g c = record { took = read_begun _ _ _; reads = omega arith; failed = refl }

@@ -1,7 +1,7 @@
 use Rattle.std.proofs.Common.{length, arith}
 use Rattle.std.proofs.lemmas.List.{length-take}
-use Rattle.covlarge.proofs.ReadBlocks.{read_within}
-use Rattle.covlarge.proofs.blocks.read_some.Goals as goal
+use Rattle.covstream.proofs.ReadBlocks.{read_within}
+use Rattle.covstream.proofs.blocks.read_some.Goals as goal
 
 pub returns-clause-read : goal.returns-clause-read
 returns-clause-read g c =

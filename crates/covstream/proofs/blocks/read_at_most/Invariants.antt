@@ -1,6 +1,6 @@
 use Rattle.std.specs.Prelude.{◌≡◌, ◌+◌, ◌≤◌, length}
-use Rattle.covlarge.proofs.ReadBlocks.{HasReadSo}
-use Rattle.covlarge.proofs.blocks.read_at_most.Given as goal
+use Rattle.covstream.proofs.ReadBlocks.{HasReadSo}
+use Rattle.covstream.proofs.blocks.read_at_most.Given as goal
 
 -- all bytes that were read so far are in the text, and each read gave at least one byte
 abbrev pub invariant-loop-room : goal.invariant-loop-room

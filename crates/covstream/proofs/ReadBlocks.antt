@@ -2,9 +2,9 @@
 use Rattle.std.proofs.Common.{◌≡◌, ℕ, suc, ◌+◌, ◌<◌, ◌≤◌, min, List, [], ◌++◌, length, Option, ap, sym, ◌∙◌, arith, length-append, append-nil, append_assoc, inl, inr}
 use Rattle.std.proofs.KnownBytes.{Consumes-nil, Consumes-trans}
 use Rattle.std.specs.Io.KnownBytes.{Consumes, IsAtEnd}
-use Rattle.covsession.specs.declared.session.fault.SessionFault.{SessionFault}
-use Rattle.covsession.specs.declared.session.fault.SessionFault.TheVariants as faults
-use Rattle.covlarge.specs.Blocks.{HasReadBlock, HasReadOn, IsReadFault}
+use Rattle.covstream.specs.Blocks.{HasReadBlock, HasReadOn, IsReadFault}
+use Rattle.covstream.specs.declared.fault.BlockFault.{BlockFault}
+use Rattle.covstream.specs.declared.fault.BlockFault.TheVariants.{Unreadable, Memory}
 
 -- these bytes were read and appended to the text, and `room` bytes more may be read
 abbrev pub HasReadSo : ℕ → (left left_after : Option (List ℕ)) → (text text_after : List ℕ) → ℕ → Type 0
@@ -62,10 +62,8 @@ read_within now new text text_after room block part count some is (bytes, took, 
     (bytes, took, now_is, long, omega (arith, few, is), λ none wanted. ended none (omega (arith, some, is, wanted)))
 
 -- the next block isn't read, since a read failed or memory ran out
-pub read_failed : (old now new : Option (List ℕ)) (text : List ℕ) (failed failed_now failed_new : ℕ) (fault : SessionFault) → Consumes old now text
+pub read_failed : (old now new : Option (List ℕ)) (text : List ℕ) (failed failed_now failed_new : ℕ) (fault : BlockFault) → Consumes old now text
     → failed_now ≡ failed → IsReadFault now new failed_now failed_new fault → IsReadFault old new failed failed_new fault
-read_failed old now new text failed failed_now failed_new faults.Read before same (bytes, took, more) =
+read_failed old now new text failed failed_now failed_new Unreadable before same (bytes, took, more) =
     (text ++ bytes, Consumes-trans old now new text bytes before took, more ∙ ap suc same)
-read_failed old now new text failed failed_now failed_new faults.Memory before same fault = tt
-read_failed old now new text failed failed_now failed_new faults.Write before same none = absurd none
-read_failed old now new text failed failed_now failed_new faults.Full before same none = absurd none
+read_failed old now new text failed failed_now failed_new Memory before same fault = tt
