@@ -5,7 +5,6 @@ use Rattle.covcheck.specs.declared.text_summary.TextSummary.{TextSummary}
 use Rattle.covjobs.specs.Collect.{IsReadWhole, OutcomeData}
 use Rattle.covjobs.specs.declared.late_fault.LateFault.{LateFault}
 use Rattle.covjobs.specs.declared.late_fault.LateFault.TheVariants as late
-use Rattle.covlarge.specs.Blocks.{HasReadAtMost}
 use Rattle.covlarge.specs.Large.{IsAll, max_pieces}
 use Rattle.covlarge.specs.State.{MayFailFrom, MayGive}
 use Rattle.covlarge.specs.StateData.{StateData}
@@ -26,6 +25,7 @@ use Rattle.covrun.specs.declared.files.FileFault.{FileFault}
 use Rattle.covrun.specs.declared.work.FileFormat.{FileFormat}
 use Rattle.covrun.specs.declared.work.FileFormat.TheVariants.{Tracefile, LargeTracefile, GcovOutput}
 use Rattle.covrun.specs.declared.files.FileFault.TheVariants.{Unreadable, Memory}
+use Rattle.covstream.specs.Blocks.{HasReadAtMost}
 
 -- all bytes that were left were read, or exactly one byte more than a text may have
 abbrev pub HasRead : Option (List ℕ) → Option (List ℕ) → List ℕ → Type 0

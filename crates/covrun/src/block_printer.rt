@@ -8,7 +8,8 @@ ghost use Rattle.covrun.specs.Printed.{HasPrinted, WritesOn, sink_data};
 
 use crate::block::{BLOCK_BYTES, Block};
 use covreport::{Noted, Printer, Printing};
-use covsession::{SessionFault, Sink, put_bytes};
+use covsession::{SessionFault, put_bytes};
+use covstream::Sink;
 use std::marker::{Brand, Model, PhantomData};
 
 /// Names a printer's sink, and the sink's state before printing. The trait has no functions. The contract of a function that takes

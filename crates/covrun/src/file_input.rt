@@ -2,7 +2,7 @@
 
 use crate::files::{FileFault, file_text};
 use crate::folder::Folder;
-use crate::large_input::{open_large, take_last};
+use crate::large_input::{open_large, share, take_last};
 use crate::strict::read_strictly;
 use crate::text_fault::TextFault;
 use crate::work::FileFormat;
@@ -106,7 +106,7 @@ impl<'a, F: Folder> FileInput<'a, F> {
         let large = open_large(folder, alloc, name, version, strictness, opened)?;
         match large.next_piece(alloc) {
             Ok(NextPiece::More(submission, rest)) => Ok(Part::More(
-                Given::packed(submission),
+                share(alloc, submission)?,
                 FileInput {
                     folder,
                     name,
@@ -115,9 +115,9 @@ impl<'a, F: Folder> FileInput<'a, F> {
                     opened: Some(rest),
                 },
             )),
-            Ok(NextPiece::Last(submission, held)) => Ok(Part::Last(Given::packed(take_last(
+            Ok(NextPiece::Last(submission, held)) => Ok(Part::Last(take_last(
                 alloc, strictness, submission, held,
-            )?))),
+            )?)),
             Err(PieceFault::Refused(fault)) => Err(LateFault::Refused(TextFault::Faulty(fault))),
             Err(PieceFault::Unreadable) => Err(LateFault::Unreadable),
             Err(PieceFault::Memory) => Err(LateFault::Memory),

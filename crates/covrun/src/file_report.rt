@@ -25,7 +25,8 @@ use covlarge::{PieceFault, check_large};
 use covline::Bytes;
 use covlist::put_shown_name;
 use covread::ReadFault;
-use covsession::{SessionFault, Sink, refused_line};
+use covsession::{SessionFault, refused_line};
+use covstream::Sink;
 use std::alloc::Global;
 
 /// The report about a checked file. Writing it never allocates.

@@ -2,15 +2,14 @@
 
 ghost use Rattle.std.specs.Prelude.{◌<◌, ◌≤◌, ◌^◌, suc, length, IfOk, IfErr};
 ghost use Rattle.covread.specs.Outcome.{max_bytes};
-ghost use Rattle.covlarge.specs.Blocks.{IsReadFault};
 ghost use Rattle.covrun.specs.Files.{HasRead, IsUnread};
 ghost use Rattle.covrun.specs.Folder.{IsTextOf, folder_data};
+ghost use Rattle.covstream.specs.Blocks.{IsReadFault};
 
 use crate::folder::Folder;
-use covlarge::{BLOCK_BYTES, read_at_most};
 use covline::{Bytes, Memory};
 use covread::MAX_BYTES;
-use covsession::{SessionFault, Source};
+use covstream::{BLOCK_BYTES, BlockFault, Source, read_at_most};
 use std::alloc::{AllocError, Global};
 
 /// The most bytes of a file that are read: one more than the size limit. The extra byte shows that the file is too long.
@@ -26,12 +25,12 @@ pub(crate) enum FileFault<'a> {
 }
 
 /// Reads the rest of the source, up to one byte more than the size limit. Reserves `awaited` bytes first, so the buffer grows only
-/// if more bytes come. Fails with `Read` if a read failed, and otherwise with `Memory`.
+/// if more bytes come. Fails with `Unreadable` if a read failed, and otherwise with `Memory`.
 pub(crate) fn read_text<S: Source>(
     alloc: Global,
     awaited: usize,
     source: &mut S,
-) -> Result<Bytes, SessionFault>
+) -> Result<Bytes, BlockFault>
     requires reads { S.reads source.old < 2 ^ 62 }
     requires failed_reads { S.failed_reads source.old < 2 ^ 62 }
     ensures read { IfOk result (HasRead (S.left source.old) (S.left source.new)) }
@@ -61,8 +60,8 @@ pub(crate) fn file_text<'a, F: Folder>(
     let mut source = opened.source;
     match read_text(alloc, awaited, &mut source) {
         Ok(text) => Ok(text),
-        Err(SessionFault::Memory) => Err(FileFault::Memory),
-        Err(_) => Err(FileFault::Unreadable(name)),
+        Err(BlockFault::Unreadable) => Err(FileFault::Unreadable(name)),
+        Err(BlockFault::Memory) => Err(FileFault::Memory),
     }
 }
 

@@ -3,7 +3,7 @@
 ghost use Rattle.std.specs.Prelude.{◌≡◌, ℕ, List, Option, None, IfOk, IfErr};
 ghost use Rattle.std.specs.Io.KnownBytes.{Keeps};
 
-use covsession::{Failed, FromRead, Source};
+use covstream::{Failed, FromRead, Source};
 use std::fs;
 use std::fs::OpenFile;
 use std::rt::Files;

@@ -1,7 +1,7 @@
 //! Tracefiles of any length as inputs of collecting, chunk by chunk.
 
 ghost use Rattle.std.specs.Prelude.{◌≡◌, List, Option, None, Result, IfOk, IfErr};
-ghost use Rattle.covjobs.specs.declared.late_fault.LateFault.TheVariants.{Unreadable};
+ghost use Rattle.covjobs.specs.declared.late_fault.LateFault.TheVariants.{Memory, Unreadable};
 ghost use Rattle.covlarge.specs.Large.{MayBeReadAs, max_pieces};
 ghost use Rattle.covlarge.specs.State.{MayGive};
 ghost use Rattle.covlarge.specs.Summary.{SummaryData};
@@ -15,9 +15,10 @@ use crate::strict::refuse_unless_clean;
 use crate::text_fault::TextFault;
 use covbook::PackedRef;
 use covcommand::{LcovVersion, Strictness};
-use covjobs::LateFault;
+use covjobs::{Given, LateFault};
 use covlarge::{Held, LargeTracefile};
-use covsession::Source;
+use covpacked::PackedSubmission;
+use covstream::Source;
 use std::alloc::Global;
 
 /// Returns `opened`, the unread rest of the tracefile. Opens the file if `opened` is `None`.
@@ -81,16 +82,31 @@ fn begin_large<S: Source + Drop>(
 pub(crate) fn take_last(
     alloc: Global,
     strictness: Strictness,
-    submission: PackedRef,
+    submission: PackedSubmission,
     held: Option<Held>,
-) -> Result<PackedRef, LateFault<TextFault>>
+) -> Result<Given, LateFault<TextFault>>
     ensures { TakesLast strictness held submission result }
 {
+    let given = share(alloc, submission)?;
     match (strictness, held) {
         (Strictness::Strict, Some(held)) => {
             refuse_unless_clean(alloc, &held.summary())?;
-            Ok(submission)
+            Ok(given)
         }
-        (Strictness::Lenient, _) | (Strictness::Strict, None) => Ok(submission),
+        (Strictness::Lenient, _) | (Strictness::Strict, None) => Ok(given),
+    }
+}
+
+/// Makes a chunk's submission shareable, as collecting takes submissions.
+pub(crate) fn share(
+    alloc: Global,
+    submission: PackedSubmission,
+) -> Result<Given, LateFault<TextFault>>
+    ensures given { IfOk result (λ given. given ≡ submission) }
+    ensures fault { IfErr result (λ fault. fault ≡ Memory) }
+{
+    match PackedRef::of(alloc, submission) {
+        Ok(shared) => Ok(Given::packed(shared)),
+        Err(_) => Err(LateFault::Memory),
     }
 }

@@ -20,7 +20,8 @@ use crate::written_file::write_file;
 use covcommand::CommandFault;
 use covline::{Bytes, Memory};
 use covlist::put_shown_name;
-use covsession::{SessionFault, Sink, line_of, put_bytes, status_of};
+use covsession::{SessionFault, line_of, put_bytes, status_of};
+use covstream::Sink;
 use std::alloc::Global;
 
 /// Reports an answer and returns the exit status. The text goes to the output, or into the file if one is named.

@@ -5,7 +5,7 @@ ghost use Rattle.covrun.specs.OutputFiles.{CountsFault, Finishes, IsEmptyIfKnown
 
 use crate::unfinished_file::{UnfinishedFile, abandon_file, begin_file, finish_file};
 use covreport::Noted;
-use covsession::Sink;
+use covstream::Sink;
 use std::alloc::AllocGlobal;
 use std::random::RandomSource;
 use std::rt::Files;

@@ -3,7 +3,8 @@
 use crate::block::Block;
 use crate::block_printer::print_text;
 use covreport::Printing;
-use covsession::{SessionFault, Sink};
+use covsession::SessionFault;
+use covstream::Sink;
 use std::alloc::{AllocError, Global};
 use std::marker::Model;
 

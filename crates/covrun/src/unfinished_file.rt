@@ -3,7 +3,7 @@
 ghost use Rattle.std.specs.Prelude.{◌≡◌, IfOk};
 
 use crate::output_folder::OutputFault;
-use covsession::{Failed, FromWrite, Sink};
+use covstream::{Failed, FromWrite, Sink};
 use std::alloc::{AllocError, AllocGlobal};
 use std::fs::{Metadata, OpenFile, OpenOptions, Permissions};
 use std::io;
