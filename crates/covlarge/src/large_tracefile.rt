@@ -62,7 +62,7 @@ pub enum NextPiece<S: Source> {
 }
 
 impl<S: Source + Drop> LargeTracefile<S> {
-    /// Opens the rest of the source as a tracefile. Reading all its chunks gives the same as reading the tracefile as a whole.
+    /// Opens the rest of the source as a tracefile. Reading all chunks gives the same as reading the tracefile as a whole.
     pub fn new(alloc: Global, version: LcovVersion, source: S) -> LargeTracefile<S>
         requires reads { S.reads source ≡ 0 }
         requires failed_reads { S.failed_reads source ≡ 0 }
@@ -75,7 +75,7 @@ impl<S: Source + Drop> LargeTracefile<S> {
         LargeTracefile::begun(alloc, version, None, source)
     }
 
-    /// Like `new`, but the last chunk also returns a summary of the whole tracefile.
+    /// Like `new`, but a summary of the whole tracefile comes with the last chunk.
     pub fn summed(alloc: Global, version: LcovVersion, source: S) -> LargeTracefile<S>
         requires reads { S.reads source ≡ 0 }
         requires failed_reads { S.failed_reads source ≡ 0 }
@@ -119,12 +119,12 @@ impl<S: Source + Drop> LargeTracefile<S> {
         self.left
     }
 
-    /// Reads the next chunk: whole sections, or the rest of the tracefile. This submission, followed by those of the returned rest,
-    /// are the submissions of this tracefile.
+    /// Reads the next chunk: whole sections, or the rest of the tracefile. The submissions of this tracefile are the returned one
+    /// and then the submissions of the returned rest.
     ///
     /// # Errors
     ///
-    /// `Refused` with the first error of the whole tracefile, whose line number there saturates at 2^64 - 1. `Refused` with
+    /// `Refused` with the first error of the whole tracefile and the line number there, which saturates at 2^64 - 1. `Refused` with
     /// `TooLong` if no section ends in the next 67,108,864 bytes, including the chunk's prefix, or after 1,048,575 chunks.
     /// `Unreadable` only if a read failed. `Memory` at any time.
     pub fn next_piece(self, alloc: Global) -> Result<NextPiece<S>, PieceFault>
@@ -163,7 +163,7 @@ impl<S: Source + Drop> LargeTracefile<S> {
     }
 }
 
-/// The prefix of the next chunk, followed by the bytes that no chunk contains yet.
+/// The prefix of the next chunk, followed by `rest`, the bytes that no chunk contains yet.
 fn begun_text(alloc: Global, carried: &Carried, rest: Bytes) -> Result<PieceText, Memory>
     ensures front { IfOk result (λ t. t.front ≡ front_text carried.now) }
     ensures bytes { IfOk result (λ t. t.bytes ≡ rest) }

@@ -1,4 +1,4 @@
-//! The input of the reader for one chunk: its prefix (`front`), then bytes of the tracefile.
+//! The reader's input for one chunk: the chunk's prefix (`front`), then bytes of the tracefile.
 
 ghost use Rattle.std.specs.Prelude.{◌≡◌, ◌<◌, ◌≤◌, ◌+◌, ◌-◌, ◌^◌, ◌++◌, length, take, drop, None, IfOk, IfErr, IfSome};
 ghost use Rattle.covlarge.specs.Found.{HasFound, HasReadUntil, IsFound};
@@ -27,7 +27,7 @@ pub(crate) enum Found {
     TooLong,
 }
 
-/// The input of the reader for one chunk: its prefix (`front`), then bytes of the tracefile. Contracts see these two.
+/// The reader's input for one chunk: the chunk's prefix (`front`), then bytes of the tracefile. Contracts see these two.
 #[derive(Drop)]
 pub(crate) struct PieceText {
     text: Bytes,
@@ -46,7 +46,7 @@ impl Model for PieceText {
 }
 
 impl PieceText {
-    /// The prefix of the next chunk, followed by these bytes of the tracefile.
+    /// The prefix of the next chunk, followed by `bytes` of the tracefile.
     pub(crate) fn begun(alloc: Global, carried: &Carried, bytes: &[u8]) -> Result<PieceText, Memory>
         ensures front { IfOk result (λ t. t.front ≡ front_text carried.now) }
         ensures bytes { IfOk result (λ t. t.bytes ≡ bytes.now) }
@@ -57,7 +57,7 @@ impl PieceText {
         Ok(PieceText { text, front })
     }
 
-    /// Reads until the buffer holds a complete section, the file ends, or the size limit is reached without a section end.
+    /// Reads until the text holds a complete section, the source ends, or the text exceeds the size limit.
     pub(crate) fn read_on<S: Source>(
         self,
         source: &mut S,
@@ -136,8 +136,8 @@ fn read_on<S: Source>(
     }
 }
 
-/// Decides what follows the prefix of a text of at least `wanted` bytes; a shorter text ends at the end of the source. Returns
-/// `None` if more bytes have to be read.
+/// Decides what follows the prefix of `text`. The source is at its end if `text` has less than `wanted` bytes. Returns `None` if
+/// more bytes have to be read.
 fn found_in(text: &[u8], front: usize, wanted: usize, most: usize) -> Option<Found>
     requires front { front ≤ length text.now }
     requires wanted { wanted ≤ most + 1 }

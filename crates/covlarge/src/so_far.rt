@@ -1,4 +1,4 @@
-//! Reads one chunk after others.
+//! Reads chunks, one after another.
 
 ghost use Rattle.std.specs.Prelude.{◌≡◌, ◌<◌, ◌≤◌, ◌+◌, ◌^◌, ◌++◌, length, take, IfOk, OnOk};
 ghost use Rattle.covlarge.specs.Piece.{AnswersOf, IsFaultOf, IsLastPiece, IsPieceRead, IsReadAs};
@@ -28,7 +28,8 @@ pub(crate) struct SoFar {
 }
 
 impl SoFar {
-    /// Reads the last chunk: all of the text after its prefix. Returns its submission and the summary of all chunks.
+    /// Reads the last chunk: all of `text` after the prefix. Returns the chunk's submission, and the summary of all chunks if one
+    /// is collected.
     pub(crate) fn last_piece(
         self,
         alloc: Global,
@@ -84,7 +85,7 @@ impl SoFar {
     }
 }
 
-/// Reads a chunk with its prefix. The line number in an error counts from the start of the whole tracefile.
+/// Reads `text`, a chunk with its prefix. The line number in an error counts from the start of the whole tracefile.
 fn read_piece(
     alloc: Global,
     version: LcovVersion,
@@ -114,7 +115,7 @@ fn read_text(
     }
 }
 
-/// Turns a chunk's error into that of the whole tracefile.
+/// Turns a chunk's error into the error of the whole tracefile.
 fn piece_fault(carried: &Carried, fault: ReadFault) -> PieceFault
     ensures { IsFaultOf carried.now fault result }
 {
@@ -124,7 +125,7 @@ fn piece_fault(carried: &Carried, fault: ReadFault) -> PieceFault
     }
 }
 
-/// Adds the next chunk to the summary, if one is collected.
+/// Adds the next chunk to the summary, if a summary is collected.
 fn hold(
     held: &mut Option<Held>,
     alloc: Global,

@@ -28,8 +28,8 @@ pub fn each_input_has_one_session_text()
     each_gcov_text_has_one_outcome();
 }
 
-/// A session never rejects a text for the name of its test: the name is a part of one line, and so always good. Nor does it answer
-/// that memory ran out: this ends the session instead.
+/// A session never rejects a text for the name of its test: the name is a part of one line, and so always good. No answer says that
+/// memory ran out: the session ends instead.
 pub fn no_session_refuses_a_test()
     ensures { (input : List ℕ) (commands : List Command) → AreCommands (pieces_of input) commands
         → AllByRecursion (λ command. (command ≢ Refuse read_faults.BadTest) × (command ≢ Refuse read_faults.Memory)) commands }

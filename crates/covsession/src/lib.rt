@@ -1,11 +1,12 @@
 //! A session of the coverage collector: it reads commands and writes the answers of one book.
 //!
 //! `session` reads commands from a source, and writes the answers to a sink (covstream). `program` runs a session as a program
-//! does, with an exit status and a line about an error. `laws` has theorems about all sessions. Other callers print an error, a
-//! rejected text or a clash with `line_of`, `refused_line` and `clash_line`.
+//! does, with an exit status and a line about an error. `laws` has theorems about all sessions. Other callers get the lines about
+//! an error, a rejected text and a clash from `line_of`, `refused_line` and `clash_line`, and an error's exit status from
+//! `status_of`.
 //!
 //! An example, proved and run in `covuses`: a function that returns the answers of a session to these commands. `Kept` is the
-//! caller's [`Sink`], which stores all bytes that it takes.
+//! caller's `Sink`, which stores all bytes that it takes.
 //!
 //! ```text
 //! pub fn answers_to(alloc: Global, commands: &[u8]) -> Result<Vec<u8>, SessionFault> {

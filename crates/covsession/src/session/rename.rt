@@ -28,11 +28,11 @@ pub struct Names<A: Allocator> {
     pub old: Bytes<A>,
     /// The test's new name.
     pub new: Bytes<A>,
-    /// How the second line ended.
+    /// How the line of the new name ended.
     pub ending: LineEnd,
 }
 
-// Whether these bytes with this ending are a line. They aren't if the input ended before the line's first byte.
+// Whether a line was read. `false` means that the input ended before the line's first byte.
 fn is_there(line: &[u8], ending: LineEnd) -> bool
     ensures { IsThere result ending line.now }
 {
@@ -63,7 +63,7 @@ fn take_name<I: Source, O: Sink, A: Allocator + Copy>(
     Ok(Some((name, ending)))
 }
 
-// Reads two lines as the old and the new name. Returns `None` if the input ends before both lines are there.
+// Reads two lines as the old and the new name. Returns `None` if the input ends before the second line.
 fn take_names<I: Source, O: Sink, A: Allocator + Copy>(
     alloc: A,
     input: &mut SessionInput<'_, I, A>,
