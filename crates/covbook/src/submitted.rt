@@ -13,7 +13,8 @@ pub(crate) trait Submitted<A: Allocator + Copy> {
     ghost use Rattle.covline.specs.Row.{SubmissionData, items_in, rows_of};
     ghost use Rattle.covstore.specs.Content.{content_at};
     ghost use Rattle.covstore.specs.RefuseView.{refuse_data};
-    ghost use Rattle.covstore.specs.Store.{IsPlanOf, IsRefusedAt, SameContent, StandsFor, max_members};
+    ghost use Rattle.covstore.specs.Store.{IsPlanOf, SameContent, StandsFor, max_members};
+    ghost use Rattle.covstore.specs.Refuse.{IsRefusedAt};
     ghost use Rattle.covstore.specs.Table.{Table, clash_at};
     ghost use Rattle.covstore.specs.Totals.{totals_of};
     ghost use Rattle.covbook.specs.Op.{SubmitOp};

@@ -13,7 +13,8 @@ use Rattle.covstore.specs.Renamed.{renamed_row}
 use Rattle.covstore.specs.Table.{Table, all_rows, clash_at}
 use Rattle.covstore.specs.Without.{is_of_test, without_test}
 use Rattle.covstore.proofs.WithoutContent.{All-picked}
-use Rattle.covstore.proofs.Stores.{All-joined, rows_accepted}
+use Rattle.covstore.proofs.TotalsDifferent.{All-joined}
+use Rattle.covstore.proofs.Clashes.{rows_accepted}
 use Rattle.covstore.proofs.RenamedTables.{rows_renamed}
 
 -- ---- the rows of a lawful submission

@@ -30,7 +30,7 @@ use Rattle.covlaws.proofs.LawfulRun.{lawful_rows}
 use Rattle.covlaws.proofs.PrintableContent.{checksums_shown, printable_content}
 use Rattle.covlaws.proofs.ReadBack.{shown_is_lawful}
 use Rattle.covlaws.proofs.ReportsBack.{same_text, text_of_all, text_read}
-use Rattle.covstore.proofs.Stores.{All-joined}
+use Rattle.covstore.proofs.TotalsDifferent.{All-joined}
 use Rattle.covstore.proofs.Members.{Contains-from, In, In-from, In-joined, In-parts}
 use Rattle.covstore.proofs.Contents.{content-append}
 use Rattle.covlaws.proofs.SameContentAsRows.{stands_for_rows}

@@ -15,8 +15,7 @@ use Rattle.covstore.proofs.WithoutContent.{All-picked}
 use Rattle.covstore.proofs.ContentsSections.{own_key}
 use Rattle.covlaws.proofs.PrintablePoints.{all_shown, first_in, fit_shown, lawful_shown, map_back, points_in_order, some_shown}
 use Rattle.covstore.proofs.Members.{In, All-in, Contains-from, In-from, In-map, In-unmap}
-use Rattle.covstore.proofs.TotalsDifferent.{All-from}
-use Rattle.covstore.proofs.Stores.{All-joined}
+use Rattle.covstore.proofs.TotalsDifferent.{All-from, All-joined}
 use Rattle.covlaws.proofs.Mapped.{All-mapped}
 use Rattle.covstore.proofs.ContentsLists.{In-filter, In-flat, In-unfilter, In-unflat}
 use Rattle.covstore.proofs.Ascend.{All-weaker, In-ascending, ascending_sorted}

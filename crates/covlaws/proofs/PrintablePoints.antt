@@ -18,8 +18,7 @@ use Rattle.covreport.specs.Report.{put_in, sorted, function_cmp, by_start}
 use Rattle.covline.specs.Row.{ItemData, LineItem, FuncItem, BranchItem}
 use Rattle.covstore.specs.Value.{Key, bounded, branch_cmp, branches_in, checksum_said, first_of, function_start, line_checksum, line_value, lines_in, names_in, start_said, sum_if_any, taken_said}
 use Rattle.covstore.proofs.Members.{In, All-in}
-use Rattle.covstore.proofs.TotalsDifferent.{All-from}
-use Rattle.covstore.proofs.Stores.{All-joined}
+use Rattle.covstore.proofs.TotalsDifferent.{All-from, All-joined}
 use Rattle.covlaws.proofs.Mapped.{All-mapped, In-some}
 use Rattle.covstore.proofs.ContentsLists.{In-flat, In-unflat}
 use Rattle.covstore.proofs.Ascend.{All-match, In-ascending, In-to_ascending, ascending_sorted}

@@ -1,7 +1,7 @@
 //! Prints the table of files with their totals.
 
 ghost use Rattle.std.specs.Prelude.{◌≡◌, ◌≤◌, ◌++◌, ◌∷◌, [], IfOk, OnOk, flat_map};
-ghost use Rattle.covstore.specs.FilesView.{file_totals_data};
+ghost use Rattle.covstore.specs.ValuesView.{file_totals_data};
 ghost use Rattle.covstore.specs.Totals.{AreTotals};
 ghost use Rattle.covreport.specs.ChoiceView.{choice_data};
 ghost use Rattle.covlist.specs.Chosen.{chosen_among, chosen_files, totals_of_chosen};

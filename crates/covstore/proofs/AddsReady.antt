@@ -9,7 +9,8 @@ use Rattle.covline.specs.Row.{ItemData, Row}
 use Rattle.covstore.specs.declared.totals.Totals.{Totals}
 use Rattle.covstore.specs.TotalsExchanged.{FitTogether, IsAmong, IsExchange, exchanged}
 use Rattle.covstore.specs.FileSection.{AddsItems, HasRoomIn}
-use Rattle.covstore.specs.Store.{AddsRows, AddsTo, ClashesAmong, HasRoomForRows, KeepsState, SameCommitted, StoreData, RefuseData, ClashRefuse, MemoryRefuse}
+use Rattle.covstore.specs.Store.{AddsRows, AddsTo, ClashesAmong, HasRoomForRows, KeepsState, SameCommitted, StoreData}
+use Rattle.covstore.specs.Refuse.{RefuseData, ClashRefuse, MemoryRefuse}
 use Rattle.covstore.specs.StoreView.{IsStore}
 use Rattle.covmap.specs.Puts.{put, value_of}
 use Rattle.covstore.specs.StoreSection.{HasRoomAmong, RefusedIn, rows_of_items}

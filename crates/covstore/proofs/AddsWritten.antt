@@ -12,7 +12,8 @@ use Rattle.covstore.specs.declared.totals.Totals.{Totals}
 use Rattle.covstore.specs.TotalsExchanged.{IsExchange}
 use Rattle.covstore.specs.FileSection.{AddsItems, HasRoomIn, KeepsIn}
 use Rattle.covstore.specs.FileView.{file_staged, file_committed, no_file}
-use Rattle.covstore.specs.Store.{AddsTo, ClashesAmong, KeepsState, RefuseData}
+use Rattle.covstore.specs.Store.{AddsTo, ClashesAmong, KeepsState}
+use Rattle.covstore.specs.Refuse.{RefuseData}
 use Rattle.covstore.specs.StoreView.{files_staged, files_committed}
 use Rattle.covmap.specs.Puts.{ArePairs, put, value_of}
 use Rattle.covstore.specs.StoreSection.{HasRoomAmong, RefusedIn, rows_of_items}

@@ -1,6 +1,7 @@
 -- Lists that are alike: they have the same elements, and the same sums over them. A list and its permutation are alike. Lists
 -- that are filtered, mapped or collected from alike lists are alike too.
 use Rattle.std.proofs.Common.{◌≡◌, ℕ, ◌+◌, ◌<◌, ◌≤◌, Bool, true, false, cond, min, Some, List, [], ◌∷◌, map, filter, refl, sym, ap, ◌∙◌, subst, inl, inr, ⊎_elim, arith}
+use Rattle.std.specs.declared.cmp.Ordering.{Ordering}
 use Rattle.std.specs.List.{flat_map, sum_by, fold}
 use Rattle.std.specs.List.Sorted.{IsPermutation}
 use Rattle.std.specs.Prelude.{◌⊎◌}
@@ -9,7 +10,10 @@ use Rattle.std.proofs.lemmas.List.Sorted.{IsPermutation-sym, Contains-permutatio
 use Rattle.std.proofs.lemmas.List.Sums.{sum_by-cons, sum_by-append}
 use Rattle.std.proofs.Math.Nat.{min-le_left, min-le_right, min-eq_left, min-eq_right}
 use Rattle.covline.specs.Points.{least}
+use Rattle.covstore.specs.Ascending.{ascending}
 use Rattle.covstore.specs.Value.{bounded, first_of, sum_if_any}
+use Rattle.covstore.proofs.Ascend.{IsExactOrder}
+use Rattle.covstore.proofs.ContentsKinds.{same_ascending, map_same}
 use Rattle.covstore.proofs.ContentsLists.{In-flat, In-unflat, In-filter, In-unfilter}
 use Rattle.covstore.proofs.Members.{In, In-from, Contains-from, In-map, In-unmap}
 
@@ -119,3 +123,9 @@ least_alike (x ∷ xs) (y ∷ ys) alike =
     let down : fold min y ys ≤ fold min x xs = least_below y ys (fold min x xs) (alike.there (fold min x xs) (least_among x xs)) in
     let same : fold min x xs ≡ fold min y ys = omega (arith, up, down) in
     ap (λ (n : ℕ). Some n) same
+
+-- alike lists of points, ascending, give the same list of values if each point has the same value
+pub same_mapped : {P V : Type 0} (cmp : P → P → Ordering) → IsExactOrder cmp → (some others : List P) (f g : P → V) → AreAlike some others → ((p : P) → f p ≡ g p)
+    → map f (ascending cmp some) ≡ map g (ascending cmp others)
+same_mapped cmp order some others f g alike same =
+    map_same f g (ascending cmp some) same ∙ ap (map g) (same_ascending cmp order some others alike.there alike.back)

@@ -11,13 +11,12 @@ use Rattle.covstore.specs.Clash.{Checksum, Agree, checksum_of_row, checksums_in}
 use Rattle.covstore.specs.Content.{section_with, section_of, content_of, function_at, branch_at, line_at}
 use Rattle.covstore.specs.Table.{Table, all_rows}
 use Rattle.covstore.specs.Value.{bounded, Key, key_cmp, key_of_row, has_key, items_at, branch_cmp, checksum_said, line_added, start_said, function_added, taken_said}
-use Rattle.covstore.proofs.Alike.{AreAlike, alike_permuted, alike_mapped, alike_said, alike_picked, first_alike, sum_alike, least_alike}
+use Rattle.covstore.proofs.Alike.{AreAlike, alike_permuted, alike_mapped, alike_said, alike_picked, first_alike, sum_alike, least_alike, same_mapped}
 use Rattle.covstore.proofs.ContentsChecksums.{one_said}
 use Rattle.covstore.proofs.ContentsPoints.{same_line, same_function, same_branch}
 use Rattle.covstore.proofs.ContentsSections.{same_section}
 use Rattle.covstore.proofs.Members.{In, In-from, Contains-from}
 use Rattle.covstore.proofs.Orders.{lines_order, names_order, branches_order, keys_order}
-use Rattle.covstore.proofs.RenamedAlike.{same_mapped}
 
 -- ---- the items of a file and a test
 

@@ -54,6 +54,14 @@ unfolding IsStrictlySortedBy
 ascending_sorted t [] = tt
 ascending_sorted {X} {cmp} t (x ∷ xs) = placed_sorted t x (ascending cmp xs) (ascending_sorted t xs)
 
+pub sorted_none : {X : Type 0} (cmp : X → X → Ordering) → IsStrictlySortedBy cmp []
+unfolding IsStrictlySortedBy
+sorted_none cmp = tt
+
+pub sorted_one : {X : Type 0} (cmp : X → X → Ordering) (x : X) → IsStrictlySortedBy cmp (x ∷ [])
+unfolding IsStrictlySortedBy
+sorted_one cmp x = (tt, tt)
+
 -- ---- its elements
 
 In-placed_at : {X : Type 0} {cmp : X → X → Ordering} → CmpEqualImpliesEq cmp → (z x y : X) (ys zs : List X) (o : Ordering) → cmp x y ≡ o

@@ -180,9 +180,12 @@ agree_none held given agree all = none_when held given (first_clash held given) 
 
 -- ---- tables
 
+pub rows_accepted : (table : Table) (rows : List Row) → all_rows (table ++ rows ∷ []) ≡ all_rows table ++ rows
+rows_accepted table rows = flat_map-append (λ (xs : List Row). xs) table (rows ∷ []) ∙ ap (λ (xs : List Row). all_rows table ++ xs) (append-nil rows)
+
 pub checksums-accepted : (table : Table) (rows : List Row) → checksums_in (all_rows (table ++ rows ∷ [])) ≡ checksums_in (all_rows table) ++ checksums_in rows
 checksums-accepted table rows =
-    ap checksums_in (flat_map-append (λ (xs : List Row). xs) table (rows ∷ []) ∙ ap (λ (xs : List Row). all_rows table ++ xs) (append-nil rows))
+    ap checksums_in (rows_accepted table rows)
     ∙ flat_map-append checksum_of_row (all_rows table) rows
 
 pub agree_submitted : (table : Table) (s : SubmissionData) → clash_at table s ≡ None → Agree (checksums_in (all_rows table)) → Agree (checksums_in (all_rows (table ++ rows_of s ∷ [])))

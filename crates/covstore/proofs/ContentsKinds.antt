@@ -31,6 +31,10 @@ pub map_same : {P V : Type 0} (f g : P → V) (ps : List P) → ((p : P) → f p
 map_same f g [] same = refl
 map_same {P} {V} f g (p ∷ ps) same = let here : f p ≡ g p = same p in let others : map f ps ≡ map g ps = map_same f g ps same in cc
 
+pub map_of_map : {X Y Z : Type 0} (f : X → Y) (g : Y → Z) (h : X → Z) (xs : List X) → ((x : X) → g (f x) ≡ h x) → map g (map f xs) ≡ map h xs
+map_of_map f g h [] same = refl
+map_of_map {X} {Y} {Z} f g h (x ∷ xs) same = ap (λ (z : Z). z ∷ map g (map f xs)) (same x) ∙ ap (λ (zs : List Z). h x ∷ zs) (map_of_map f g h xs same)
+
 -- if two functions map a list to equal lists, they give the same for each element of the list
 same_at : {P V : Type 0} (f g : P → V) (ps : List P) (p : P) → map f ps ≡ map g ps → In p ps → f p ≡ g p
 same_at f g [] p e i = absurd i

@@ -8,7 +8,8 @@ use Rattle.covline.specs.Row.{Row}
 use Rattle.covstore.specs.declared.totals.Totals.{Totals}
 use Rattle.covstore.specs.Content.{SectionData}
 use Rattle.covstore.specs.Files.{FileTotalsData, file_with_totals, files_with_totals}
-use Rattle.covstore.specs.FilesView.{file_if_found, file_seen, files_with_points, finds_nothing}
+use Rattle.covstore.specs.FilesView.{file_if_found, file_seen, files_with_points}
+use Rattle.covstore.specs.TotalsExchanged.{finds_nothing}
 use Rattle.covstore.specs.Kinds.{Branch, Function, Kind, Line, at}
 use Rattle.covstore.specs.PointIndexCounts.{found_of, hit_of}
 use Rattle.covstore.specs.State.{FileData, IsStateOf, branch_seen, file_totals, found_at, function_seen, line_seen, section_seen, section_with_points, sections_of, sections_of_file}

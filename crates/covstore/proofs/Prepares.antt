@@ -7,7 +7,8 @@ use Rattle.covline.specs.Lawful.{IsLawful, max_items}
 use Rattle.covstore.specs.declared.totals.Totals.{Totals}
 use Rattle.covstore.specs.Clash.{Agree, checksums_in, clash_of}
 use Rattle.covstore.specs.Content.{content_at, content_of}
-use Rattle.covstore.specs.Store.{AddsRows, ClashesWith, HasRoomForRows, IsPlanOf, PlanData, SameCommitted, StandsFor, StoreData, IsRefusedAt, RefuseData, ClashRefuse, MemoryRefuse, max_members}
+use Rattle.covstore.specs.Store.{AddsRows, ClashesWith, HasRoomForRows, IsPlanOf, PlanData, SameCommitted, StandsFor, StoreData, max_members}
+use Rattle.covstore.specs.Refuse.{IsRefusedAt, RefuseData, ClashRefuse, MemoryRefuse}
 use Rattle.covstore.specs.State.{IsStateOf, sections_of, totals_in}
 use Rattle.covstore.specs.StoreKept.{IsKept}
 use Rattle.covstore.specs.Table.{Table, all_rows, clash_at}
@@ -17,7 +18,8 @@ use Rattle.covstore.proofs.StateSame.{same_clash, same_state}
 use Rattle.covstore.proofs.AddsPlace.{state_agrees}
 use Rattle.covstore.proofs.StateSections.{sections_are}
 use Rattle.covstore.proofs.StateTotals.{totals_are}
-use Rattle.covstore.proofs.Stores.{few_rows, rows_accepted}
+use Rattle.covstore.proofs.Stores.{few_rows}
+use Rattle.covstore.proofs.Clashes.{rows_accepted}
 use Rattle.covstore.proofs.TotalsDifferent.{are_totals}
 
 -- ---- how many rows there are

@@ -23,7 +23,7 @@ use Rattle.covstore.proofs.Ascend.{In-to_ascending}
 use Rattle.covstore.proofs.ContentsLists.{In-filter, in_from_any}
 use Rattle.covstore.proofs.Members.{In, In-map}
 use Rattle.covstore.proofs.Orders.{keys_order}
-use Rattle.covstore.proofs.StateSeen.{map_of_map}
+use Rattle.covstore.proofs.ContentsKinds.{map_of_map}
 use Rattle.covstore.proofs.TotalsKinds.{same_totals, totals_of_rows}
 
 row_with : List ℕ → List ℕ → ItemData → Row

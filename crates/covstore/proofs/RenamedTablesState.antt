@@ -35,7 +35,7 @@ use Rattle.covstore.proofs.Members.{Contains-from, In-from}
 use Rattle.covstore.proofs.RenamedAlike.{same_sums, test_alike}
 use Rattle.covstore.proofs.RenamedTables.{agree_in_renamed, content_totals_renamed, row_stays, rows_renamed, small_renamed}
 use Rattle.covstore.proofs.StateSections.{sections_are}
-use Rattle.covstore.proofs.StateSeen.{map_of_map}
+use Rattle.covstore.proofs.ContentsKinds.{map_of_map}
 use Rattle.covstore.proofs.StateTotals.{totals_are}
 use Rattle.covstore.proofs.Stores.{store_of, store_sections, store_totals}
 use Rattle.covstore.proofs.WithoutContent.{passed_over, picked, rows_without}

@@ -23,7 +23,8 @@ use Rattle.covstore.proofs.Orders.{names_order}
 use Rattle.covstore.proofs.Puts.{pair_in}
 use Rattle.covstore.proofs.RenamedValues.{values_of, values_stand, line_value_item, function_value_item, branch_value_item}
 use Rattle.covstore.proofs.StateSections.{file_has_checksums, points_there}
-use Rattle.covstore.proofs.StateSeen.{HasChecksums, map_of_map, text_as_said}
+use Rattle.covstore.proofs.StateSeen.{HasChecksums, text_as_said}
+use Rattle.covstore.proofs.ContentsKinds.{map_of_map}
 
 -- ---- the items of a test
 

@@ -22,7 +22,8 @@ use Rattle.covstore.proofs.CountsMapped.{counts_mapped_at}
 use Rattle.covstore.proofs.Members.{All-in, In}
 use Rattle.covstore.proofs.StateFiles.{over_all, own_seen}
 use Rattle.covstore.proofs.StateSections.{sections_as}
-use Rattle.covstore.proofs.StateSeen.{HasNone, map_of_map, seen_or_not}
+use Rattle.covstore.proofs.StateSeen.{HasNone, seen_or_not}
+use Rattle.covstore.proofs.ContentsKinds.{map_of_map}
 use Rattle.covstore.proofs.TotalsKinds.{same_totals}
 
 -- ---- the counts of a file's points are those of its sections

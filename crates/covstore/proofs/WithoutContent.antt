@@ -1,5 +1,6 @@
 -- What a table without a test adds up to: the sections of the other tests. And how many sections a test has.
-use Rattle.std.proofs.Common.{◌≡◌, ℕ, ◌+◌, Bool, true, false, cond, not, List, [], ◌∷◌, ◌++◌, length, map, filter, refl, sym, ap, ◌∙◌}
+use Rattle.std.proofs.Common.{◌≡◌, ℕ, ◌+◌, Bool, true, false, cond, not, List, [], ◌∷◌, ◌++◌, length, map, filter, refl, sym, ap, ◌∙◌, subst}
+use Rattle.std.specs.Prelude.{Contains}
 use Rattle.std.specs.declared.cmp.Ordering.{Ordering}
 use Rattle.std.specs.declared.cmp.Ordering.TheVariants.{Less}
 use Rattle.std.specs.List.{AllByRecursion, count_by}
@@ -10,13 +11,15 @@ use Rattle.std.proofs.lemmas.List.Elements.{filter-append}
 use Rattle.std.proofs.lemmas.List.Sums.{length-filter, sum_by-cons}
 use Rattle.covline.specs.Row.{ItemData, Row}
 use Rattle.covstore.specs.Ascending.{ascending}
+use Rattle.covstore.specs.Clash.{Agree, Checksum, checksum_of_row, checksums_in}
 use Rattle.covstore.specs.Content.{SectionData, content_at, content_of, section_of, section_with}
 use Rattle.covstore.specs.Table.{Table, all_rows}
 use Rattle.covstore.specs.Value.{Key, has_key, items_at, key_cmp, key_of_row, keys_of}
 use Rattle.covstore.specs.Without.{is_of_test, sections_of_test, without_test}
 use Rattle.covstore.proofs.Ascend.{IsExactOrder, In-ascending, In-to_ascending, ascending_sorted, one_sorted}
-use Rattle.covstore.proofs.ContentsLists.{In-filter, In-unfilter}
+use Rattle.covstore.proofs.ContentsLists.{In-filter, In-unfilter, In-flat, In-unflat}
 use Rattle.covstore.proofs.ContentsSections.{own_key}
+use Rattle.covstore.proofs.Members.{Contains-from, In-from}
 use Rattle.covstore.proofs.Orders.{keys_order}
 
 -- ---- elements picked from lists
@@ -143,3 +146,18 @@ module _ (test : List ℕ) where
 
   pub sections_counted : (table : Table) → sections_of_test test table ≡ count_by (λ s. bytes_eq s.key.test test) (content_at table)
   sections_counted table = count_picked (λ key. bytes_eq key.test test) (all_rows table)
+
+  -- ---- the checksums that are left were there before
+
+  pub held_before : (rows : List Row) (checksum : Checksum) → Contains (checksums_in (rows_without test rows)) checksum → Contains (checksums_in rows) checksum
+  held_before rows checksum i =
+      let row = In-unflat checksum_of_row (rows_without test rows) checksum (In-from (checksums_in (rows_without test rows)) checksum i) in
+      let own = In-unfilter (λ r. not (is_of_test test r)) rows row.0 row.1 in
+      Contains-from (checksums_in rows) checksum (In-flat checksum_of_row rows row.0 checksum own.0 row.2)
+
+-- if checksums agree, they still do after a test is dropped
+pub agree_left : (table : Table) (test : List ℕ) → Agree (checksums_in (all_rows table)) → Agree (checksums_in (all_rows (without_test test table)))
+agree_left table test agree a b i j =
+    let before : (sum : Checksum) → Contains (checksums_in (all_rows (without_test test table))) sum → Contains (checksums_in (all_rows table)) sum =
+    λ sum among. held_before test (all_rows table) sum (subst (λ (rows : List Row). Contains (checksums_in rows) sum) (rows_left test table) among) in
+    agree a b (before a i) (before b j)

@@ -23,9 +23,9 @@ use Rattle.covstore.proofs.ExchangedFiles.{totals_few}
 use Rattle.covstore.proofs.Prepares.{rows_in_table}
 use Rattle.covstore.proofs.StateSections.{sections_are}
 use Rattle.covstore.proofs.Stores.{store_bounds, store_of, store_sections, store_totals}
-use Rattle.covstore.proofs.WithoutContent.{content_left, content_without, rows_without, sections_counted}
+use Rattle.covstore.proofs.WithoutContent.{content_left, content_without, rows_without, sections_counted, agree_left}
 use Rattle.covstore.proofs.WithoutSections.{count_in_files}
-use Rattle.covstore.proofs.WithoutState.{agree_left, fewer, state_without, store_without}
+use Rattle.covstore.proofs.WithoutState.{fewer, state_without, store_without}
 
 module _ (test : List ℕ) (members : ℕ) (committed : Totals) (files : List (List ℕ × FileData)) (is : IsStore members committed files) where
   -- the sections of other tests

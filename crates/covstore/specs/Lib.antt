@@ -8,6 +8,7 @@ pub mod Totals
 pub mod TotalsSteps
 pub mod Counted
 pub mod StoreKept
+pub mod Refuse
 pub mod Store
 pub mod RefuseView
 pub mod ValuesView

@@ -2,7 +2,7 @@
 use Rattle.std.specs.Prelude.{ℕ}
 use Rattle.covstore.specs.declared.refuse.Refuse.{Refuse}
 use Rattle.covstore.specs.declared.refuse.Refuse.TheVariants as refusals
-use Rattle.covstore.specs.Store.{RefuseData, ClashRefuse, MemoryRefuse}
+use Rattle.covstore.specs.Refuse.{RefuseData, ClashRefuse, MemoryRefuse}
 
 abbrev pub refuse_data : {A : Type 0} → Refuse A → RefuseData
 refuse_data (refusals.Clash file line held given) = ClashRefuse (record { file = file; line = line; held = held; given = given })

@@ -5,7 +5,7 @@ use Rattle.covstore.specs.Section.{section_of_items}
 use Rattle.covstore.specs.Clash.{Agree, checksums_in, clash_of}
 use Rattle.covstore.specs.FileSection.{HasFile}
 use Rattle.covstore.specs.State.{FileData, IsStateOf}
-use Rattle.covstore.specs.Store.{RefuseData, ClashRefuse, MemoryRefuse}
+use Rattle.covstore.specs.Refuse.{RefuseData, ClashRefuse, MemoryRefuse}
 
 -- these items of a test of a file, as rows
 abbrev pub rows_of_items : List ℕ → List ℕ → List ItemData → List Row

@@ -1,5 +1,5 @@
--- Totals in which a part is replaced.
-use Rattle.std.specs.Prelude.{◌≡◌, ◌+◌, ◌-◌, ◌≤◌, ◌<◌, ◌^◌}
+-- Totals in which a part is replaced, and totals without a point.
+use Rattle.std.specs.Prelude.{◌≡◌, ◌+◌, ◌-◌, ◌≤◌, ◌<◌, ◌^◌, Bool, ◌==◌, ◌&&◌}
 use Rattle.covstore.specs.declared.totals.Totals.{Totals}
 
 -- no number of the part is larger than the same number of the whole
@@ -38,6 +38,10 @@ pub record IsExchange (before after whole later : Totals) : Type 0 where
 
 abbrev pub no_totals : Totals
 no_totals = record { lf = 0; lh = 0; ff = 0; fh = 0; bf = 0; bh = 0 }
+
+-- no point of any kind is found
+abbrev pub finds_nothing : Totals → Bool
+finds_nothing totals = totals.lf == 0 && totals.ff == 0 && totals.bf == 0
 
 -- the totals whose numbers are each the sum of the same number of `a` and of `b`
 abbrev pub together : Totals → Totals → Totals

@@ -1,9 +1,11 @@
--- A `FunctionValue`, a `BranchValue` and a `LineValue`, seen as plain data.
+-- A `FunctionValue`, a `BranchValue`, a `LineValue` and a `FileTotals`, seen as plain data.
 use Rattle.std.specs.Prelude.{option_map}
+use Rattle.covstore.specs.declared.totals.FileTotals.{FileTotals}
 use Rattle.covstore.specs.declared.values.FunctionValue.{FunctionValue}
 use Rattle.covstore.specs.declared.values.BranchValue.{BranchValue}
 use Rattle.covstore.specs.declared.values.LineValue.{LineValue}
 use Rattle.covstore.specs.Content.{FunctionValueData, BranchValueData, LineValueData}
+use Rattle.covstore.specs.Files.{FileTotalsData}
 
 abbrev pub function_data : FunctionValue → FunctionValueData
 function_data f = record { line = f.line; name = f.name.now; count = f.count }
@@ -13,3 +15,6 @@ branch_data b = record { point = record { line = b.line; block = b.block; branch
 
 abbrev pub line_data : LineValue → LineValueData
 line_data l = record { line = l.line; count = l.count; checksum = option_map (λ c. c.now) l.checksum }
+
+abbrev pub file_totals_data : FileTotals → FileTotalsData
+file_totals_data file = record { path = file.path.now; totals = file.totals }

@@ -64,10 +64,10 @@ mod totals;
 mod values;
 
 pub use content::{Branches, Functions, Lines, Section, Sections};
-pub use files::{FileTotals, Files};
+pub use files::Files;
 pub use plan::Plan;
 pub use refuse::Refuse;
 pub use renaming::Renaming;
 pub use store::Store;
-pub use totals::Totals;
+pub use totals::{FileTotals, Totals};
 pub use values::{BranchValue, FunctionValue, LineValue};

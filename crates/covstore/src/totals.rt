@@ -1,8 +1,7 @@
 //! Totals: how many lines, functions and branches are found, and how many are hit.
 
 ghost use Rattle.std.specs.Prelude.{◌≡◌};
-ghost use Rattle.covstore.specs.FilesView.{finds_nothing};
-ghost use Rattle.covstore.specs.TotalsExchanged.{FitTogether, IsAmong, exchanged, no_totals, together};
+ghost use Rattle.covstore.specs.TotalsExchanged.{finds_nothing, FitTogether, IsAmong, exchanged, no_totals, together};
 
 /// The totals of a store or a file (geninfo(1): `LF:`, `LH:`, `FNF:`, `FNH:`, `BRF:`, `BRH:`). A point of a file is counted once,
 /// however many tests have it. A point is hit if its value in some test is above 0.
@@ -74,4 +73,13 @@ impl Totals {
             bh: self.bh + more.bh,
         }
     }
+}
+
+/// A source file with its totals over all tests.
+#[derive(Clone, Copy)]
+pub struct FileTotals<'a> {
+    /// The source file's path.
+    pub path: &'a [u8],
+    /// The totals of the file.
+    pub totals: Totals,
 }

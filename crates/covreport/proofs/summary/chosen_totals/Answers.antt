@@ -1,6 +1,6 @@
 use Rattle.std.proofs.Common.{List, sym, ap, ◌∙◌, subst}
 use Rattle.covstore.specs.Files.{FileTotalsData}
-use Rattle.covstore.specs.FilesView.{file_totals_data}
+use Rattle.covstore.specs.ValuesView.{file_totals_data}
 use Rattle.covreport.specs.Choice.{is_chosen}
 use Rattle.covreport.specs.ChoiceView.{choice_data}
 use Rattle.covstore.specs.Totals.{AreTotals, totals_of}

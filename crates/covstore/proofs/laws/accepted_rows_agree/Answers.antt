@@ -1,5 +1,5 @@
 use Rattle.covstore.proofs.Clashes.{agree_submitted, agree_empty}
-use Rattle.covstore.proofs.WithoutState.{agree_left}
+use Rattle.covstore.proofs.WithoutContent.{agree_left}
 use Rattle.covstore.proofs.laws.accepted_rows_agree.Goals as goal
 
 pub returns-clause-empty : goal.returns-clause-empty
