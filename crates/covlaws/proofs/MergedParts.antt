@@ -8,8 +8,8 @@ use Rattle.std.proofs.lemmas.List.Concat.{flat_map-append}
 use Rattle.std.proofs.lemmas.List.Folds.{flat_map-map}
 use Rattle.std.proofs.lemmas.List.Sorted.{IsPermutation-append_comm}
 use Rattle.covreport.specs.Choice.{AllFiles, Extracted, Removed}
-use Rattle.covstore.specs.Clash.{Agree, Checksum, checksum_of_row, checksums_in}
-use Rattle.covstore.specs.Content.{SectionData, content_at, content_of}
+use Rattle.covtable.specs.Clash.{Agree, Checksum, checksum_of_row, checksums_in}
+use Rattle.covtable.specs.Content.{SectionData, content_at, content_of}
 use Rattle.covline.specs.Lawful.{IsLawful}
 use Rattle.covline.specs.LineLaws.{OneAfterOther, PrintedSpells}
 use Rattle.covbook.specs.Op.{OpData, SubmitOp, DropTestOp, RenameOp, ReportOp, ExtractOp, RemoveOp, SummaryOp, TextAnswer}
@@ -22,17 +22,17 @@ use Rattle.covread.specs.declared.fault.ReadFault.{ReadFault}
 use Rattle.covread.specs.Outcome.{IsOutcome, max_bytes}
 use Rattle.covbook.specs.Step.{answer_of, table_of}
 use Rattle.covreport.specs.Summary.{summary_of}
-use Rattle.covstore.specs.Table.{Table}
+use Rattle.covtable.specs.Table.{Table}
 use Rattle.covbook.specs.Texts.{IsText}
-use Rattle.covstore.specs.Totals.{totals_of}
+use Rattle.covtable.specs.Totals.{totals_of}
 use Rattle.covmap.proofs.Leads.{all_back, all_front}
 use Rattle.covlaws.proofs.LawfulRun.{lawful_rows}
 use Rattle.covlaws.proofs.PrintableContent.{checksums_shown, printable_content}
 use Rattle.covlaws.proofs.ReadBack.{shown_is_lawful}
 use Rattle.covlaws.proofs.ReportsBack.{same_text, text_of_all, text_read}
-use Rattle.covstore.proofs.TotalsDifferent.{All-joined}
-use Rattle.covstore.proofs.Members.{Contains-from, In, In-from, In-joined, In-parts}
-use Rattle.covstore.proofs.Contents.{content-append}
+use Rattle.covtable.proofs.TotalsDifferent.{All-joined}
+use Rattle.covtable.proofs.Members.{Contains-from, In, In-from, In-joined, In-parts}
+use Rattle.covtable.proofs.Contents.{content-append}
 use Rattle.covlaws.proofs.SameContentAsRows.{stands_for_rows}
 
 -- ---- rows whose checksums are among those of others

@@ -13,8 +13,8 @@ use Rattle.covline.specs.LineLaws.{OneAfterOther, PrintedSpells}
 use Rattle.covline.specs.Spells.{LineData, Test, Path, FuncStart, FuncCount, Branch, Line, Total, End, Skip}
 use Rattle.covline.specs.Printed.{line_text, printed, IsReadable}
 use Rattle.covread.specs.Reads.{AllSpell}
-use Rattle.covstore.specs.Value.{is_taken}
-use Rattle.covstore.specs.Content.{FunctionValueData, SectionData}
+use Rattle.covtable.specs.Value.{is_taken}
+use Rattle.covtable.specs.Content.{FunctionValueData, SectionData}
 use Rattle.covreport.specs.Report.{by_start, start_record, call_record, functions_hit, branch_record, branches_hit, line_record, lines_hit, section_records, section_text}
 use Rattle.covlaws.specs.Printable.{start_item, call_item, branch_item, line_item, items_shown, IsPrintableSection}
 use Rattle.covmap.proofs.Leads.{all_append, all_front, all_back}

@@ -9,7 +9,7 @@ use Rattle.covline.specs.Lines.{line_feed}
 use Rattle.covline.specs.Spells.{LineData, Test, Path, End}
 use Rattle.covline.specs.Printed.{line_text, printed}
 use Rattle.covread.specs.Outcome.{max_bytes}
-use Rattle.covstore.specs.Content.{SectionData}
+use Rattle.covtable.specs.Content.{SectionData}
 use Rattle.covreport.specs.Report.{by_start, function_cmp, start_record, call_record, branch_record, line_record, section_records, section_text}
 use Rattle.covlaws.specs.Printable.{start_item, call_item, branch_item, line_item, items_shown, sect_shown}
 use Rattle.covmap.proofs.Leads.{all_append}

@@ -12,9 +12,9 @@ use Rattle.covline.specs.declared.trace_line.TotalKind.TheVariants.{FuncFound, F
 use Rattle.covline.specs.Row.{ItemData, BranchItem}
 use Rattle.covline.specs.Spells.{LineData, Total}
 use Rattle.covline.specs.Points.{BranchPoint, line_point, func_point, branch_point, is_hit}
-use Rattle.covstore.specs.Value.{is_taken}
+use Rattle.covtable.specs.Value.{is_taken}
 use Rattle.covread.specs.Reads.{items_of, distinct, branch_eq, own_total, is_odd}
-use Rattle.covstore.specs.Content.{FunctionValueData, BranchValueData, LineValueData, SectionData}
+use Rattle.covtable.specs.Content.{FunctionValueData, BranchValueData, LineValueData, SectionData}
 use Rattle.covreport.specs.Report.{totals, totals_if_any, by_start, function_cmp, start_record, call_record, functions_hit, branch_record, branches_hit, line_record, lines_hit}
 use Rattle.covlaws.specs.Printable.{start_item, call_item, branch_item, line_item, items_shown}
 use Rattle.covmap.proofs.Leads.{all_append}

@@ -7,9 +7,9 @@ use Rattle.std.specs.Ordering.{nat_cmp}
 use Rattle.covline.specs.Points.{BranchPoint, line_point, func_point, branch_point, line_points, func_points, branch_points}
 use Rattle.covline.specs.Row.{ItemData}
 use Rattle.covstore.specs.Sums.{branch_sum, function_sum, line_sum, test_of}
-use Rattle.covstore.specs.Value.{lines_in, names_in, branches_in, bounded, branch_cmp, line_added, line_value, checksum_said, line_checksum, first_of, start_said, function_start, function_added, function_count, taken_said, branch_value}
-use Rattle.covstore.proofs.Alike.{AreAlike, alike_said, sum_alike, least_alike, same_mapped}
-use Rattle.covstore.proofs.Orders.{lines_order, names_order, branches_order}
+use Rattle.covtable.specs.Value.{lines_in, names_in, branches_in, bounded, branch_cmp, line_added, line_value, checksum_said, line_checksum, first_of, start_said, function_start, function_added, function_count, taken_said, branch_value}
+use Rattle.covtable.proofs.Alike.{AreAlike, alike_said, sum_alike, least_alike, same_mapped}
+use Rattle.covtable.proofs.Orders.{lines_order, names_order, branches_order}
 use Rattle.covstore.proofs.EachKind.{same_test}
 
 -- two lists of items add up to the same if they do for each kind

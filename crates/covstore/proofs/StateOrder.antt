@@ -7,16 +7,16 @@ use Rattle.std.specs.List.{AllByRecursion, flat_map}
 use Rattle.std.specs.List.Sorted.{IsStrictlySortedBy}
 use Rattle.std.specs.Ordering.{nat_cmp, ordering_then}
 use Rattle.std.proofs.lemmas.Cmp.{tied_itself}
-use Rattle.covstore.specs.Content.{SectionData}
+use Rattle.covtable.specs.Content.{SectionData}
 use Rattle.covmap.specs.Puts.{ArePairs}
 use Rattle.covstore.specs.State.{FileData, IsConsistentFile, section_seen, section_with_points, sections_of, sections_of_file}
 use Rattle.covstore.specs.Sums.{TestData}
-use Rattle.covstore.specs.Value.{Key, key_cmp}
-use Rattle.covstore.proofs.Ascend.{sorted_none, sorted_one}
-use Rattle.covstore.proofs.ContentsLists.{In-unflat}
-use Rattle.covstore.proofs.Members.{In, All-in}
-use Rattle.covstore.proofs.Orders.{names_order}
-use Rattle.covstore.proofs.TotalsDifferent.{All-from, All-joined}
+use Rattle.covtable.specs.Value.{Key, key_cmp}
+use Rattle.covtable.proofs.Ascend.{sorted_none, sorted_one}
+use Rattle.covtable.proofs.ContentsLists.{In-unflat}
+use Rattle.covtable.proofs.Members.{In, All-in}
+use Rattle.covtable.proofs.Orders.{names_order}
+use Rattle.covtable.proofs.TotalsDifferent.{All-from, All-joined}
 use Rattle.covstore.proofs.StateSeen.{seen_or_not, seen_key}
 
 -- ---- lists joined

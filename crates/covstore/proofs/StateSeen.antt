@@ -9,15 +9,15 @@ use Rattle.covline.specs.Row.{ItemData, LineItem, FuncItem, BranchItem}
 use Rattle.covstore.specs.declared.sums.FunctionSum.{FunctionSum}
 use Rattle.covstore.specs.declared.sums.LineSum.{LineSum}
 use Rattle.covstore.specs.declared.sums.BranchSum.{BranchSum}
-use Rattle.covstore.specs.Content.{LineValueData, SectionData, branch_at, function_at, line_at, section_with}
+use Rattle.covtable.specs.Content.{LineValueData, SectionData, branch_at, function_at, line_at, section_with}
 use Rattle.covmap.specs.Puts.{value_of}
 use Rattle.covstore.specs.State.{text_at, line_seen, function_seen, branch_seen, section_with_points, section_seen}
 use Rattle.covstore.specs.Sums.{TestData, test_of, line_sum, function_sum, branch_sum}
-use Rattle.covstore.specs.Value.{Key, lines_in, line_checksum, names_in, branches_in}
-use Rattle.covstore.proofs.Ascend.{In-to_ascending}
-use Rattle.covstore.proofs.ContentsKinds.{map_of_map}
-use Rattle.covstore.proofs.Members.{In, In-map}
-use Rattle.covstore.proofs.Orders.{lines_order, names_order, branches_order}
+use Rattle.covtable.specs.Value.{Key, lines_in, line_checksum, names_in, branches_in}
+use Rattle.covtable.proofs.Ascend.{In-to_ascending}
+use Rattle.covtable.proofs.ContentsKinds.{map_of_map}
+use Rattle.covtable.proofs.Members.{In, In-map}
+use Rattle.covtable.proofs.Orders.{lines_order, names_order, branches_order}
 
 -- ---- a test with points
 

@@ -4,20 +4,20 @@ use Rattle.std.specs.Prelude.{None}
 use Rattle.std.proofs.lemmas.List.{length_push}
 use Rattle.covline.specs.Row.{Row, SubmissionData, rows_of}
 use Rattle.covline.specs.Lawful.{IsLawful, max_items}
-use Rattle.covstore.specs.declared.totals.Totals.{Totals}
-use Rattle.covstore.specs.Clash.{Agree, checksums_in, clash_of}
-use Rattle.covstore.specs.Content.{content_of}
+use Rattle.covtable.specs.declared.totals.Totals.{Totals}
+use Rattle.covtable.specs.Clash.{Agree, checksums_in, clash_of}
+use Rattle.covtable.specs.Content.{content_of}
 use Rattle.covstore.specs.Store.{IsPlanOf, PlanData, StandsFor, StoreData}
 use Rattle.covstore.specs.StoreView.{IsStore}
 use Rattle.covstore.specs.State.{FileData, IsStateOf, sections_of}
-use Rattle.covstore.specs.Table.{Table, all_rows, clash_at}
-use Rattle.covstore.specs.Totals.{AreTotals, totals_of}
-use Rattle.covstore.proofs.Bounds.{length-rows_of_sects}
-use Rattle.covstore.proofs.Clashes.{agree_empty, agree_submitted, rows_accepted}
-use Rattle.covstore.proofs.Contents.{clash_by_content, content-append}
+use Rattle.covtable.specs.Table.{Table, all_rows, clash_at}
+use Rattle.covtable.specs.Totals.{AreTotals, totals_of}
+use Rattle.covtable.proofs.Bounds.{length-rows_of_sects}
+use Rattle.covtable.proofs.Clashes.{agree_empty, agree_submitted, rows_accepted}
+use Rattle.covtable.proofs.Contents.{clash_by_content, content-append}
 use Rattle.covstore.proofs.StateSections.{no_rows, sections_are}
 use Rattle.covstore.proofs.StateTotals.{totals_are}
-use Rattle.covstore.proofs.TotalsDifferent.{are_totals, All-joined}
+use Rattle.covtable.proofs.TotalsDifferent.{are_totals, All-joined}
 
 -- ---- rows of a submission
 

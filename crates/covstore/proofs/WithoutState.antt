@@ -11,18 +11,18 @@ use Rattle.std.proofs.lemmas.List.Sums.{count_by-le-length, length-filter}
 use Rattle.std.proofs.lemmas.Slice.Eq.{bytes_eq-Decides}
 use Rattle.covline.specs.Lawful.{max_items}
 use Rattle.covline.specs.Row.{Row}
-use Rattle.covstore.specs.declared.totals.Totals.{Totals}
+use Rattle.covtable.specs.declared.totals.Totals.{Totals}
 use Rattle.covstore.specs.FileDrops.{AreWithoutTest, IsWithoutTest}
 use Rattle.covstore.specs.StoreView.{IsStore}
 use Rattle.covmap.specs.Puts.{ArePairs, value_of}
 use Rattle.covstore.specs.State.{FileData, IsStateOf, IsConsistentFile, points_at, points_in, points_or_none, text_in, totals_in}
 use Rattle.covstore.specs.Sums.{TestData, test_of}
-use Rattle.covstore.specs.Table.{Table, all_rows}
-use Rattle.covstore.specs.Value.{Key, items_at}
-use Rattle.covstore.specs.Without.{is_of_test, without_test}
+use Rattle.covtable.specs.Table.{Table, all_rows}
+use Rattle.covtable.specs.Value.{Key, items_at}
+use Rattle.covtable.specs.Without.{is_of_test, without_test}
 use Rattle.covstore.proofs.AddsPlace.{state_agrees}
 use Rattle.covstore.proofs.DropsTests.{none_of_others, value_of_others}
-use Rattle.covstore.proofs.WithoutContent.{items_of_others, items_of_test, rows_left, rows_without, held_before}
+use Rattle.covtable.proofs.WithoutContent.{items_of_others, items_of_test, rows_left, rows_without, held_before}
 
 module _ (test : List ℕ) where
   -- ---- what is found at a name

@@ -1,8 +1,8 @@
 -- The files that an iterator over the files of a store has left.
 use Rattle.std.specs.Prelude.{ℕ, if◌then◌else◌, List, [], ◌∷◌}
 use Rattle.std.specs.List.{flat_map}
-use Rattle.covstore.specs.Files.{FileTotalsData}
-use Rattle.covstore.specs.TotalsExchanged.{finds_nothing}
+use Rattle.covtable.specs.Files.{FileTotalsData}
+use Rattle.covtable.specs.TotalsExchanged.{finds_nothing}
 use Rattle.covstore.specs.State.{FileData, file_totals}
 
 -- the file with the totals that are kept for it

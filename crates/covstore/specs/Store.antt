@@ -3,12 +3,12 @@ use Rattle.std.specs.Prelude.{◌≡◌, ℕ, ◌+◌, ◌<◌, ◌≤◌, ◌^�
 use Rattle.std.specs.List.{AllByRecursion}
 use Rattle.covline.specs.Row.{Row, SubmissionData, rows_of}
 use Rattle.covline.specs.Lawful.{IsLawful, max_items}
-use Rattle.covstore.specs.declared.totals.Totals.{Totals}
-use Rattle.covstore.specs.Clash.{Agree, checksums_in, clash_of}
-use Rattle.covstore.specs.Content.{SectionData, content_at}
-use Rattle.covstore.specs.Refuse.{RefuseData, ClashRefuse, MemoryRefuse}
+use Rattle.covtable.specs.declared.totals.Totals.{Totals}
+use Rattle.covtable.specs.Clash.{Agree, checksums_in, clash_of}
+use Rattle.covtable.specs.Content.{SectionData, content_at}
+use Rattle.covtable.specs.Refuse.{RefuseData, ClashRefuse, MemoryRefuse}
 use Rattle.covstore.specs.State.{FileData, IsStateOf, totals_in}
-use Rattle.covstore.specs.Table.{Table, all_rows}
+use Rattle.covtable.specs.Table.{Table, all_rows}
 
 -- the largest number of submissions in a store
 abbrev pub max_members : ℕ

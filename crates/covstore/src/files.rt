@@ -3,7 +3,7 @@
 use crate::boxed::Boxed;
 use crate::file::File;
 use crate::path::Path;
-use crate::totals::FileTotals;
+use covtable::FileTotals;
 use std::alloc::{Allocator, Global};
 use std::collections::btree_map::Iter;
 use std::marker::Model;
@@ -16,7 +16,7 @@ pub struct Files<'a, A: Allocator = Global> {
 
 impl<'a, A: Allocator> Model for Files<'a, A> {
     ghost use Rattle.std.specs.Prelude.{List};
-    ghost use Rattle.covstore.specs.Files.{FileTotalsData};
+    ghost use Rattle.covtable.specs.Files.{FileTotalsData};
     ghost use Rattle.covstore.specs.FilesView.{files_with_points};
     ghost use Rattle.covstore.specs.StoreView.{files_committed};
 
@@ -40,7 +40,7 @@ impl<'a, A: Allocator> Files<'a, A> {
 
 impl<'a, A: Allocator + Copy> Iterator for Files<'a, A> {
     ghost use Rattle.std.specs.Iterator.{YieldsFirstBy, item_count};
-    ghost use Rattle.covstore.specs.ValuesView.{file_totals_data};
+    ghost use Rattle.covtable.specs.ValuesView.{file_totals_data};
 
     type Item = FileTotals<'a>;
 
