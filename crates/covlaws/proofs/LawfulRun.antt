@@ -13,7 +13,7 @@ use Rattle.covtable.specs.Renamed.{renamed_row}
 use Rattle.covtable.specs.Table.{Table, all_rows, clash_at}
 use Rattle.covtable.specs.Without.{is_of_test, without_test}
 use Rattle.covtable.proofs.WithoutContent.{All-picked}
-use Rattle.covtable.proofs.TotalsDifferent.{All-joined}
+use Rattle.covtable.proofs.Members.{All-joined}
 use Rattle.covtable.proofs.Clashes.{rows_accepted}
 use Rattle.covtable.proofs.RenamedTables.{rows_renamed}
 

@@ -14,8 +14,7 @@ use Rattle.covtable.proofs.ContentsChecksums.{own_row}
 use Rattle.covtable.proofs.WithoutContent.{All-picked}
 use Rattle.covtable.proofs.ContentsSections.{own_key}
 use Rattle.covlaws.proofs.PrintablePoints.{all_shown, first_in, fit_shown, lawful_shown, map_back, points_in_order, some_shown}
-use Rattle.covtable.proofs.Members.{In, All-in, Contains-from, In-from, In-map, In-unmap}
-use Rattle.covtable.proofs.TotalsDifferent.{All-from, All-joined}
+use Rattle.covtable.proofs.Members.{In, All-in, Contains-from, In-from, In-map, In-unmap, All-from, All-joined}
 use Rattle.covlaws.proofs.Mapped.{All-mapped}
 use Rattle.covtable.proofs.ContentsLists.{In-filter, In-flat, In-unfilter, In-unflat}
 use Rattle.covtable.proofs.Ascend.{All-weaker, In-ascending, ascending_sorted}

@@ -17,8 +17,7 @@ use Rattle.covlaws.specs.Printable.{HasPointsInOrder, start_item, call_item, bra
 use Rattle.covreport.specs.Report.{put_in, sorted, function_cmp, by_start}
 use Rattle.covline.specs.Row.{ItemData, LineItem, FuncItem, BranchItem}
 use Rattle.covtable.specs.Value.{Key, bounded, branch_cmp, branches_in, checksum_said, first_of, function_start, line_checksum, line_value, lines_in, names_in, start_said, sum_if_any, taken_said}
-use Rattle.covtable.proofs.Members.{In, All-in}
-use Rattle.covtable.proofs.TotalsDifferent.{All-from, All-joined}
+use Rattle.covtable.proofs.Members.{In, All-in, All-from, All-joined}
 use Rattle.covlaws.proofs.Mapped.{All-mapped, In-some}
 use Rattle.covtable.proofs.ContentsLists.{In-flat, In-unflat}
 use Rattle.covtable.proofs.Ascend.{All-match, In-ascending, In-to_ascending, ascending_sorted}

@@ -14,9 +14,8 @@ use Rattle.covstore.specs.Sums.{TestData}
 use Rattle.covtable.specs.Value.{Key, key_cmp}
 use Rattle.covtable.proofs.Ascend.{sorted_none, sorted_one}
 use Rattle.covtable.proofs.ContentsLists.{In-unflat}
-use Rattle.covtable.proofs.Members.{In, All-in}
+use Rattle.covtable.proofs.Members.{In, All-in, All-from, All-joined}
 use Rattle.covtable.proofs.Orders.{names_order}
-use Rattle.covtable.proofs.TotalsDifferent.{All-from, All-joined}
 use Rattle.covstore.proofs.StateSeen.{seen_or_not, seen_key}
 
 -- ---- lists joined

@@ -17,7 +17,8 @@ use Rattle.covtable.proofs.Clashes.{agree_empty, agree_submitted, rows_accepted}
 use Rattle.covtable.proofs.Contents.{clash_by_content, content-append}
 use Rattle.covstore.proofs.StateSections.{no_rows, sections_are}
 use Rattle.covstore.proofs.StateTotals.{totals_are}
-use Rattle.covtable.proofs.TotalsDifferent.{are_totals, All-joined}
+use Rattle.covtable.proofs.TotalsDifferent.{are_totals}
+use Rattle.covtable.proofs.Members.{All-joined}
 
 -- ---- rows of a submission
 

@@ -26,7 +26,7 @@ use Rattle.covtable.specs.Totals.{AreTotals, totals_of, over_files, files_in, ow
 use Rattle.covtable.specs.TotalsSteps.{files_of, has_file, items_of_file, found_in, hit_in, is_hit_in, hits_line, hits_function, hits_branch, totals_over}
 use Rattle.covtable.specs.Value.{Key, has_key, items_at}
 use Rattle.covtable.proofs.Ascend.{IsExactOrder, ascending_sorted, In-ascending, In-to_ascending}
-use Rattle.covtable.proofs.Members.{In, All-in, In-map, In-unmap}
+use Rattle.covtable.proofs.Members.{In, All-in, In-map, In-unmap, All-from, All-joined}
 use Rattle.covtable.proofs.Orders.{lines_order, names_order, branches_order}
 use Rattle.covtable.proofs.TotalsKinds.{totals_of_rows, sum_agree, count_agree, line_above, function_above, branch_above, same_branch, itself}
 use Rattle.covtable.proofs.ContentsLists.{In-filter, In-flat, In-unfilter, In-unflat, any_from_in, in_from_any, same_truth}
@@ -50,14 +50,6 @@ are_totals sections = record {
 }
 
 -- ---- lists without repetitions
-
-pub All-from : {X : Type 0} (P : X → Type 0) (xs : List X) → ((x : X) → In x xs → P x) → AllByRecursion P xs
-All-from P [] each = tt
-All-from P (x ∷ xs) each = (each x (inl refl), All-from P xs (λ y i. each y (inr i)))
-
-pub All-joined : {X : Type 0} (P : X → Type 0) (xs ys : List X) → AllByRecursion P xs → AllByRecursion P ys → AllByRecursion P (xs ++ ys)
-All-joined P [] ys left right = right
-All-joined P (x ∷ xs) ys left right = (left.0, All-joined P xs ys left.1 right)
 
 distinct_joined : {X : Type 0} (e : X → X → Bool) (xs ys : List X) → IsDistinct e xs → IsDistinct e ys → ((x y : X) → In x xs → In y ys → e x y ≡ false) → IsDistinct e (xs ++ ys)
 unfolding IsDistinct
