@@ -14,7 +14,8 @@ pub(crate) trait Submitted<A: Allocator + Copy> {
     ghost use Rattle.covline.specs.Row.{SubmissionData, items_in, rows_of};
     ghost use Rattle.covtable.specs.Content.{content_at};
     ghost use Rattle.covtable.specs.RefuseView.{refuse_data};
-    ghost use Rattle.covstore.specs.Store.{IsPlanOf, SameContent, StandsFor, max_members};
+    ghost use Rattle.covstore.specs.Store.{IsPlanOf, SameContent, StandsFor};
+    ghost use Rattle.covtable.specs.Shown.{max_members};
     ghost use Rattle.covtable.specs.Refuse.{IsRefusedAt};
     ghost use Rattle.covtable.specs.Table.{Table, clash_at};
     ghost use Rattle.covtable.specs.Totals.{totals_of};

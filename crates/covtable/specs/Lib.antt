@@ -14,3 +14,4 @@ pub mod TotalsExchanged
 pub mod Without
 pub mod Renamed
 pub mod Files
+pub mod Shown
