@@ -15,3 +15,4 @@ pub mod Without
 pub mod Renamed
 pub mod Files
 pub mod Shown
+pub mod Walks
