@@ -1,7 +1,8 @@
-//! What a table of counts is: its content, its totals, and the values of its points.
+//! What a table of counts is: its content, its totals, the values of its points, and the interface of a store.
 //!
 //! A table is the list of all accepted submissions, each as a list of rows. A row is an item with its source file and its test. A
-//! store, such as covstore's `Store`, represents a table and keeps only what the rows add up to.
+//! store, such as covstore's `Store`, represents a table and keeps only what the rows add up to. The trait [`Table`] has the calls
+//! of a store. Crates above this one work with any store, so they are not proved again if the code of a store changes.
 //!
 //! The definitions of this crate say what the rows add up to. They speak of rows alone, so they hold for every store:
 //!
@@ -20,10 +21,12 @@
 pub mod laws;
 mod refuse;
 mod sections;
+mod table;
 mod totals;
 mod values;
 
 pub use refuse::Refuse;
 pub use sections::{ReadsFiles, ReadsSections, TableFiles, TableSection, TableSections};
+pub use table::Table;
 pub use totals::{FileTotals, Totals};
 pub use values::{BranchValue, FunctionValue, LineValue};
