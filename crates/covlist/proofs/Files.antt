@@ -1,7 +1,7 @@
 -- The rows and the objects of chosen files, one after another.
 use Rattle.std.proofs.Common.{◌≡◌, ℕ, Bool, true, false, cond, List, [], ◌∷◌, ◌++◌, map, refl, sym, ap, ◌∙◌, append_assoc, subst}
 use Rattle.std.specs.List.{flat_map}
-use Rattle.std.specs.Prelude.{codes, ⊤}
+use Rattle.std.specs.Prelude.{codes}
 use Rattle.std.proofs.lemmas.List.{append-nil}
 use Rattle.std.proofs.lemmas.List.Concat.{flat_map-append}
 use Rattle.std.proofs.lemmas.List.Elements.{filter-append}
@@ -10,15 +10,10 @@ use Rattle.covtable.specs.Files.{FileTotalsData, file_with_totals, files_with_to
 use Rattle.covtable.specs.Totals.{AreTotals, files_in, own_sections}
 use Rattle.covtable.proofs.TotalsDifferent.{are_totals}
 use Rattle.covreport.specs.Choice.{ChoiceData, is_chosen}
-use Rattle.covlist.specs.Chosen.{chosen_among}
+use Rattle.covlist.specs.Chosen.{AreAllTotals, chosen_among}
 use Rattle.covlist.specs.Json.{file_object, further_object, objects}
 
 -- ---- the totals of files
-
--- of each file, no more points are hit than found
-pub AreAllTotals : List FileTotalsData → Type 0
-AreAllTotals [] = ⊤
-AreAllTotals (file ∷ files) = AreTotals file.totals × AreAllTotals files
 
 pub all_totals : (sections : List SectionData) → AreAllTotals (files_with_totals sections)
 unfolding AreAllTotals

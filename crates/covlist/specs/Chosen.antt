@@ -1,9 +1,9 @@
 -- The files that a list shows, and their totals.
-use Rattle.std.specs.Prelude.{List, filter}
+use Rattle.std.specs.Prelude.{List, [], ◌∷◌, ⊤, filter}
 use Rattle.covtable.specs.declared.totals.Totals.{Totals}
 use Rattle.covtable.specs.Content.{SectionData}
 use Rattle.covtable.specs.Files.{FileTotalsData, files_with_totals}
-use Rattle.covtable.specs.Totals.{totals_of}
+use Rattle.covtable.specs.Totals.{AreTotals, totals_of}
 use Rattle.covreport.specs.Choice.{ChoiceData, is_chosen}
 
 -- the chosen ones of these files
@@ -17,3 +17,8 @@ chosen_files choice sections = chosen_among choice (files_with_totals sections)
 -- the totals of the chosen files
 abbrev pub totals_of_chosen : ChoiceData → List SectionData → Totals
 totals_of_chosen choice sections = totals_of (filter (λ s. is_chosen choice s.key.file) sections)
+
+-- of each file, no more points are hit than found
+pub AreAllTotals : List FileTotalsData → Type 0
+AreAllTotals [] = ⊤
+AreAllTotals (file ∷ files) = AreTotals file.totals × AreAllTotals files

@@ -5,14 +5,13 @@ ghost use Rattle.hex.specs.Hex.{encode_lower};
 ghost use Rattle.json.specs.Print.{quoted};
 ghost use Rattle.covtable.specs.ValuesView.{file_totals_data};
 ghost use Rattle.covreport.specs.ChoiceView.{choice_data};
-ghost use Rattle.covlist.specs.Chosen.{chosen_files, totals_of_chosen};
+ghost use Rattle.covlist.specs.Chosen.{chosen_among, chosen_files, totals_of_chosen};
 ghost use Rattle.covlist.specs.Json.{file_object, hexadecimal_name, list_json_of, members, name_member, objects, points, string_name, summary_json_of};
 
 use crate::numbers::put_number;
 use covline::{Bytes, Memory};
 use covreport::{Choice, chosen_totals};
-use covstore::Store;
-use covtable::{FileTotals, Totals};
+use covtable::{FileTotals, ReadsFiles, Table, TableFiles, Totals};
 use json::Writer;
 use std::alloc::Allocator;
 
@@ -24,12 +23,12 @@ use std::alloc::Allocator;
 /// # Errors
 ///
 /// `Memory` if an allocation failed.
-pub fn list_json<A: Allocator + Copy>(
+pub fn list_json<A: Allocator + Copy, T: Table<A>>(
     alloc: A,
-    store: &Store<A>,
+    store: &T,
     choice: &Choice<A>,
 ) -> Result<Bytes<A>, Memory>
-    ensures { IfOk result (λ t. t ≡ list_json_of (chosen_files (choice_data choice.now) store.now.sections) (totals_of_chosen (choice_data choice.now) store.now.sections)) }
+    ensures { IfOk result (λ t. t ≡ list_json_of (chosen_files (choice_data choice.now) (T.shown store.now).sections) (totals_of_chosen (choice_data choice.now) (T.shown store.now).sections)) }
 {
     let mut text = Bytes::new(alloc);
     text.append(b"{\"files\":[")?;
@@ -56,16 +55,59 @@ pub fn summary_json<A: Allocator>(alloc: A, totals: &Totals) -> Result<Bytes<A>,
 }
 
 /// Appends the JSON objects of the chosen files.
-fn put_objects<A: Allocator + Copy>(
+fn put_objects<A: Allocator + Copy, T: Table<A>>(
     alloc: A,
-    store: &Store<A>,
+    store: &T,
     choice: &Choice<A>,
     text: &mut Bytes<A>,
 ) -> Result<(), Memory>
-    ensures { OnOk result (text.new ≡ text.old ++ objects (chosen_files (choice_data choice.now) store.now.sections)) }
+    ensures { OnOk result (text.new ≡ text.old ++ objects (chosen_files (choice_data choice.now) (T.shown store.now).sections)) }
+{
+    let mut reader = ChosenObjects {
+        alloc,
+        choice,
+        text,
+        is_put: true,
+    };
+    store.read_files(&mut reader);
+    if reader.is_put { Ok(()) } else { Err(Memory) }
+}
+
+/// Appends the JSON objects of the chosen files. `is_put` is `false` if an allocation failed.
+#[derive(Drop)]
+struct ChosenObjects<'t, A: Allocator + Copy> {
+    alloc: A,
+    choice: &'t Choice<A>,
+    text: &'t mut Bytes<A>,
+    is_put: bool,
+}
+
+impl<'t, A: Allocator + Copy> ReadsFiles for ChosenObjects<'t, A> {
+    ghost use Rattle.std.specs.Prelude.{◌≡◌, ◌++◌, true, ⊤};
+    ghost use Rattle.covreport.specs.ChoiceView.{choice_data};
+    ghost use Rattle.covlist.specs.Chosen.{chosen_among};
+    ghost use Rattle.covlist.specs.Json.{objects};
+
+    ghost takes = { λ _ _. ⊤ };
+
+    ghost reads = { λ before files after. after.is_put ≡ true → after.text.now ≡ before.text.now ++ objects (chosen_among (choice_data before.choice.now) files) };
+
+    fn read<'s, I: TableFiles<'s>>(&mut self, files: I) {
+        self.is_put = put_objects_of(self.alloc, files, self.choice, self.text).is_ok();
+    }
+}
+
+/// Appends the JSON objects of those of the files that `choice` takes.
+fn put_objects_of<'s, A: Allocator + Copy, I: TableFiles<'s>>(
+    alloc: A,
+    mut files: I,
+    choice: &Choice<A>,
+    text: &mut Bytes<A>,
+) -> Result<(), Memory>
+    ensures { OnOk result (text.new ≡ text.old ++ objects (chosen_among (choice_data choice.now) (I.left files))) }
 {
     let mut is_first = true;
-    for file in store.files() {
+    while let Some(file) = files.next_file() {
         if choice.takes(file.path) {
             put_object(alloc, file, is_first, text)?;
             is_first = false;

@@ -4,7 +4,7 @@ ghost use Rattle.std.specs.Prelude.{◌≡◌, ◌≤◌, ◌++◌, ◌∷◌, [
 ghost use Rattle.covtable.specs.ValuesView.{file_totals_data};
 ghost use Rattle.covtable.specs.Totals.{AreTotals};
 ghost use Rattle.covreport.specs.ChoiceView.{choice_data};
-ghost use Rattle.covlist.specs.Chosen.{chosen_among, chosen_files, totals_of_chosen};
+ghost use Rattle.covlist.specs.Chosen.{AreAllTotals, chosen_among, chosen_files, totals_of_chosen};
 ghost use Rattle.covlist.specs.Shown.{shown_name};
 ghost use Rattle.covlist.specs.Table.{cell, file_row, heading, headings, list_table_of, numbers as numbers_of, numbers_width as width_of_numbers, percentage, rate, right_aligned, row};
 
@@ -12,8 +12,7 @@ use crate::numbers::{digits, put_number, put_spaces};
 use crate::shown::put_shown_name;
 use covline::{Bytes, Memory};
 use covreport::{Choice, chosen_totals, tenths};
-use covstore::Store;
-use covtable::{FileTotals, Totals};
+use covtable::{FileTotals, ReadsFiles, Table, TableFiles, Totals};
 use std::alloc::Allocator;
 
 /// Returns the table of the chosen files (lcov(1), `--list`): a line of headings, a row for each file, ascending by path, and a row
@@ -24,12 +23,12 @@ use std::alloc::Allocator;
 /// # Errors
 ///
 /// `Memory` if an allocation failed.
-pub fn list_table<A: Allocator + Copy>(
+pub fn list_table<A: Allocator, T: Table<A>>(
     alloc: A,
-    store: &Store<A>,
+    store: &T,
     choice: &Choice<A>,
 ) -> Result<Bytes<A>, Memory>
-    ensures { IfOk result (λ t. t ≡ list_table_of (chosen_files (choice_data choice.now) store.now.sections) (totals_of_chosen (choice_data choice.now) store.now.sections)) }
+    ensures { IfOk result (λ t. t ≡ list_table_of (chosen_files (choice_data choice.now) (T.shown store.now).sections) (totals_of_chosen (choice_data choice.now) (T.shown store.now).sections)) }
 {
     let all = chosen_totals(store, choice);
     let mut text = Bytes::new(alloc);
@@ -40,15 +39,59 @@ pub fn list_table<A: Allocator + Copy>(
 }
 
 /// Appends the rows of the chosen files.
-fn put_rows<A: Allocator + Copy>(
-    store: &Store<A>,
+fn put_rows<A: Allocator, T: Table<A>>(
+    store: &T,
     choice: &Choice<A>,
     all: &Totals,
     text: &mut Bytes<A>,
 ) -> Result<(), Memory>
-    ensures { OnOk result (text.new ≡ text.old ++ flat_map (file_row all.now) (chosen_files (choice_data choice.now) store.now.sections)) }
+    ensures { OnOk result (text.new ≡ text.old ++ flat_map (file_row all.now) (chosen_files (choice_data choice.now) (T.shown store.now).sections)) }
 {
-    for file in store.files() {
+    let mut reader = ChosenRows {
+        choice,
+        all,
+        text,
+        is_put: true,
+    };
+    store.read_files(&mut reader);
+    if reader.is_put { Ok(()) } else { Err(Memory) }
+}
+
+/// Appends the rows of the chosen files. `is_put` is `false` if an allocation failed.
+#[derive(Drop)]
+struct ChosenRows<'t, A: Allocator> {
+    choice: &'t Choice<A>,
+    all: &'t Totals,
+    text: &'t mut Bytes<A>,
+    is_put: bool,
+}
+
+impl<'t, A: Allocator> ReadsFiles for ChosenRows<'t, A> {
+    ghost use Rattle.std.specs.Prelude.{◌≡◌, ◌++◌, true, flat_map};
+    ghost use Rattle.covreport.specs.ChoiceView.{choice_data};
+    ghost use Rattle.covlist.specs.Chosen.{AreAllTotals, chosen_among};
+    ghost use Rattle.covlist.specs.Table.{file_row};
+
+    ghost takes = { λ _ files. AreAllTotals files };
+
+    ghost reads = { λ before files after. after.is_put ≡ true → after.text.now ≡ before.text.now ++ flat_map (file_row before.all.now) (chosen_among (choice_data before.choice.now) files) };
+
+    fn read<'s, I: TableFiles<'s>>(&mut self, files: I) {
+        self.is_put = put_rows_of(files, self.choice, self.all, self.text).is_ok();
+    }
+}
+
+/// Appends the rows of those of the files that `choice` takes.
+fn put_rows_of<'s, A: Allocator, I: TableFiles<'s>>(
+    mut files: I,
+    choice: &Choice<A>,
+    all: &Totals,
+    text: &mut Bytes<A>,
+) -> Result<(), Memory>
+    requires { AreAllTotals (I.left files) }
+    ensures { OnOk result (text.new ≡ text.old ++ flat_map (file_row all.now) (chosen_among (choice_data choice.now) (I.left files))) }
+{
+    while let Some(file) = files.next_file() {
         put_if_chosen(choice, all, file, text)?;
     }
     Ok(())

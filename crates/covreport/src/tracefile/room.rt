@@ -7,35 +7,71 @@ ghost use Rattle.covreport.specs.Room.{most_functions as most_functions_of};
 use super::functions::PrintedFunction;
 use crate::choice::Choice;
 use covline::Memory;
-use covstore::{Section, Store};
+use covtable::{ReadsSections, Table, TableSection, TableSections};
 use std::alloc::Allocator;
 
 /// Reserves memory for the functions of any one section of the chosen files. Allocates nothing if these files have no functions.
-pub(super) fn room_for_functions<'s, A: Allocator + Copy>(
+pub(super) fn room_for_functions<'s, A: Allocator, T: Table<A>>(
     alloc: A,
-    store: &'s Store<A>,
+    store: &'s T,
     choice: &Choice<A>,
 ) -> Result<Vec<PrintedFunction<'s>, A>, Memory>
-    ensures room { IfOk result (λ v. most_functions_of (choice_data choice.now) store.now.sections ≤ vec_capacity v) }
-    ensures refused { OnErr result (0 < most_functions_of (choice_data choice.now) store.now.sections) }
+    ensures room { IfOk result (λ v. most_functions_of (choice_data choice.now) (T.shown store.now).sections ≤ vec_capacity v) }
+    ensures refused { OnErr result (0 < most_functions_of (choice_data choice.now) (T.shown store.now).sections) }
 {
     Ok(Vec::with_capacity(alloc, most_functions(store, choice))?)
 }
 
 /// The maximum number of functions in a section of the chosen files.
-fn most_functions<A: Allocator + Copy>(store: &Store<A>, choice: &Choice<A>) -> usize
-    ensures { result ≡ most_functions_of (choice_data choice.now) store.now.sections }
+fn most_functions<A: Allocator, T: Table<A>>(store: &T, choice: &Choice<A>) -> usize
+    ensures { result ≡ most_functions_of (choice_data choice.now) (T.shown store.now).sections }
+{
+    let mut reader = MostFunctions { choice, most: 0 };
+    store.read_sections(&mut reader);
+    reader.most
+}
+
+/// Finds the maximum number of functions in a section of the chosen files.
+#[derive(Drop)]
+struct MostFunctions<'c, A: Allocator> {
+    choice: &'c Choice<A>,
+    most: usize,
+}
+
+impl<'c, 's, A: Allocator> ReadsSections<'s> for MostFunctions<'c, A> {
+    ghost use Rattle.std.specs.Prelude.{◌≡◌, ⊤};
+    ghost use Rattle.covreport.specs.ChoiceView.{choice_data};
+    ghost use Rattle.covreport.specs.Room.{most_functions};
+
+    ghost takes = { λ _ _. ⊤ };
+
+    ghost reads = { λ before sections after. after.most ≡ most_functions (choice_data before.choice.now) sections };
+
+    fn read<I: TableSections<'s>>(&mut self, sections: I) {
+        self.most = most_functions_in(sections, self.choice);
+    }
+}
+
+/// The maximum number of functions in one of the sections, if its file is chosen.
+fn most_functions_in<'s, A: Allocator, I: TableSections<'s>>(
+    mut sections: I,
+    choice: &Choice<A>,
+) -> usize
+    ensures { result ≡ most_functions_of (choice_data choice.now) (I.left sections) }
 {
     let mut most = 0;
-    for section in store.sections() {
+    while let Some(section) = sections.next_section() {
         most = functions_to_print(&section, choice).max(most);
     }
     most
 }
 
 /// How many functions of a section are printed: all if the section's file is chosen, otherwise none.
-fn functions_to_print<A: Allocator>(section: &Section<'_, A>, choice: &Choice<A>) -> usize
-    ensures { result ≡ most_functions_of (choice_data choice.now) (section.now ∷ []) }
+fn functions_to_print<'s, A: Allocator, C: TableSection<'s>>(
+    section: &C,
+    choice: &Choice<A>,
+) -> usize
+    ensures { result ≡ most_functions_of (choice_data choice.now) (C.shown section.now ∷ []) }
 {
     if choice.takes(section.file()) {
         count_functions(section)
@@ -45,8 +81,8 @@ fn functions_to_print<A: Allocator>(section: &Section<'_, A>, choice: &Choice<A>
 }
 
 /// How many functions a section has.
-fn count_functions<A: Allocator>(section: &Section<'_, A>) -> usize
-    ensures { result ≡ length section.now.functions }
+fn count_functions<'s, C: TableSection<'s>>(section: &C) -> usize
+    ensures { result ≡ length (C.shown section.now).functions }
 {
     let mut count = 0;
     for _function in section.functions() {

@@ -1,46 +1,26 @@
-use Rattle.std.proofs.Common.{List, sym, ap, ◌∙◌, subst}
-use Rattle.covtable.specs.Files.{FileTotalsData}
-use Rattle.covtable.specs.ValuesView.{file_totals_data}
+use Rattle.std.proofs.Common.{sym, ◌∙◌, subst}
 use Rattle.covreport.specs.Choice.{is_chosen}
 use Rattle.covreport.specs.ChoiceView.{choice_data}
 use Rattle.covtable.specs.Totals.{AreTotals, totals_of}
-use Rattle.covtable.specs.TotalsExchanged.{together}
-use Rattle.covreport.proofs.ChosenFiles.{all_parted, chosen_of, chosen_stays, none_left, other_goes, other_is_among, others}
+use Rattle.covreport.proofs.ChosenFiles.{all_parted, chosen_of}
 use Rattle.covtable.proofs.TotalsDifferent.{are_totals}
 use Rattle.covreport.proofs.summary.chosen_totals.Goals as goal
 
-pub loop-file-init : goal.loop-file-init
-loop-file-init g c =
+pub read_files-requires : goal.read_files-requires
+read_files-requires g c =
     let chosen = is_chosen (choice_data c.args.choice.now) in
-    let sections = c.args.store.now.sections in
-    c.totals-totals.ensures.value ∙ sym (all_parted chosen sections)
-    ∙ ap (λ (files : List FileTotalsData). together (totals_of (chosen_of chosen sections)) (others chosen files)) (sym (c.into_iter-file-iterator.ensures.into_iter_gives ∙ c.files-file-items.ensures))
-
-pub without-totals-requires : goal.without-totals-requires
-without-totals-requires g c =
-    let chosen = is_chosen (choice_data c.args.choice.now) in
-    other_is_among chosen (totals_of (chosen_of chosen c.args.store.now.sections)) c.loop-file.totals _ c.next.new.self (file_totals_data c.in-Some.file) c.takes.result
-    c.in-Some.ensures.steps c.loop-file.invariant c.takes.ensures c.if-not-takes.true
-
-pub loop-file-preserved-then-not-takes : goal.loop-file-preserved-then-not-takes
-loop-file-preserved-then-not-takes g c =
-    let chosen = is_chosen (choice_data c.args.choice.now) in
-    other_goes chosen (totals_of (chosen_of chosen c.args.store.now.sections)) c.loop-file.totals _ c.next.new.self (file_totals_data c.in-Some.file) c.takes.result
-    c.in-Some.ensures.steps c.loop-file.invariant c.takes.ensures c.if-not-takes.true c.without-totals.result c.without-totals.ensures
-
-pub loop-file-preserved : goal.loop-file-preserved
-loop-file-preserved g c =
-    let chosen = is_chosen (choice_data c.args.choice.now) in
-    chosen_stays chosen (totals_of (chosen_of chosen c.args.store.now.sections)) c.loop-file.totals _ c.next.new.self (file_totals_data c.in-Some.file) c.takes.result
-    c.in-Some.ensures.steps c.loop-file.invariant c.takes.ensures c.if-not-takes.false
+    let sections = (g.T.Table.shown c.args.store.now).sections in
+    (totals_of (chosen_of chosen sections), c.totals.ensures.value ∙ sym (all_parted chosen sections))
 
 pub returns-clause-value : goal.returns-clause-value
 returns-clause-value g c =
     let chosen = is_chosen (choice_data c.args.choice.now) in
-    none_left chosen (totals_of (chosen_of chosen c.args.store.now.sections)) c.loop-file.totals _ c.in-None.ensures.steps.0 c.loop-file.invariant
+    let sections = (g.T.Table.shown c.args.store.now).sections in
+    c.read_files.ensures (totals_of (chosen_of chosen sections)) (c.totals.ensures.value ∙ sym (all_parted chosen sections))
 
 pub returns-clause-bounds : goal.returns-clause-bounds
 returns-clause-bounds g c =
     let chosen = is_chosen (choice_data c.args.choice.now) in
-    let own = chosen_of chosen c.args.store.now.sections in
-    subst AreTotals (sym (none_left chosen (totals_of own) c.loop-file.totals _ c.in-None.ensures.steps.0 c.loop-file.invariant)) (are_totals own)
+    let sections = (g.T.Table.shown c.args.store.now).sections in
+    let is = c.read_files.ensures (totals_of (chosen_of chosen sections)) (c.totals.ensures.value ∙ sym (all_parted chosen sections)) in
+    subst AreTotals (sym is) (are_totals (chosen_of chosen sections))
