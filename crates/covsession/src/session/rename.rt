@@ -19,6 +19,7 @@ use crate::session::text::{LineEnd, Text};
 use covbook::Op;
 use covline::{Bytes, without_returns};
 use covstream::{Sink, Source};
+use covtable::Table;
 use std::alloc::Allocator;
 
 /// The names of a rename.
@@ -94,9 +95,9 @@ fn rename_op<A: Allocator>(old: Bytes<A>, new: Bytes<A>) -> Op<A>
 }
 
 /// Reads the names after a line `rename`, and answers the rename.
-pub fn answer_rename<I: Source, O: Sink, A: Allocator + Copy>(
+pub fn answer_rename<I: Source, O: Sink, A: Allocator + Copy, T: Table<A>>(
     alloc: A,
-    book: &mut SessionBook<A>,
+    book: &mut SessionBook<A, T>,
     input: &mut SessionInput<'_, I, A>,
     output: &mut Output<'_, O, A>,
 ) -> Result<LineEnd, SessionFault>
