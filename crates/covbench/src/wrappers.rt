@@ -4,8 +4,9 @@
 ghost use Rattle.std.specs.Prelude.{◌≡◌};
 
 use covbook::{BookFault, Op, SubRef};
-use covjobs::{Done, Live, Name, ReaderFault, Seat, Seats, Shared, Start};
+use covjobs::{Done, Live, Name, ReaderFault, Seat, Seats, Start};
 use covline::{Memory, Submission};
+use covnamed::Shared;
 use covread::{ReadFault, read_trace};
 use std::alloc::Allocator;
 use std::sync::Wait;
@@ -30,7 +31,7 @@ pub(crate) fn open_book<L: Name, A: Allocator + Copy>(
     requires jobs { start.jobs ≡ L.parts }
     requires book { start.book ≡ L.book }
 {
-    covjobs::open_book::<L, A>(alloc, start)
+    covnamed::open_book::<L, A>(alloc, start)
 }
 
 pub(crate) fn reader<L: Name, A: Allocator, R: Wait>(

@@ -6,11 +6,9 @@ use super::check_bytes;
 use super::collecting::{ADDED_UP, OTHERS, is_outside};
 use super::said::check_answers;
 use covbook::Op;
-use covjobs::{
-    CollectFault, CollectedBook, Given, Input, IntoBookFault, LateFault, LateInput, NoGate, Part,
-    collect_into_book,
-};
+use covjobs::{CollectFault, Given, Input, IntoBookFault, LateFault, LateInput, NoGate, Part};
 use covline::Bytes;
+use covnamed::{CollectedBook, collect_into_book};
 use covread::ReadFault;
 use std::alloc::Global;
 use std::process::Abort;

@@ -1,9 +1,8 @@
 //! Wraps calls in functions without `ensures` clauses: tests look only at values, and are proved faster without such clauses.
 
 use covbook::{BookFault, Entries, Entry, GatherFault, JobLog, Op, Reading, gather};
-use covjobs::{
-    CloseFault, Done, Live, Name, News, OpenFault, ReaderFault, Seat, Seats, Shared, Start,
-};
+use covjobs::{CloseFault, Done, Live, Name, News, OpenFault, ReaderFault, Seat, Seats, Start};
+use covnamed::Shared;
 use std::alloc::{Allocator, Global};
 use std::sync::Wait;
 
