@@ -75,14 +75,14 @@ fn put_objects<A: Allocator + Copy, T: Table<A>>(
 
 /// Appends the JSON objects of the chosen files. `is_put` is `false` if an allocation failed.
 #[derive(Drop)]
-struct ChosenObjects<'t, A: Allocator + Copy> {
+struct ChosenObjects<'c, 't, A: Allocator + Copy> {
     alloc: A,
-    choice: &'t Choice<A>,
+    choice: &'c Choice<A>,
     text: &'t mut Bytes<A>,
     is_put: bool,
 }
 
-impl<'t, A: Allocator + Copy> ReadsFiles for ChosenObjects<'t, A> {
+impl<'c, 't, A: Allocator + Copy> ReadsFiles for ChosenObjects<'c, 't, A> {
     ghost use Rattle.std.specs.Prelude.{◌≡◌, ◌++◌, true, ⊤};
     ghost use Rattle.covreport.specs.ChoiceView.{choice_data};
     ghost use Rattle.covlist.specs.Chosen.{chosen_among};

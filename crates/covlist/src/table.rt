@@ -59,14 +59,14 @@ fn put_rows<A: Allocator, T: Table<A>>(
 
 /// Appends the rows of the chosen files. `is_put` is `false` if an allocation failed.
 #[derive(Drop)]
-struct ChosenRows<'t, A: Allocator> {
-    choice: &'t Choice<A>,
-    all: &'t Totals,
+struct ChosenRows<'c, 'a, 't, A: Allocator> {
+    choice: &'c Choice<A>,
+    all: &'a Totals,
     text: &'t mut Bytes<A>,
     is_put: bool,
 }
 
-impl<'t, A: Allocator> ReadsFiles for ChosenRows<'t, A> {
+impl<'c, 'a, 't, A: Allocator> ReadsFiles for ChosenRows<'c, 'a, 't, A> {
     ghost use Rattle.std.specs.Prelude.{◌≡◌, ◌++◌, true, flat_map};
     ghost use Rattle.covreport.specs.ChoiceView.{choice_data};
     ghost use Rattle.covlist.specs.Chosen.{AreAllTotals, chosen_among};

@@ -118,13 +118,13 @@ fn put_chosen<'s, A: Allocator, T: Table<A>, P: Printer>(
 
 /// Prints the sections of all chosen files. `functions` is a buffer with capacity for the functions of any one section.
 #[derive(Drop)]
-struct ChosenSections<'c, 's, A: Allocator, P: Printer> {
+struct ChosenSections<'c, 'o, 's, A: Allocator, P: Printer> {
     choice: &'c Choice<A>,
     functions: Vec<PrintedFunction<'s>, A>,
-    out: &'c mut P,
+    out: &'o mut P,
 }
 
-impl<'c, 's, A: Allocator, P: Printer> ReadsSections<'s> for ChosenSections<'c, 's, A, P> {
+impl<'c, 'o, 's, A: Allocator, P: Printer> ReadsSections<'s> for ChosenSections<'c, 'o, 's, A, P> {
     ghost use Rattle.std.specs.Prelude.{◌≤◌, vec_capacity};
     ghost use Rattle.covreport.specs.ChoiceView.{choice_data};
     ghost use Rattle.covreport.specs.Report.{report_text};

@@ -23,7 +23,7 @@ pub(super) fn room_for_functions<'s, A: Allocator, T: Table<A>>(
 }
 
 /// The maximum number of functions in a section of the chosen files.
-fn most_functions<A: Allocator, T: Table<A>>(store: &T, choice: &Choice<A>) -> usize
+fn most_functions<'s, A: Allocator, T: Table<A>>(store: &'s T, choice: &'s Choice<A>) -> usize
     ensures { result ≡ most_functions_of (choice_data choice.now) (T.shown store.now).sections }
 {
     let mut reader = MostFunctions { choice, most: 0 };
@@ -33,12 +33,12 @@ fn most_functions<A: Allocator, T: Table<A>>(store: &T, choice: &Choice<A>) -> u
 
 /// Finds the maximum number of functions in a section of the chosen files.
 #[derive(Drop)]
-struct MostFunctions<'c, A: Allocator> {
-    choice: &'c Choice<A>,
+struct MostFunctions<'s, A: Allocator> {
+    choice: &'s Choice<A>,
     most: usize,
 }
 
-impl<'c, 's, A: Allocator> ReadsSections<'s> for MostFunctions<'c, A> {
+impl<'s, A: Allocator> ReadsSections<'s> for MostFunctions<'s, A> {
     ghost use Rattle.std.specs.Prelude.{◌≡◌, ⊤};
     ghost use Rattle.covreport.specs.ChoiceView.{choice_data};
     ghost use Rattle.covreport.specs.Room.{most_functions};
