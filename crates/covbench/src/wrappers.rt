@@ -34,7 +34,7 @@ pub(crate) fn open_book<L: Name, A: Allocator + Copy>(
     covnamed::open_book::<L, A>(alloc, start)
 }
 
-pub(crate) fn reader<L: Name, A: Allocator, R: Wait>(
+pub(crate) fn reader<L: Name, A: Allocator + Copy, R: Wait>(
     rt: &R,
     book: &Shared<L, A>,
 ) -> Result<Live<L, A>, ReaderFault> {

@@ -48,7 +48,7 @@ pub(super) fn first_of<'a, L: Name>(rt: &impl Abort, seats: &'a mut [Seat<L>]) -
 }
 
 /// Closes the book with all of its seats. Returns the book's history, and news of this history.
-pub(super) fn closed<L: Name, A: Allocator, R: Wait + Abort>(
+pub(super) fn closed<L: Name, A: Allocator + Copy, R: Wait + Abort>(
     rt: &R,
     book: Shared<L, A>,
     seats: Vec<Seat<L>, A>,
@@ -60,7 +60,7 @@ pub(super) fn closed<L: Name, A: Allocator, R: Wait + Abort>(
 }
 
 /// Closes the book with all of its seats, and returns its history.
-pub(super) fn history_of<L: Name, A: Allocator, R: Wait + Abort>(
+pub(super) fn history_of<L: Name, A: Allocator + Copy, R: Wait + Abort>(
     rt: &R,
     book: Shared<L, A>,
     seats: Vec<Seat<L>, A>,

@@ -84,7 +84,7 @@ fn no_room<L: Name, A: Allocator + Copy, R: Wait + Abort>(rt: &R, alloc: A, star
 }
 
 /// Closes the book, and checks that its history has one entry per successful call.
-fn check_length<L: Name, A: Allocator, R: Wait + Abort>(
+fn check_length<L: Name, A: Allocator + Copy, R: Wait + Abort>(
     rt: &R,
     book: Shared<L, A>,
     seats: Vec<Seat<L>, A>,

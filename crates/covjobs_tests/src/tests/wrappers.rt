@@ -21,7 +21,7 @@ pub(super) fn done<L: Name, A: Allocator + Copy, R: Wait>(
     book.perform(rt, alloc, seat, op)
 }
 
-pub(super) fn close<L: Name, A: Allocator, R: Wait>(
+pub(super) fn close<L: Name, A: Allocator + Copy, R: Wait>(
     rt: &R,
     book: Shared<L, A>,
     seats: Vec<Seat<L>, A>,
