@@ -15,7 +15,7 @@ use crate::output::{report_failure, report_line};
 use crate::output_folder::OutputFolder;
 use crate::work::{Task, task_for};
 use covcommand::{Asked, CommandFault, command};
-use covsession::run_session;
+use covnamed::run_session;
 use covstream::{Sink, Source};
 use std::alloc::{AllocGlobal, Global};
 use std::sync::Wait;
