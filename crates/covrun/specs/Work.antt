@@ -98,9 +98,9 @@ checked_as Large (texts.Tracefile version) = checked.LargeTracefile version
 checked_as Large texts.Gcov = checked.Text texts.Gcov
 
 -- the work of `extract` and `remove`: the first name is the tracefile's, and the other names are patterns
-abbrev pub filtering : LcovVersion → Strictness → TextSize → (List (List ℕ) → OpData) → List (List ℕ) → WorkData
-filtering version strictness size op names =
-    record { files = take 1 names; format = tracefiles size version; strictness = strictness; jobs = 1; asks = Answer (op (drop 1 names)) }
+abbrev pub filtering : FileFormat → Strictness → (List (List ℕ) → OpData) → List (List ℕ) → WorkData
+filtering format strictness op names =
+    record { files = take 1 names; format = format; strictness = strictness; jobs = 1; asks = Answer (op (drop 1 names)) }
 
 -- what a call has to do: a session; or to collect files and then answer what is asked; or to check files, each by itself
 pub data TaskData : Type 0 where
@@ -117,8 +117,8 @@ task_of (Summary version jobs filter form limits names) strictness size =
     Collects (record { files = names; format = tracefiles size version; strictness = strictness; jobs = jobs; asks = summary_asked form (limits_of limits) (choice_of filter) })
 task_of (ListFiles version jobs filter form names) strictness size =
     Collects (record { files = names; format = tracefiles size version; strictness = strictness; jobs = jobs; asks = ChosenList form (chosen_or_all (choice_of filter)) })
-task_of (Extract version names) strictness size = Collects (filtering version strictness size ExtractOp names)
-task_of (Remove version names) strictness size = Collects (filtering version strictness size RemoveOp names)
+task_of (Extract version names) strictness size = Collects (filtering (tracefiles size version) strictness ExtractOp names)
+task_of (Remove version names) strictness size = Collects (filtering (tracefiles size version) strictness RemoveOp names)
 task_of (Gcov test names) strictness size =
     Collects (record { files = names; format = GcovOutput test; strictness = strictness; jobs = 1; asks = Answer ReportOp })
 task_of (Check format jobs names) strictness size = Checks (checked_as size format) strictness jobs names

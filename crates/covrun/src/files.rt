@@ -24,8 +24,8 @@ pub(crate) enum FileFault<'a> {
     Memory,
 }
 
-/// Reads the rest of the source, up to one byte more than the size limit. Reserves `awaited` bytes first, so the buffer grows only
-/// if more bytes come. Fails with `Unreadable` if a read failed, and otherwise with `Memory`.
+/// Reads the rest of `source`, up to one byte more than the size limit. Reserves `awaited` bytes first, so the buffer grows only if
+/// more bytes come. Fails with `Unreadable` if a read failed, and otherwise with `Memory`.
 pub(crate) fn read_text<S: Source>(
     alloc: Global,
     awaited: usize,
@@ -43,7 +43,7 @@ pub(crate) fn read_text<S: Source>(
     Ok(text)
 }
 
-/// Reads the file with this name, up to one byte more than the size limit.
+/// Reads the file called `name`, up to one byte more than the size limit.
 pub(crate) fn file_text<'a, F: Folder>(
     folder: &F,
     alloc: Global,
@@ -51,7 +51,7 @@ pub(crate) fn file_text<'a, F: Folder>(
 ) -> Result<Bytes, FileFault<'a>>
     ensures text { IfOk result (IsTextOf (F.holds folder.now name.now)) }
     ensures few { IfOk result (λ text. length text ≤ suc max_bytes) }
-    ensures unread { IfErr result (IsUnread (folder_data (F.holds folder.now) (F.may_refuse folder.now) (F.may_open folder.now) F.File.left F.File.failed_reads) name.now) }
+    ensures unread { IfErr result (IsUnread (folder_data F.Folder F.File.Source folder.now) name.now) }
 {
     let Ok(opened) = folder.open(name) else {
         return Err(FileFault::Unreadable(name));

@@ -30,9 +30,9 @@ pub(crate) fn open_large<F: Folder>(
     strictness: Strictness,
     opened: Option<LargeTracefile<F::File>>,
 ) -> Result<LargeTracefile<F::File>, LateFault<TextFault>>
-    ensures opened { IfOk result (IsOpenedFor F.File.left F.File.failed_reads (folder_data (F.holds folder.now) (F.may_refuse folder.now) (F.may_open folder.now) F.File.left F.File.failed_reads) name.now version strictness opened) }
+    ensures opened { IfOk result (IsOpenedFor F.File.left F.File.failed_reads (folder_data F.Folder F.File.Source folder.now) name.now version strictness opened) }
     ensures fault { IfErr result (λ fault. fault ≡ Unreadable) }
-    ensures fails { IfErr result (λ _. MayFailLarge F.File.left F.File.failed_reads (folder_data (F.holds folder.now) (F.may_refuse folder.now) (F.may_open folder.now) F.File.left F.File.failed_reads) name.now opened) }
+    ensures fails { IfErr result (λ _. MayFailLarge F.File.left F.File.failed_reads (folder_data F.Folder F.File.Source folder.now) name.now opened) }
 {
     match opened {
         Some(large) => Ok(large),
@@ -40,7 +40,7 @@ pub(crate) fn open_large<F: Folder>(
     }
 }
 
-/// Opens the tracefile with this name. Reads nothing yet.
+/// Opens the tracefile called `name`. Reads nothing yet.
 fn open_whole<F: Folder>(
     folder: &F,
     alloc: Global,
@@ -48,9 +48,9 @@ fn open_whole<F: Folder>(
     version: LcovVersion,
     strictness: Strictness,
 ) -> Result<LargeTracefile<F::File>, LateFault<TextFault>>
-    ensures opened { IfOk result (IsOpenedFor F.File.left F.File.failed_reads (folder_data (F.holds folder.now) (F.may_refuse folder.now) (F.may_open folder.now) F.File.left F.File.failed_reads) name.now version strictness None) }
+    ensures opened { IfOk result (IsOpenedFor F.File.left F.File.failed_reads (folder_data F.Folder F.File.Source folder.now) name.now version strictness None) }
     ensures fault { IfErr result (λ fault. fault ≡ Unreadable) }
-    ensures fails { IfErr result (λ _. (folder_data (F.holds folder.now) (F.may_refuse folder.now) (F.may_open folder.now) F.File.left F.File.failed_reads).MayFail name.now) }
+    ensures fails { IfErr result (λ _. (folder_data F.Folder F.File.Source folder.now).MayFail name.now) }
 {
     match folder.open(name) {
         Ok(file) => Ok(begin_large(alloc, version, strictness, file.source)),
@@ -58,7 +58,7 @@ fn open_whole<F: Folder>(
     }
 }
 
-/// Opens a tracefile for reading in chunks. Collects its summary only for a strict run.
+/// Opens `source` as a tracefile to be read in chunks. Only a strict run collects a summary.
 fn begin_large<S: Source + Drop>(
     alloc: Global,
     version: LcovVersion,
@@ -78,7 +78,8 @@ fn begin_large<S: Source + Drop>(
     }
 }
 
-/// Returns the submission of a tracefile's last chunk. A strict run rejects a tracefile whose summary isn't clean.
+/// Makes `submission`, which a tracefile's last chunk was read as, shareable. A strict run rejects a tracefile whose summary isn't
+/// clean.
 pub(crate) fn take_last(
     alloc: Global,
     strictness: Strictness,

@@ -79,7 +79,7 @@ impl Question {
         }
     }
 
-    /// Asks for the summary of the chosen source files. With a threshold, asks for their totals, to compare these with it.
+    /// Asks for the summary of the chosen source files, or for their totals if there is a threshold to compare these with.
     fn words(limits: Limits, choice: Option<Choice>) -> Question
         ensures { question_data result ≡ words_asked (limits_data limits) (option_map choice_data choice) }
     {
@@ -156,7 +156,7 @@ impl Question {
         }
     }
 
-    /// Appends a line about each pattern of the question that matches no file of the store.
+    /// Appends to `lines` a line about each pattern of the question that matches no file of `store`.
     pub(crate) fn add_unmatched(&self, store: &Store, lines: &mut Bytes) -> Result<(), Memory>
         ensures { OnOk result (lines.new ≡ lines.old ++ flat_map (unmatched_line store.now.sections) (asked_patterns (question_data self.now))) }
     {
@@ -170,7 +170,7 @@ impl Question {
     }
 }
 
-/// Prints the totals in this form.
+/// Prints `totals` in this `form`.
 fn totals_text(alloc: Global, form: TotalsForm, totals: &Totals) -> Result<Bytes, Memory>
     requires { AreTotals totals.now }
     ensures { IfOk result (λ text. text ≡ totals_text_of form totals.now) }
@@ -181,7 +181,7 @@ fn totals_text(alloc: Global, form: TotalsForm, totals: &Totals) -> Result<Bytes
     }
 }
 
-/// Prints the list of the chosen source files in this form.
+/// Prints the list of the chosen source files in this `form`.
 fn list_text(
     alloc: Global,
     form: TotalsForm,
@@ -198,7 +198,7 @@ fn list_text(
     }
 }
 
-/// Copies a choice.
+/// Copies `choice`.
 fn copy_of(alloc: Global, choice: &Choice) -> Result<Choice, Memory>
     ensures { IfOk result (λ copy. choice_data copy ≡ choice_data choice.now) }
 {
