@@ -2,7 +2,7 @@
 
 use crate::op::{Answer, Op};
 use covline::Memory;
-use covstore::Totals;
+use covtable::Totals;
 use std::alloc::{Allocator, Global};
 use std::marker::Model;
 

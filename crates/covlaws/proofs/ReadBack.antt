@@ -11,7 +11,7 @@ use Rattle.covline.specs.LineLaws.{OneAfterOther, PrintedSpells}
 use Rattle.covread.specs.Outcome.{max_bytes}
 use Rattle.covline.specs.Spells.{LineData, Test, Path, End}
 use Rattle.covread.specs.Reads.{Part, Outside, Section, IsInside, IsLawfulPart, AllSpell, records_of, odd_in, sects_from, Reads}
-use Rattle.covstore.specs.Content.{SectionData}
+use Rattle.covtable.specs.Content.{SectionData}
 use Rattle.covreport.specs.Report.{by_start, start_record, call_record, branch_record, line_record, section_records, section_text}
 use Rattle.covlaws.specs.Printable.{sect_shown, submission_shown, IsPrintable}
 use Rattle.covlaws.proofs.Apart.{all_more, all_mapped, always}

@@ -4,7 +4,7 @@
 
 use covlimit::{Limits, Rate, shortfall_lines};
 use covline::Bytes;
-use covstore::Totals;
+use covtable::Totals;
 use std::process::Abort;
 use std::test::*;
 

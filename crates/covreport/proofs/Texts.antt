@@ -10,7 +10,7 @@ use Rattle.covline.specs.Spells.{LineData, Test, Path, End}
 use Rattle.covline.specs.Printed.{printed}
 use Rattle.covreport.specs.Report.{function_records, branch_records, line_records, section_text, report_text}
 use Rattle.covreport.specs.Choice.{ChoiceData, is_chosen}
-use Rattle.covstore.specs.Content.{SectionData}
+use Rattle.covtable.specs.Content.{SectionData}
 
 -- ---- one more part
 

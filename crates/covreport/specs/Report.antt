@@ -8,8 +8,8 @@ use Rattle.covline.specs.declared.trace_line.TotalKind.{TotalKind}
 use Rattle.covline.specs.declared.trace_line.TotalKind.TheVariants.{FuncFound, FuncHit, BranchFound, BranchHit, LineFound, LineHit}
 use Rattle.covline.specs.Spells.{LineData, Test, Path, FuncStart, FuncCount, Branch, Line, Total, End}
 use Rattle.covline.specs.Printed.{printed}
-use Rattle.covstore.specs.Content.{FunctionValueData, BranchValueData, LineValueData, SectionData}
-use Rattle.covstore.specs.Value.{is_taken}
+use Rattle.covtable.specs.Content.{FunctionValueData, BranchValueData, LineValueData, SectionData}
+use Rattle.covtable.specs.Value.{is_taken}
 use Rattle.covreport.specs.Choice.{ChoiceData, is_chosen}
 
 -- the sorted list with x inserted at its place

@@ -10,8 +10,8 @@ use Rattle.covsession.specs.declared.session.fault.SessionFault.{SessionFault}
 use Rattle.covsession.specs.declared.session.fault.SessionFault.TheVariants as faults
 use Rattle.covbook.specs.Gather.{LogData}
 use Rattle.covbook.specs.Op.{OpData, SubmitOp, DropTestOp, RenameOp, ReportOp, ExtractOp, RemoveOp, SummaryOp, TextAnswer, EntryData}
-use Rattle.covstore.specs.Content.{SectionData, content_at}
-use Rattle.covstore.specs.Table.{Table}
+use Rattle.covtable.specs.Content.{SectionData, content_at}
+use Rattle.covtable.specs.Table.{Table}
 use Rattle.covlimit.specs.Limits.{LimitsData}
 use Rattle.covlist.specs.Chosen.{chosen_files, totals_of_chosen}
 use Rattle.covlist.specs.Shown.{shown_name}

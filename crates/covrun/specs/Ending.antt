@@ -2,9 +2,9 @@
 use Rattle.std.specs.List.{flat_map}
 use Rattle.std.specs.Prelude.{ℕ, ◌-◌, length, List, [], ◌∷◌, ◌++◌, Bool, true, false, if◌then◌else◌, Option, Some, None, codes, slice_get}
 use Rattle.covread.specs.Fault.{is_memory}
-use Rattle.covstore.specs.Content.{content_at}
-use Rattle.covstore.specs.Files.{FileTotalsData}
-use Rattle.covstore.specs.declared.totals.Totals.{Totals}
+use Rattle.covtable.specs.Content.{content_at}
+use Rattle.covtable.specs.Files.{FileTotalsData}
+use Rattle.covtable.specs.declared.totals.Totals.{Totals}
 use Rattle.covcommand.specs.declared.asked.TotalsForm.{TotalsForm}
 use Rattle.covcommand.specs.declared.asked.TotalsForm.TheVariants as forms
 use Rattle.covlimit.specs.Limits.{shortfalls}

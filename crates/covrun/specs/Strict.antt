@@ -20,8 +20,8 @@ use Rattle.covread.specs.declared.fault.ReadFault.{ReadFault}
 use Rattle.covreport.specs.Choice.{ChoiceData, AllFiles, Extracted, Removed, Filtered}
 use Rattle.covreport.specs.Pattern.{matches}
 use Rattle.covsession.specs.Session.{said}
-use Rattle.covstore.specs.Content.{SectionData}
-use Rattle.covstore.specs.Files.{files_with_totals}
+use Rattle.covtable.specs.Content.{SectionData}
+use Rattle.covtable.specs.Files.{files_with_totals}
 use Rattle.covrun.specs.Work.{QuestionData, Answer, ChosenReport, ChosenSummary, LimitedTotals, ChosenList}
 use Rattle.covrun.specs.declared.text_fault.TextFault.{TextFault}
 use Rattle.covrun.specs.declared.text_fault.TextFault.TheVariants.{Faulty, Unclean}

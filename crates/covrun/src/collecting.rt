@@ -11,7 +11,7 @@ ghost use Rattle.covsession.specs.Session.{clash_text};
 ghost use Rattle.covsession.specs.declared.session.fault.SessionFault.TheVariants as session_faults;
 ghost use Rattle.covrun.specs.Call.{IsWorkDone};
 ghost use Rattle.covbook.specs.Step.{ops_in, table_of};
-ghost use Rattle.covstore.specs.Content.{content_at};
+ghost use Rattle.covtable.specs.Content.{content_at};
 ghost use Rattle.covrun.specs.Ending.{Stopped, Unreadable, of_collected, asked_shortfalls, asked_text, complaints, faulty_line, refusal_line, ran_out, name_at, strict_line, strict_lines as strict_lines_of, unclean_line, with_shortfalls};
 ghost use Rattle.covrun.specs.Strict.{asked_patterns, unmatched_line, unmatched_lines as unmatched_lines_of};
 ghost use Rattle.covrun.specs.Folder.{folder_data};

@@ -2,7 +2,7 @@
 
 ghost use Rattle.std.specs.Prelude.{◌≡◌, ◌++◌, [], ◌∷◌, IfOk};
 ghost use Rattle.covreport.specs.ChoiceView.{choice_data};
-ghost use Rattle.covstore.specs.Totals.{AreTotals};
+ghost use Rattle.covtable.specs.Totals.{AreTotals};
 ghost use Rattle.covlimit.specs.LimitsView.{limits_data};
 ghost use Rattle.covbook.specs.Op.{SummaryOp};
 ghost use Rattle.covbook.specs.Step.{next_entry};
@@ -18,7 +18,8 @@ use covlimit::{Limits, shortfall_lines};
 use covline::{Bytes, Memory};
 use covlist::{list_json, list_table, summary_json};
 use covreport::{Choice, Printing, chosen_totals, summary_text};
-use covstore::{Store, Totals};
+use covstore::Store;
+use covtable::Totals;
 use std::alloc::Global;
 
 /// The question that a run answers after its files are collected.

@@ -8,7 +8,7 @@ use Rattle.covline.specs.declared.trace_line.LineFault.{LineFault}
 use Rattle.covline.specs.declared.trace_line.LineFault.TheVariants.{BadLine, NumberTooLarge, EmptyPath}
 use Rattle.covread.specs.declared.fault.ReadFault.{ReadFault}
 use Rattle.covread.specs.declared.fault.ReadFault.TheVariants as faults
-use Rattle.covstore.specs.Table.{Table}
+use Rattle.covtable.specs.Table.{Table}
 use Rattle.covsession.specs.Command.{Command, AreCommands, ops_of, Blank, Ask, RefusePattern, Submit, Refuse, Unknown, Unfinished}
 
 -- this line with its line feed

@@ -13,7 +13,7 @@ use Rattle.covstore.specs.Sums.{TestData}
 use Rattle.covstore.proofs.AddsFew.{kept_few}
 use Rattle.covstore.proofs.AddsLists.{length-put_there}
 use Rattle.covstore.proofs.AddsPlace.{as_many, its_back, its_front, its_kept, its_whole}
-use Rattle.covstore.proofs.Orders.{names_order}
+use Rattle.covtable.proofs.Orders.{names_order}
 
 pub has_room : (items : List ItemData) (test : TestData) (index : FileIndexData) → HasRoomFor items test index → HasRoom test index
 has_room items test index room =

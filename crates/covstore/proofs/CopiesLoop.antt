@@ -23,7 +23,7 @@ use Rattle.covstore.proofs.AddsLists.{length-put_there}
 use Rattle.covstore.proofs.AddsLoop.{HasTaken, next_has_room, none_taken, one_taken}
 use Rattle.covstore.proofs.AddsPlace.{its_whole}
 use Rattle.covstore.proofs.Assigned.{any_key}
-use Rattle.covstore.proofs.Orders.{lines_order, names_order}
+use Rattle.covtable.proofs.Orders.{lines_order, names_order}
 use Rattle.covstore.proofs.Puts.{value_of_before, value_of_first, value_of_later}
 
 -- ---- room for items, and then for others

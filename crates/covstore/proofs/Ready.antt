@@ -15,7 +15,7 @@ use Rattle.covstore.specs.Section.{section_of_items}
 use Rattle.covstore.specs.State.{FileData}
 use Rattle.covstore.specs.Sums.{TestData, test_of}
 use Rattle.covstore.proofs.AddsLists.{put_twice}
-use Rattle.covstore.proofs.Orders.{names_order}
+use Rattle.covtable.proofs.Orders.{names_order}
 use Rattle.covstore.proofs.Puts.{value_of-put, value_of-put_other}
 
 module _ (file ready : FileData) (keeps : KeepsIn file ready) where

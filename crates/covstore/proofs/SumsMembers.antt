@@ -9,8 +9,8 @@ use Rattle.covline.specs.Row.{ItemData}
 use Rattle.covstore.specs.declared.sums.LineSum.{LineSum}
 use Rattle.covmap.specs.Puts.{value_of}
 use Rattle.covstore.specs.Sums.{test_of, line_sum}
-use Rattle.covstore.specs.Value.{line_checksum}
-use Rattle.covstore.proofs.Orders.{lines_order}
+use Rattle.covtable.specs.Value.{line_checksum}
+use Rattle.covtable.proofs.Orders.{lines_order}
 use Rattle.covstore.proofs.SumsKinds.{sums_held, sums_known}
 use Rattle.covstore.proofs.SumsLines.{line_held}
 

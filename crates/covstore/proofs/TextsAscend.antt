@@ -6,7 +6,7 @@ use Rattle.std.specs.Ordering.{nat_cmp}
 use Rattle.std.proofs.lemmas.Bool.{cond-true, lt-ltb}
 use Rattle.covline.specs.Row.{ItemData}
 use Rattle.covstore.specs.HeldChecksums.{AscendFrom, checked_line, checked_lines}
-use Rattle.covstore.proofs.Ascend.{All-weaker}
+use Rattle.covtable.proofs.Ascend.{All-weaker}
 
 less_of : (x y : ℕ) → x < y → nat_cmp x y ≡ Less
 less_of x y lt = cond-true _ Less _ (lt-ltb x y lt)

@@ -22,8 +22,8 @@ use Rattle.covstore.specs.FileIndexView.{KeepsCommitted, index_staged}
 use Rattle.covstore.specs.declared.index.FileIndex.{FileIndex}
 use Rattle.covstore.specs.declared.sums.LineSum.{LineSum}
 use Rattle.covstore.specs.declared.test.Test.{Test}
-use Rattle.covstore.proofs.Members.{Contains-from, In, In-from, In-joined, In-parts}
-use Rattle.covstore.proofs.Orders.{lines_order}
+use Rattle.covtable.proofs.Members.{Contains-from, In, In-from, In-joined, In-parts}
+use Rattle.covtable.proofs.Orders.{lines_order}
 use Rattle.covstore.proofs.Puts.{value_of-put, value_of-put_apart}
 use Rattle.covstore.proofs.RunsKept.{plain_holds}
 use Rattle.covstore.proofs.StepsCounts.{line_checked}

@@ -9,7 +9,7 @@ use Rattle.covstore.specs.declared.sums.LineSum.{LineSum}
 use Rattle.covstore.specs.declared.sums.FunctionSum.{FunctionSum}
 use Rattle.covstore.specs.declared.sums.BranchSum.{BranchSum}
 use Rattle.covstore.specs.declared.sums.TestCounts.{TestCounts}
-use Rattle.covstore.specs.Value.{branch_cmp, is_taken}
+use Rattle.covtable.specs.Value.{branch_cmp, is_taken}
 
 pub data Kind : Type 0 where
   Line : Kind

@@ -10,7 +10,7 @@ use Rattle.covstore.specs.declared.sums.FunctionSum.{FunctionSum}
 use Rattle.covstore.specs.declared.sums.BranchSum.{BranchSum}
 use Rattle.covstore.specs.Kinds.{Branch, Each, Function, KeyOf, Kind, Line, PointsOf, SumOf, with_at}
 use Rattle.covmap.specs.Puts.{put, value_of}
-use Rattle.covstore.specs.Value.{bounded, branch_cmp, branch_value, branches_in, function_count, function_start, line_checksum, line_value, lines_in, names_in}
+use Rattle.covtable.specs.Value.{bounded, branch_cmp, branch_value, branches_in, function_count, function_start, line_checksum, line_value, lines_in, names_in}
 
 -- the lines, functions and branches of a test. Each point has what the test's items add up to there
 abbrev pub TestData : Type 0

@@ -5,8 +5,8 @@ ghost use Rattle.std.specs.Cmp.Lexicographic.{slice_cmp};
 ghost use Rattle.std.specs.Ordering.{nat_cmp};
 ghost use Rattle.std.proofs.lemmas.Cmp.{nat_list_cmp_total};
 ghost use Rattle.std.proofs.lemmas.Map.Lookups.{exact_bytes};
-ghost use Rattle.covstore.specs.Keys.{branch_key_exact, branch_key_total};
-ghost use Rattle.covstore.specs.Value.{branch_cmp};
+ghost use Rattle.covtable.specs.Keys.{branch_key_exact, branch_key_total};
+ghost use Rattle.covtable.specs.Value.{branch_cmp};
 ghost use Rattle.covline.specs.PointView.{branch_point_data};
 
 use crate::path::order_bytes;

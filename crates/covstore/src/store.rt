@@ -5,12 +5,12 @@ ghost use Rattle.std.specs.BTreeMap.{is_at};
 ghost use Rattle.std.specs.Cmp.Lexicographic.{slice_cmp};
 ghost use Rattle.std.specs.Map.{lookup};
 ghost use Rattle.std.specs.Ordering.{nat_cmp};
-ghost use Rattle.covstore.specs.RefuseView.{refuse_data};
+ghost use Rattle.covtable.specs.RefuseView.{refuse_data};
 ghost use Rattle.covstore.specs.State.{totals_in};
 ghost use Rattle.covstore.specs.Store.{AddsTo, ClashesAmong, KeepsState};
 ghost use Rattle.covstore.specs.StoreSection.{HasRoomAmong, rows_of_items};
 ghost use Rattle.covstore.specs.StoreView.{AreSettledBut, files_staged, files_committed, touched_data};
-ghost use Rattle.covstore.specs.TotalsExchanged.{IsExchange};
+ghost use Rattle.covtable.specs.TotalsExchanged.{IsExchange};
 
 use crate::all_files::{add_up, count_sections, count_without, drop_from_files, names_with};
 use crate::boxed::Boxed;
@@ -19,11 +19,10 @@ use crate::file::File;
 use crate::files::Files;
 use crate::path::Path;
 use crate::plan::Plan;
-use crate::refuse::Refuse;
 use crate::renaming::Renaming;
-use crate::totals::Totals;
 use covline::{Memory, Submission};
 use covpacked::{PackedItems, PackedSect, PackedSects, PackedSectsIter, PackedSubmission, pack};
+use covtable::{Refuse, Totals};
 use std::alloc::{Allocator, Global};
 use std::collections::BTreeMap;
 use std::marker::Model;
@@ -163,18 +162,19 @@ impl<A: Allocator + Copy> Store<A> {
     ghost use Rattle.std.specs.List.{flat_map, list_any};
     ghost use Rattle.covline.specs.Row.{SubmissionData, rows_of, rows_of_sect};
     ghost use Rattle.covpacked.specs.PackedSects.{packed_sect_data};
-    ghost use Rattle.covstore.specs.Content.{content_at};
-    ghost use Rattle.covstore.specs.Files.{files_with_totals};
-    ghost use Rattle.covstore.specs.Store.{AddsRows, ClashesWith, HasRoomForRows, IsPlanOf, SameContent, SameCommitted, StandsFor, IsRefusedAt, max_members};
+    ghost use Rattle.covtable.specs.Content.{content_at};
+    ghost use Rattle.covtable.specs.Files.{files_with_totals};
+    ghost use Rattle.covstore.specs.Store.{AddsRows, ClashesWith, HasRoomForRows, IsPlanOf, SameContent, SameCommitted, StandsFor, max_members};
+    ghost use Rattle.covtable.specs.Refuse.{IsRefusedAt};
     ghost use Rattle.covstore.specs.StoreSection.{rows_of_items};
     ghost use Rattle.covstore.specs.StoreKept.{IsKept};
-    ghost use Rattle.covstore.specs.RefuseView.{refuse_data};
-    ghost use Rattle.covstore.specs.Renamed.{renamed};
+    ghost use Rattle.covtable.specs.RefuseView.{refuse_data};
+    ghost use Rattle.covtable.specs.Renamed.{renamed};
     ghost use Rattle.covstore.specs.Renaming.{Copies, HasRoomToCopy, IsMoving, IsRenamingOf, names_with};
     ghost use Rattle.covstore.specs.State.{sections_of, totals_in};
-    ghost use Rattle.covstore.specs.Table.{Table, all_rows, clash_at};
-    ghost use Rattle.covstore.specs.Totals.{AreTotals, totals_of};
-    ghost use Rattle.covstore.specs.Without.{sections_of_test, without_test};
+    ghost use Rattle.covtable.specs.Table.{Table, all_rows, clash_at};
+    ghost use Rattle.covtable.specs.Totals.{AreTotals, totals_of};
+    ghost use Rattle.covtable.specs.Without.{sections_of_test, without_test};
 
     /// Returns an empty store. Never allocates.
     pub fn new(alloc: A) -> Store<A>

@@ -1,7 +1,7 @@
 //! A use of covreport.
 
 ghost use Rattle.std.specs.Prelude.{◌≡◌, [], ◌∷◌, IfOk};
-ghost use Rattle.covstore.specs.Totals.{totals_of};
+ghost use Rattle.covtable.specs.Totals.{totals_of};
 ghost use Rattle.covreport.specs.Choice.{Extracted};
 ghost use Rattle.covreport.specs.Report.{report_text};
 ghost use Rattle.covreport.specs.Summary.{summary_of};

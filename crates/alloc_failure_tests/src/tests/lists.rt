@@ -7,7 +7,7 @@ use covbook::{Answer, Entries, Entry, JobLog, Logs, Op, Reading, Readings, Recei
 use covjobs::{Refused, RefusedInput};
 use covline::{Bytes, Item, Items, Memory, Sect, Sects};
 use covread::ReadFault;
-use covstore::Totals;
+use covtable::Totals;
 use std::alloc::Allocator;
 use std::process::Abort;
 use std::test::*;

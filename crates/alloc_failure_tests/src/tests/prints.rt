@@ -1,6 +1,6 @@
 //! Prints texts, and chooses the files to print by patterns.
 
-ghost use Rattle.covstore.specs.Totals.{AreTotals};
+ghost use Rattle.covtable.specs.Totals.{AreTotals};
 
 use super::heap::{Call, check_rising, narrow, widen};
 use super::stores::holding;

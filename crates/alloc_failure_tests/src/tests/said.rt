@@ -4,7 +4,7 @@ use super::check_bytes;
 use super::texts::{CHECKED, CLASHING, SMALL};
 use super::wrappers::{Asked, op_of};
 use covbook::{Answer, Entry, Op};
-use covstore::Totals;
+use covtable::Totals;
 use std::alloc::Allocator;
 use std::process::Abort;
 use std::test::*;

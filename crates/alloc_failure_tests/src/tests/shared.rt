@@ -10,7 +10,7 @@ use bumpalo::Bump;
 use covbook::{BookFault, Entries, Op};
 use covjobs::{Done, Live, Name, OpenFault, ReaderFault, Seat, Seats, Shared, Start, open_book};
 use covline::Memory;
-use covstore::Totals;
+use covtable::Totals;
 use std::alloc::Allocator;
 use std::marker::Brand;
 use std::process::Abort;

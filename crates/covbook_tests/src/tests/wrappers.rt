@@ -7,7 +7,7 @@ use covbook::{
 };
 use covline::Bytes;
 use covread::{read_trace, read_trace_packed};
-use covstore::Totals;
+use covtable::Totals;
 use std::alloc::Global;
 use std::process::Abort;
 use std::test::*;

@@ -9,7 +9,7 @@ use super::said::{check_entries, check_receipts};
 use super::wrappers::gathered;
 use covbook::{Entries, Entry, GatherFault, JobLog, Reading};
 use covjobs::{Name, Seat, Shared, Start};
-use covstore::Totals;
+use covtable::Totals;
 use std::alloc::Global;
 use std::marker::Brand;
 use std::process::Abort;

@@ -4,7 +4,7 @@ ghost use Rattle.std.specs.Prelude.{◌≡◌, ◌++◌};
 ghost use Rattle.std.specs.List.{flat_map};
 ghost use Rattle.covline.specs.Printed.{printed};
 ghost use Rattle.covreport.specs.Report.{branch_records};
-ghost use Rattle.covstore.specs.Value.{is_taken as value_is_taken};
+ghost use Rattle.covtable.specs.Value.{is_taken as value_is_taken};
 
 use super::front::Front;
 use super::record::put_branch;

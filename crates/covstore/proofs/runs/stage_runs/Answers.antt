@@ -9,7 +9,7 @@ use Rattle.covstore.specs.Kinds.{Branch, CountsOf, Function, Kind, Line, PointsO
 use Rattle.covstore.specs.Runs.{points_with, sum_of, with_runs}
 use Rattle.covstore.specs.RunsView.{runs_seen}
 use Rattle.covstore.specs.TestView.{test_staged}
-use Rattle.covstore.specs.Value.{branch_cmp}
+use Rattle.covtable.specs.Value.{branch_cmp}
 use Rattle.covstore.proofs.EachKind.{each_kind, same_test}
 use Rattle.covstore.proofs.RunsKept.{room_as_long}
 use Rattle.covstore.proofs.RunsSums.{summed_as}

@@ -7,7 +7,7 @@ use Rattle.covline.specs.declared.trace_line.TotalKind.TheVariants.{FuncFound, F
 use Rattle.covreport.specs.FunctionView.{printed_function}
 use Rattle.covreport.specs.Report.{by_start, start_record, call_record, functions_hit, totals_if_any}
 use Rattle.covreport.specs.declared.tracefile.functions.PrintedFunction.{PrintedFunction}
-use Rattle.covstore.specs.Content.{FunctionValueData}
+use Rattle.covtable.specs.Content.{FunctionValueData}
 use Rattle.covreport.proofs.ByStart.{length-by_start, hit-by_start}
 use Rattle.covreport.proofs.Texts.{with_tail}
 use Rattle.covreport.proofs.tracefile.functions.put_functions.Goals as goal
