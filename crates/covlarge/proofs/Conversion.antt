@@ -1,8 +1,8 @@
 -- What is read piece by piece is what the whole is read as.
 use Rattle.std.proofs.Common.{◌≡◌, ◌⊎◌, ℕ, suc, ◌+◌, ◌≤◌, List, [], ◌∷◌, ◌++◌, length, Option, Some, None, Result, Ok, Err, IsSome, IfSome, refl, sym, ap, subst, ◌∙◌, append_assoc, append-nil, arith, inl, inr}
 use Rattle.std.specs.List.{concat}
-use Rattle.covcommand.specs.declared.asked.LcovVersion.{LcovVersion}
-use Rattle.covcommand.specs.declared.asked.LcovVersion.TheVariants.{One, Two}
+use Rattle.covline.specs.declared.version.LcovVersion.{LcovVersion}
+use Rattle.covline.specs.declared.version.LcovVersion.TheVariants.{One, Two}
 use Rattle.covlcov2.specs.Outcome as lcov2
 use Rattle.covline.specs.Row.{SectData, SubmissionData}
 use Rattle.covpieces.proofs.InPieces.{joined_nothing}

@@ -2,7 +2,7 @@
 use Rattle.std.proofs.Common.{◌≡◌, ℕ, ◌+◌, ◌-◌, ◌^◌, ◌<◌, ◌≤◌, List, [], ◌∷◌, ◌++◌, length, take, drop, Option, Ok, Err, sym, ap, subst, ◌∙◌, length-drop, length-take, take-append-drop, arith}
 use Rattle.std.proofs.Math.Seq.{take-length}
 use Rattle.std.specs.Io.KnownBytes.{Consumes, IsAtEnd}
-use Rattle.covcommand.specs.declared.asked.LcovVersion.{LcovVersion}
+use Rattle.covline.specs.declared.version.LcovVersion.{LcovVersion}
 use Rattle.covline.proofs.Cut.{length-lines}
 use Rattle.covline.specs.Lines.{lines_of}
 use Rattle.covline.specs.Row.{SectData, SubmissionData}

@@ -1,7 +1,7 @@
 -- Private steps: how one piece is read after others.
 use Rattle.std.specs.Prelude.{◌≡◌, ℕ, List, ◌++◌, Option, Result, Ok, Err}
-use Rattle.covcommand.specs.declared.asked.LcovVersion.{LcovVersion}
-use Rattle.covcommand.specs.declared.asked.LcovVersion.TheVariants.{One, Two}
+use Rattle.covline.specs.declared.version.LcovVersion.{LcovVersion}
+use Rattle.covline.specs.declared.version.LcovVersion.TheVariants.{One, Two}
 use Rattle.covlarge.specs.Summary.{HoldsOnIfTold, SummaryData}
 use Rattle.covlarge.specs.Version.{IsOutcomeOf, IsSkippedOf}
 use Rattle.covlarge.specs.declared.fault.PieceFault.{PieceFault}

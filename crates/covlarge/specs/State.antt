@@ -2,7 +2,7 @@
 use Rattle.std.specs.Io.KnownBytes.{Consumes}
 use Rattle.std.specs.Prelude.{◌≡◌, ◌⊎◌, ◌<◌, ◌≤◌, ℕ, List, [], ◌∷◌, ◌++◌, length, option_map, Option, Some, Result, Ok, Err}
 use Rattle.std.specs.List.{concat}
-use Rattle.covcommand.specs.declared.asked.LcovVersion.{LcovVersion}
+use Rattle.covline.specs.declared.version.LcovVersion.{LcovVersion}
 use Rattle.covlarge.specs.Large.{BeginsTooLong, IsAll, MayBeReadAs, max_pieces}
 use Rattle.covlarge.specs.StateData.{StateData}
 use Rattle.covlarge.specs.Summary.{HoldsOnIfTold, SummaryData}

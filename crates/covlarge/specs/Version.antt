@@ -1,8 +1,8 @@
 -- The two versions of tracefiles: what a text is read as, and which of its lines aren't read.
 use Rattle.std.specs.Prelude.{ℕ, List, Result}
 use Rattle.covcheck.specs.Skipped.{IsSkippedLcov2, IsSkippedRecord}
-use Rattle.covcommand.specs.declared.asked.LcovVersion.{LcovVersion}
-use Rattle.covcommand.specs.declared.asked.LcovVersion.TheVariants.{One, Two}
+use Rattle.covline.specs.declared.version.LcovVersion.{LcovVersion}
+use Rattle.covline.specs.declared.version.LcovVersion.TheVariants.{One, Two}
 use Rattle.covlcov2.specs.Outcome as lcov2
 use Rattle.covline.specs.Row.{SectData, SubmissionData}
 use Rattle.covpieces.specs.Pieces.{CarriedData, carried_after, lcov2_carried_after}

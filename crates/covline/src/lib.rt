@@ -38,6 +38,7 @@ mod tail;
 mod tally;
 mod text_lines;
 mod trace_line;
+mod version;
 
 pub use bytes::Bytes;
 pub use item::{Item, Items};
@@ -53,3 +54,4 @@ pub use submission::{BadSubmission, Submission};
 pub use tally::Tally;
 pub use text_lines::{first_line, lines, without_returns};
 pub use trace_line::{LineFault, TotalKind, TraceLine};
+pub use version::LcovVersion;
