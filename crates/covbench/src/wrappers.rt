@@ -4,8 +4,8 @@
 ghost use Rattle.std.specs.Prelude.{◌≡◌};
 
 use covbook::{BookFault, Op, SubRef};
+use covdata::{Memory, Submission};
 use covjobs::{Done, Live, Name, ReaderFault, Seat, Seats, Shared, Start};
-use covline::{Memory, Submission};
 use covread::{ReadFault, read_trace};
 use std::alloc::Allocator;
 use std::sync::Wait;

@@ -8,7 +8,7 @@ use Rattle.std.proofs.lemmas.List.{append-nil, map-append}
 use Rattle.std.proofs.lemmas.List.Concat.{flat_map-append}
 use Rattle.std.proofs.lemmas.List.Elements.{All-contains, All-from_recursion, Contains-append_left}
 use Rattle.std.proofs.lemmas.List.Sorted.{IsPermutation-map}
-use Rattle.covline.specs.Row.{SubmissionData, Row, rows_of, items_in}
+use Rattle.covdata.specs.Row.{SubmissionData, Row, rows_of, items_in}
 use Rattle.covtable.specs.Clash.{Checksum, ClashData, Agree, checksum_of_row, checksums_in, first_clash}
 use Rattle.covtable.specs.Content.{SectionData, content_at}
 use Rattle.covtable.specs.Table.{Table, all_rows, clash_at}

@@ -2,7 +2,7 @@
 use Rattle.std.proofs.Common.{◌≡◌, ℕ, ◌+◌, ◌<◌, ◌≤◌, List, [], ◌∷◌, ◌++◌, length, None, refl, sym, ap, ◌∙◌, subst, arith}
 use Rattle.std.proofs.lemmas.List.{map_push, length_push}
 use Rattle.covtable.specs.declared.totals.Totals.{Totals}
-use Rattle.covline.specs.Row.{SubmissionData, items_in, rows_of}
+use Rattle.covdata.specs.Row.{SubmissionData, items_in, rows_of}
 use Rattle.covtable.specs.Renamed.{renamed}
 use Rattle.covstore.specs.Renaming.{RenamingData, IsRenamingOf}
 use Rattle.covstore.specs.Store.{StoreData, PlanData, IsPlanOf, SameContent, StandsFor}

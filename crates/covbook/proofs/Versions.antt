@@ -1,7 +1,7 @@
 -- Tables of runs have no two different checksums of one line of a file.
 use Rattle.std.proofs.Common.{◌≡◌, List, [], ◌∷◌, ◌++◌, refl}
 use Rattle.std.specs.Prelude.{ℕ, Bool, true, false, Option, Some, None}
-use Rattle.covline.specs.Row.{SubmissionData, rows_of}
+use Rattle.covdata.specs.Row.{SubmissionData, rows_of}
 use Rattle.covtable.specs.Clash.{ClashData, Agree, checksums_in}
 use Rattle.covtable.specs.Renamed.{renamed}
 use Rattle.covtable.specs.Table.{Table, all_rows, clash_at}

@@ -1,8 +1,8 @@
 -- Operations, answers, entries of a history and receipts, as plain data.
 use Rattle.std.specs.Prelude.{ℕ, List}
 use Rattle.std.specs.List.{AllByRecursion}
-use Rattle.covline.specs.Lawful.{IsGoodTest, IsLawful}
-use Rattle.covline.specs.Row.{SubmissionData}
+use Rattle.covdata.specs.Lawful.{IsGoodTest, IsLawful}
+use Rattle.covdata.specs.Row.{SubmissionData}
 use Rattle.covtable.specs.declared.totals.Totals.{Totals}
 use Rattle.covtable.specs.Clash.{ClashData}
 

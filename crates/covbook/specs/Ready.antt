@@ -1,6 +1,6 @@
 -- A step in two halves: what the first half leaves for the second half, and when the second half may be taken.
 use Rattle.std.specs.Prelude.{◌≡◌, ℕ, ◌<◌, List, [], ◌∷◌, ◌++◌, length}
-use Rattle.covline.specs.Row.{SubmissionData, rows_of}
+use Rattle.covdata.specs.Row.{SubmissionData, rows_of}
 use Rattle.covtable.specs.declared.totals.Totals.{Totals}
 use Rattle.covstore.specs.Store.{StoreData, PlanData, IsPlanOf}
 use Rattle.covtable.specs.Renamed.{renamed}

@@ -1,7 +1,7 @@
 -- One step of the plain table of counts, and whole runs of steps.
 use Rattle.std.specs.Prelude.{◌≡◌, ℕ, ◌+◌, Bool, true, false, List, [], ◌∷◌, ◌++◌, length, Option, Some, None, map}
 use Rattle.std.specs.List.{list_any}
-use Rattle.covline.specs.Row.{SubmissionData, rows_of, items_in}
+use Rattle.covdata.specs.Row.{SubmissionData, rows_of, items_in}
 use Rattle.covtable.specs.declared.totals.Totals.{Totals}
 use Rattle.covtable.specs.Clash.{ClashData}
 use Rattle.covtable.specs.Content.{content_at}

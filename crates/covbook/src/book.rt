@@ -7,7 +7,7 @@ use crate::op::{Answer, Op};
 use crate::ready::{Change, Ready};
 use crate::shared::TextRef;
 use crate::submitted::Submitted;
-use covline::{Bytes, Memory};
+use covdata::{Bytes, Memory};
 use covreport::{Choice, Printing, summary_text, trace_text};
 use covstore::{Plan, Renaming, Store};
 use covtable::laws::renaming_keeps_totals;

@@ -1,7 +1,7 @@
 //! Entries, receipts, and lists of both.
 
 use crate::op::{Answer, Op};
-use covline::Memory;
+use covdata::Memory;
 use covtable::Totals;
 use std::alloc::{Allocator, Global};
 use std::marker::Model;

@@ -1,6 +1,6 @@
 //! Readings of the totals, and lists of readings.
 
-use covline::Memory;
+use covdata::Memory;
 use covtable::Totals;
 use std::alloc::{Allocator, Global};
 use std::marker::Model;

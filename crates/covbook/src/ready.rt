@@ -1,7 +1,7 @@
 //! Steps that are ready to be finished.
 
 use crate::entry::{Entry, Receipt};
-use covline::Bytes;
+use covdata::Bytes;
 use covstore::{Plan, Renaming};
 use covtable::Totals;
 use std::alloc::{Allocator, Global};

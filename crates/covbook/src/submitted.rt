@@ -2,7 +2,7 @@
 
 use crate::op::Op;
 use crate::shared::{PackedRef, SubRef};
-use covline::Memory;
+use covdata::Memory;
 use covstore::{Plan, Store};
 use covtable::Refuse;
 use std::alloc::Allocator;
@@ -10,8 +10,8 @@ use std::alloc::Allocator;
 /// A shared submission, packed or not. Contracts see the submission.
 pub(crate) trait Submitted<A: Allocator + Copy> {
     ghost use Rattle.std.specs.Prelude.{◌≡◌, ◌≢◌, ◌<◌, ◌++◌, [], ◌∷◌, None, IfErr, IfOk, OnErr};
-    ghost use Rattle.covline.specs.Lawful.{IsLawful};
-    ghost use Rattle.covline.specs.Row.{SubmissionData, items_in, rows_of};
+    ghost use Rattle.covdata.specs.Lawful.{IsLawful};
+    ghost use Rattle.covdata.specs.Row.{SubmissionData, items_in, rows_of};
     ghost use Rattle.covtable.specs.Content.{content_at};
     ghost use Rattle.covtable.specs.RefuseView.{refuse_data};
     ghost use Rattle.covstore.specs.Store.{IsPlanOf, SameContent, StandsFor, max_members};

@@ -1,6 +1,6 @@
 -- The result of a check fits what its reader returned.
 use Rattle.std.proofs.Common.{◌≡◌, ◌⊎◌, inl, inr, ℕ, List, Result, Ok, Err, refl, sym, ap, subst, ◌∙◌}
-use Rattle.covline.specs.Row.{SubmissionData}
+use Rattle.covdata.specs.Row.{SubmissionData}
 use Rattle.covread.specs.Outcome.{IsOrMemory}
 use Rattle.covread.specs.declared.fault.ReadFault.{ReadFault}
 use Rattle.covread.specs.declared.fault.ReadFault.TheVariants.{Memory}

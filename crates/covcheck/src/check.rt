@@ -1,7 +1,7 @@
 //! Checks one input.
 
 ghost use Rattle.std.specs.Prelude.{◌≡◌, ◌⊎◌, [], Result, Err};
-ghost use Rattle.covline.specs.Row.{SubmissionData};
+ghost use Rattle.covdata.specs.Row.{SubmissionData};
 ghost use Rattle.covread.specs.declared.fault.ReadFault.{ReadFault as Fault};
 ghost use Rattle.covread.specs.declared.fault.ReadFault.TheVariants.{Memory as NoMemory};
 ghost use Rattle.covread.specs.Outcome.{Answers, GrowsLate, IsOutcome};

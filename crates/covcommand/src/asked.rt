@@ -1,7 +1,7 @@
 //! A parsed command line.
 
 use crate::names::Names;
-use covline::{Bytes, LcovVersion};
+use covdata::{Bytes, LcovVersion};
 
 /// A parsed command line: the command, its strictness, its size limit for tracefiles, and its output file.
 #[derive(Drop)]

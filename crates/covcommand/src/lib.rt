@@ -29,7 +29,7 @@ mod word;
 pub use asked::{
     Asked, Command, Limits, SourceFilter, Strictness, TextFormat, TextSize, TotalsForm,
 };
-pub use covline::LcovVersion;
+pub use covdata::LcovVersion;
 pub use fault::CommandFault;
 pub use help::VERSION;
 pub use laws::{

@@ -16,7 +16,7 @@ use crate::described::described;
 use crate::fault::CommandFault;
 use crate::names::Names;
 use clap::ArgMatches;
-use covline::{Bytes, LcovVersion, Memory};
+use covdata::{Bytes, LcovVersion, Memory};
 use std::alloc::Global;
 
 /// Parses the arguments `words`. The first one is the program's name.

@@ -4,7 +4,7 @@ use Rattle.std.specs.Prelude.{IsSomeAnd}
 use Rattle.std.proofs.lemmas.List.Concat.{flat_map-append}
 use Rattle.std.specs.List.{AllByRecursion, range_with_len, flat_map}
 use Rattle.std.specs.List.Sorted.{IsPermutation}
-use Rattle.covline.specs.Row.{SubmissionData}
+use Rattle.covdata.specs.Row.{SubmissionData}
 use Rattle.covbook.specs.Gather.{LogData, places_in, places_of, IsReceiptOf, IsLogOf}
 use Rattle.covbook.specs.Op.{EntryData, ReceiptData}
 use Rattle.covbook.specs.Order.{submission_of, submissions_in}

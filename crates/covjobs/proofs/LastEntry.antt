@@ -7,7 +7,7 @@ use Rattle.std.proofs.lemmas.List.Concat.{flat_map-append}
 use Rattle.std.proofs.lemmas.List.Sorted.{IsPermutation-sym, IsPermutation-trans}
 use Rattle.std.specs.List.{AllByRecursion, range_with_len, flat_map}
 use Rattle.std.specs.List.Sorted.{IsPermutation}
-use Rattle.covline.specs.Row.{SubmissionData}
+use Rattle.covdata.specs.Row.{SubmissionData}
 use Rattle.covbook.specs.Gather.{LogData, places_of, places_in, IsReceiptOf, IsLogOf, IsMerge}
 use Rattle.covbook.specs.Op.{OpData, SubmitOp, DropTestOp, RenameOp, ReportOp, ExtractOp, RemoveOp, SummaryOp, EntryData, ReceiptData}
 use Rattle.covbook.specs.Order.{AreAgreeing, AreTheSame, OnlySubmitsAndAsks, SubmitsOrAsks, submission_of, submissions_in}

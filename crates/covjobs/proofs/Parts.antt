@@ -6,7 +6,7 @@ use Rattle.std.specs.Result.{result_err}
 use Rattle.std.proofs.lemmas.List.{append-nil}
 use Rattle.std.proofs.lemmas.List.Sums.{sum_by-cons}
 use Rattle.std.proofs.lemmas.Option.{none-some}
-use Rattle.covline.specs.Row.{SubmissionData}
+use Rattle.covdata.specs.Row.{SubmissionData}
 use Rattle.covbook.specs.declared.book.BookFault.{BookFault}
 use Rattle.covbook.specs.Op.{OpData, SubmitOp}
 use Rattle.covjobs.specs.declared.late_fault.LateFault.{LateFault}

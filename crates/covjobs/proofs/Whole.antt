@@ -6,7 +6,7 @@ use Rattle.std.proofs.Math.Dec.{eqb}
 use Rattle.std.proofs.lemmas.Bool.{eq-eqb, false≢true}
 use Rattle.std.proofs.lemmas.Bool.Decides.{eqb_tells}
 use Rattle.std.proofs.lemmas.Nat.{mod_below}
-use Rattle.covline.specs.Row.{SubmissionData}
+use Rattle.covdata.specs.Row.{SubmissionData}
 use Rattle.covbook.specs.Op.{SubmitOp}
 use Rattle.covjobs.specs.Collect.{AreOutcomes, HasRead, submitted, refusal, places_of_job, submissions_of, refusals_of, ops_in}
 use Rattle.covlock.specs.Seat.{fresh_seat}

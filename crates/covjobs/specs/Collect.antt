@@ -2,8 +2,8 @@
 -- all submissions there is one last operation (lcov(1), --add-tracefile, for many files at once).
 use Rattle.std.specs.Prelude.{◌≡◌, ◌⊎◌, ◌==◌, ℕ, zero, suc, ◌<◌, ◌≤◌, ◌%◌, if◌then◌else◌, Bool, true, false, List, [], ◌∷◌, ◌++◌, length, map, slice_get, IsSomeAnd, Option, None, Some, Result, Ok, Err}
 use Rattle.std.specs.List.{AllByRecursion, range_with_len}
-use Rattle.covline.specs.Lawful.{IsGoodTest}
-use Rattle.covline.specs.Row.{SubmissionData}
+use Rattle.covdata.specs.Lawful.{IsGoodTest}
+use Rattle.covdata.specs.Row.{SubmissionData}
 use Rattle.covread.specs.declared.fault.ReadFault.{ReadFault}
 use Rattle.covread.specs.declared.fault.ReadFault.TheVariants as faults
 use Rattle.covread.specs.Outcome as trace

@@ -1,5 +1,5 @@
 -- What a worker submits, as plain data.
-use Rattle.covline.specs.Row.{SubmissionData}
+use Rattle.covdata.specs.Row.{SubmissionData}
 use Rattle.covjobs.specs.declared.given.Form.{Form}
 use Rattle.covjobs.specs.declared.given.Form.TheVariants.{Plain, Packed}
 

@@ -1,7 +1,7 @@
 -- Inputs that are read when their turn comes, each in one part or in several, and what is collected of them in a book.
 use Rattle.std.specs.List.{AllByRecursion, sum_by}
 use Rattle.std.specs.Prelude.{ℕ, ◌<◌, ◌≤◌, List, [], ◌∷◌, ◌++◌, length, take, slice_get, IsSomeAnd, None, Some, Result, Ok, Err}
-use Rattle.covline.specs.Row.{SubmissionData}
+use Rattle.covdata.specs.Row.{SubmissionData}
 use Rattle.covbook.specs.Gather.{LogData}
 use Rattle.covbook.specs.Op.{OpData, EntryData}
 use Rattle.covbook.specs.Step.{max_entries, next_entry}

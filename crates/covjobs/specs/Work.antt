@@ -1,7 +1,7 @@
 -- One step of a worker, and what all workers have done.
 use Rattle.std.specs.Prelude.{◌≡◌, ◌⊎◌, ℕ, ◌+◌, ◌<◌, ◌≤◌, Bool, true, false, IsTrue, List, [], ◌∷◌, ◌++◌, length, map, slice_get, IsSomeAnd, IfSome, Option, None, Some, Result, Ok, Err}
 use Rattle.std.specs.List.{AllByRecursion, Contains, flat_map}
-use Rattle.covline.specs.Row.{SubmissionData}
+use Rattle.covdata.specs.Row.{SubmissionData}
 use Rattle.covbook.specs.declared.book.BookFault.{BookFault}
 use Rattle.covbook.specs.declared.reading.Reading.{Reading}
 use Rattle.covbook.specs.Gather.{LogData}

@@ -3,7 +3,7 @@
 use crate::collect_fault::CollectFault;
 use crate::stop::Stop;
 use covbook::{BookFault, GatherFault, MAX_ENTRIES};
-use covline::Memory;
+use covdata::Memory;
 use covlock::OpenFault;
 use thiserror::Error;
 

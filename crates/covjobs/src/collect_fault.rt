@@ -1,7 +1,7 @@
 //! Why inputs couldn't be collected.
 
 use covbook::{BookFault, GatherFault};
-use covline::Memory;
+use covdata::Memory;
 use covlock::OpenFault;
 use thiserror::Error;
 

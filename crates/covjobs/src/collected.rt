@@ -11,7 +11,7 @@ use crate::refused::Refused;
 use crate::worker::Worker;
 use covbook::laws::{a_run_goes_on, order_does_not_matter};
 use covbook::{Entries, Logs, Op, gather};
-use covline::Memory;
+use covdata::Memory;
 use covlock::{Name, Seats, Start, open_book};
 use covread::ReadFault;
 use std::alloc::Global;

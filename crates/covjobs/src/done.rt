@@ -18,7 +18,7 @@ use crate::stop::{Refusal, Stop, both, lesser, worst};
 use crate::worker::Worker;
 use crate::workers::do_all_work;
 use covbook::{BookFault, Entry, Keep, Op, Receipt};
-use covline::Memory;
+use covdata::Memory;
 use covlock::{Name, Seats, Shared};
 use std::alloc::Global;
 use std::sync::Wait;

@@ -19,7 +19,7 @@ enum Form<A: Allocator> {
 
 impl<A: Allocator> Model for Given<A> {
     ghost use Rattle.covjobs.specs.GivenView.{form_data};
-    ghost use Rattle.covline.specs.Row.{SubmissionData};
+    ghost use Rattle.covdata.specs.Row.{SubmissionData};
 
     ghost Value = { SubmissionData };
 

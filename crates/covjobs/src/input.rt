@@ -1,8 +1,8 @@
 //! Inputs that are in memory.
 
 use covbook::{PackedRef, SubRef};
+use covdata::{Bytes, Submission};
 use covlcov2::{read_lcov2, read_lcov2_packed};
-use covline::{Bytes, Submission};
 use covpacked::PackedSubmission;
 use covread::{ReadFault, read_gcov, read_gcov_packed, read_trace, read_trace_packed};
 use std::alloc::{Allocator, Global};

@@ -10,7 +10,7 @@ use crate::refused::Refused;
 use crate::worker::Worker;
 use covbook::laws::{a_run_goes_on, calls_count_a_history, order_does_not_matter};
 use covbook::{Answered, Book, BookFault, Receipt};
-use covline::Memory;
+use covdata::Memory;
 use covlock::{Name, News, Seats, Start, open_book_keeping};
 use covread::ReadFault;
 use std::alloc::Global;

@@ -1,6 +1,6 @@
 //! Rejected inputs.
 
-use covline::Memory;
+use covdata::Memory;
 use covread::ReadFault;
 use std::alloc::{Allocator, Global};
 use std::marker::Model;

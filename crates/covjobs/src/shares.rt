@@ -3,7 +3,7 @@
 ghost use Rattle.std.specs.Prelude.{◌≡◌, ◌++◌, [], ◌∷◌, ◌<◌, map, replicate, vec_len, slice_set, slice_index_or, IfOk, OnOk};
 ghost use Rattle.covjobs.specs.Shares.{shares_of};
 
-use covline::Memory;
+use covdata::Memory;
 use std::alloc::Global;
 use std::snapshot::Snapshot;
 

@@ -1,7 +1,7 @@
 //! Why and where a worker stops early.
 
 use covbook::BookFault;
-use covline::Memory;
+use covdata::Memory;
 
 /// Why a worker has no result.
 #[derive(Clone, Copy)]

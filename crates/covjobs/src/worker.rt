@@ -10,7 +10,7 @@ use crate::refused::{Refused, RefusedInput};
 use crate::shares::Placed;
 use crate::stop::{Refusal, Stop};
 use covbook::{BookFault, Entry, JobLog, Keep, Op, Readings, Receipt, Receipts};
-use covline::Memory;
+use covdata::Memory;
 use covlock::{Done, Live, Name, News, Seat, Shared};
 use covread::ReadFault;
 use std::alloc::{Allocator, Global};

@@ -15,7 +15,7 @@ use crate::shares::Placed;
 use crate::stop::Stop;
 use crate::worker::{Worker, work};
 use covbook::{Entry, Keep, Receipt};
-use covline::Memory;
+use covdata::Memory;
 use covlock::{Name, Seats, Shared};
 use std::alloc::Global;
 use std::marker::Model;

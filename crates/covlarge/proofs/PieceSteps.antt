@@ -2,10 +2,10 @@
 use Rattle.std.proofs.Common.{◌≡◌, ℕ, ◌+◌, ◌-◌, ◌^◌, ◌<◌, ◌≤◌, List, [], ◌∷◌, ◌++◌, length, take, drop, Option, Ok, Err, sym, ap, subst, ◌∙◌, length-drop, length-take, take-append-drop, arith}
 use Rattle.std.proofs.Math.Seq.{take-length}
 use Rattle.std.specs.Io.KnownBytes.{Consumes, IsAtEnd}
-use Rattle.covline.specs.declared.version.LcovVersion.{LcovVersion}
+use Rattle.covdata.specs.declared.version.LcovVersion.{LcovVersion}
 use Rattle.covline.proofs.Cut.{length-lines}
 use Rattle.covline.specs.Lines.{lines_of}
-use Rattle.covline.specs.Row.{SectData, SubmissionData}
+use Rattle.covdata.specs.Row.{SectData, SubmissionData}
 use Rattle.covpieces.specs.Pieces.{CarriedData, front_text}
 use Rattle.covpieces.specs.Sections.{EndsSection}
 use Rattle.covread.specs.Outcome.{max_bytes}

@@ -4,10 +4,10 @@ use Rattle.std.proofs.lemmas.List.{take-append-le, length-take-le}
 use Rattle.std.proofs.lemmas.Bool.{cases_order}
 use Rattle.std.specs.List.{concat}
 use Rattle.std.specs.Io.KnownBytes.{Consumes, IsAtEnd}
-use Rattle.covline.specs.declared.version.LcovVersion.{LcovVersion}
-use Rattle.covline.specs.declared.version.LcovVersion.TheVariants.{One, Two}
+use Rattle.covdata.specs.declared.version.LcovVersion.{LcovVersion}
+use Rattle.covdata.specs.declared.version.LcovVersion.TheVariants.{One, Two}
 use Rattle.covline.specs.Lines.{lines_of}
-use Rattle.covline.specs.Row.{SectData, SubmissionData}
+use Rattle.covdata.specs.Row.{SectData, SubmissionData}
 use Rattle.covpieces.proofs.InPieces.{joined_nothing}
 use Rattle.covpieces.specs.Pieces.{CarriedData, HaveBeenRead, all_of, front_text, joined}
 use Rattle.covpieces.specs.Sections.{EndsSection}

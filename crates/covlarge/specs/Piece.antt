@@ -1,13 +1,13 @@
 -- Private steps: how one piece is read after others.
 use Rattle.std.specs.Prelude.{◌≡◌, ℕ, List, ◌++◌, Option, Result, Ok, Err}
-use Rattle.covline.specs.declared.version.LcovVersion.{LcovVersion}
-use Rattle.covline.specs.declared.version.LcovVersion.TheVariants.{One, Two}
+use Rattle.covdata.specs.declared.version.LcovVersion.{LcovVersion}
+use Rattle.covdata.specs.declared.version.LcovVersion.TheVariants.{One, Two}
 use Rattle.covlarge.specs.Summary.{HoldsOnIfTold, SummaryData}
 use Rattle.covlarge.specs.Version.{IsOutcomeOf, IsSkippedOf}
 use Rattle.covlarge.specs.declared.fault.PieceFault.{PieceFault}
 use Rattle.covlarge.specs.declared.fault.PieceFault.TheVariants.{Refused, Unreadable, Memory}
 use Rattle.covlcov2.specs.Outcome as lcov2
-use Rattle.covline.specs.Row.{SubmissionData}
+use Rattle.covdata.specs.Row.{SubmissionData}
 use Rattle.covpieces.specs.Pieces.{CarriedData, told}
 use Rattle.covread.specs.Outcome as trace
 use Rattle.covread.specs.declared.fault.ReadFault.{ReadFault}

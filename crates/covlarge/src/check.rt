@@ -6,7 +6,7 @@ ghost use Rattle.covlarge.specs.State.{IsChecked};
 use crate::fault::PieceFault;
 use crate::held::Held;
 use crate::large_tracefile::{LargeTracefile, NextPiece};
-use covline::LcovVersion;
+use covdata::LcovVersion;
 use covstream::Source;
 use std::alloc::Global;
 

@@ -1,6 +1,6 @@
 //! Why reading of a tracefile stopped.
 
-use covline::Memory;
+use covdata::Memory;
 use covread::ReadFault;
 use covstream::BlockFault;
 use std::alloc::AllocError;

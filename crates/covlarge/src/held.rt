@@ -6,7 +6,7 @@ ghost use Rattle.covlarge.specs.Summary.{HoldsOn, nothing_held, skipped_data, su
 ghost use Rattle.covlarge.specs.Version.{IsSkippedOf};
 
 use covcheck::{Format, SkippedLine, TextSummary, summary_of};
-use covline::{Bytes, LcovVersion, Memory};
+use covdata::{Bytes, LcovVersion, Memory};
 use covpacked::PackedSubmission;
 use std::alloc::Global;
 use std::marker::Model;

@@ -4,7 +4,7 @@ ghost use Rattle.std.specs.Prelude.{◌≡◌, ℕ, List, [], ◌∷◌, None, S
 ghost use Rattle.covlarge.specs.Large.{MayBeReadAs, max_pieces};
 ghost use Rattle.covlarge.specs.State.{IsNextPiece, MayGive, begun_state};
 ghost use Rattle.covlarge.specs.Summary.{SummaryData, nothing_held};
-ghost use Rattle.covline.specs.Row.{SubmissionData};
+ghost use Rattle.covdata.specs.Row.{SubmissionData};
 ghost use Rattle.covpieces.specs.Pieces.{front_text};
 ghost use Rattle.covread.specs.declared.fault.ReadFault.{ReadFault as Fault};
 
@@ -12,7 +12,7 @@ use crate::fault::PieceFault;
 use crate::held::Held;
 use crate::piece_text::{Found, PieceText};
 use crate::so_far::SoFar;
-use covline::{Bytes, LcovVersion, Memory};
+use covdata::{Bytes, LcovVersion, Memory};
 use covpacked::PackedSubmission;
 use covpieces::{Carried, pieces_are_read_one_by_one};
 use covread::ReadFault;

@@ -6,7 +6,7 @@ ghost use Rattle.covpieces.specs.Pieces.{front_text};
 ghost use Rattle.covread.specs.Outcome.{max_bytes};
 ghost use Rattle.covstream.specs.Blocks.{IsReadFault};
 
-use covline::{Bytes, Memory};
+use covdata::{Bytes, Memory};
 use covpieces::{Carried, whole_sections};
 use covread::MAX_BYTES;
 use covstream::{BlockFault, Source, read_at_most};

@@ -3,8 +3,8 @@
 ghost use Rattle.std.specs.Prelude.{None};
 
 use covcheck::summary_line;
+use covdata::LcovVersion;
 use covlarge::{Held, LargeTracefile, NextPiece, PieceFault, check_large};
-use covline::LcovVersion;
 use covpacked::PackedSubmission;
 use covstream::{Failed, Source};
 use std::alloc::Global;

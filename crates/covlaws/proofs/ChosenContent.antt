@@ -1,7 +1,7 @@
 -- The sections of the chosen files, in the content of some rows, are the content of the rows of these files.
 use Rattle.std.proofs.Common.{◌≡◌, List, sym}
 use Rattle.std.specs.Prelude.{filter}
-use Rattle.covline.specs.Row.{Row}
+use Rattle.covdata.specs.Row.{Row}
 use Rattle.covtable.specs.Content.{content_of}
 use Rattle.covreport.specs.Choice.{ChoiceData, is_chosen}
 use Rattle.covtable.proofs.WithoutContent.{content_picked}

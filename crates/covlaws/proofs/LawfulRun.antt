@@ -4,10 +4,10 @@ use Rattle.std.specs.List.{AllByRecursion, flat_map}
 use Rattle.std.specs.Str.{bytes_eq}
 use Rattle.std.proofs.lemmas.List.Elements.{filter-append, recursion_from_All}
 use Rattle.covtable.specs.Clash.{ClashData}
-use Rattle.covline.specs.Lawful.{AllFit, IsGoodName, IsGoodTest, IsLawful, IsLawfulItem, IsLawfulSect}
+use Rattle.covdata.specs.Lawful.{AllFit, IsGoodName, IsGoodTest, IsLawful, IsLawfulItem, IsLawfulSect}
 use Rattle.covbook.specs.Op.{OpData, SubmitOp, DropTestOp, RenameOp, ReportOp, ExtractOp, RemoveOp, SummaryOp, AreLawfulOps, IsLawfulOp, HasGoodName, HaveGoodNames}
 use Rattle.covlaws.specs.Printable.{IsLawfulRow}
-use Rattle.covline.specs.Row.{ItemData, Row, SectData, SubmissionData, rows_of, rows_of_sect}
+use Rattle.covdata.specs.Row.{ItemData, Row, SectData, SubmissionData, rows_of, rows_of_sect}
 use Rattle.covbook.specs.Step.{has_test, table_after, table_after_drop, table_after_rename, table_after_submit, table_from, table_of}
 use Rattle.covtable.specs.Renamed.{renamed_row}
 use Rattle.covtable.specs.Table.{Table, all_rows, clash_at}

@@ -10,14 +10,14 @@ use Rattle.std.proofs.lemmas.List.Sorted.{IsPermutation-append_comm}
 use Rattle.covreport.specs.Choice.{AllFiles, Extracted, Removed}
 use Rattle.covtable.specs.Clash.{Agree, Checksum, checksum_of_row, checksums_in}
 use Rattle.covtable.specs.Content.{SectionData, content_at, content_of}
-use Rattle.covline.specs.Lawful.{IsLawful}
+use Rattle.covdata.specs.Lawful.{IsLawful}
 use Rattle.covline.specs.LineLaws.{OneAfterOther, PrintedSpells}
 use Rattle.covbook.specs.Op.{OpData, SubmitOp, DropTestOp, RenameOp, ReportOp, ExtractOp, RemoveOp, SummaryOp, TextAnswer}
 use Rattle.covbook.specs.Order.{AreAgreeing}
 use Rattle.covlaws.specs.Printable.{IsLawfulRow, submission_shown}
 use Rattle.covlaws.specs.ReadsBack.{AreMergesOf, IsMergeOf, IsReadAs}
 use Rattle.covreport.specs.Report.{report_text, section_text}
-use Rattle.covline.specs.Row.{Row, SubmissionData, rows_of}
+use Rattle.covdata.specs.Row.{Row, SubmissionData, rows_of}
 use Rattle.covread.specs.declared.fault.ReadFault.{ReadFault}
 use Rattle.covread.specs.Outcome.{IsOutcome, max_bytes}
 use Rattle.covbook.specs.Step.{answer_of, table_of}

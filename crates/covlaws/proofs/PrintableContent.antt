@@ -6,9 +6,9 @@ use Rattle.std.specs.List.Sorted.{IsStrictlySortedBy}
 use Rattle.std.proofs.lemmas.Bool.{eqb-true}
 use Rattle.covtable.specs.Clash.{Agree, Checksum, checksum_of, checksum_of_row, checksums_in}
 use Rattle.covtable.specs.Content.{content_of, section_of}
-use Rattle.covline.specs.Lawful.{FitsItem, IsLawfulItem}
+use Rattle.covdata.specs.Lawful.{FitsItem, IsLawfulItem}
 use Rattle.covlaws.specs.Printable.{IsLawfulRow, IsPrintable, IsPrintableSection, items_shown, sect_shown, submission_shown}
-use Rattle.covline.specs.Row.{ItemData, LineItem, FuncItem, BranchItem, Row, rows_of, rows_of_sect}
+use Rattle.covdata.specs.Row.{ItemData, LineItem, FuncItem, BranchItem, Row, rows_of, rows_of_sect}
 use Rattle.covtable.specs.Value.{Key, checksum_said, has_key, items_at, key_cmp, key_of_row, keys_of, line_checksum, line_value}
 use Rattle.covtable.proofs.ContentsChecksums.{own_row}
 use Rattle.covtable.proofs.WithoutContent.{All-picked}

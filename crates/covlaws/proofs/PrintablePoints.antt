@@ -11,11 +11,11 @@ use Rattle.std.specs.Str.{bytes_eq}
 use Rattle.std.proofs.Math.Nat.{min-le_left, min-le_right}
 use Rattle.std.proofs.lemmas.Option.{same_Some, none-some}
 use Rattle.covtable.specs.Content.{FunctionValueData, SectionData, function_at, branch_at, line_at, section_with}
-use Rattle.covline.specs.Lawful.{AllFit, FitsItem, IsChecksum, IsGoodName, IsLawfulItem}
-use Rattle.covline.specs.Points.{BranchPoint, line_point, func_point, branch_point, line_points, func_points, branch_points, least}
+use Rattle.covdata.specs.Lawful.{AllFit, FitsItem, IsChecksum, IsGoodName, IsLawfulItem}
+use Rattle.covdata.specs.Points.{BranchPoint, line_point, func_point, branch_point, line_points, func_points, branch_points, least}
 use Rattle.covlaws.specs.Printable.{HasPointsInOrder, start_item, call_item, branch_item, line_item, items_shown}
 use Rattle.covreport.specs.Report.{put_in, sorted, function_cmp, by_start}
-use Rattle.covline.specs.Row.{ItemData, LineItem, FuncItem, BranchItem}
+use Rattle.covdata.specs.Row.{ItemData, LineItem, FuncItem, BranchItem}
 use Rattle.covtable.specs.Value.{Key, bounded, branch_cmp, branches_in, checksum_said, first_of, function_start, line_checksum, line_value, lines_in, names_in, start_said, sum_if_any, taken_said}
 use Rattle.covtable.proofs.Members.{In, All-in, All-from, All-joined}
 use Rattle.covlaws.proofs.Mapped.{All-mapped, In-some}

@@ -14,7 +14,7 @@ use Rattle.covlaws.specs.Printable.{IsLawfulRow, IsPrintable, submission_shown}
 use Rattle.covread.specs.Reads.{Reads}
 use Rattle.covlaws.specs.ReadsBack.{IsReport, ReadsBack}
 use Rattle.covreport.specs.Report.{report_text, section_text}
-use Rattle.covline.specs.Row.{Row, SubmissionData, items_in, rows_of}
+use Rattle.covdata.specs.Row.{Row, SubmissionData, items_in, rows_of}
 use Rattle.covbook.specs.Step.{answer_of, answer_to_submit, table_after_submit, table_of}
 use Rattle.covtable.specs.Table.{Table, all_rows, clash_at}
 use Rattle.covlaws.proofs.ChosenContent.{chosen_content}

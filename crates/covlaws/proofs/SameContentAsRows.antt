@@ -2,7 +2,7 @@
 use Rattle.std.proofs.Common.{◌≡◌, List, ◌++◌}
 use Rattle.covtable.specs.Content.{content_of}
 use Rattle.covlaws.specs.Printable.{submission_shown}
-use Rattle.covline.specs.Row.{Row, rows_of}
+use Rattle.covdata.specs.Row.{Row, rows_of}
 use Rattle.covtable.proofs.Contents.{content-append}
 use Rattle.covlaws.proofs.ShownRows.{content_shown}
 

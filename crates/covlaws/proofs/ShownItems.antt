@@ -13,7 +13,7 @@ use Rattle.std.proofs.lemmas.List.Sums.{sum_by-append}
 use Rattle.covtable.specs.Content.{FunctionValueData, BranchValueData, LineValueData, SectionData}
 use Rattle.covlaws.specs.Printable.{start_item, call_item, branch_item, line_item, items_shown}
 use Rattle.covreport.specs.Report.{put_in, sorted, function_cmp, by_start}
-use Rattle.covline.specs.Row.{ItemData}
+use Rattle.covdata.specs.Row.{ItemData}
 use Rattle.covtable.proofs.Alike.{AreAlike, alike_permuted, sum_by-map}
 use Rattle.covlaws.proofs.ShownLists.{flat_nothing, sum_nothing}
 

@@ -4,14 +4,15 @@ use Rattle.std.specs.Prelude.{nat_lt}
 use Rattle.std.specs.List.{flat_map, AllByRecursion}
 use Rattle.std.proofs.lemmas.List.Concat.{flat_map-append}
 use Rattle.std.proofs.lemmas.List.Sums.{count_by-le-length}
-use Rattle.covline.specs.declared.trace_line.TotalKind.{TotalKind}
-use Rattle.covline.specs.declared.trace_line.TotalKind.TheVariants.{FuncFound, FuncHit, BranchFound, BranchHit, LineFound, LineHit}
-use Rattle.covline.specs.Row.{ItemData, LineItem, BranchItem}
-use Rattle.covline.specs.Lawful.{IsLawfulItem, FitsItem}
-use Rattle.covline.specs.Lines.{line_feed, lines_of}
+use Rattle.covdata.specs.declared.trace_line.TotalKind.{TotalKind}
+use Rattle.covdata.specs.declared.trace_line.TotalKind.TheVariants.{FuncFound, FuncHit, BranchFound, BranchHit, LineFound, LineHit}
+use Rattle.covdata.specs.Row.{ItemData, LineItem, BranchItem}
+use Rattle.covdata.specs.Lawful.{IsLawfulItem, FitsItem}
+use Rattle.covdata.specs.Delimiters.{line_feed}
+use Rattle.covline.specs.Lines.{lines_of}
 use Rattle.covline.specs.LineLaws.{OneAfterOther, PrintedSpells}
-use Rattle.covline.specs.Spells.{LineData, Test, Path, FuncStart, FuncCount, Branch, Line, Total, End, Skip}
-use Rattle.covline.specs.Printed.{line_text, printed, IsReadable}
+use Rattle.covdata.specs.Records.{LineData, Test, Path, FuncStart, FuncCount, Branch, Line, Total, End, Skip}
+use Rattle.covdata.specs.Printed.{line_text, printed, IsReadable}
 use Rattle.covread.specs.Reads.{AllSpell}
 use Rattle.covtable.specs.Value.{is_taken}
 use Rattle.covtable.specs.Content.{FunctionValueData, SectionData}

@@ -10,7 +10,7 @@ use Rattle.std.specs.Cmp.Lexicographic.{slice_cmp}
 use Rattle.std.specs.Str.{bytes_eq}
 use Rattle.std.proofs.lemmas.Cmp.{nat_list_eq_equiv}
 use Rattle.std.proofs.lemmas.Map.Text.{is_eq-slice_cmp}
-use Rattle.covline.specs.Points.{BranchPoint}
+use Rattle.covdata.specs.Points.{BranchPoint}
 use Rattle.covtable.specs.Value.{branch_cmp}
 use Rattle.covread.specs.Reads.{branch_eq}
 use Rattle.covtable.specs.Content.{FunctionValueData, BranchValueData, LineValueData, SectionData}

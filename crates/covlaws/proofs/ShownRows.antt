@@ -6,7 +6,7 @@ use Rattle.std.proofs.lemmas.Bool.{cond-true}
 use Rattle.std.proofs.lemmas.List.Folds.{flat_map-map}
 use Rattle.covtable.specs.Content.{SectionData, section_with, section_of, content_of}
 use Rattle.covlaws.specs.Printable.{items_shown, sect_shown, submission_shown}
-use Rattle.covline.specs.Row.{ItemData, Row, rows_of_sect, rows_of}
+use Rattle.covdata.specs.Row.{ItemData, Row, rows_of_sect, rows_of}
 use Rattle.covtable.specs.Value.{Key, key_cmp, key_of_row, keys_of, has_key, items_at}
 use Rattle.covtable.proofs.ContentsChecksums.{own_row}
 use Rattle.covtable.proofs.Ascend.{ascending_sorted, In-ascending}

@@ -3,11 +3,11 @@ use Rattle.std.proofs.Common.{◌≡◌, ℕ, ◌+◌, ◌<◌, ◌≤◌, ◌^�
 use Rattle.std.specs.List.{flat_map, AllByRecursion}
 use Rattle.std.proofs.lemmas.List.{length-map}
 use Rattle.std.proofs.lemmas.List.Sums.{sum_by-cons}
-use Rattle.covline.specs.declared.trace_line.TotalKind.TheVariants.{FuncFound, FuncHit, BranchFound, BranchHit}
-use Rattle.covline.specs.Row.{ItemData, SectData, items_in}
-use Rattle.covline.specs.Lines.{line_feed}
-use Rattle.covline.specs.Spells.{LineData, Test, Path, End}
-use Rattle.covline.specs.Printed.{line_text, printed}
+use Rattle.covdata.specs.declared.trace_line.TotalKind.TheVariants.{FuncFound, FuncHit, BranchFound, BranchHit}
+use Rattle.covdata.specs.Row.{ItemData, SectData, items_in}
+use Rattle.covdata.specs.Delimiters.{line_feed}
+use Rattle.covdata.specs.Records.{LineData, Test, Path, End}
+use Rattle.covdata.specs.Printed.{line_text, printed}
 use Rattle.covread.specs.Outcome.{max_bytes}
 use Rattle.covtable.specs.Content.{SectionData}
 use Rattle.covreport.specs.Report.{by_start, function_cmp, start_record, call_record, branch_record, line_record, section_records, section_text}

@@ -7,11 +7,11 @@ use Rattle.std.proofs.lemmas.Cmp.{nat_list_eq_equiv}
 use Rattle.std.proofs.lemmas.List.{append-nil, length-map}
 use Rattle.std.proofs.lemmas.List.Elements.{filter-append}
 use Rattle.std.proofs.lemmas.List.Sums.{length-filter}
-use Rattle.covline.specs.declared.trace_line.TotalKind.{TotalKind}
-use Rattle.covline.specs.declared.trace_line.TotalKind.TheVariants.{FuncFound, FuncHit, BranchFound, BranchHit, LineFound, LineHit}
-use Rattle.covline.specs.Row.{ItemData, BranchItem}
-use Rattle.covline.specs.Spells.{LineData, Total}
-use Rattle.covline.specs.Points.{BranchPoint, line_point, func_point, branch_point, is_hit}
+use Rattle.covdata.specs.declared.trace_line.TotalKind.{TotalKind}
+use Rattle.covdata.specs.declared.trace_line.TotalKind.TheVariants.{FuncFound, FuncHit, BranchFound, BranchHit, LineFound, LineHit}
+use Rattle.covdata.specs.Row.{ItemData, BranchItem}
+use Rattle.covdata.specs.Records.{LineData, Total}
+use Rattle.covdata.specs.Points.{BranchPoint, line_point, func_point, branch_point, is_hit}
 use Rattle.covtable.specs.Value.{is_taken}
 use Rattle.covread.specs.Reads.{items_of, distinct, branch_eq, own_total, is_odd}
 use Rattle.covtable.specs.Content.{FunctionValueData, BranchValueData, LineValueData, SectionData}

@@ -10,10 +10,10 @@ use Rattle.std.proofs.lemmas.List.Sums.{sum_by-cons}
 use Rattle.std.proofs.lemmas.Slice.Eq.{bytes_eq-Decides}
 use Rattle.covtable.specs.Ascending.{ascending}
 use Rattle.covtable.specs.Content.{FunctionValueData, SectionData, function_at, branch_at, line_at, section_with}
-use Rattle.covline.specs.Points.{BranchPoint, line_point, func_point, branch_point, line_points, func_points, branch_points, least}
+use Rattle.covdata.specs.Points.{BranchPoint, line_point, func_point, branch_point, line_points, func_points, branch_points, least}
 use Rattle.covlaws.specs.Printable.{start_item, call_item, branch_item, line_item, items_shown}
 use Rattle.covreport.specs.Report.{by_start}
-use Rattle.covline.specs.Row.{ItemData, LineItem, FuncItem, BranchItem}
+use Rattle.covdata.specs.Row.{ItemData, LineItem, FuncItem, BranchItem}
 use Rattle.covtable.specs.Value.{Key, bounded, branch_cmp, lines_in, names_in, branches_in, line_added, line_value, checksum_said, line_checksum, first_of, start_said, function_start, function_added, function_count, is_branch, taken_said, sum_if_any, branch_value}
 use Rattle.covtable.proofs.TotalsKinds.{itself}
 use Rattle.covtable.proofs.Alike.{alike_said, least_alike, sum_by-map}

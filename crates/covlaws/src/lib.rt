@@ -1,7 +1,7 @@
 //! Laws of reading, adding up and printing together. Each law is the contract of a function that does nothing.
 //!
 //! A printed tracefile reads back: an empty book to which it is submitted reports the same tracefile, byte for byte. This holds for
-//! at most 67,108,864 bytes, and only if each new name of a rename is a valid test name (`covline::good_test`). A book itself
+//! at most 67,108,864 bytes, and only if each new name of a rename is a valid test name (`covdata::good_test`). A book itself
 //! accepts any new name.
 //!
 //! So merges can be merged. Several machines each print a report. A book with these reports prints the same texts as a book with
@@ -18,9 +18,9 @@
 
 ghost use Rattle.std.specs.Prelude.{◌≡◌, ◌≤◌, ◌++◌, ◌∷◌, ℕ, List, length, map, filter};
 ghost use Rattle.std.specs.List.{AllByRecursion, flat_map};
-ghost use Rattle.covline.specs.Row.{Row, SubmissionData, rows_of};
+ghost use Rattle.covdata.specs.Row.{Row, SubmissionData, rows_of};
 ghost use Rattle.covline.specs.Lines.{lines_of};
-ghost use Rattle.covline.specs.Lawful.{IsLawful};
+ghost use Rattle.covdata.specs.Lawful.{IsLawful};
 ghost use Rattle.covread.specs.Outcome.{max_bytes};
 ghost use Rattle.covread.specs.Reads.{Reads};
 ghost use Rattle.covtable.specs.Clash.{Agree, checksums_in};

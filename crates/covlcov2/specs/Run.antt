@@ -1,6 +1,6 @@
 -- What the steps of a reader are to be: on what the reader of version 1 holds, and the lines above.
 use Rattle.std.specs.Prelude.{◌≡◌, ◌⊎◌, ℕ, List, [], ◌∷◌, Option, Some, None, Ok}
-use Rattle.covline.specs.Spells.{LineData}
+use Rattle.covdata.specs.Records.{LineData}
 use Rattle.covread.specs.declared.fault.ReadFault.{ReadFault}
 use Rattle.covread.specs.declared.fault.ReadFault.TheVariants as faults
 use Rattle.covread.specs.Outcome as version1

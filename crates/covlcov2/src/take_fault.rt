@@ -4,7 +4,7 @@ ghost use Rattle.std.specs.Prelude.{◌≡◌};
 ghost use Rattle.covlcov2.specs.declared.take_fault.TakeFault.TheVariants.{Memory as NoMemory};
 ghost use Rattle.covlcov2.specs.Steps.{lcov2_fault_at, placed};
 
-use covline::Memory;
+use covdata::Memory;
 use covread::{PlacementFault, ReadFault};
 use std::alloc::AllocFailed;
 

@@ -6,7 +6,7 @@ ghost use Rattle.covlimit.specs.LimitsView.{limits_data};
 
 use crate::rate::Rate;
 use crate::shortfalls::put_shortfall;
-use covline::{Bytes, Memory};
+use covdata::{Bytes, Memory};
 use covtable::Totals;
 use std::alloc::{Allocator, Global};
 

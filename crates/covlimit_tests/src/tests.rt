@@ -2,8 +2,8 @@
 //!
 //! Each example is a line of text, so that examples add nothing to the proof of these tests.
 
+use covdata::Bytes;
 use covlimit::{Limits, Rate, shortfall_lines};
-use covline::Bytes;
 use covtable::Totals;
 use std::process::Abort;
 use std::test::*;

@@ -9,7 +9,7 @@ ghost use Rattle.covlist.specs.Chosen.{chosen_files, totals_of_chosen};
 ghost use Rattle.covlist.specs.Json.{file_object, hexadecimal_name, list_json_of, members, name_member, objects, points, string_name, summary_json_of};
 
 use crate::numbers::put_number;
-use covline::{Bytes, Memory};
+use covdata::{Bytes, Memory};
 use covreport::{Choice, chosen_totals};
 use covstore::Store;
 use covtable::{FileTotals, Totals};

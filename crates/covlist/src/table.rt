@@ -10,7 +10,7 @@ ghost use Rattle.covlist.specs.Table.{cell, file_row, heading, headings, list_ta
 
 use crate::numbers::{digits, put_number, put_spaces};
 use crate::shown::put_shown_name;
-use covline::{Bytes, Memory};
+use covdata::{Bytes, Memory};
 use covreport::{Choice, chosen_totals, tenths};
 use covstore::Store;
 use covtable::{FileTotals, Totals};

@@ -6,8 +6,9 @@ use Rattle.std.proofs.lemmas.List.{append-nil}
 use Rattle.std.proofs.lemmas.List.Elements.{All-from_recursion}
 use Rattle.std.proofs.lemmas.List.Concat.{flat_map-append}
 use Rattle.std.proofs.lemmas.List.Sums.{sum_by-cons, sum_by-append}
-use Rattle.covline.specs.Row.{SectData, SubmissionData}
-use Rattle.covline.specs.Spells.{LineData, Test, End, Skip, Begins, IsDigit, IsNumeral}
+use Rattle.covdata.specs.Row.{SectData, SubmissionData}
+use Rattle.covdata.specs.Records.{LineData, Test, End, Skip}
+use Rattle.covline.specs.Spells.{Begins, IsDigit, IsNumeral}
 use Rattle.covread.specs.declared.fault.ReadFault.{ReadFault}
 use Rattle.covread.specs.declared.fault.ReadFault.TheVariants as faults
 use Rattle.covread.specs.Reads as reads

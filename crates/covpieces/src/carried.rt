@@ -1,7 +1,7 @@
 //! The state that is carried over from one chunk of a tracefile to the next.
 
 use crate::cut::{count_lines, grouped_after};
-use covline::{Bytes, Memory};
+use covdata::{Bytes, Memory};
 use covpacked::ReadText;
 use covread::ReadFault;
 use std::alloc::{Allocator, Global};

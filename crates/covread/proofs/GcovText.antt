@@ -4,9 +4,10 @@ use Rattle.std.specs.Prelude.{All}
 use Rattle.std.proofs.lemmas.Bool.{cases_Bool, cases_lt, cases_eq, false≢true}
 use Rattle.std.proofs.lemmas.List.Elements.{All-nil, All-cons, All-head, All-tail}
 use Rattle.std.proofs.lemmas.List.{append-nil, length-append}
-use Rattle.covline.specs.Row.{SubmissionData, SectData}
-use Rattle.covline.specs.Lines.{line_feed, carriage_return, lines_of}
-use Rattle.covline.specs.Lawful.{IsGoodTest}
+use Rattle.covdata.specs.Row.{SubmissionData, SectData}
+use Rattle.covdata.specs.Delimiters.{line_feed, carriage_return}
+use Rattle.covline.specs.Lines.{lines_of}
+use Rattle.covdata.specs.Lawful.{IsGoodTest}
 use Rattle.covread.specs.declared.fault.ReadFault.{ReadFault}
 use Rattle.covread.specs.declared.fault.ReadFault.TheVariants as faults
 use Rattle.covread.specs.Gcov.{GcovLine, Says, says_of, LineSays}

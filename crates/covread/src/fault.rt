@@ -3,7 +3,7 @@
 ghost use Rattle.std.specs.Prelude.{◌≡◌};
 ghost use Rattle.covread.specs.declared.fault.ReadFault.TheVariants.{Memory as NoMemory};
 
-use covline::{LineFault, Memory};
+use covdata::{LineFault, Memory};
 use std::alloc::AllocFailed;
 use thiserror::Error;
 

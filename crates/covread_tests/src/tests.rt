@@ -1,7 +1,7 @@
 //! Tests public calls with ample memory. Expected values were worked out by hand from the formats (geninfo(1), section FILES;
 //! gcov(1)).
 
-use covline::Submission;
+use covdata::Submission;
 use covread::ReadFault;
 use std::process::Abort;
 use std::test::*;

@@ -8,7 +8,7 @@ ghost use Rattle.covreport.specs.ChoiceView.{choice_data};
 ghost use Rattle.covreport.specs.Summary.{summary_of, summary_line, value_text, tenths_of, noun as noun_of, rounded as rounded_of};
 
 use crate::choice::Choice;
-use covline::{Bytes, Memory};
+use covdata::{Bytes, Memory};
 use covstore::Store;
 use covtable::Totals;
 use itoa::Buffer;

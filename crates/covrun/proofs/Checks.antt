@@ -9,13 +9,13 @@ use Rattle.std.specs.List.{flat_map, list_any, zip}
 use Rattle.covcheck.specs.TextSummary.{Tells}
 use Rattle.covcheck.specs.Skipped.{IsSkippedGcov, IsSkippedLcov2, IsSkippedRecord}
 use Rattle.covcheck.specs.declared.text_summary.TextSummary.{TextSummary}
-use Rattle.covline.specs.declared.version.LcovVersion.TheVariants as versions
+use Rattle.covdata.specs.declared.version.LcovVersion.TheVariants as versions
 use Rattle.covcommand.specs.declared.asked.Strictness.{Strictness}
 use Rattle.covcommand.specs.declared.asked.TextFormat.{TextFormat}
 use Rattle.covcommand.specs.declared.asked.TextFormat.TheVariants.{Tracefile, Gcov}
 use Rattle.covrun.specs.declared.work.CheckedFormat.{CheckedFormat}
 use Rattle.covrun.specs.declared.work.CheckedFormat.TheVariants.{Text}
-use Rattle.covline.specs.Row.{SubmissionData}
+use Rattle.covdata.specs.Row.{SubmissionData}
 use Rattle.covlist.specs.Shown.{shown_name}
 use Rattle.covlcov2.specs.Outcome as lcov2
 use Rattle.covread.specs.GcovOutcome as gcov

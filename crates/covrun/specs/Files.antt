@@ -9,10 +9,10 @@ use Rattle.covlarge.specs.Large.{IsAll, max_pieces}
 use Rattle.covlarge.specs.State.{MayFailFrom, MayGive}
 use Rattle.covlarge.specs.StateData.{StateData}
 use Rattle.covlarge.specs.Summary.{SummaryData}
-use Rattle.covline.specs.Row.{SubmissionData}
+use Rattle.covdata.specs.Row.{SubmissionData}
 use Rattle.covread.specs.declared.fault.ReadFault.{ReadFault}
 use Rattle.covread.specs.Outcome.{max_bytes}
-use Rattle.covline.specs.declared.version.LcovVersion.{LcovVersion}
+use Rattle.covdata.specs.declared.version.LcovVersion.{LcovVersion}
 use Rattle.covcommand.specs.declared.asked.Strictness.{Strictness}
 use Rattle.covcommand.specs.declared.asked.Strictness.TheVariants.{Lenient, Strict}
 use Rattle.covrun.specs.Folder.{FolderData, IsTextOf}

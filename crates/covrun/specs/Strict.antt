@@ -14,7 +14,7 @@ use Rattle.covcommand.specs.declared.asked.Strictness.{Strictness}
 use Rattle.covcommand.specs.declared.asked.Strictness.TheVariants.{Lenient, Strict}
 use Rattle.covjobs.specs.Collect.{InputData, TraceInput, Lcov2Input, GcovInput, IsCollected, IsCollectedWhole, IsOutcomeOf}
 use Rattle.covjobs.specs.declared.refused.RefusedInput.{RefusedInput}
-use Rattle.covline.specs.Row.{SubmissionData}
+use Rattle.covdata.specs.Row.{SubmissionData}
 use Rattle.covlist.specs.Shown.{shown_name}
 use Rattle.covread.specs.declared.fault.ReadFault.{ReadFault}
 use Rattle.covreport.specs.Choice.{ChoiceData, AllFiles, Extracted, Removed, Filtered}

@@ -1,7 +1,7 @@
 -- What a subcommand has to do, and which of its words are refused before any file is read.
 use Rattle.std.specs.List.{AllByRecursion}
 use Rattle.std.specs.Prelude.{◌≡◌, ◌⊎◌, ◌<◌, ◌≤◌, ℕ, if◌then◌else◌, List, [], Option, None, Some, length, take, drop}
-use Rattle.covline.specs.Lawful.{IsGoodTest}
+use Rattle.covdata.specs.Lawful.{IsGoodTest}
 use Rattle.covlimit.specs.Limits.{LimitsData, has_limit}
 use Rattle.covlimit.specs.Rates.{IsRate}
 use Rattle.covreport.specs.Choice.{ChoiceData, AllFiles, Filtered, max_patterns, max_pattern_bytes}
@@ -14,8 +14,8 @@ use Rattle.covcommand.specs.declared.asked.TotalsForm.{TotalsForm}
 use Rattle.covcommand.specs.declared.asked.TotalsForm.TheVariants as forms
 use Rattle.covcommand.specs.declared.asked.SourceFilter.{SourceFilter}
 use Rattle.covcommand.specs.declared.asked.Strictness.{Strictness}
-use Rattle.covline.specs.declared.version.LcovVersion.{LcovVersion}
-use Rattle.covline.specs.declared.version.LcovVersion.TheVariants as versions
+use Rattle.covdata.specs.declared.version.LcovVersion.{LcovVersion}
+use Rattle.covdata.specs.declared.version.LcovVersion.TheVariants as versions
 use Rattle.covcommand.specs.declared.asked.TextFormat.{TextFormat}
 use Rattle.covcommand.specs.declared.asked.TextFormat.TheVariants as texts
 use Rattle.covcommand.specs.declared.asked.TextSize.{TextSize}

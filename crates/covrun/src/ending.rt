@@ -8,8 +8,8 @@ ghost use Rattle.covrun.specs.WorkFault.{of_work};
 use crate::argument_fault::ArgumentFault;
 use crate::ready_text::ReadyText;
 use crate::work::WorkFault;
+use covdata::Bytes;
 use covjobs::CollectFault;
-use covline::Bytes;
 use covsession::SessionFault;
 
 /// An answer that is ready to be printed.

@@ -8,9 +8,9 @@ use crate::text_fault::TextFault;
 use crate::work::FileFormat;
 use covbook::PackedRef;
 use covcommand::{LcovVersion, Strictness};
+use covdata::{Bytes, Memory};
 use covjobs::{Given, Input, LateFault, LateInput, Part};
 use covlarge::{LargeTracefile, MAX_PIECES, NextPiece, PieceFault};
-use covline::{Bytes, Memory};
 use std::alloc::Global;
 
 /// A file that is read when its turn comes. A large tracefile is read in chunks, and `opened` is its rest after the first chunk.

@@ -7,7 +7,7 @@ ghost use Rattle.covrun.specs.Folder.{IsTextOf, folder_data};
 ghost use Rattle.covstream.specs.Blocks.{IsReadFault};
 
 use crate::folder::Folder;
-use covline::{Bytes, Memory};
+use covdata::{Bytes, Memory};
 use covread::MAX_BYTES;
 use covstream::{BLOCK_BYTES, BlockFault, Source, read_at_most};
 use std::alloc::{AllocError, Global};

@@ -5,7 +5,7 @@ ghost use Rattle.covjobs.specs.declared.late_fault.LateFault.TheVariants.{Memory
 ghost use Rattle.covlarge.specs.Large.{MayBeReadAs, max_pieces};
 ghost use Rattle.covlarge.specs.State.{MayGive};
 ghost use Rattle.covlarge.specs.Summary.{SummaryData};
-ghost use Rattle.covline.specs.Row.{SubmissionData};
+ghost use Rattle.covdata.specs.Row.{SubmissionData};
 ghost use Rattle.covread.specs.declared.fault.ReadFault.{ReadFault};
 ghost use Rattle.covrun.specs.Files.{IsOpenedFor, IsToldFor, MayFailLarge, TakesLast};
 ghost use Rattle.covrun.specs.Folder.{folder_data};

@@ -7,7 +7,7 @@ ghost use Rattle.covrun.specs.View.{question_data, work_data};
 use crate::question::Question;
 use crate::work::{FileFormat, Work};
 use covcommand::{LcovVersion, Strictness};
-use covline::{Bytes, Memory};
+use covdata::{Bytes, Memory};
 use covlist::{put_shown_lines, put_shown_name};
 
 /// How names and checksums from outside stand in the messages of a call.

@@ -17,7 +17,7 @@ use crate::sinks::Sinks;
 use crate::world::World;
 use crate::written_file::write_file;
 use covcommand::CommandFault;
-use covline::{Bytes, Memory};
+use covdata::{Bytes, Memory};
 use covlist::put_shown_name;
 use covsession::{SessionFault, line_of, status_of};
 use covstream::{Sink, Source};

@@ -13,8 +13,8 @@ ghost use Rattle.covrun.specs.Strict.{HoldsIn, IsStrictOutcome, is_clean as is_c
 use crate::text_fault::TextFault;
 use covbook::{Op, PackedRef};
 use covcheck::{Format, TextSummary, summary_line, summary_of};
+use covdata::{Bytes, Memory};
 use covjobs::{Input, LateFault};
-use covline::{Bytes, Memory};
 use covlist::put_shown_name;
 use covpacked::PackedSubmission;
 use covreport::{Choice, Patterns, matches};

@@ -7,8 +7,8 @@ use covcommand::{
     Command, LcovVersion, Limits as LimitWords, Names, SourceFilter, Strictness, TextFormat,
     TextSize,
 };
+use covdata::{Bytes, Memory, good_test};
 use covlimit::{Limits, Rate};
-use covline::{Bytes, Memory, good_test};
 use covreport::{Choice, PatternFault, Patterns};
 use std::alloc::{AllocError, Global};
 
@@ -111,7 +111,7 @@ impl From<PatternFault> for WorkFault {
 
 ghost use Rattle.std.specs.Prelude.{◌≡◌, map, option_map, take, drop, IfOk, IfErr};
 ghost use Rattle.std.specs.String.{string_bytes};
-ghost use Rattle.covline.specs.Lawful.{IsGoodTest};
+ghost use Rattle.covdata.specs.Lawful.{IsGoodTest};
 ghost use Rattle.covreport.specs.ChoiceView.{choice_data};
 ghost use Rattle.covrun.specs.View.{question_data, task_data};
 ghost use Rattle.covlimit.specs.LimitsView.{limits_data};

@@ -2,7 +2,7 @@
 use Rattle.std.proofs.Common.{◌≡◌, ◌≢◌, ℕ, ◌<◌, length, List, [], ◌∷◌, ◌++◌, Result, Ok, Err, refl, sym, ◌∙◌, ap, ap₂, subst, arith, append_assoc, append-nil, codes, inl, inr}
 use Rattle.std.specs.List.{concat}
 use Rattle.std.proofs.lemmas.Bool.{false≢true}
-use Rattle.covline.specs.Row.{SubmissionData}
+use Rattle.covdata.specs.Row.{SubmissionData}
 use Rattle.covline.specs.Lines.{line_of}
 use Rattle.covbook.specs.Op.{OpData, SubmitOp, DropTestOp, RenameOp, ReportOp, ExtractOp, RemoveOp, SummaryOp}
 use Rattle.covtable.specs.Table.{Table}

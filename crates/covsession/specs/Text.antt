@@ -1,8 +1,9 @@
 -- A text after a line `trace` or `gcov`: how it is collected, taken, read and answered.
 use Rattle.std.specs.List.{concat}
 use Rattle.std.specs.Prelude.{◌≡◌, ◌⊎◌, ◌<◌, ◌≤◌, ℕ, Bool, false, length, List, [], ◌∷◌, ◌++◌, codes, Ok, Err, ◌-◌, ◌^◌, ◌==◌, min, if◌then◌else◌, take, Result}
-use Rattle.covline.specs.Lines.{line_of, carriage_return}
-use Rattle.covline.specs.Row.{SubmissionData}
+use Rattle.covdata.specs.Delimiters.{carriage_return}
+use Rattle.covline.specs.Lines.{line_of}
+use Rattle.covdata.specs.Row.{SubmissionData}
 use Rattle.covread.specs.Fault.{is_memory}
 use Rattle.covread.specs.Outcome.{max_bytes}
 use Rattle.covread.specs.declared.fault.ReadFault.{ReadFault}

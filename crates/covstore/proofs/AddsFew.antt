@@ -9,7 +9,7 @@ use Rattle.std.specs.List.{flat_map}
 use Rattle.std.specs.List.Sorted.{IsStrictlySortedBy}
 use Rattle.std.specs.Ordering.{nat_cmp}
 use Rattle.std.proofs.lemmas.List.{length-map}
-use Rattle.covline.specs.Row.{ItemData, Row}
+use Rattle.covdata.specs.Row.{ItemData, Row}
 use Rattle.covstore.specs.declared.sums.TestCounts.{TestCounts}
 use Rattle.covtable.specs.Ascending.{ascending}
 use Rattle.covstore.specs.PointIndexCounts.{AreCounts}

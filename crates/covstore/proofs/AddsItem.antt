@@ -4,7 +4,7 @@ use Rattle.std.specs.Prelude.{Contains}
 use Rattle.std.specs.Cmp.Lexicographic.{slice_cmp}
 use Rattle.std.specs.Ordering.{nat_cmp}
 use Rattle.std.proofs.lemmas.List.Concat.{flat_map-append}
-use Rattle.covline.specs.Row.{ItemData, LineItem, FuncItem, BranchItem, Row, rows_of_sect}
+use Rattle.covdata.specs.Row.{ItemData, LineItem, FuncItem, BranchItem, Row, rows_of_sect}
 use Rattle.covstore.specs.Section.{Adds, IsIn, section_of_items}
 use Rattle.covstore.specs.Runs.{with_items}
 use Rattle.covtable.specs.Clash.{Agree, Checksum, checksum_of, checksum_of_row, checksums_in, first_clash}

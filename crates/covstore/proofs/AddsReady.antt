@@ -5,7 +5,7 @@ use Rattle.std.specs.Cmp.Lexicographic.{slice_cmp}
 use Rattle.std.specs.Ordering.{nat_cmp}
 use Rattle.std.specs.Prelude.{◌==◌}
 use Rattle.std.proofs.lemmas.Bool.{eqb-true}
-use Rattle.covline.specs.Row.{ItemData, Row}
+use Rattle.covdata.specs.Row.{ItemData, Row}
 use Rattle.covtable.specs.declared.totals.Totals.{Totals}
 use Rattle.covtable.specs.TotalsExchanged.{FitTogether, IsAmong, IsExchange, exchanged}
 use Rattle.covstore.specs.FileSection.{AddsItems, HasRoomIn}

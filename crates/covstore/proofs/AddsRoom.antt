@@ -3,7 +3,7 @@ use Rattle.std.proofs.Common.{List, ◌++◌, arith}
 use Rattle.std.specs.Cmp.Lexicographic.{slice_cmp}
 use Rattle.std.specs.Ordering.{nat_cmp}
 use Rattle.std.proofs.lemmas.List.{length-append, length-map}
-use Rattle.covline.specs.Row.{ItemData, Row, rows_of_sect}
+use Rattle.covdata.specs.Row.{ItemData, Row, rows_of_sect}
 use Rattle.covstore.specs.State.{file_with}
 use Rattle.covstore.specs.Section.{Adds, HasRoomFor, files_with, section_of_items}
 use Rattle.covstore.specs.FileIndex.{FileIndexData}

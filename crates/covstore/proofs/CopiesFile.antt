@@ -4,7 +4,7 @@ use Rattle.std.specs.Prelude.{Contains}
 use Rattle.std.specs.Cmp.Lexicographic.{slice_cmp}
 use Rattle.std.specs.Ordering.{nat_cmp}
 use Rattle.std.proofs.lemmas.List.Concat.{flat_map-append}
-use Rattle.covline.specs.Row.{ItemData, Row}
+use Rattle.covdata.specs.Row.{ItemData, Row}
 use Rattle.covstore.specs.State.{file_with}
 use Rattle.covstore.specs.Section.{Adds, HasRoomFor}
 use Rattle.covtable.specs.Clash.{Agree, Checksum, checksum_of_row, checksums_in}

@@ -11,8 +11,8 @@ use Rattle.std.proofs.lemmas.Bool.{eqb-true, eq-eqb}
 use Rattle.std.proofs.lemmas.Cmp.{tied_itself}
 use Rattle.std.proofs.lemmas.Map.Views.{tells_apart}
 use Rattle.std.proofs.lemmas.Slice.Eq.{bytes_eq-Decides}
-use Rattle.covline.specs.Points.{branch_points, func_points, line_points}
-use Rattle.covline.specs.Row.{ItemData, Row}
+use Rattle.covdata.specs.Points.{branch_points, func_points, line_points}
+use Rattle.covdata.specs.Row.{ItemData, Row}
 use Rattle.covtable.specs.Ascending.{ascending}
 use Rattle.covtable.specs.Content.{BranchValueData, FunctionValueData, LineValueData, SectionData, branch_at, content_of, function_at, line_at, section_of, section_with}
 use Rattle.covstore.specs.PointIndexCounts.{AreCounts, found_of, hit_of}

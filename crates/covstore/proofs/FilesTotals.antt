@@ -4,7 +4,7 @@ use Rattle.std.specs.List.{count_by, flat_map, sum_by}
 use Rattle.std.proofs.lemmas.Bool.{and_from, and_parts, cond-true, cond-false, eq-eqb, eqb-true, false_from_ne_true}
 use Rattle.std.proofs.lemmas.List.{append-nil, map-append}
 use Rattle.std.proofs.lemmas.List.Sums.{sum_by-cons}
-use Rattle.covline.specs.Row.{Row}
+use Rattle.covdata.specs.Row.{Row}
 use Rattle.covtable.specs.declared.totals.Totals.{Totals}
 use Rattle.covtable.specs.Content.{SectionData}
 use Rattle.covtable.specs.Files.{FileTotalsData, file_with_totals, files_with_totals}

@@ -7,7 +7,7 @@ use Rattle.std.specs.List.{sum_by}
 use Rattle.std.specs.Option.{is_some}
 use Rattle.std.specs.Ordering.{nat_cmp}
 use Rattle.std.proofs.lemmas.Bool.{cases_Bool, cond-false, cond-true, false≢true}
-use Rattle.covline.specs.Row.{Row}
+use Rattle.covdata.specs.Row.{Row}
 use Rattle.covstore.specs.Kinds.{CountsOf, Each, Kind, above_of, at, cmp_of}
 use Rattle.covstore.specs.Section.{IsIn}
 use Rattle.covtable.specs.Clash.{checksums_in}

@@ -2,8 +2,8 @@
 use Rattle.std.proofs.Common.{◌≡◌, ◌≢◌, ℕ, ◌==◌, Bool, true, false, List, [], ◌∷◌, ◌++◌, length, Result, Ok, Err, ap, sym, subst, ◌∙◌, arith}
 use Rattle.std.specs.Prelude.{IfOk, None}
 use Rattle.std.proofs.lemmas.List.{nil_from_length}
-use Rattle.covline.specs.Lawful.{IsLawful}
-use Rattle.covline.specs.Row.{Row, SubmissionData, items_in, rows_of}
+use Rattle.covdata.specs.Lawful.{IsLawful}
+use Rattle.covdata.specs.Row.{Row, SubmissionData, items_in, rows_of}
 use Rattle.covtable.specs.Clash.{clash_of}
 use Rattle.covstore.specs.Store.{AddsTo, IsPlanOf, StoreData}
 use Rattle.covtable.specs.Table.{Table, all_rows}

@@ -4,8 +4,8 @@ use Rattle.std.specs.Cmp.Lexicographic.{slice_cmp}
 use Rattle.std.specs.List.{flat_map}
 use Rattle.std.specs.Option.{is_some}
 use Rattle.std.specs.Ordering.{nat_cmp}
-use Rattle.covline.specs.Points.{BranchPoint, line_point, func_point, branch_point, line_points, func_points, branch_points}
-use Rattle.covline.specs.Row.{ItemData}
+use Rattle.covdata.specs.Points.{BranchPoint, line_point, func_point, branch_point, line_points, func_points, branch_points}
+use Rattle.covdata.specs.Row.{ItemData}
 use Rattle.covstore.specs.Sums.{branch_sum, function_sum, line_sum, test_of}
 use Rattle.covtable.specs.Value.{lines_in, names_in, branches_in, bounded, branch_cmp, line_added, line_value, checksum_said, line_checksum, first_of, start_said, function_start, function_added, function_count, taken_said, branch_value}
 use Rattle.covtable.proofs.Alike.{AreAlike, alike_said, sum_alike, least_alike, same_mapped}

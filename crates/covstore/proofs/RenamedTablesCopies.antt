@@ -10,7 +10,7 @@ use Rattle.std.proofs.lemmas.List.{append-nil}
 use Rattle.std.proofs.lemmas.List.Concat.{flat_map-append}
 use Rattle.std.proofs.lemmas.Map.Text.{is_eq-slice_cmp}
 use Rattle.std.proofs.lemmas.Slice.Eq.{bytes_eq-Decides}
-use Rattle.covline.specs.Row.{ItemData, Row}
+use Rattle.covdata.specs.Row.{ItemData, Row}
 use Rattle.covtable.specs.Clash.{Checksum, checksum_of_row, checksums_in}
 use Rattle.covmap.specs.Puts.{ArePairs, value_of}
 use Rattle.covtable.specs.Renamed.{moved_rows, renamed_row}

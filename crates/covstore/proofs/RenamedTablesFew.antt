@@ -9,7 +9,7 @@ use Rattle.std.proofs.lemmas.Cmp.{tied_itself}
 use Rattle.std.proofs.lemmas.List.{length-append, length-map}
 use Rattle.std.proofs.lemmas.List.Concat.{flat_map-append}
 use Rattle.std.proofs.lemmas.Slice.Eq.{bytes_eq-Decides}
-use Rattle.covline.specs.Row.{ItemData, Row}
+use Rattle.covdata.specs.Row.{ItemData, Row}
 use Rattle.covmap.specs.Puts.{ArePairs}
 use Rattle.covstore.specs.Renaming.{copied_rows, key_of, names_with}
 use Rattle.covstore.specs.StoreSection.{rows_of_items}

@@ -11,8 +11,8 @@ use Rattle.std.proofs.lemmas.List.Concat.{flat_map-append}
 use Rattle.std.proofs.lemmas.List.Folds.{flat_map-map}
 use Rattle.std.proofs.lemmas.List.Sorted.{IsPermutation-append_comm}
 use Rattle.std.proofs.lemmas.List.Sums.{sum_by-append, sum_by-cons}
-use Rattle.covline.specs.Points.{BranchPoint, line_point, func_point, branch_point, line_points, func_points, branch_points, least}
-use Rattle.covline.specs.Row.{ItemData, LineItem, FuncItem, BranchItem}
+use Rattle.covdata.specs.Points.{BranchPoint, line_point, func_point, branch_point, line_points, func_points, branch_points, least}
+use Rattle.covdata.specs.Row.{ItemData, LineItem, FuncItem, BranchItem}
 use Rattle.covtable.specs.Ascending.{ascending}
 use Rattle.covstore.specs.Sums.{line_sum, function_sum, branch_sum, test_of}
 use Rattle.covtable.specs.Value.{bounded, branch_cmp, lines_in, names_in, branches_in, line_added, line_value, checksum_said, line_checksum, first_of, start_said, function_start, function_added, function_count, is_branch, taken_said, sum_if_any, branch_value}

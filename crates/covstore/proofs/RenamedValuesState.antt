@@ -6,7 +6,7 @@ use Rattle.std.specs.Ordering.{nat_cmp}
 use Rattle.std.specs.Str.{bytes_eq}
 use Rattle.std.proofs.lemmas.Bool.{cond-false, cond-true}
 use Rattle.std.proofs.lemmas.List.Concat.{flat_map-append}
-use Rattle.covline.specs.Row.{ItemData, LineItem, Row}
+use Rattle.covdata.specs.Row.{ItemData, LineItem, Row}
 use Rattle.covtable.specs.Clash.{Checksum, checksum_of, checksum_of_row, checksums_in}
 use Rattle.covstore.specs.PointIndexCounts.{is_above_at}
 use Rattle.covmap.specs.Puts.{value_of}

@@ -5,7 +5,7 @@ use Rattle.std.specs.List.{All}
 use Rattle.std.specs.Option.{is_some}
 use Rattle.std.specs.Ordering.{nat_cmp}
 use Rattle.std.proofs.lemmas.List.Elements.{All-contains}
-use Rattle.covline.specs.Row.{ItemData, LineItem, FuncItem, BranchItem}
+use Rattle.covdata.specs.Row.{ItemData, LineItem, FuncItem, BranchItem}
 use Rattle.covmap.specs.Puts.{value_of}
 use Rattle.covstore.specs.FileIndex.{FileIndexData}
 use Rattle.covstore.specs.Items.{IsTextOf, KeepsTextsOf}

@@ -4,7 +4,7 @@ use Rattle.std.specs.declared.cmp.Ordering.{Ordering}
 use Rattle.covstore.specs.declared.sums.TestCounts.{TestCounts}
 use Rattle.std.specs.Ordering.{nat_cmp}
 use Rattle.std.specs.List.{flat_map}
-use Rattle.covline.specs.Row.{ItemData, LineItem, FuncItem, BranchItem}
+use Rattle.covdata.specs.Row.{ItemData, LineItem, FuncItem, BranchItem}
 use Rattle.covmap.specs.Puts.{value_of}
 use Rattle.covstore.specs.FileIndex.{FileIndexData}
 use Rattle.covstore.specs.Items.{HasRoomForRun, KeepsCounts}

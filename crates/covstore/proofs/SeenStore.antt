@@ -2,8 +2,8 @@
 use Rattle.std.proofs.Common.{ℕ, ◌*◌, ◌^◌, ◌<◌, ◌≤◌, List, [], ◌∷◌, length, map, sym, subst, arith}
 use Rattle.std.specs.List.{AllByRecursion}
 use Rattle.std.proofs.lemmas.List.{length-append}
-use Rattle.covline.specs.Lawful.{max_items}
-use Rattle.covline.specs.Row.{Row}
+use Rattle.covdata.specs.Lawful.{max_items}
+use Rattle.covdata.specs.Row.{Row}
 use Rattle.covtable.specs.declared.totals.Totals.{Totals}
 use Rattle.covtable.specs.Content.{section_of}
 use Rattle.covstore.specs.StoreView.{IsStore}

@@ -7,7 +7,7 @@ use Rattle.std.specs.declared.cmp.Ordering.TheVariants.{Less, Equal, Greater}
 use Rattle.std.specs.Ordering.{is_eq, match_ordering, nat_cmp}
 use Rattle.std.proofs.lemmas.List.{map-append}
 use Rattle.std.proofs.lemmas.Option.{none-some}
-use Rattle.covline.specs.Row.{Row}
+use Rattle.covdata.specs.Row.{Row}
 use Rattle.covstore.specs.Kinds.{Kind, PointsOf, above_of, at, branch_above, cmp_of, function_above, line_above}
 use Rattle.covstore.specs.PointIndexCounts.{AreCounts, is_above_at}
 use Rattle.covmap.specs.Puts.{put, value_of}

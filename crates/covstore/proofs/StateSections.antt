@@ -3,7 +3,7 @@ use Rattle.std.proofs.Common.{◌≡◌, ℕ, true, Option, Some, None, List, []
 use Rattle.std.specs.Cmp.Lexicographic.{slice_cmp}
 use Rattle.std.specs.Ordering.{nat_cmp}
 use Rattle.std.proofs.lemmas.Cmp.{on_total}
-use Rattle.covline.specs.Row.{ItemData, Row}
+use Rattle.covdata.specs.Row.{ItemData, Row}
 use Rattle.covtable.specs.Clash.{Agree, Checksum, checksums_in}
 use Rattle.covtable.specs.Content.{SectionData, section_of, content_of}
 use Rattle.covmap.specs.Puts.{value_of}

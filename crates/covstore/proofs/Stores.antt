@@ -2,8 +2,8 @@
 use Rattle.std.proofs.Common.{◌≡◌, ℕ, ◌+◌, ◌≤◌, List, [], ◌∷◌, ◌++◌, length, refl, sym, ap, ◌∙◌, subst, arith}
 use Rattle.std.specs.Prelude.{None}
 use Rattle.std.proofs.lemmas.List.{length_push}
-use Rattle.covline.specs.Row.{Row, SubmissionData, rows_of}
-use Rattle.covline.specs.Lawful.{IsLawful, max_items}
+use Rattle.covdata.specs.Row.{Row, SubmissionData, rows_of}
+use Rattle.covdata.specs.Lawful.{IsLawful, max_items}
 use Rattle.covtable.specs.declared.totals.Totals.{Totals}
 use Rattle.covtable.specs.Clash.{Agree, checksums_in, clash_of}
 use Rattle.covtable.specs.Content.{content_of}

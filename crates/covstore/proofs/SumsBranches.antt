@@ -4,8 +4,8 @@ use Rattle.std.specs.List.{flat_map, sum_by}
 use Rattle.std.proofs.lemmas.Bool.{cond-true, eq-eqb}
 use Rattle.std.proofs.lemmas.List.{append-nil}
 use Rattle.std.proofs.lemmas.List.Sums.{sum_by-append, sum_by-cons}
-use Rattle.covline.specs.Points.{BranchPoint, branch_point, branch_points}
-use Rattle.covline.specs.Row.{ItemData, BranchItem}
+use Rattle.covdata.specs.Points.{BranchPoint, branch_point, branch_points}
+use Rattle.covdata.specs.Row.{ItemData, BranchItem}
 use Rattle.covstore.specs.declared.sums.BranchSum.{BranchSum}
 use Rattle.covmap.specs.Puts.{put, value_of}
 use Rattle.covstore.specs.Sums.{branch_sum, branch_with, sum_taken}

@@ -8,8 +8,8 @@ use Rattle.std.specs.Str.{bytes_eq}
 use Rattle.std.proofs.lemmas.Bool.{cond-true, false≢true}
 use Rattle.std.proofs.lemmas.List.Sums.{fold-append}
 use Rattle.std.proofs.lemmas.Slice.Eq.{bytes_eq-Decides}
-use Rattle.covline.specs.Points.{func_point, func_points, least}
-use Rattle.covline.specs.Row.{ItemData, FuncItem}
+use Rattle.covdata.specs.Points.{func_point, func_points, least}
+use Rattle.covdata.specs.Row.{ItemData, FuncItem}
 use Rattle.covstore.specs.declared.sums.FunctionSum.{FunctionSum}
 use Rattle.covmap.specs.Puts.{put, value_of}
 use Rattle.covstore.specs.Sums.{function_sum, function_with}

@@ -9,7 +9,7 @@ use Rattle.std.specs.Ordering.{is_eq}
 use Rattle.std.proofs.lemmas.Cmp.{tied_itself}
 use Rattle.std.proofs.lemmas.List.Concat.{flat_map-append}
 use Rattle.std.proofs.lemmas.Option.{same_Some, none-some}
-use Rattle.covline.specs.Row.{ItemData}
+use Rattle.covdata.specs.Row.{ItemData}
 use Rattle.covtable.specs.Ascending.{ascending}
 use Rattle.covmap.specs.Puts.{ArePairs, put, value_of}
 use Rattle.covtable.proofs.Ascend.{IsExactOrder, ascending_sorted, In-ascending, In-to_ascending}

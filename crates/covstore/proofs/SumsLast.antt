@@ -4,7 +4,7 @@ use Rattle.std.specs.List.{flat_map, sum_by}
 use Rattle.std.proofs.lemmas.List.{append-nil}
 use Rattle.std.proofs.lemmas.List.Concat.{flat_map-append}
 use Rattle.std.proofs.lemmas.List.Sums.{sum_by-cons, sum_by-append}
-use Rattle.covline.specs.Row.{ItemData}
+use Rattle.covdata.specs.Row.{ItemData}
 use Rattle.covtable.specs.Value.{bounded}
 use Rattle.covtable.proofs.Bounds.{bounded_sum}
 

@@ -4,8 +4,8 @@ use Rattle.std.specs.List.{flat_map}
 use Rattle.std.specs.Option.{is_some}
 use Rattle.std.specs.Ordering.{nat_cmp}
 use Rattle.std.proofs.lemmas.Bool.{cond-true, eq-eqb}
-use Rattle.covline.specs.Points.{line_point, line_points}
-use Rattle.covline.specs.Row.{ItemData, LineItem}
+use Rattle.covdata.specs.Points.{line_point, line_points}
+use Rattle.covdata.specs.Row.{ItemData, LineItem}
 use Rattle.covstore.specs.declared.sums.LineSum.{LineSum}
 use Rattle.covmap.specs.Puts.{put, value_of}
 use Rattle.covstore.specs.Sums.{line_sum, line_with}

@@ -4,8 +4,8 @@ use Rattle.std.proofs.Common.{◌≡◌, ℕ, Some, List, sym, ap}
 use Rattle.std.specs.Prelude.{Contains}
 use Rattle.std.specs.Option.{is_some}
 use Rattle.std.specs.Ordering.{nat_cmp}
-use Rattle.covline.specs.Points.{line_point, line_points}
-use Rattle.covline.specs.Row.{ItemData}
+use Rattle.covdata.specs.Points.{line_point, line_points}
+use Rattle.covdata.specs.Row.{ItemData}
 use Rattle.covstore.specs.declared.sums.LineSum.{LineSum}
 use Rattle.covmap.specs.Puts.{value_of}
 use Rattle.covstore.specs.Sums.{test_of, line_sum}

@@ -9,8 +9,8 @@ use Rattle.std.proofs.lemmas.Bool.{false≢true}
 use Rattle.std.proofs.lemmas.List.{length-map}
 use Rattle.std.proofs.lemmas.List.Sums.{count_by-le-length, length-filter}
 use Rattle.std.proofs.lemmas.Slice.Eq.{bytes_eq-Decides}
-use Rattle.covline.specs.Lawful.{max_items}
-use Rattle.covline.specs.Row.{Row}
+use Rattle.covdata.specs.Lawful.{max_items}
+use Rattle.covdata.specs.Row.{Row}
 use Rattle.covtable.specs.declared.totals.Totals.{Totals}
 use Rattle.covstore.specs.FileDrops.{AreWithoutTest, IsWithoutTest}
 use Rattle.covstore.specs.StoreView.{IsStore}

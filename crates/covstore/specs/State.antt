@@ -4,8 +4,8 @@ use Rattle.std.specs.Prelude.{◌≡◌, ℕ, Bool, true, false, nat_lt, ◌&&�
 use Rattle.std.specs.Cmp.Lexicographic.{slice_cmp}
 use Rattle.std.specs.List.{flat_map, sum_by, AllByRecursion}
 use Rattle.std.specs.Ordering.{nat_cmp}
-use Rattle.covline.specs.Points.{BranchPoint}
-use Rattle.covline.specs.Row.{Row}
+use Rattle.covdata.specs.Points.{BranchPoint}
+use Rattle.covdata.specs.Row.{Row}
 use Rattle.covstore.specs.declared.sums.LineSum.{LineSum}
 use Rattle.covstore.specs.declared.sums.FunctionSum.{FunctionSum}
 use Rattle.covstore.specs.declared.sums.BranchSum.{BranchSum}

@@ -1,8 +1,8 @@
 -- What a store is to its callers: its content, the tables that it represents, and what is staged.
 use Rattle.std.specs.Prelude.{◌≡◌, ℕ, ◌+◌, ◌<◌, ◌≤◌, ◌^◌, List, ◌++◌, Some, None, length}
 use Rattle.std.specs.List.{AllByRecursion}
-use Rattle.covline.specs.Row.{Row, SubmissionData, rows_of}
-use Rattle.covline.specs.Lawful.{IsLawful, max_items}
+use Rattle.covdata.specs.Row.{Row, SubmissionData, rows_of}
+use Rattle.covdata.specs.Lawful.{IsLawful, max_items}
 use Rattle.covtable.specs.declared.totals.Totals.{Totals}
 use Rattle.covtable.specs.Clash.{Agree, checksums_in, clash_of}
 use Rattle.covtable.specs.Content.{SectionData, content_at}

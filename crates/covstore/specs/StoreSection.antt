@@ -1,6 +1,6 @@
 -- When a store's files have room for a section's items, and when the items are refused.
 use Rattle.std.specs.Prelude.{◌≡◌, ℕ, ◌+◌, ◌≤◌, ◌^◌, Some, List, length}
-use Rattle.covline.specs.Row.{ItemData, Row, rows_of_sect}
+use Rattle.covdata.specs.Row.{ItemData, Row, rows_of_sect}
 use Rattle.covstore.specs.Section.{section_of_items}
 use Rattle.covtable.specs.Clash.{Agree, checksums_in, clash_of}
 use Rattle.covstore.specs.FileSection.{HasFile}

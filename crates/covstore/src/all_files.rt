@@ -12,7 +12,7 @@ ghost use Rattle.covstore.specs.State.{FileData, IsConsistentFile, has_points_of
 use crate::boxed::Boxed;
 use crate::file::File;
 use crate::path::Path;
-use covline::Memory;
+use covdata::Memory;
 use covtable::Totals;
 use std::alloc::Allocator;
 use std::collections::BTreeMap;

@@ -10,7 +10,7 @@ use crate::stage::fault::StageFault;
 use crate::stage::section::stage_items;
 use crate::test::Test;
 use crate::tests::Tests;
-use covline::{Bytes, Memory};
+use covdata::{Bytes, Memory};
 use covpacked::PackedItems;
 use covtable::{Refuse, Totals};
 use std::alloc::Allocator;

@@ -20,7 +20,7 @@ use crate::files::Files;
 use crate::path::Path;
 use crate::plan::Plan;
 use crate::renaming::Renaming;
-use covline::{Memory, Submission};
+use covdata::{Memory, Submission};
 use covpacked::{PackedItems, PackedSect, PackedSects, PackedSectsIter, PackedSubmission, pack};
 use covtable::{Refuse, Totals};
 use std::alloc::{Allocator, Global};
@@ -160,7 +160,7 @@ impl<A: Allocator + Copy> Store<A> {
     ghost use Rattle.std.specs.Prelude.{◌≡◌, ◌≢◌, ◌<◌, ℕ, List, ◌++◌, [], ◌∷◌, map, IfOk, IfErr, None, OnOk, OnErr};
     ghost use Rattle.std.specs.Str.{bytes_eq};
     ghost use Rattle.std.specs.List.{flat_map, list_any};
-    ghost use Rattle.covline.specs.Row.{SubmissionData, rows_of, rows_of_sect};
+    ghost use Rattle.covdata.specs.Row.{SubmissionData, rows_of, rows_of_sect};
     ghost use Rattle.covpacked.specs.PackedSects.{packed_sect_data};
     ghost use Rattle.covtable.specs.Content.{content_at};
     ghost use Rattle.covtable.specs.Files.{files_with_totals};

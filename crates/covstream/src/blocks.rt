@@ -5,7 +5,7 @@ ghost use Rattle.covstream.specs.Blocks.{HasReadBlock, HasReadOn, IsReadFault};
 
 use crate::fault::BlockFault;
 use crate::stream::Source;
-use covline::Bytes;
+use covdata::Bytes;
 
 /// The number of bytes that one read requests.
 pub const BLOCK_BYTES: usize = 65_536;

@@ -1,6 +1,6 @@
 //! Why reading of blocks stopped.
 
-use covline::Memory;
+use covdata::Memory;
 use std::alloc::AllocError;
 
 /// Why reading of blocks stopped.

@@ -9,7 +9,7 @@ use Rattle.std.proofs.lemmas.Bool.{cases_lt}
 use Rattle.std.proofs.lemmas.List.Sorted.{IsPermutation-sym, Contains-permutation, sum_by-IsPermutation}
 use Rattle.std.proofs.lemmas.List.Sums.{sum_by-cons, sum_by-append}
 use Rattle.std.proofs.Math.Nat.{min-le_left, min-le_right, min-eq_left, min-eq_right}
-use Rattle.covline.specs.Points.{least}
+use Rattle.covdata.specs.Points.{least}
 use Rattle.covtable.specs.Ascending.{ascending}
 use Rattle.covtable.specs.Value.{bounded, first_of, sum_if_any}
 use Rattle.covtable.proofs.Ascend.{IsExactOrder}

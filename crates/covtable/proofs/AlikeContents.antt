@@ -5,8 +5,8 @@ use Rattle.std.specs.List.{flat_map}
 use Rattle.std.specs.Prelude.{Contains}
 use Rattle.std.specs.List.Sorted.{IsPermutation}
 use Rattle.std.specs.Ordering.{nat_cmp}
-use Rattle.covline.specs.Points.{BranchPoint, line_point, func_point, branch_point, line_points, func_points, branch_points}
-use Rattle.covline.specs.Row.{ItemData, Row}
+use Rattle.covdata.specs.Points.{BranchPoint, line_point, func_point, branch_point, line_points, func_points, branch_points}
+use Rattle.covdata.specs.Row.{ItemData, Row}
 use Rattle.covtable.specs.Clash.{Checksum, Agree, checksum_of_row, checksums_in}
 use Rattle.covtable.specs.Content.{section_with, section_of, content_of, function_at, branch_at, line_at}
 use Rattle.covtable.specs.Table.{Table, all_rows}

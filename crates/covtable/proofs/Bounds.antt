@@ -4,7 +4,7 @@ use Rattle.std.specs.List.{flat_map}
 use Rattle.std.proofs.lemmas.Bool.{lt-ltb}
 use Rattle.std.proofs.lemmas.List.{length-append, length-map}
 use Rattle.std.proofs.lemmas.List.Sums.{sum_by-cons}
-use Rattle.covline.specs.Row.{ItemData, SectData, Row, rows_of_sect, items_in}
+use Rattle.covdata.specs.Row.{ItemData, SectData, Row, rows_of_sect, items_in}
 use Rattle.covtable.specs.Value.{bounded}
 
 -- ---- as many rows as items

@@ -10,7 +10,7 @@ use Rattle.std.proofs.lemmas.List.Concat.{flat_map-append}
 use Rattle.std.proofs.lemmas.List.Elements.{Contains-push_cases, Contains-append_left, Contains-append_right}
 use Rattle.std.proofs.lemmas.Option.{same_Some, none-some}
 use Rattle.std.proofs.lemmas.Slice.Eq.{bytes_eq-Decides}
-use Rattle.covline.specs.Row.{Row, SubmissionData, rows_of}
+use Rattle.covdata.specs.Row.{Row, SubmissionData, rows_of}
 use Rattle.covtable.specs.Clash.{Checksum, ClashData, Agree, IsFirstClash, differs, or_later, clash_with, first_clash, checksum_of_row, checksums_in}
 use Rattle.covtable.specs.Table.{Table, all_rows, clash_at}
 use Rattle.covtable.proofs.Members.{In, In-from, Contains-from}

@@ -5,8 +5,8 @@ use Rattle.std.specs.Str.{bytes_eq}
 use Rattle.std.specs.List.{flat_map, list_any}
 use Rattle.std.proofs.lemmas.List.{length-map}
 use Rattle.std.proofs.lemmas.List.Sums.{length-filter, count_by-le-length}
-use Rattle.covline.specs.Points.{line_point, func_point, branch_point}
-use Rattle.covline.specs.Row.{ItemData, Row}
+use Rattle.covdata.specs.Points.{line_point, func_point, branch_point}
+use Rattle.covdata.specs.Row.{ItemData, Row}
 use Rattle.covtable.specs.Ascending.{ascending}
 use Rattle.covtable.specs.Clash.{Agree, checksums_in, clash_of}
 use Rattle.covtable.specs.Content.{SectionData, section_of, content_of, function_at, branch_at, line_at}

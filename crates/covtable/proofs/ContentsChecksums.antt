@@ -6,7 +6,7 @@ use Rattle.std.specs.Str.{bytes_eq}
 use Rattle.std.proofs.lemmas.Bool.{cases_Bool, cond-false, cond-true, eq-eqb, eqb-true}
 use Rattle.std.proofs.lemmas.Option.{same_Some, none-some}
 use Rattle.std.proofs.lemmas.Slice.Eq.{bytes_eq-Decides}
-use Rattle.covline.specs.Row.{ItemData, LineItem, FuncItem, BranchItem, Row}
+use Rattle.covdata.specs.Row.{ItemData, LineItem, FuncItem, BranchItem, Row}
 use Rattle.covtable.specs.Clash.{Checksum, ClashData, Agree, IsFirstClash, differs, first_clash, checksum_of, checksum_of_row, checksums_in}
 use Rattle.covtable.specs.Content.{LineValueData, content_of}
 use Rattle.covtable.specs.Value.{Key, key_of_row, has_key, items_at, checksum_said, first_of, line_checksum}

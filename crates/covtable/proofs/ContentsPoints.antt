@@ -11,8 +11,8 @@ use Rattle.std.proofs.lemmas.List.Concat.{flat_map-append}
 use Rattle.std.proofs.lemmas.List.Sums.{sum_by-cons, sum_by-append, fold-append}
 use Rattle.std.proofs.lemmas.Option.{same_Some, none-some}
 use Rattle.std.proofs.lemmas.Slice.Eq.{bytes_eq-Decides}
-use Rattle.covline.specs.Points.{BranchPoint, line_point, func_point, branch_point, line_points, func_points, branch_points, least}
-use Rattle.covline.specs.Row.{ItemData, LineItem, FuncItem, BranchItem}
+use Rattle.covdata.specs.Points.{BranchPoint, line_point, func_point, branch_point, line_points, func_points, branch_points, least}
+use Rattle.covdata.specs.Row.{ItemData, LineItem, FuncItem, BranchItem}
 use Rattle.covtable.specs.Content.{FunctionValueData, BranchValueData, LineValueData, function_at, branch_at, line_at}
 use Rattle.covtable.specs.Value.{bounded, branch_cmp, line_added, line_value, checksum_said, first_of, line_checksum, start_said, function_start, function_added, function_count, is_branch, taken_said, sum_if_any, branch_value}
 use Rattle.covtable.proofs.ContentsKinds.{IsKind}

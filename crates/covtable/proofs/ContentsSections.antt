@@ -7,8 +7,8 @@ use Rattle.std.proofs.lemmas.Bool.{cond-false, false≢true}
 use Rattle.std.proofs.lemmas.List.{map-append}
 use Rattle.std.proofs.lemmas.List.Elements.{filter-append}
 use Rattle.std.proofs.lemmas.Slice.Eq.{bytes_eq-Decides}
-use Rattle.covline.specs.Points.{line_points, func_points, branch_points}
-use Rattle.covline.specs.Row.{ItemData, Row}
+use Rattle.covdata.specs.Points.{line_points, func_points, branch_points}
+use Rattle.covdata.specs.Row.{ItemData, Row}
 use Rattle.covtable.specs.Content.{FunctionValueData, BranchValueData, LineValueData, SectionData, function_at, branch_at, line_at, section_with, section_of, content_of}
 use Rattle.covtable.specs.Value.{Key, key_cmp, key_of_row, has_key, items_at, branch_cmp}
 use Rattle.covtable.proofs.ContentsKinds.{IsKind, same_values, same_with_more}

@@ -2,8 +2,8 @@
 use Rattle.std.proofs.Common.{◌≤◌, List, [], ◌∷◌, length, arith}
 use Rattle.std.specs.List.{flat_map}
 use Rattle.std.proofs.lemmas.List.{length-append}
-use Rattle.covline.specs.Points.{line_point, func_point, branch_point}
-use Rattle.covline.specs.Row.{ItemData, LineItem, FuncItem, BranchItem}
+use Rattle.covdata.specs.Points.{line_point, func_point, branch_point}
+use Rattle.covdata.specs.Row.{ItemData, LineItem, FuncItem, BranchItem}
 
 pub one_line : (item : ItemData) → length (line_point item) ≤ 1
 one_line (LineItem line count checksum) = omega arith

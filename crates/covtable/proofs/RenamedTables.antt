@@ -7,9 +7,9 @@ use Rattle.std.specs.Str.{bytes_eq}
 use Rattle.std.proofs.lemmas.Bool.{false≢true}
 use Rattle.std.proofs.lemmas.List.{length-map, map-append}
 use Rattle.std.proofs.lemmas.Slice.Eq.{bytes_eq-Decides}
-use Rattle.covline.specs.Lawful.{max_items}
-use Rattle.covline.specs.Points.{line_point, func_point, branch_point}
-use Rattle.covline.specs.Row.{ItemData, Row}
+use Rattle.covdata.specs.Lawful.{max_items}
+use Rattle.covdata.specs.Points.{line_point, func_point, branch_point}
+use Rattle.covdata.specs.Row.{ItemData, Row}
 use Rattle.covtable.specs.Ascending.{ascending}
 use Rattle.covtable.specs.Clash.{Agree, Checksum, checksum_of_row, checksums_in}
 use Rattle.covtable.specs.Content.{content_at, content_of}

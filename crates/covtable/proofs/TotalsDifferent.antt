@@ -16,8 +16,8 @@ use Rattle.std.proofs.lemmas.List.Concat.{length-flat_map}
 use Rattle.std.proofs.lemmas.List.Sums.{sum_by-cons, sum_by-append, sum_by-le-sum_by, length-filter, count_by-le-length}
 use Rattle.std.proofs.lemmas.Map.Made.{length-from_keys}
 use Rattle.std.proofs.lemmas.Slice.Eq.{bytes_eq-Decides}
-use Rattle.covline.specs.Points.{BranchPoint}
-use Rattle.covline.specs.Row.{ItemData, Row}
+use Rattle.covdata.specs.Points.{BranchPoint}
+use Rattle.covdata.specs.Row.{ItemData, Row}
 use Rattle.covtable.specs.Ascending.{ascending}
 use Rattle.covtable.specs.Content.{SectionData, content_of}
 use Rattle.covtable.specs.Counted.{Kind, FilePoint, lines, functions, branches, in_file, is_same, points_of, is_hit_in_a_test, found, hit}

@@ -1,6 +1,6 @@
 -- The files of rows are the files of the rows' keys.
 use Rattle.std.proofs.Common.{◌≡◌, ℕ, List, map, ap, subst}
-use Rattle.covline.specs.Row.{Row}
+use Rattle.covdata.specs.Row.{Row}
 use Rattle.covtable.specs.Value.{Key, key_of_row}
 use Rattle.covtable.proofs.Members.{In, In-map, In-unmap}
 

@@ -7,8 +7,8 @@ use Rattle.std.specs.Str.{bytes_eq}
 use Rattle.std.proofs.lemmas.Bool.{false≢true, and_parts, and_from, eqb-true, eq-eqb}
 use Rattle.std.proofs.lemmas.List.Sums.{sum_by-cons}
 use Rattle.std.proofs.lemmas.Slice.Eq.{bytes_eq-Decides}
-use Rattle.covline.specs.Points.{BranchPoint, line_point, func_point, branch_point}
-use Rattle.covline.specs.Row.{ItemData, LineItem, FuncItem, BranchItem, Row}
+use Rattle.covdata.specs.Points.{BranchPoint, line_point, func_point, branch_point}
+use Rattle.covdata.specs.Row.{ItemData, LineItem, FuncItem, BranchItem, Row}
 use Rattle.covtable.specs.declared.totals.Totals.{Totals}
 use Rattle.covtable.specs.Content.{SectionData, LineValueData, FunctionValueData, BranchValueData, line_at, function_at, branch_at, content_of}
 use Rattle.covtable.specs.Totals.{own_sections, lines_found, is_line_hit, functions_found, is_function_hit, branches_found, is_branch_hit, over_files, totals_of}

@@ -4,7 +4,7 @@
 use Rattle.std.specs.Prelude.{◌≡◌, ℕ, Bool, true, false, ◌==◌, ◌&&◌, not, List, [], ◌∷◌, ◌++◌, Option, Some, None, Contains}
 use Rattle.std.specs.Str.{bytes_eq}
 use Rattle.std.specs.List.{flat_map, find}
-use Rattle.covline.specs.Row.{ItemData, LineItem, Row}
+use Rattle.covdata.specs.Row.{ItemData, LineItem, Row}
 
 -- the checksum of a line of a file
 pub record Checksum : Type 0 where

@@ -1,7 +1,7 @@
 -- What rows add up to: a section for each file and test with a row, and in it each point with its value.
 use Rattle.std.specs.Prelude.{ℕ, List, Option, map}
-use Rattle.covline.specs.Points.{BranchPoint}
-use Rattle.covline.specs.Row.{ItemData, Row}
+use Rattle.covdata.specs.Points.{BranchPoint}
+use Rattle.covdata.specs.Row.{ItemData, Row}
 use Rattle.covtable.specs.Table.{Table, all_rows}
 use Rattle.covtable.specs.Value.{Key, keys_of, items_at, lines_in, line_value, line_checksum, names_in, function_start, function_count, branches_in, branch_value}
 

@@ -4,8 +4,8 @@ use Rattle.std.specs.Prelude.{ℕ, Bool, nat_lt, ◌==◌, ◌&&◌, List, map, 
 use Rattle.std.specs.List.{flat_map, list_any}
 use Rattle.std.specs.Set.{distinct_count}
 use Rattle.std.specs.Str.{bytes_eq}
-use Rattle.covline.specs.Points.{BranchPoint, line_point, func_point, branch_point}
-use Rattle.covline.specs.Row.{ItemData, Row}
+use Rattle.covdata.specs.Points.{BranchPoint, line_point, func_point, branch_point}
+use Rattle.covdata.specs.Row.{ItemData, Row}
 use Rattle.covtable.specs.Value.{items_at, line_value, function_count, branch_value, is_branch, is_taken}
 
 -- a kind of points: which points an item has, which points are the same, and whether the items' value at a point is above 0

@@ -1,6 +1,6 @@
 -- Why a store rejects a submission.
 use Rattle.std.specs.Prelude.{◌≡◌, Some}
-use Rattle.covline.specs.Row.{SubmissionData}
+use Rattle.covdata.specs.Row.{SubmissionData}
 use Rattle.covtable.specs.Clash.{ClashData}
 use Rattle.covtable.specs.Table.{Table, clash_at}
 

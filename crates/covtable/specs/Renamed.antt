@@ -1,7 +1,7 @@
 -- The table after a test is renamed.
 use Rattle.std.specs.Prelude.{ℕ, List, map, filter, if◌then◌else◌}
 use Rattle.std.specs.Str.{bytes_eq}
-use Rattle.covline.specs.Row.{Row}
+use Rattle.covdata.specs.Row.{Row}
 use Rattle.covtable.specs.Table.{Table}
 use Rattle.covtable.specs.Without.{is_of_test}
 

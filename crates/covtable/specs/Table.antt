@@ -1,7 +1,7 @@
 -- The table of counts: the rows of each accepted submission, in order of acceptance.
 use Rattle.std.specs.Prelude.{List, Option}
 use Rattle.std.specs.List.{flat_map}
-use Rattle.covline.specs.Row.{Row, SubmissionData, rows_of}
+use Rattle.covdata.specs.Row.{Row, SubmissionData, rows_of}
 use Rattle.covtable.specs.Clash.{ClashData, clash_of}
 
 abbrev pub Table : Type 0

@@ -4,7 +4,7 @@ use Rattle.std.specs.Ordering.{nat_cmp}
 use Rattle.std.specs.Cmp.Lexicographic.{slice_cmp}
 use Rattle.std.specs.Str.{bytes_eq}
 use Rattle.std.specs.List.{flat_map, sum_by, list_any}
-use Rattle.covline.specs.Points.{BranchPoint}
+use Rattle.covdata.specs.Points.{BranchPoint}
 use Rattle.covtable.specs.declared.totals.Totals.{Totals}
 use Rattle.covtable.specs.Ascending.{ascending}
 use Rattle.covtable.specs.Content.{SectionData}

@@ -5,8 +5,8 @@ use Rattle.std.specs.Ordering.{nat_cmp}
 use Rattle.std.specs.Cmp.Lexicographic.{slice_cmp}
 use Rattle.std.specs.Str.{bytes_eq}
 use Rattle.std.specs.List.{flat_map, list_any, sum_by}
-use Rattle.covline.specs.Row.{ItemData, LineItem, FuncItem, BranchItem, Row}
-use Rattle.covline.specs.Points.{BranchPoint, line_point, func_point, branch_point}
+use Rattle.covdata.specs.Row.{ItemData, LineItem, FuncItem, BranchItem, Row}
+use Rattle.covdata.specs.Points.{BranchPoint, line_point, func_point, branch_point}
 use Rattle.covtable.specs.declared.totals.Totals.{Totals}
 use Rattle.covtable.specs.Ascending.{ascending}
 use Rattle.covtable.specs.Value.{branch_cmp, is_branch, is_taken}

@@ -5,8 +5,8 @@ use Rattle.std.specs.Ordering.{ordering_then, nat_cmp}
 use Rattle.std.specs.Cmp.Lexicographic.{slice_cmp}
 use Rattle.std.specs.Str.{bytes_eq}
 use Rattle.std.specs.List.{flat_map, sum_by}
-use Rattle.covline.specs.Row.{ItemData, LineItem, FuncItem, BranchItem, Row}
-use Rattle.covline.specs.Points.{BranchPoint, line_points, func_points, branch_points, least}
+use Rattle.covdata.specs.Row.{ItemData, LineItem, FuncItem, BranchItem, Row}
+use Rattle.covdata.specs.Points.{BranchPoint, line_points, func_points, branch_points, least}
 use Rattle.covtable.specs.Ascending.{ascending}
 
 -- a file and a test: the key of a section

@@ -1,7 +1,7 @@
 -- The table without the rows of a test.
 use Rattle.std.specs.Prelude.{ℕ, Bool, not, List, length, map, filter}
 use Rattle.std.specs.Str.{bytes_eq}
-use Rattle.covline.specs.Row.{Row}
+use Rattle.covdata.specs.Row.{Row}
 use Rattle.covtable.specs.Table.{Table, all_rows}
 use Rattle.covtable.specs.Value.{keys_of}
 

@@ -4,8 +4,8 @@ ghost use Rattle.std.specs.Prelude.{◌≡◌, ◌↔◌, List, [], ◌∷◌, �
 ghost use Rattle.std.specs.Cmp.Lexicographic.{slice_cmp};
 ghost use Rattle.std.specs.List.Sorted.{IsPermutation};
 ghost use Rattle.std.specs.Ordering.{nat_cmp};
-ghost use Rattle.covline.specs.Points.{BranchPoint, line_points, func_points, branch_points};
-ghost use Rattle.covline.specs.Row.{ItemData, Row, SubmissionData, rows_of};
+ghost use Rattle.covdata.specs.Points.{BranchPoint, line_points, func_points, branch_points};
+ghost use Rattle.covdata.specs.Row.{ItemData, Row, SubmissionData, rows_of};
 ghost use Rattle.covtable.specs.Ascending.{IsAscendingOf};
 ghost use Rattle.covtable.specs.Clash.{Checksum, ClashData, Agree, IsFirstClash, checksums_in, first_clash};
 ghost use Rattle.covtable.specs.Content.{SectionData, content_of, content_at};

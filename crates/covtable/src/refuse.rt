@@ -1,6 +1,6 @@
 //! Why a store rejects a submission.
 
-use covline::{Bytes, Memory};
+use covdata::{Bytes, Memory};
 use std::alloc::{AllocError, AllocFailed, Allocator, Global};
 
 /// Why a store rejects a submission.

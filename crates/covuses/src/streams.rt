@@ -2,7 +2,7 @@
 
 ghost use Rattle.std.specs.Prelude.{◌≡◌, take, IfOk};
 
-use covline::Bytes;
+use covdata::Bytes;
 use covstream::{BLOCK_BYTES, BlockFault, FromRead, read_at_most};
 use std::alloc::Global;
 

@@ -12,7 +12,7 @@ use crate::stores::merged;
 use crate::streams::first_bytes;
 use covbook::Answer;
 use covcommand::Names;
-use covline::{LineFault, Submission};
+use covdata::{LineFault, Submission};
 use covmap::StagedMap;
 use covread::read_trace;
 use covstore::Store;

@@ -9,7 +9,7 @@ use super::texts::{APART, DOUBLED, JOINED, RENAMED, SMALL};
 use super::wrappers::{printed, read};
 use super::{check_bytes, made};
 use bumpalo::Bump;
-use covline::{Memory, Submission};
+use covdata::{Memory, Submission};
 use covpacked::PackedSubmission;
 use covreport::Choice;
 use covstore::Store;

@@ -2,7 +2,7 @@
 
 use super::made;
 use covbook::{Answer, Op, PackedRef, SubRef, TextRef};
-use covline::{Bytes, Memory, Submission, TraceLine};
+use covdata::{Bytes, Memory, Submission, TraceLine};
 use covpacked::PackedSubmission;
 use covread::{ReadFault, read_trace, read_trace_packed};
 use covreport::{Choice, PatternFault, Patterns, trace_text};

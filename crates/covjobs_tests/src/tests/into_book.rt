@@ -6,11 +6,11 @@ use super::check_bytes;
 use super::collecting::{ADDED_UP, OTHERS, is_outside};
 use super::said::check_answers;
 use covbook::Op;
+use covdata::Bytes;
 use covjobs::{
     CollectFault, CollectedBook, Given, Input, IntoBookFault, LateFault, LateInput, NoGate, Part,
     collect_into_book,
 };
-use covline::Bytes;
 use covread::ReadFault;
 use std::alloc::Global;
 use std::process::Abort;

@@ -1,8 +1,8 @@
 //! Tracefiles of one chunk, which are read as a whole.
 
 use super::{Given, WELL, Way, check_words, read_pieces, read_summed};
+use covdata::LcovVersion;
 use covlarge::{LargeTracefile, NextPiece};
-use covline::LcovVersion;
 use covread::read_trace;
 use std::process::Abort;
 use std::test::*;

@@ -2,7 +2,7 @@
 
 use super::wrappers::{holding, json, matching, summary, table};
 use super::{check_bytes, made};
-use covline::{Bytes, Memory};
+use covdata::{Bytes, Memory};
 use covreport::Choice;
 use covstore::Store;
 use std::alloc::{Allocator, Global};

@@ -2,7 +2,7 @@
 
 use super::wrappers::{put_lines, put_name};
 use super::{check_bytes, made};
-use covline::Bytes;
+use covdata::Bytes;
 use std::process::Abort;
 use std::test::*;
 

@@ -7,7 +7,7 @@ use super::tables::{TABLE_OF_TWO, TWO_FILES};
 use super::wrappers::holding;
 use super::{check_bytes, made};
 use bumpalo::Bump;
-use covline::{Bytes, Memory};
+use covdata::{Bytes, Memory};
 use covreport::Choice;
 use covstore::Store;
 use std::process::Abort;

@@ -2,7 +2,7 @@
 //! contracts.
 
 use super::made;
-use covline::{Bytes, Memory, Submission};
+use covdata::{Bytes, Memory, Submission};
 use covread::{ReadFault, read_trace};
 use covreport::{Choice, PatternFault, Patterns};
 use covstore::Store;

@@ -1,7 +1,7 @@
 //! The state of the gcov reader between two lines.
 
 ghost use Rattle.std.specs.Prelude.{true, is_some, ◌≡◌, [], ◌++◌, map, MatchResult, OnOk, OnErr};
-ghost use Rattle.covline.specs.Lawful.{IsLawful};
+ghost use Rattle.covdata.specs.Lawful.{IsLawful};
 ghost use Rattle.covread.specs.declared.fault.ReadFault.TheVariants.{Memory as NoMemory};
 ghost use Rattle.covread.specs.GcovView.{line_data};
 ghost use Rattle.covread.specs.GcovItems.{func_item, line_item};
@@ -10,7 +10,7 @@ ghost use Rattle.covread.specs.GcovSteps.{func_data, held_data, section_data, em
 use crate::fault::ReadFault;
 use crate::gcov::line::GcovLine;
 use crate::wide::wide;
-use covline::BranchPoint;
+use covdata::BranchPoint;
 use covpacked::{PackedSects, PackedSubmission};
 use std::alloc::Allocator;
 

@@ -2,7 +2,7 @@
 
 use super::wrappers::{annotated, read};
 use super::{Counted, check_counted, check_told};
-use covline::LineFault;
+use covdata::LineFault;
 use covread::ReadFault;
 use std::alloc::Global;
 use std::process::Abort;

@@ -1,14 +1,16 @@
-//! Tests calls of covline and covread that no session makes, on single records, lists and submissions, and the items of an input.
+//! Tests calls of covdata, covline and covread that no session makes, on single records, lists and submissions, and the items of an
+//! input.
 
 use super::check_bytes;
 use super::wrappers::{
     append, branch_first, bytes_of, copied_items, copied_sects, copied_submission, copy_of,
     counted_first, cut_first, is_packed, put_line, read, read_packed, submission_of, text_of,
 };
-use covline::{
+use covdata::{
     BadSubmission, BranchPoint, Bytes, Item, Items, LineFault, Memory, Sect, Sects, Submission,
-    Tally, TotalKind, TraceLine, good_test, lines, read_line, without_returns,
+    Tally, TotalKind, TraceLine, good_test,
 };
+use covline::{lines, read_line, without_returns};
 use covread::ReadFault;
 use std::alloc::Global;
 use std::process::Abort;

@@ -2,7 +2,7 @@
 //! contracts.
 
 use covcheck::{TextSummary, check_gcov, check_trace, summary_line};
-use covline::{
+use covdata::{
     BadSubmission, BranchPoint, Bytes, Item, Items, Memory, Sect, Sects, Submission, TraceLine,
 };
 use covpacked::PackedSubmission;

@@ -11,7 +11,7 @@ ghost use Rattle.covsession.specs.declared.session.fault.SessionFault.TheVariant
 use crate::session::fault::SessionFault;
 use crate::session::output::Output;
 use covbook::Answer;
-use covline::LineFault;
+use covdata::LineFault;
 use covread::ReadFault;
 use covstream::Sink;
 use itoa::Buffer;

@@ -18,7 +18,7 @@ use crate::session::answers::say_answer;
 use crate::session::fault::SessionFault;
 use crate::session::output::Output;
 use covbook::Op;
-use covline::Bytes;
+use covdata::Bytes;
 use covreport::{PatternFault, Patterns};
 use covstream::Sink;
 use std::alloc::Allocator;

@@ -2,7 +2,8 @@
 
 ghost use Rattle.std.specs.Prelude.{◌≡◌, ◌≢◌, ℕ, ◌-◌, ◌+◌, ◌^◌, ◌<◌, ◌≤◌, List, [], ◌∷◌, ◌++◌, length, take, drop, IfOk, IfErr, OnOk, OnErr};
 ghost use Rattle.std.specs.Io.KnownBytes.{IsAtEnd};
-ghost use Rattle.covline.specs.Lines.{before_feed, line_feed};
+ghost use Rattle.covdata.specs.Delimiters.{line_feed};
+ghost use Rattle.covline.specs.Lines.{before_feed};
 ghost use Rattle.covsession.specs.Broken.{FailsTaking, IsIdle, IsLinePart, Stalls};
 ghost use Rattle.covsession.specs.Streams.{unread, turns, moment, CanRead, CanCall, Takes, Moves, TakesPart, TakesLine};
 ghost use Rattle.covsession.specs.Text.{AreLines, HasCollected};

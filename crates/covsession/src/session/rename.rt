@@ -17,7 +17,8 @@ use crate::session::input::SessionInput;
 use crate::session::output::Output;
 use crate::session::text::{LineEnd, Text};
 use covbook::Op;
-use covline::{Bytes, without_returns};
+use covdata::Bytes;
+use covline::without_returns;
 use covstream::{Sink, Source};
 use std::alloc::Allocator;
 

@@ -1,7 +1,7 @@
 //! Collects a text or a command line, part by part.
 
 ghost use Rattle.std.specs.Prelude.{◌≡◌, ◌↔◌, ℕ, List, [], ◌∷◌, ◌++◌, take, IsTrue, IfErr, OnOk};
-ghost use Rattle.covline.specs.Lines.{line_feed};
+ghost use Rattle.covdata.specs.Delimiters.{line_feed};
 ghost use Rattle.covread.specs.Outcome.{max_bytes};
 ghost use Rattle.covsession.specs.Text.{line_after, line_with, HasCollected, IsTextOf};
 ghost use Rattle.covsession.specs.declared.session.fault.SessionFault.TheVariants as session_faults;

@@ -1,6 +1,6 @@
 //! Tests of `read_at_most`.
 
-use covline::Bytes;
+use covdata::Bytes;
 use covstream::{BlockFault, FromRead, read_at_most};
 use std::alloc::Global;
 use std::io::{self, Read};

@@ -2,7 +2,7 @@ use Rattle.std.proofs.Common.{length, ap, ◌∙◌, sym}
 use Rattle.std.proofs.lemmas.List.{length-map}
 use Rattle.std.specs.Cmp.Lexicographic.{slice_cmp}
 use Rattle.std.specs.Ordering.{nat_cmp}
-use Rattle.covline.specs.PointView.{branch_point_data}
+use Rattle.covdata.specs.PointView.{branch_point_data}
 use Rattle.covstore.specs.FileIndexView.{index_staged}
 use Rattle.covstore.specs.Items.{KeepsCountsOfKind}
 use Rattle.covstore.specs.Kinds.{Branch, CountsOf, Function, Kind, Line, PointsOf, above_of, at, cmp_of}

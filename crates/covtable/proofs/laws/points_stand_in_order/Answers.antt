@@ -1,4 +1,4 @@
-use Rattle.covline.specs.Points.{line_points, func_points, branch_points}
+use Rattle.covdata.specs.Points.{line_points, func_points, branch_points}
 use Rattle.covtable.proofs.Ascend.{ascending_is}
 use Rattle.covtable.proofs.Orders.{names_order, branches_order, lines_order}
 use Rattle.covtable.proofs.laws.points_stand_in_order.Goals as goal

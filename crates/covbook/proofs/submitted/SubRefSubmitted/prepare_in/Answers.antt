@@ -1,6 +1,6 @@
 use Rattle.std.specs.Prelude.{IfOk}
 use Rattle.std.proofs.Common.{◌≡◌, [], ◌∷◌, ◌++◌, subst}
-use Rattle.covline.specs.Row.{SubmissionData, rows_of}
+use Rattle.covdata.specs.Row.{SubmissionData, rows_of}
 use Rattle.covtable.specs.Content.{content_at}
 use Rattle.covstore.specs.Store.{StandsFor}
 use Rattle.covtable.specs.Table.{Table}

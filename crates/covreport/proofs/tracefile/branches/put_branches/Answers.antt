@@ -1,7 +1,7 @@
 use Rattle.std.proofs.Common.{refl, ◌++◌, length, ap, ap₂, ◌∙◌, arith}
 use Rattle.std.specs.List.{flat_map}
-use Rattle.covline.specs.Printed.{printed}
-use Rattle.covline.specs.declared.trace_line.TotalKind.TheVariants.{BranchFound, BranchHit}
+use Rattle.covdata.specs.Printed.{printed}
+use Rattle.covdata.specs.declared.trace_line.TotalKind.TheVariants.{BranchFound, BranchHit}
 use Rattle.covreport.specs.Report.{branch_record, branches_hit, totals_if_any}
 use Rattle.covtable.specs.Content.{BranchValueData}
 use Rattle.covtable.specs.Value.{is_taken}

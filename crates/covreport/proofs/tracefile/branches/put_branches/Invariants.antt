@@ -1,5 +1,5 @@
 use Rattle.covtable.specs.Value.{is_taken}
-use Rattle.covline.specs.Printed.{printed}
+use Rattle.covdata.specs.Printed.{printed}
 use Rattle.covreport.specs.Report.{branch_record}
 use Rattle.covtable.specs.Content.{BranchValueData}
 use Rattle.covreport.proofs.Texts.{IsPrinted}

@@ -1,5 +1,5 @@
 use Rattle.std.proofs.Common.{drop, map, nat_lt}
-use Rattle.covline.specs.Printed.{printed}
+use Rattle.covdata.specs.Printed.{printed}
 use Rattle.covreport.specs.Report.{call_record}
 use Rattle.covreport.proofs.Texts.{IsPrinted}
 use Rattle.covtable.specs.Content.{FunctionValueData}

@@ -1,6 +1,6 @@
 use Rattle.std.proofs.Common.{◌≡◌, ◌++◌, drop, map}
 use Rattle.std.specs.List.{flat_map}
-use Rattle.covline.specs.Printed.{printed}
+use Rattle.covdata.specs.Printed.{printed}
 use Rattle.covreport.specs.Report.{start_record}
 use Rattle.covtable.specs.Content.{FunctionValueData}
 use Rattle.covreport.specs.FunctionView.{printed_function}

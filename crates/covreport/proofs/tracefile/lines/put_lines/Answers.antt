@@ -1,7 +1,7 @@
 use Rattle.std.proofs.Common.{refl, nat_lt, length, ap, ap₂, ◌++◌, ◌∙◌, arith}
 use Rattle.std.specs.List.{flat_map}
-use Rattle.covline.specs.Printed.{printed}
-use Rattle.covline.specs.declared.trace_line.TotalKind.TheVariants.{LineFound, LineHit}
+use Rattle.covdata.specs.Printed.{printed}
+use Rattle.covdata.specs.declared.trace_line.TotalKind.TheVariants.{LineFound, LineHit}
 use Rattle.covreport.specs.Report.{line_record, lines_hit, totals}
 use Rattle.covtable.specs.Content.{LineValueData}
 use Rattle.covtable.specs.ValuesView.{line_data}

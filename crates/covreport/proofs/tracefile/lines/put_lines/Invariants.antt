@@ -1,5 +1,5 @@
 use Rattle.std.proofs.Common.{nat_lt}
-use Rattle.covline.specs.Printed.{printed}
+use Rattle.covdata.specs.Printed.{printed}
 use Rattle.covreport.specs.Report.{line_record}
 use Rattle.covtable.specs.Content.{LineValueData}
 use Rattle.covreport.proofs.Texts.{IsPrinted}

@@ -1,7 +1,7 @@
 use Rattle.std.proofs.Common.{◌≢◌, List, [], ◌∷◌, ◌++◌, sym, ap, subst, ◌∙◌, append-nil, append_assoc}
 use Rattle.std.specs.List.{flat_map}
 use Rattle.std.proofs.lemmas.Result.{err_from_is_err_and}
-use Rattle.covline.specs.Row.{SectData, rows_of_sect}
+use Rattle.covdata.specs.Row.{SectData, rows_of_sect}
 use Rattle.covpacked.specs.PackedSects.{packed_sect_data}
 use Rattle.covstore.specs.Store.{AddsRows, ClashesWith}
 use Rattle.covtable.specs.RefuseView.{refuse_data}

@@ -1,7 +1,7 @@
 use Rattle.std.proofs.Common.{◌≡◌, ◌≢◌, List, [], ◌∷◌, ◌++◌, ap, sym, subst, ◌∙◌, arith}
 use Rattle.std.specs.Prelude.{None, Some}
 use Rattle.std.specs.List.{flat_map}
-use Rattle.covline.specs.Row.{Row, SectData, SubmissionData, rows_of, rows_of_sect}
+use Rattle.covdata.specs.Row.{Row, SectData, SubmissionData, rows_of, rows_of_sect}
 use Rattle.covtable.specs.Clash.{clash_of}
 use Rattle.covstore.specs.Store.{AddsTo}
 use Rattle.covtable.specs.Table.{all_rows}

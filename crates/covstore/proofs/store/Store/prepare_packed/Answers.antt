@@ -1,6 +1,6 @@
 use Rattle.std.proofs.Common.{◌≢◌, List, [], sym, ◌∙◌, subst}
 use Rattle.std.specs.List.{flat_map}
-use Rattle.covline.specs.Row.{SectData, rows_of_sect}
+use Rattle.covdata.specs.Row.{SectData, rows_of_sect}
 use Rattle.covstore.specs.Store.{AddsRows, ClashesWith, HasRoomForRows}
 use Rattle.covtable.specs.RefuseView.{refuse_data}
 use Rattle.covtable.specs.Totals.{AreTotals}
