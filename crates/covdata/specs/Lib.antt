@@ -6,3 +6,4 @@ pub mod Lawful
 pub mod Printed
 pub mod Delimiters
 pub mod Records
+pub mod Fault

@@ -2,7 +2,7 @@
 //!
 //! A record ([`TraceLine`]) is what one line of a tracefile says. A section ([`Sect`]) holds the items (the counts of lines,
 //! functions and branches) of one test and one source file. Sections with lawful names and checksums make a [`Submission`]: the
-//! content of one input.
+//! content of one input. A [`ReadFault`] is the first error of an input.
 //!
 //! covline parses and prints records. A crate that reads no text takes its types from here, so that a change of a reader leaves its
 //! proofs as they are.
@@ -10,6 +10,7 @@
 
 mod bytes;
 mod checks;
+mod fault;
 mod item;
 mod memory;
 mod names;
@@ -21,6 +22,7 @@ mod trace_line;
 mod version;
 
 pub use bytes::Bytes;
+pub use fault::{MAX_BYTES, ReadFault};
 pub use item::{Item, Items};
 pub use memory::Memory;
 pub use names::{good_checksum, good_test, is_checksum_byte};

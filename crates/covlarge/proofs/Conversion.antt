@@ -10,8 +10,8 @@ use Rattle.covpieces.specs.Pieces.{CarriedData, HaveBeenRead, OneByOne, all_of, 
 use Rattle.covpieces.specs.Sections.{EndsSection}
 use Rattle.covpieces.specs.Whole.{IsWholeLcov2Outcome, IsWholeOutcome}
 use Rattle.covread.specs.Outcome as trace
-use Rattle.covread.specs.declared.fault.ReadFault.{ReadFault}
-use Rattle.covread.specs.declared.fault.ReadFault.TheVariants.{TooLong, Line, Outside, Inside, OpenEnd, BadMark, NoSource, Percent, Instances, Misplaced, LostFunction, BadTest, Memory}
+use Rattle.covdata.specs.declared.fault.ReadFault.{ReadFault}
+use Rattle.covdata.specs.declared.fault.ReadFault.TheVariants.{TooLong, Line, Outside, Inside, OpenEnd, BadMark, NoSource, Percent, Instances, Misplaced, LostFunction, BadTest, Memory}
 use Rattle.covlarge.proofs.Summary.{holds_all_if_told}
 use Rattle.covlarge.proofs.ToCome.{all_at_once}
 use Rattle.covlarge.specs.Large.{BeginsTooLong, IsReadAs, IsStop, MayBeReadAs, max_pieces, told_fault}

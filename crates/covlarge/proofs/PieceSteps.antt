@@ -9,7 +9,7 @@ use Rattle.covdata.specs.Row.{SectData, SubmissionData}
 use Rattle.covpieces.specs.Pieces.{CarriedData, front_text}
 use Rattle.covpieces.specs.Sections.{EndsSection}
 use Rattle.covread.specs.Outcome.{max_bytes}
-use Rattle.covread.specs.declared.fault.ReadFault.TheVariants.{TooLong}
+use Rattle.covdata.specs.declared.fault.ReadFault.TheVariants.{TooLong}
 use Rattle.covstream.specs.Blocks.{IsReadFault}
 use Rattle.covstream.specs.declared.fault.BlockFault.{BlockFault}
 use Rattle.covstream.specs.declared.fault.BlockFault.TheVariants as blocks

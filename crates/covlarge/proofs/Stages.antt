@@ -12,8 +12,8 @@ use Rattle.covpieces.proofs.InPieces.{joined_nothing}
 use Rattle.covpieces.specs.Pieces.{CarriedData, HaveBeenRead, all_of, front_text, joined}
 use Rattle.covpieces.specs.Sections.{EndsSection}
 use Rattle.covread.specs.Outcome.{max_bytes}
-use Rattle.covread.specs.declared.fault.ReadFault.{ReadFault}
-use Rattle.covread.specs.declared.fault.ReadFault.TheVariants.{TooLong}
+use Rattle.covdata.specs.declared.fault.ReadFault.{ReadFault}
+use Rattle.covdata.specs.declared.fault.ReadFault.TheVariants.{TooLong}
 use Rattle.covlarge.proofs.Summary.{holds_then_if_told}
 use Rattle.covlarge.proofs.ToCome.{some_text, all_to_end, all_further, all_on}
 use Rattle.covlarge.specs.Found.{BeginsLong}

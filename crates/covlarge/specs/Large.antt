@@ -8,8 +8,8 @@ use Rattle.covdata.specs.Row.{SubmissionData}
 use Rattle.covpieces.specs.Pieces.{CarriedData, HaveBeenRead, all_of, front_text, nothing_carried, renumbered}
 use Rattle.covpieces.specs.Sections.{EndsSection}
 use Rattle.covread.specs.Outcome.{max_bytes}
-use Rattle.covread.specs.declared.fault.ReadFault.{ReadFault}
-use Rattle.covread.specs.declared.fault.ReadFault.TheVariants.{TooLong}
+use Rattle.covdata.specs.declared.fault.ReadFault.{ReadFault}
+use Rattle.covdata.specs.declared.fault.ReadFault.TheVariants.{TooLong}
 
 -- the most pieces that a tracefile may have. So the entries of one tracefile and of a last operation have room in a history
 abbrev pub max_pieces : ℕ

@@ -10,8 +10,8 @@ use Rattle.covlcov2.specs.Outcome as lcov2
 use Rattle.covdata.specs.Row.{SubmissionData}
 use Rattle.covpieces.specs.Pieces.{CarriedData, told}
 use Rattle.covread.specs.Outcome as trace
-use Rattle.covread.specs.declared.fault.ReadFault.{ReadFault}
-use Rattle.covread.specs.declared.fault.ReadFault.TheVariants as faults
+use Rattle.covdata.specs.declared.fault.ReadFault.{ReadFault}
+use Rattle.covdata.specs.declared.fault.ReadFault.TheVariants as faults
 use Rattle.covstream.specs.declared.fault.BlockFault.{BlockFault}
 use Rattle.covstream.specs.declared.fault.BlockFault.TheVariants as blocks
 

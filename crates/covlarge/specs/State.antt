@@ -14,8 +14,8 @@ use Rattle.covlarge.specs.declared.large_tracefile.NextPiece.TheVariants.{Last, 
 use Rattle.covdata.specs.Row.{SubmissionData}
 use Rattle.covpieces.specs.Pieces.{CarriedData, HaveBeenRead, all_of, front_text, nothing_carried, told}
 use Rattle.covpieces.specs.Sections.{EndsSection}
-use Rattle.covread.specs.declared.fault.ReadFault.{ReadFault}
-use Rattle.covread.specs.declared.fault.ReadFault.TheVariants.{TooLong}
+use Rattle.covdata.specs.declared.fault.ReadFault.{ReadFault}
+use Rattle.covdata.specs.declared.fault.ReadFault.TheVariants.{TooLong}
 
 -- before the first piece
 abbrev pub begun_state : {S : Type 0} → LcovVersion → Option SummaryData → S → StateData S

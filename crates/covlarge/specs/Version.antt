@@ -8,7 +8,7 @@ use Rattle.covdata.specs.Row.{SectData, SubmissionData}
 use Rattle.covpieces.specs.Pieces.{CarriedData, carried_after, lcov2_carried_after}
 use Rattle.covpieces.specs.Whole.{IsWholeLcov2Outcome, IsWholeOutcome}
 use Rattle.covread.specs.Outcome as trace
-use Rattle.covread.specs.declared.fault.ReadFault.{ReadFault}
+use Rattle.covdata.specs.declared.fault.ReadFault.{ReadFault}
 
 -- what a text is read as that isn't too long
 abbrev pub IsOutcomeOf : LcovVersion → List ℕ → Result SubmissionData ReadFault → Type 0

@@ -1,7 +1,6 @@
 //! Why reading of a tracefile stopped.
 
-use covdata::Memory;
-use covread::ReadFault;
+use covdata::{Memory, ReadFault};
 use covstream::BlockFault;
 use std::alloc::AllocError;
 

@@ -6,16 +6,15 @@ ghost use Rattle.covlarge.specs.State.{IsNextPiece, MayGive, begun_state};
 ghost use Rattle.covlarge.specs.Summary.{SummaryData, nothing_held};
 ghost use Rattle.covdata.specs.Row.{SubmissionData};
 ghost use Rattle.covpieces.specs.Pieces.{front_text};
-ghost use Rattle.covread.specs.declared.fault.ReadFault.{ReadFault as Fault};
+ghost use Rattle.covdata.specs.declared.fault.ReadFault.{ReadFault as Fault};
 
 use crate::fault::PieceFault;
 use crate::held::Held;
 use crate::piece_text::{Found, PieceText};
 use crate::so_far::SoFar;
-use covdata::{Bytes, LcovVersion, Memory};
+use covdata::{Bytes, LcovVersion, Memory, ReadFault};
 use covpacked::PackedSubmission;
 use covpieces::{Carried, pieces_are_read_one_by_one};
-use covread::ReadFault;
 use covstream::{BLOCK_BYTES, Source};
 use std::alloc::Global;
 use std::marker::Model;

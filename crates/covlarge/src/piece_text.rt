@@ -6,9 +6,8 @@ ghost use Rattle.covpieces.specs.Pieces.{front_text};
 ghost use Rattle.covread.specs.Outcome.{max_bytes};
 ghost use Rattle.covstream.specs.Blocks.{IsReadFault};
 
-use covdata::{Bytes, Memory};
+use covdata::{Bytes, MAX_BYTES, Memory};
 use covpieces::{Carried, whole_sections};
-use covread::MAX_BYTES;
 use covstream::{BlockFault, Source, read_at_most};
 use std::alloc::Global;
 use std::marker::Model;

@@ -10,11 +10,11 @@ ghost use Rattle.covread.specs.Outcome.{max_bytes};
 use crate::fault::PieceFault;
 use crate::held::Held;
 use crate::piece_text::PieceText;
-use covdata::{LcovVersion, Memory};
+use covdata::{LcovVersion, Memory, ReadFault};
 use covlcov2::read_lcov2_packed;
 use covpacked::PackedSubmission;
 use covpieces::Carried;
-use covread::{ReadFault, read_trace_packed};
+use covread::read_trace_packed;
 use std::alloc::Global;
 
 /// The state between two chunks: the tracefile's version, the state carried over to the next chunk, and the summary of the chunks

@@ -18,7 +18,7 @@ use Rattle.covlaws.specs.Printable.{IsLawfulRow, submission_shown}
 use Rattle.covlaws.specs.ReadsBack.{AreMergesOf, IsMergeOf, IsReadAs}
 use Rattle.covreport.specs.Report.{report_text, section_text}
 use Rattle.covdata.specs.Row.{Row, SubmissionData, rows_of}
-use Rattle.covread.specs.declared.fault.ReadFault.{ReadFault}
+use Rattle.covdata.specs.declared.fault.ReadFault.{ReadFault}
 use Rattle.covread.specs.Outcome.{IsOutcome, max_bytes}
 use Rattle.covbook.specs.Step.{answer_of, table_of}
 use Rattle.covreport.specs.Summary.{summary_of}

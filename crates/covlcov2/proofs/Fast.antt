@@ -7,8 +7,8 @@ use Rattle.covline.specs.Spells.{Spells}
 use Rattle.covdata.specs.Printed.{line_text}
 use Rattle.covline.proofs.PrintedLaws.{printed-spells}
 use Rattle.covline.proofs.ReadLaws.{one_meaning, no_fault_beside}
-use Rattle.covread.specs.declared.fault.ReadFault.{ReadFault}
-use Rattle.covread.specs.declared.fault.ReadFault.TheVariants as faults
+use Rattle.covdata.specs.declared.fault.ReadFault.{ReadFault}
+use Rattle.covdata.specs.declared.fault.ReadFault.TheVariants as faults
 use Rattle.covread.specs.declared.trace.placement_fault.PlacementFault.{PlacementFault}
 use Rattle.covread.specs.declared.trace.placement_fault.PlacementFault.TheVariants as version1
 use Rattle.covread.specs.declared.trace.reader.Reader.{Reader}

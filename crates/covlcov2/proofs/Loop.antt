@@ -10,8 +10,8 @@ use Rattle.covline.specs.Lines.{lines_of}
 use Rattle.covdata.specs.Printed.{line_text}
 use Rattle.covdata.specs.Row.{SectData}
 use Rattle.covdata.specs.Records.{LineData, Path}
-use Rattle.covread.specs.declared.fault.ReadFault.{ReadFault}
-use Rattle.covread.specs.declared.fault.ReadFault.TheVariants as faults
+use Rattle.covdata.specs.declared.fault.ReadFault.{ReadFault}
+use Rattle.covdata.specs.declared.fault.ReadFault.TheVariants as faults
 use Rattle.covread.specs.declared.trace.reader.OpenSection.{OpenSection}
 use Rattle.covread.specs.Outcome.{max_bytes}
 use Rattle.covread.specs.TraceSteps.{SectionData, HeldData, empty, kept_in, section_data, held_data, step_at, ends, ends_at, EndsLawfully}

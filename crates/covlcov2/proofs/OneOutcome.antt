@@ -6,8 +6,8 @@ use Rattle.covdata.specs.declared.trace_line.LineFault.{LineFault}
 use Rattle.covdata.specs.Row.{SectData, SubmissionData}
 use Rattle.covline.specs.Lines.{lines_of}
 use Rattle.covdata.specs.Records.{LineData, Test, Path, Skip}
-use Rattle.covread.specs.declared.fault.ReadFault.{ReadFault}
-use Rattle.covread.specs.declared.fault.ReadFault.TheVariants as faults
+use Rattle.covdata.specs.declared.fault.ReadFault.{ReadFault}
+use Rattle.covdata.specs.declared.fault.ReadFault.TheVariants as faults
 use Rattle.covread.specs.Outcome as version1
 use Rattle.covread.specs.Reads.{odd_in, records_of, sects_from}
 use Rattle.covread.proofs.TraceGrammar.{one_parts}

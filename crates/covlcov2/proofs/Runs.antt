@@ -9,8 +9,8 @@ use Rattle.std.proofs.Common.{Bool, true, false}
 use Rattle.covline.specs.Lines.{lines_of}
 use Rattle.covdata.specs.Printed.{line_text}
 use Rattle.covdata.specs.Records.{LineData, Test, Path, FuncStart, FuncCount, Total, Skip}
-use Rattle.covread.specs.declared.fault.ReadFault.{ReadFault}
-use Rattle.covread.specs.declared.fault.ReadFault.TheVariants as faults
+use Rattle.covdata.specs.declared.fault.ReadFault.{ReadFault}
+use Rattle.covdata.specs.declared.fault.ReadFault.TheVariants as faults
 use Rattle.covread.specs.Reads.{Part, records_of}
 use Rattle.covread.specs.Outcome as version1
 use Rattle.covread.specs.TraceSteps.{SectionData, HeldData, ends, EndsLawfully}

@@ -7,8 +7,8 @@ use Rattle.covdata.specs.declared.trace_line.TotalKind.TheVariants.{FuncFound, F
 use Rattle.covline.specs.Lines.{lines_of}
 use Rattle.covdata.specs.Row.{SubmissionData}
 use Rattle.covdata.specs.Records.{LineData, Path, Total, Skip}
-use Rattle.covread.specs.declared.fault.ReadFault.{ReadFault}
-use Rattle.covread.specs.declared.fault.ReadFault.TheVariants as faults
+use Rattle.covdata.specs.declared.fault.ReadFault.{ReadFault}
+use Rattle.covdata.specs.declared.fault.ReadFault.TheVariants as faults
 use Rattle.covread.specs.Reads.{Part, Outside, Section, records_of, sects_from, test_after}
 use Rattle.covlcov2.specs.Outcome.{Answers, HasBegun, IsLawfulText}
 use Rattle.covlcov2.specs.Reads.{StandFor, above_after, alias_said, edge_said, is_leader, leader, plain_said, said, total_said}

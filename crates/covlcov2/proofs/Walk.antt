@@ -10,8 +10,8 @@ use Rattle.covdata.specs.Lawful.{IsLawful}
 use Rattle.covline.specs.Lines.{lines_of}
 use Rattle.covdata.specs.Row.{SubmissionData}
 use Rattle.covdata.specs.Records.{LineData, Test, Path, FuncStart, FuncCount, Branch, Total, End, Skip}
-use Rattle.covread.specs.declared.fault.ReadFault.{ReadFault}
-use Rattle.covread.specs.declared.fault.ReadFault.TheVariants as faults
+use Rattle.covdata.specs.declared.fault.ReadFault.{ReadFault}
+use Rattle.covdata.specs.declared.fault.ReadFault.TheVariants as faults
 use Rattle.covread.specs.Outcome as version1
 use Rattle.covread.specs.TraceSteps.{SectionData, HeldData, empty, kept, step, step_at, ends, ends_at, IsLawfulAt}
 use Rattle.covlcov2.specs.Spells.{Lcov2Data, Plain, Leader, Alias, Edge}

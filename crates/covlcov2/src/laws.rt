@@ -4,7 +4,7 @@ ghost use Rattle.std.specs.Prelude.{◌≡◌, ◌⊎◌, ℕ, List, Result, Ok}
 ghost use Rattle.covdata.specs.declared.trace_line.LineFault.{LineFault};
 ghost use Rattle.covdata.specs.Lawful.{IsLawful};
 ghost use Rattle.covdata.specs.Row.{SubmissionData};
-ghost use Rattle.covread.specs.declared.fault.ReadFault.{ReadFault as Fault};
+ghost use Rattle.covdata.specs.declared.fault.ReadFault.{ReadFault as Fault};
 ghost use Rattle.covlcov2.specs.Spells.{Lcov2Data, Lcov2Spells, HasLcov2Fault};
 ghost use Rattle.covlcov2.specs.Outcome.{IsOutcome};
 

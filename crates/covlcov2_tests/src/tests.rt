@@ -1,9 +1,9 @@
 //! Tests with expected values that were worked out by hand from geninfo(1) of LCOV 2.3.1, section TRACEFILE FORMAT. Expected
 //! submissions are written as tracefiles of version 1.
 
-use covdata::Submission;
+use covdata::{ReadFault, Submission};
 use covlcov2::{read_lcov2, read_lcov2_packed};
-use covread::{ReadFault, read_trace};
+use covread::read_trace;
 use std::alloc::Global;
 use std::process::Abort;
 use std::test::*;

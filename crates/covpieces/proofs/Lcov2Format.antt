@@ -4,8 +4,8 @@ use Rattle.std.specs.List.{flat_map}
 use Rattle.covdata.specs.Lawful.{IsLawful}
 use Rattle.covline.specs.Lines.{lines_of}
 use Rattle.covdata.specs.Row.{SubmissionData}
-use Rattle.covread.specs.declared.fault.ReadFault.{ReadFault}
-use Rattle.covread.specs.declared.fault.ReadFault.TheVariants.{TooLong}
+use Rattle.covdata.specs.declared.fault.ReadFault.{ReadFault}
+use Rattle.covdata.specs.declared.fault.ReadFault.TheVariants.{TooLong}
 use Rattle.covread.specs.Reads.{records_of}
 use Rattle.covlcov2.specs.LineLaws.{Lcov2LineLaw}
 use Rattle.covlcov2.specs.Reads.{Reads}

@@ -2,8 +2,8 @@
 use Rattle.std.proofs.Common.{◌≡◌, ◌⊎◌, ℕ, List, [], ◌∷◌, ◌++◌, Result, Ok, Err, refl, ap, subst, inl, inr}
 use Rattle.covline.specs.Lines.{lines_of}
 use Rattle.covdata.specs.Row.{SubmissionData}
-use Rattle.covread.specs.declared.fault.ReadFault.{ReadFault}
-use Rattle.covread.specs.declared.fault.ReadFault.TheVariants.{TooLong}
+use Rattle.covdata.specs.declared.fault.ReadFault.{ReadFault}
+use Rattle.covdata.specs.declared.fault.ReadFault.TheVariants.{TooLong}
 use Rattle.covread.proofs.TraceGrammar.{LineLaw}
 use Rattle.covread.proofs.TraceOutcome as trace
 use Rattle.covlcov2.specs.LineLaws.{Lcov2LineLaw}

@@ -3,8 +3,8 @@ use Rattle.std.proofs.Common.{◌≡◌, ◌⊎◌, ℕ, List, [], ◌∷◌, �
 use Rattle.covdata.specs.Lawful.{IsGoodTest, IsLawful}
 use Rattle.covline.specs.Lines.{lines_of}
 use Rattle.covdata.specs.Row.{SubmissionData}
-use Rattle.covread.specs.declared.fault.ReadFault.{ReadFault}
-use Rattle.covread.specs.declared.fault.ReadFault.TheVariants.{TooLong}
+use Rattle.covdata.specs.declared.fault.ReadFault.{ReadFault}
+use Rattle.covdata.specs.declared.fault.ReadFault.TheVariants.{TooLong}
 use Rattle.covread.specs.Reads.{Reads}
 use Rattle.covread.specs.Outcome.{IsFirstFault, IsOutcome}
 use Rattle.covread.proofs.TraceGrammar.{LineLaw}

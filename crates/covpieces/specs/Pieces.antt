@@ -4,8 +4,8 @@ use Rattle.std.specs.List.{concat}
 use Rattle.covdata.specs.Row.{SectData, SubmissionData}
 use Rattle.covdata.specs.Delimiters.{line_feed}
 use Rattle.covline.specs.Lines.{lines_of}
-use Rattle.covread.specs.declared.fault.ReadFault.{ReadFault}
-use Rattle.covread.specs.declared.fault.ReadFault.TheVariants.{TooLong, Line, Outside, Inside, OpenEnd, BadMark, NoSource, Percent, Instances, Misplaced, LostFunction, BadTest, Memory}
+use Rattle.covdata.specs.declared.fault.ReadFault.{ReadFault}
+use Rattle.covdata.specs.declared.fault.ReadFault.TheVariants.{TooLong, Line, Outside, Inside, OpenEnd, BadMark, NoSource, Percent, Instances, Misplaced, LostFunction, BadTest, Memory}
 use Rattle.covpieces.specs.Sections.{EndsSection, grouped_after}
 
 -- each piece but the last ends with the last line of a section

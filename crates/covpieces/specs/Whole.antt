@@ -2,7 +2,7 @@
 use Rattle.std.specs.Prelude.{ℕ, List, Result, Ok, Err}
 use Rattle.covdata.specs.Row.{SubmissionData}
 use Rattle.covline.specs.Lines.{lines_of}
-use Rattle.covread.specs.declared.fault.ReadFault.{ReadFault}
+use Rattle.covdata.specs.declared.fault.ReadFault.{ReadFault}
 use Rattle.covread.specs.Reads.{Reads}
 use Rattle.covread.specs.Outcome.{IsFirstFault}
 use Rattle.covlcov2.specs.Reads as lcov2

@@ -15,8 +15,8 @@ use Rattle.covdata.specs.Lawful.{IsGoodTest, IsGoodName, IsLawfulItem, IsLawfulS
 use Rattle.covline.specs.Spells.{digits_value}
 use Rattle.covline.specs.Reading.{after_key}
 use Rattle.covline.proofs.LineLaws.{good_rest, good_lines, few_lines}
-use Rattle.covread.specs.declared.fault.ReadFault.{ReadFault}
-use Rattle.covread.specs.declared.fault.ReadFault.TheVariants as faults
+use Rattle.covdata.specs.declared.fault.ReadFault.{ReadFault}
+use Rattle.covdata.specs.declared.fault.ReadFault.TheVariants as faults
 use Rattle.covread.specs.declared.gcov.line.OwnFault.TheVariants as own
 use Rattle.covread.specs.declared.gcov.reader.BranchAnchor.{BranchAnchor}
 use Rattle.covread.specs.Gcov.{Shape, Instances, Function, Never, Taken, Block, Numbered, Other, HasShape, IsName, Says, says_of, GcovLine, Path, SourceLine, FuncCount, BranchCount, BlockNumber, Nothing, with_number, are_digits, without_last, percent, star, branch_says, source_says, path_says, colon}

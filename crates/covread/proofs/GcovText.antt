@@ -8,8 +8,8 @@ use Rattle.covdata.specs.Row.{SubmissionData, SectData}
 use Rattle.covdata.specs.Delimiters.{line_feed, carriage_return}
 use Rattle.covline.specs.Lines.{lines_of}
 use Rattle.covdata.specs.Lawful.{IsGoodTest}
-use Rattle.covread.specs.declared.fault.ReadFault.{ReadFault}
-use Rattle.covread.specs.declared.fault.ReadFault.TheVariants as faults
+use Rattle.covdata.specs.declared.fault.ReadFault.{ReadFault}
+use Rattle.covdata.specs.declared.fault.ReadFault.TheVariants as faults
 use Rattle.covread.specs.Gcov.{GcovLine, Says, says_of, LineSays}
 use Rattle.covread.specs.GcovReading.{is_name, shape_of}
 use Rattle.covread.specs.GcovItems.{waiting, sects_from, is_empty, place_fault}

@@ -2,7 +2,7 @@
 use Rattle.std.proofs.Common.{refl, ◌≡◌, true, false, ℕ, List, Option, Some, None, Ok, Err, option_map}
 use Rattle.std.specs.Option.{is_some}
 use Rattle.covdata.specs.Records.{LineData, Test, Skip}
-use Rattle.covread.specs.declared.fault.ReadFault.TheVariants as faults
+use Rattle.covdata.specs.declared.fault.ReadFault.TheVariants as faults
 use Rattle.covread.specs.declared.trace.placement_fault.PlacementFault.TheVariants as placement
 use Rattle.covread.specs.declared.trace.reader.OpenSection.{OpenSection}
 use Rattle.covread.specs.TraceSteps.{HeldData, section_data, step_at, IsLawfulAt, ends_at, submission_held}

@@ -6,8 +6,8 @@ use Rattle.covdata.specs.Row.{SubmissionData}
 use Rattle.covline.specs.Lines.{lines_of}
 use Rattle.covdata.specs.Records.{LineData, Test, Path, End, Skip}
 use Rattle.covline.specs.Spells.{Spells}
-use Rattle.covread.specs.declared.fault.ReadFault.{ReadFault}
-use Rattle.covread.specs.declared.fault.ReadFault.TheVariants as faults
+use Rattle.covdata.specs.declared.fault.ReadFault.{ReadFault}
+use Rattle.covdata.specs.declared.fault.ReadFault.TheVariants as faults
 use Rattle.covread.specs.Reads.{Part}
 use Rattle.covread.specs.Outcome.{max_bytes, IsFirstFault, IsOutcome, Answers, IsOrMemory}
 use Rattle.covread.proofs.TraceGrammar.{LineLaw, Place, Between, Within}

@@ -8,8 +8,8 @@ use Rattle.covdata.specs.Row.{ItemData, SectData}
 use Rattle.covdata.specs.Lawful.{IsLawful}
 use Rattle.covdata.specs.Records.{LineData, Path}
 use Rattle.covline.specs.Spells.{Spells}
-use Rattle.covread.specs.declared.fault.ReadFault.{ReadFault}
-use Rattle.covread.specs.declared.fault.ReadFault.TheVariants as faults
+use Rattle.covdata.specs.declared.fault.ReadFault.{ReadFault}
+use Rattle.covdata.specs.declared.fault.ReadFault.TheVariants as faults
 use Rattle.covread.specs.declared.trace.reader.OpenSection.{OpenSection}
 use Rattle.covread.specs.declared.trace.reader.Reader.{Reader}
 use Rattle.covread.specs.Reads.{Part}

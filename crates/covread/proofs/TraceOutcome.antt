@@ -6,8 +6,8 @@ use Rattle.covdata.specs.Row.{SectData, SubmissionData}
 use Rattle.covline.specs.Lines.{lines_of}
 use Rattle.covdata.specs.Records.{LineData, Test, Path, Skip}
 use Rattle.covline.specs.Spells.{Spells, HasFault}
-use Rattle.covread.specs.declared.fault.ReadFault.{ReadFault}
-use Rattle.covread.specs.declared.fault.ReadFault.TheVariants as faults
+use Rattle.covdata.specs.declared.fault.ReadFault.{ReadFault}
+use Rattle.covdata.specs.declared.fault.ReadFault.TheVariants as faults
 use Rattle.covread.specs.Reads.{odd_in, records_of, sects_from, Reads}
 use Rattle.covread.specs.Outcome.{max_bytes, IsLawfulText, MayGoOn, IsFirstFaulty, NeedsSection, NeedsOutside, IsFirstFault, IsOutcome}
 use Rattle.covread.proofs.TraceGrammar.{LineLaw, one_parts}

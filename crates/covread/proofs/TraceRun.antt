@@ -7,7 +7,7 @@ use Rattle.std.proofs.lemmas.List.Sums.{sum_by_push}
 use Rattle.covdata.specs.Row.{ItemData, SectData}
 use Rattle.covdata.specs.Records.{LineData, Test, Path, End, Skip}
 use Rattle.covline.specs.Spells.{Spells}
-use Rattle.covread.specs.declared.fault.ReadFault.TheVariants as faults
+use Rattle.covdata.specs.declared.fault.ReadFault.TheVariants as faults
 use Rattle.covread.specs.declared.trace.placement_fault.PlacementFault.{PlacementFault}
 use Rattle.covread.specs.declared.trace.placement_fault.PlacementFault.TheVariants as placement
 use Rattle.covread.specs.Reads.{Part, Outside, Section, items_of, is_odd, odd_in, test_after, sects_from}

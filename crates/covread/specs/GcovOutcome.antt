@@ -5,8 +5,8 @@ use Rattle.covdata.specs.Row.{SubmissionData}
 use Rattle.covline.specs.Lines.{lines_of}
 use Rattle.covdata.specs.Lawful.{IsGoodTest}
 use Rattle.covdata.specs.declared.trace_line.LineFault.TheVariants as line_faults
-use Rattle.covread.specs.declared.fault.ReadFault.{ReadFault}
-use Rattle.covread.specs.declared.fault.ReadFault.TheVariants as faults
+use Rattle.covdata.specs.declared.fault.ReadFault.{ReadFault}
+use Rattle.covdata.specs.declared.fault.ReadFault.TheVariants as faults
 use Rattle.covread.specs.declared.gcov.line.OwnFault.{OwnFault}
 use Rattle.covread.specs.declared.gcov.line.OwnFault.TheVariants as own
 use Rattle.covread.specs.Gcov.{GcovLine, LineSays}

@@ -9,8 +9,8 @@ use Rattle.covread.specs.declared.trace.reader.OpenSection.{OpenSection}
 use Rattle.covread.specs.declared.trace.reader.Reader.{Reader}
 use Rattle.covread.specs.declared.trace.placement_fault.PlacementFault.{PlacementFault}
 use Rattle.covread.specs.declared.trace.placement_fault.PlacementFault.TheVariants as placement
-use Rattle.covread.specs.declared.fault.ReadFault.{ReadFault}
-use Rattle.covread.specs.declared.fault.ReadFault.TheVariants as faults
+use Rattle.covdata.specs.declared.fault.ReadFault.{ReadFault}
+use Rattle.covdata.specs.declared.fault.ReadFault.TheVariants as faults
 use Rattle.covread.specs.Outcome.{Answers, GrowsLate}
 use Rattle.covread.specs.Reads.{items_of, is_odd}
 use Rattle.covread.specs.TraceSection.{IsBuiltOf}

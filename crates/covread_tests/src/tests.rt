@@ -1,8 +1,7 @@
 //! Tests public calls with ample memory. Expected values were worked out by hand from the formats (geninfo(1), section FILES;
 //! gcov(1)).
 
-use covdata::Submission;
-use covread::ReadFault;
+use covdata::{ReadFault, Submission};
 use std::process::Abort;
 use std::test::*;
 

@@ -19,12 +19,12 @@ use Rattle.covreport.specs.Choice.{ChoiceData}
 use Rattle.covreport.specs.Report.{report_text}
 use Rattle.covbook.specs.Step.{answer_of, next_entry, ops_in, table_after, table_from, table_of}
 use Rattle.covbook.specs.Texts.{IsText}
-use Rattle.covjobs.specs.Collect.{IsCollectedWith, OutcomeData}
-use Rattle.covjobs.specs.Late.{MayCome}
+use Rattle.covworkers.specs.Collect.{IsCollectedWith, OutcomeData}
+use Rattle.covworkers.specs.Late.{MayCome}
 use Rattle.covjobs.specs.Start.{AreJobs}
-use Rattle.covjobs.specs.declared.collect_fault.CollectFault.{CollectFault}
-use Rattle.covjobs.specs.declared.collect_fault.CollectFault.TheVariants as collects
-use Rattle.covjobs.specs.declared.refused.RefusedInput.{RefusedInput}
+use Rattle.covworkers.specs.declared.collect_fault.CollectFault.{CollectFault}
+use Rattle.covworkers.specs.declared.collect_fault.CollectFault.TheVariants as collects
+use Rattle.covworkers.specs.declared.refused.RefusedInput.{RefusedInput}
 use Rattle.covcommand.specs.declared.asked.Strictness.{Strictness}
 use Rattle.covrun.specs.declared.text_fault.TextFault.{TextFault}
 use Rattle.covrun.specs.Strict.{asked_patterns, unmatched_line}

@@ -5,12 +5,12 @@ use Rattle.covcheck.specs.declared.text_summary.TextSummary.{TextSummary}
 use Rattle.covdata.specs.declared.version.LcovVersion.{LcovVersion}
 use Rattle.covcommand.specs.declared.asked.Strictness.{Strictness}
 use Rattle.covcommand.specs.declared.asked.Strictness.TheVariants.{Lenient, Strict}
-use Rattle.covjobs.specs.Collect.{OutcomeData}
-use Rattle.covjobs.specs.Late.{IsLateOutcome, IsNextPart}
-use Rattle.covjobs.specs.Work.{in_front}
-use Rattle.covjobs.specs.declared.late_fault.LateFault.{LateFault}
-use Rattle.covjobs.specs.declared.late_fault.LateFault.TheVariants as late
-use Rattle.covjobs.specs.declared.part.Part.{Part}
+use Rattle.covworkers.specs.Collect.{OutcomeData}
+use Rattle.covworkers.specs.Late.{IsLateOutcome, IsNextPart}
+use Rattle.covworkers.specs.Work.{in_front}
+use Rattle.covworkers.specs.declared.late_fault.LateFault.{LateFault}
+use Rattle.covworkers.specs.declared.late_fault.LateFault.TheVariants as late
+use Rattle.covworkers.specs.declared.part.Part.{Part}
 use Rattle.covlarge.specs.Large.{IsAll, IsReadAs, MayBeReadAs, max_pieces}
 use Rattle.covlarge.specs.State.{IsChecked, IsNextPiece, MayFailFrom, MayGive}
 use Rattle.covlarge.specs.StateData.{StateData}
@@ -20,7 +20,7 @@ use Rattle.covlarge.specs.declared.fault.PieceFault.TheVariants as pieces
 use Rattle.covlarge.specs.declared.large_tracefile.NextPiece.{NextPiece}
 use Rattle.covlarge.specs.declared.large_tracefile.NextPiece.TheVariants as parts
 use Rattle.covdata.specs.Row.{SubmissionData}
-use Rattle.covread.specs.declared.fault.ReadFault.{ReadFault}
+use Rattle.covdata.specs.declared.fault.ReadFault.{ReadFault}
 use Rattle.covrun.specs.Check.{IsAnswered}
 use Rattle.covrun.specs.Files.{EndsBy, IsOpenedFor, IsTakenFrom, IsToldFor, IsWholeFormat, MayFailAs, MayHaveOutcome, MayTake, TakesLast, most_parts}
 use Rattle.covrun.specs.Folder.{FolderData, folder_data}

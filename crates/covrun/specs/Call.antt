@@ -6,13 +6,13 @@ use Rattle.clap.specs.Words.{subcommand_of, takes, fault_of}
 use Rattle.covread.specs.Outcome.{max_bytes}
 use Rattle.covbook.specs.Op.{OpData, EntryData}
 use Rattle.covbook.specs.Gather.{LogData}
-use Rattle.covjobs.specs.Collect.{IsCollectedFrom}
-use Rattle.covjobs.specs.Late.{MayCome}
+use Rattle.covworkers.specs.Collect.{IsCollectedFrom}
+use Rattle.covworkers.specs.Late.{MayCome}
 use Rattle.covlarge.specs.Large.{max_pieces}
 use Rattle.covjobs.specs.Start.{AreJobs}
-use Rattle.covjobs.specs.declared.collect_fault.CollectFault.{CollectFault}
-use Rattle.covjobs.specs.declared.collect_fault.CollectFault.TheVariants as collects
-use Rattle.covjobs.specs.declared.refused.RefusedInput.{RefusedInput}
+use Rattle.covworkers.specs.declared.collect_fault.CollectFault.{CollectFault}
+use Rattle.covworkers.specs.declared.collect_fault.CollectFault.TheVariants as collects
+use Rattle.covworkers.specs.declared.refused.RefusedInput.{RefusedInput}
 use Rattle.covrun.specs.Large.{AreWholeTexts, IsLargeOutcome}
 use Rattle.covrun.specs.Strict.{AreCollected}
 use Rattle.covrun.specs.declared.work.FileFormat.{FileFormat}

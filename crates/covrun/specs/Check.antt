@@ -21,7 +21,7 @@ use Rattle.covlist.specs.Shown.{shown_name}
 use Rattle.covlcov2.specs.Outcome as lcov2
 use Rattle.covread.specs.GcovOutcome as gcov
 use Rattle.covread.specs.Outcome.{max_bytes, IsOutcome as IsTraceOutcome}
-use Rattle.covread.specs.declared.fault.ReadFault.{ReadFault}
+use Rattle.covdata.specs.declared.fault.ReadFault.{ReadFault}
 use Rattle.covsession.specs.Fault.{HasBegun}
 use Rattle.covsession.specs.Program.{fault_status, words_of_fault}
 use Rattle.covsession.specs.Session.{said, refused_text}

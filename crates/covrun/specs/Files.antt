@@ -2,15 +2,15 @@
 use Rattle.std.specs.Prelude.{◌≡◌, ◌≤◌, ℕ, suc, false, List, [], ◌∷◌, length, Option, Some, None, Result, Ok, Err}
 use Rattle.covcheck.specs.SummaryLine.{summary_text}
 use Rattle.covcheck.specs.declared.text_summary.TextSummary.{TextSummary}
-use Rattle.covjobs.specs.Collect.{IsReadWhole, OutcomeData}
-use Rattle.covjobs.specs.declared.late_fault.LateFault.{LateFault}
-use Rattle.covjobs.specs.declared.late_fault.LateFault.TheVariants as late
+use Rattle.covworkers.specs.Collect.{IsReadWhole, OutcomeData}
+use Rattle.covworkers.specs.declared.late_fault.LateFault.{LateFault}
+use Rattle.covworkers.specs.declared.late_fault.LateFault.TheVariants as late
 use Rattle.covlarge.specs.Large.{IsAll, max_pieces}
 use Rattle.covlarge.specs.State.{MayFailFrom, MayGive}
 use Rattle.covlarge.specs.StateData.{StateData}
 use Rattle.covlarge.specs.Summary.{SummaryData}
 use Rattle.covdata.specs.Row.{SubmissionData}
-use Rattle.covread.specs.declared.fault.ReadFault.{ReadFault}
+use Rattle.covdata.specs.declared.fault.ReadFault.{ReadFault}
 use Rattle.covread.specs.Outcome.{max_bytes}
 use Rattle.covdata.specs.declared.version.LcovVersion.{LcovVersion}
 use Rattle.covcommand.specs.declared.asked.Strictness.{Strictness}

@@ -12,11 +12,12 @@ use Rattle.covbook.specs.Gather.{LogData}
 use Rattle.covbook.specs.Op.{OpData, EntryData, SubmitOp, DropTestOp, RenameOp, ReportOp, ExtractOp, RemoveOp, SummaryOp}
 use Rattle.covcommand.specs.declared.asked.Strictness.{Strictness}
 use Rattle.covcommand.specs.declared.asked.Strictness.TheVariants.{Lenient, Strict}
-use Rattle.covjobs.specs.Collect.{InputData, TraceInput, Lcov2Input, GcovInput, IsCollected, IsCollectedWhole, IsOutcomeOf}
-use Rattle.covjobs.specs.declared.refused.RefusedInput.{RefusedInput}
+use Rattle.covworkers.specs.Collect.{IsCollectedWhole}
+use Rattle.covjobs.specs.Inputs.{InputData, TraceInput, Lcov2Input, GcovInput, IsCollected, IsOutcomeOf}
+use Rattle.covworkers.specs.declared.refused.RefusedInput.{RefusedInput}
 use Rattle.covdata.specs.Row.{SubmissionData}
 use Rattle.covlist.specs.Shown.{shown_name}
-use Rattle.covread.specs.declared.fault.ReadFault.{ReadFault}
+use Rattle.covdata.specs.declared.fault.ReadFault.{ReadFault}
 use Rattle.covreport.specs.Choice.{ChoiceData, AllFiles, Extracted, Removed, Filtered}
 use Rattle.covreport.specs.Pattern.{matches}
 use Rattle.covsession.specs.Session.{said}

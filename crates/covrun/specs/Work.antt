@@ -6,7 +6,7 @@ use Rattle.covlimit.specs.Limits.{LimitsData, has_limit}
 use Rattle.covlimit.specs.Rates.{IsRate}
 use Rattle.covreport.specs.Choice.{ChoiceData, AllFiles, Filtered, max_patterns, max_pattern_bytes}
 use Rattle.covbook.specs.Op.{OpData, ReportOp, SummaryOp, ExtractOp, RemoveOp}
-use Rattle.covjobs.specs.Collect.{InputData, TraceInput, Lcov2Input, GcovInput}
+use Rattle.covjobs.specs.Inputs.{InputData, TraceInput, Lcov2Input, GcovInput}
 use Rattle.covcommand.specs.declared.asked.Command.{Command}
 use Rattle.covcommand.specs.declared.asked.Command.TheVariants.{Session, Merge, Summary, List as ListFiles, Extract, Remove, Gcov, Check}
 use Rattle.covcommand.specs.declared.asked.Limits.{Limits}

@@ -9,8 +9,8 @@ use crate::argument_fault::ArgumentFault;
 use crate::ready_text::ReadyText;
 use crate::work::WorkFault;
 use covdata::Bytes;
-use covjobs::CollectFault;
 use covsession::SessionFault;
+use covworkers::CollectFault;
 
 /// An answer that is ready to be printed.
 #[derive(Drop)]

@@ -9,8 +9,9 @@ use crate::work::FileFormat;
 use covbook::PackedRef;
 use covcommand::{LcovVersion, Strictness};
 use covdata::{Bytes, Memory};
-use covjobs::{Given, Input, LateFault, LateInput, Part};
+use covjobs::Input;
 use covlarge::{LargeTracefile, MAX_PIECES, NextPiece, PieceFault};
+use covworkers::{Given, LateFault, LateInput, Part};
 use std::alloc::Global;
 
 /// A file that is read when its turn comes. A large tracefile is read in chunks, and `opened` is its rest after the first chunk.
@@ -56,7 +57,7 @@ impl<'a, F: Folder> LateInput<Global> for FileInput<'a, F> {
 
 impl<'a, F: Folder> FileInput<'a, F> {
     ghost use Rattle.std.specs.Prelude.{◌≡◌};
-    ghost use Rattle.covjobs.specs.Late.{IsLateOutcome, IsNextPart};
+    ghost use Rattle.covworkers.specs.Late.{IsLateOutcome, IsNextPart};
     ghost use Rattle.covrun.specs.Files.{IsWholeFormat, MayFailAs, MayHaveOutcome, MayTake, most_parts};
     ghost use Rattle.covrun.specs.Folder.{folder_data};
     ghost use Rattle.covrun.specs.declared.work.FileFormat.TheVariants as formats;
@@ -129,7 +130,7 @@ ghost use Rattle.std.specs.Prelude.{◌≡◌, None, map, IfOk};
 ghost use Rattle.std.specs.List.{AllByRecursion};
 ghost use Rattle.std.specs.String.{string_bytes};
 ghost use Rattle.covjobs.specs.InputView.{input_data};
-ghost use Rattle.covjobs.specs.Late.{IsLateOutcome};
+ghost use Rattle.covworkers.specs.Late.{IsLateOutcome};
 ghost use Rattle.covrun.specs.Strict.{IsLenientOutcome, IsOutcomeFor};
 ghost use Rattle.covrun.specs.Work.{input_of};
 

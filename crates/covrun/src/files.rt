@@ -7,8 +7,7 @@ ghost use Rattle.covrun.specs.Folder.{IsTextOf, folder_data};
 ghost use Rattle.covstream.specs.Blocks.{IsReadFault};
 
 use crate::folder::Folder;
-use covdata::{Bytes, Memory};
-use covread::MAX_BYTES;
+use covdata::{Bytes, MAX_BYTES, Memory};
 use covstream::{BLOCK_BYTES, BlockFault, Source, read_at_most};
 use std::alloc::{AllocError, Global};
 

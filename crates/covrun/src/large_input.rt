@@ -1,12 +1,12 @@
 //! Tracefiles of any length as inputs of collecting, chunk by chunk.
 
 ghost use Rattle.std.specs.Prelude.{◌≡◌, List, Option, None, Result, IfOk, IfErr};
-ghost use Rattle.covjobs.specs.declared.late_fault.LateFault.TheVariants.{Memory, Unreadable};
+ghost use Rattle.covworkers.specs.declared.late_fault.LateFault.TheVariants.{Memory, Unreadable};
 ghost use Rattle.covlarge.specs.Large.{MayBeReadAs, max_pieces};
 ghost use Rattle.covlarge.specs.State.{MayGive};
 ghost use Rattle.covlarge.specs.Summary.{SummaryData};
 ghost use Rattle.covdata.specs.Row.{SubmissionData};
-ghost use Rattle.covread.specs.declared.fault.ReadFault.{ReadFault};
+ghost use Rattle.covdata.specs.declared.fault.ReadFault.{ReadFault};
 ghost use Rattle.covrun.specs.Files.{IsOpenedFor, IsToldFor, MayFailLarge, TakesLast};
 ghost use Rattle.covrun.specs.Folder.{folder_data};
 
@@ -15,10 +15,10 @@ use crate::strict::refuse_unless_clean;
 use crate::text_fault::TextFault;
 use covbook::PackedRef;
 use covcommand::{LcovVersion, Strictness};
-use covjobs::{Given, LateFault};
 use covlarge::{Held, LargeTracefile};
 use covpacked::PackedSubmission;
 use covstream::Source;
+use covworkers::{Given, LateFault};
 use std::alloc::Global;
 
 /// Returns `opened`, the unread rest of the tracefile. Opens the file if `opened` is `None`.

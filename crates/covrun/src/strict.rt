@@ -4,7 +4,7 @@ ghost use Rattle.std.specs.Prelude.{◌≡◌, ◌++◌, IfOk, IfErr, OnOk, IsTr
 ghost use Rattle.std.specs.List.{flat_map};
 ghost use Rattle.covcheck.specs.SummaryLine.{summary_text};
 ghost use Rattle.covjobs.specs.InputView.{input_data};
-ghost use Rattle.covjobs.specs.Late.{IsLateOutcome};
+ghost use Rattle.covworkers.specs.Late.{IsLateOutcome};
 ghost use Rattle.covreport.specs.ChoiceView.{choice_data};
 ghost use Rattle.covbook.specs.View.{op_data};
 ghost use Rattle.covrun.specs.Files.{IsUncleanFault};
@@ -14,11 +14,12 @@ use crate::text_fault::TextFault;
 use covbook::{Op, PackedRef};
 use covcheck::{Format, TextSummary, summary_line, summary_of};
 use covdata::{Bytes, Memory};
-use covjobs::{Input, LateFault};
+use covjobs::Input;
 use covlist::put_shown_name;
 use covpacked::PackedSubmission;
 use covreport::{Choice, Patterns, matches};
 use covstore::Store;
+use covworkers::LateFault;
 use std::alloc::Global;
 
 /// Parses `input` for a strict run. Rejects an input that isn't clean, with its summary line.

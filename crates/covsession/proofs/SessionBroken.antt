@@ -14,7 +14,7 @@ use Rattle.covsession.specs.Command.{Command, Format, Announces, IsBody, Ask, Re
 use Rattle.covsession.specs.Run.{IsDone, IsRun, IsSoFar}
 use Rattle.covsession.specs.Session.{answer_text, said, text_after}
 use Rattle.covsession.specs.Streams.{InputData, OutputData, EndsAs, Moment, Says, TakesLine, TakesPieces, line_pieces, moment, unread}
-use Rattle.covread.specs.declared.fault.ReadFault.{ReadFault}
+use Rattle.covdata.specs.declared.fault.ReadFault.{ReadFault}
 use Rattle.covsession.specs.Text.{IsAnsweredAs, IsTaken, IsReported, asked_for}
 use Rattle.covsession.specs.declared.session.command.word.Word.{Word}
 use Rattle.covsession.specs.declared.session.fault.SessionFault.{SessionFault}

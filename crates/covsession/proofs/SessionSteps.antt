@@ -12,8 +12,8 @@ use Rattle.covbook.specs.Op.{OpData, SubmitOp, DropTestOp, RenameOp, ReportOp, E
 use Rattle.covreport.specs.Choice.{max_pattern_bytes}
 use Rattle.covtable.specs.Table.{Table}
 use Rattle.covbook.specs.Step.{table_of}
-use Rattle.covread.specs.declared.fault.ReadFault.{ReadFault}
-use Rattle.covread.specs.declared.fault.ReadFault.TheVariants as faults
+use Rattle.covdata.specs.declared.fault.ReadFault.{ReadFault}
+use Rattle.covdata.specs.declared.fault.ReadFault.TheVariants as faults
 use Rattle.covsession.specs.declared.session.text.LineEnd.{LineEnd}
 use Rattle.covsession.specs.declared.session.text.LineEnd.TheVariants.{Feed, Input}
 use Rattle.covsession.specs.declared.session.text.CollectedText.{CollectedText}

@@ -6,7 +6,7 @@ use Rattle.covline.specs.Lines.{line_of}
 use Rattle.covdata.specs.Row.{SubmissionData}
 use Rattle.covread.specs.Outcome.{IsOutcome}
 use Rattle.covread.specs.GcovOutcome as gcov
-use Rattle.covread.specs.declared.fault.ReadFault.{ReadFault}
+use Rattle.covdata.specs.declared.fault.ReadFault.{ReadFault}
 use Rattle.covreport.specs.Choice.{max_pattern_bytes}
 use Rattle.covsession.specs.declared.session.command.word.Format.{Format as TextFormat}
 use Rattle.covsession.specs.declared.session.command.word.Format.TheVariants as formats

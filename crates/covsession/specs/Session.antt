@@ -7,8 +7,8 @@ use Rattle.covdata.specs.Delimiters.{line_feed}
 use Rattle.covline.specs.Lines.{pieces_of}
 use Rattle.covdata.specs.declared.trace_line.LineFault.{LineFault}
 use Rattle.covdata.specs.declared.trace_line.LineFault.TheVariants.{BadLine, NumberTooLarge, EmptyPath}
-use Rattle.covread.specs.declared.fault.ReadFault.{ReadFault}
-use Rattle.covread.specs.declared.fault.ReadFault.TheVariants as faults
+use Rattle.covdata.specs.declared.fault.ReadFault.{ReadFault}
+use Rattle.covdata.specs.declared.fault.ReadFault.TheVariants as faults
 use Rattle.covtable.specs.Table.{Table}
 use Rattle.covsession.specs.Command.{Command, AreCommands, ops_of, Blank, Ask, RefusePattern, Submit, Refuse, Unknown, Unfinished}
 

@@ -4,10 +4,10 @@ use Rattle.std.specs.Prelude.{◌≡◌, ◌⊎◌, ◌<◌, ◌≤◌, ℕ, Boo
 use Rattle.covdata.specs.Delimiters.{carriage_return}
 use Rattle.covline.specs.Lines.{line_of}
 use Rattle.covdata.specs.Row.{SubmissionData}
-use Rattle.covread.specs.Fault.{is_memory}
+use Rattle.covdata.specs.Fault.{is_memory}
 use Rattle.covread.specs.Outcome.{max_bytes}
-use Rattle.covread.specs.declared.fault.ReadFault.{ReadFault}
-use Rattle.covread.specs.declared.fault.ReadFault.TheVariants as faults
+use Rattle.covdata.specs.declared.fault.ReadFault.{ReadFault}
+use Rattle.covdata.specs.declared.fault.ReadFault.TheVariants as faults
 use Rattle.covsession.specs.Command.{Command, Format, IsBody, IsReadAs, Submit, Refuse, Unfinished}
 use Rattle.covsession.specs.Streams.{AreCut}
 use Rattle.covsession.specs.declared.session.text.LineEnd.{LineEnd}

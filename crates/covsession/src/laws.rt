@@ -3,7 +3,7 @@
 ghost use Rattle.std.specs.Prelude.{◌≡◌, ◌≢◌, ℕ, List};
 ghost use Rattle.std.specs.List.{AllByRecursion};
 ghost use Rattle.covline.specs.Lines.{pieces_of};
-ghost use Rattle.covread.specs.declared.fault.ReadFault.TheVariants as read_faults;
+ghost use Rattle.covdata.specs.declared.fault.ReadFault.TheVariants as read_faults;
 ghost use Rattle.covsession.specs.Command.{Command, Refuse, AreCommands};
 ghost use Rattle.covsession.specs.Session.{IsSession};
 

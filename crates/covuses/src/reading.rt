@@ -11,9 +11,9 @@ ghost use Rattle.covcheck.specs.Skipped.{IsSkippedRecord};
 ghost use Rattle.covcheck.specs.SummaryLine.{summary_text};
 
 use covcheck::{check_trace, summary_line};
-use covdata::Submission;
+use covdata::{ReadFault, Submission};
 use covlcov2::read_lcov2;
-use covread::{ReadFault, read_gcov, read_trace};
+use covread::{read_gcov, read_trace};
 use std::alloc::Global;
 
 /// Reads the text as a tracefile, or as gcov's annotated source if the tracefile has no items. The source's counts belong to the

@@ -2,9 +2,9 @@
 
 use super::made;
 use covbook::{Answer, Op, PackedRef, SubRef, TextRef};
-use covdata::{Bytes, Memory, Submission, TraceLine};
+use covdata::{Bytes, Memory, ReadFault, Submission, TraceLine};
 use covpacked::PackedSubmission;
-use covread::{ReadFault, read_trace, read_trace_packed};
+use covread::{read_trace, read_trace_packed};
 use covreport::{Choice, PatternFault, Patterns, trace_text};
 use covstore::Store;
 use std::alloc::Allocator;

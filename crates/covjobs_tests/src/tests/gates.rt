@@ -3,7 +3,7 @@
 use super::books::SMALL;
 use super::collecting::{collected_of, traces};
 use covbook::{Entry, JobLog};
-use covjobs::{Collected, Gate};
+use covworkers::{Collected, Gate};
 use std::process::Abort;
 use std::sync::Wait;
 use std::sync::atomic::{AtomicU64, Ordering};

@@ -6,12 +6,12 @@ use super::check_bytes;
 use super::collecting::{ADDED_UP, OTHERS, is_outside};
 use super::said::check_answers;
 use covbook::Op;
-use covdata::Bytes;
-use covjobs::{
-    CollectFault, CollectedBook, Given, Input, IntoBookFault, LateFault, LateInput, NoGate, Part,
+use covdata::{Bytes, ReadFault};
+use covjobs::Input;
+use covworkers::{
+    CollectFault, CollectedBook, Given, IntoBookFault, LateFault, LateInput, NoGate, Part,
     collect_into_book,
 };
-use covread::ReadFault;
 use std::alloc::Global;
 use std::process::Abort;
 use std::sync::Wait;

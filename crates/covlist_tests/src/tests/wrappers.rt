@@ -2,8 +2,8 @@
 //! contracts.
 
 use super::made;
-use covdata::{Bytes, Memory, Submission};
-use covread::{ReadFault, read_trace};
+use covdata::{Bytes, Memory, ReadFault, Submission};
+use covread::read_trace;
 use covreport::{Choice, PatternFault, Patterns};
 use covstore::Store;
 use covtable::Totals;

@@ -1,8 +1,9 @@
 //! Tests the state that is carried over between chunks.
 
 use super::{Version, pass, read_piece};
+use covdata::ReadFault;
 use covpieces::Carried;
-use covread::{ReadFault, read_trace};
+use covread::read_trace;
 use std::process::Abort;
 use std::test::*;
 

@@ -4,7 +4,7 @@ ghost use Rattle.std.specs.Prelude.{◌≡◌, ◌≤◌, ℕ, List, length, Res
 ghost use Rattle.covdata.specs.Row.{SubmissionData};
 ghost use Rattle.covline.specs.Lines.{lines_of};
 ghost use Rattle.covdata.specs.Lawful.{IsGoodTest};
-ghost use Rattle.covread.specs.declared.fault.ReadFault.{ReadFault as Fault};
+ghost use Rattle.covdata.specs.declared.fault.ReadFault.{ReadFault as Fault};
 ghost use Rattle.covread.specs.Gcov.{Says, LineSays};
 ghost use Rattle.covread.specs.Outcome.{max_bytes};
 ghost use Rattle.covread.specs.GcovOutcome.{IsOutcome, Answers, FaultsEarly, GrowsLate};

@@ -2,7 +2,7 @@
 
 ghost use Rattle.std.specs.Prelude.{◌≡◌, ℕ, List, Result};
 ghost use Rattle.covdata.specs.Row.{SubmissionData};
-ghost use Rattle.covread.specs.declared.fault.ReadFault.{ReadFault as Fault};
+ghost use Rattle.covdata.specs.declared.fault.ReadFault.{ReadFault as Fault};
 ghost use Rattle.covread.specs.Outcome.{IsOutcome};
 
 use covline::each_line_has_one_meaning;

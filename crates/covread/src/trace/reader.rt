@@ -5,12 +5,11 @@ ghost use Rattle.covdata.specs.Records.{LineData, line_data, Test, Path, Branch,
 ghost use Rattle.covread.specs.TraceSection.{IsKept};
 ghost use Rattle.covread.specs.TraceSteps.{held_data, empty, IsOpen, HasRoom, Steps, ends, EndsLawfully};
 
-use crate::fault::ReadFault;
 use crate::trace::placement_fault::PlacementFault;
 use crate::trace::section::SectionBuilder;
 use crate::trace::settle::settle;
 use crate::wide::wide;
-use covdata::{BranchPoint, TraceLine};
+use covdata::{BranchPoint, ReadFault, TraceLine};
 use covpacked::{PackedSects, PackedSubmission};
 use std::alloc::Allocator;
 

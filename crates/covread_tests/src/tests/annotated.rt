@@ -2,7 +2,7 @@
 
 use super::wrappers::{annotated, annotated_packed, is_packed, read};
 use super::{Counted, check_counted};
-use covread::ReadFault;
+use covdata::ReadFault;
 use std::process::Abort;
 use std::test::*;
 

@@ -3,7 +3,7 @@
 use super::wrappers::{checked, checked_gcov, told, without_shape};
 use super::{check_bytes, check_fault};
 use covcheck::TextSummary;
-use covread::ReadFault;
+use covdata::ReadFault;
 use std::process::Abort;
 use std::test::*;
 

@@ -2,8 +2,7 @@
 
 use super::wrappers::{annotated, read};
 use super::{Counted, check_counted, check_told};
-use covdata::LineFault;
-use covread::ReadFault;
+use covdata::{LineFault, ReadFault};
 use std::alloc::Global;
 use std::process::Abort;
 use std::test::*;

@@ -2,7 +2,7 @@
 
 use super::wrappers::{annotated, read};
 use super::{Counted, check_counted};
-use covread::ReadFault;
+use covdata::ReadFault;
 use std::alloc::Global;
 use std::process::Abort;
 use std::test::*;

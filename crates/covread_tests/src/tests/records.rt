@@ -7,11 +7,10 @@ use super::wrappers::{
     counted_first, cut_first, is_packed, put_line, read, read_packed, submission_of, text_of,
 };
 use covdata::{
-    BadSubmission, BranchPoint, Bytes, Item, Items, LineFault, Memory, Sect, Sects, Submission,
-    Tally, TotalKind, TraceLine, good_test,
+    BadSubmission, BranchPoint, Bytes, Item, Items, LineFault, Memory, ReadFault, Sect, Sects,
+    Submission, Tally, TotalKind, TraceLine, good_test,
 };
 use covline::{lines, read_line, without_returns};
-use covread::ReadFault;
 use std::alloc::Global;
 use std::process::Abort;
 use std::test::*;

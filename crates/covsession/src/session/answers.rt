@@ -11,8 +11,7 @@ ghost use Rattle.covsession.specs.declared.session.fault.SessionFault.TheVariant
 use crate::session::fault::SessionFault;
 use crate::session::output::Output;
 use covbook::Answer;
-use covdata::LineFault;
-use covread::ReadFault;
+use covdata::{LineFault, ReadFault};
 use covstream::Sink;
 use itoa::Buffer;
 use std::alloc::Allocator;

@@ -3,8 +3,8 @@
 ghost use Rattle.std.specs.Prelude.{◌≡◌, ◌≢◌, ◌⊎◌, ℕ, ◌^◌, ◌<◌, length, List, [], Result, Err, IfOk, IfErr, OnOk};
 ghost use Rattle.covdata.specs.Row.{SubmissionData};
 ghost use Rattle.covbook.specs.Step.{max_entries, table_of, ops_in};
-ghost use Rattle.covread.specs.declared.fault.ReadFault.{ReadFault as Fault};
-ghost use Rattle.covread.specs.declared.fault.ReadFault.TheVariants as read_faults;
+ghost use Rattle.covdata.specs.declared.fault.ReadFault.{ReadFault as Fault};
+ghost use Rattle.covdata.specs.declared.fault.ReadFault.TheVariants as read_faults;
 ghost use Rattle.covread.specs.Outcome.{IsOrMemory};
 ghost use Rattle.covsession.specs.Command.{Command, format_of, IsBody, IsReadAs};
 ghost use Rattle.covsession.specs.Session.{refused_text, text_after, Asks};
@@ -21,8 +21,9 @@ use crate::session::input::SessionInput;
 use crate::session::output::Output;
 use crate::session::text::{CollectedText, LineEnd, Text};
 use covbook::{Op, PackedRef};
+use covdata::{MAX_BYTES, ReadFault};
 use covpacked::PackedSubmission;
-use covread::{MAX_BYTES, ReadFault, read_gcov_packed, read_trace_packed};
+use covread::{read_gcov_packed, read_trace_packed};
 use covstream::{Sink, Source};
 use std::alloc::Allocator;
 

@@ -1,6 +1,6 @@
 use Rattle.std.proofs.Common.{Err, map, slice_get, refl, inl, inr, ap, ◌∙◌}
 use Rattle.std.specs.String.{string_bytes}
-use Rattle.covjobs.specs.declared.book_fault.IntoBookFault.TheVariants as into_book
+use Rattle.covworkers.specs.declared.book_fault.IntoBookFault.TheVariants as into_book
 use Rattle.covsession.specs.declared.session.fault.SessionFault.TheVariants as faults
 use Rattle.covrun.specs.Ending.{Unreadable, name_at, of_collect}
 use Rattle.covrun.specs.Folder.{folder_data}

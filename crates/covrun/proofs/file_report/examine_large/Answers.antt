@@ -1,6 +1,6 @@
 use Rattle.std.proofs.Common.{◌∙◌, inl, ap, subst}
 use Rattle.std.specs.Prelude.{IfOk}
-use Rattle.covread.specs.declared.fault.ReadFault.{ReadFault}
+use Rattle.covdata.specs.declared.fault.ReadFault.{ReadFault}
 use Rattle.covrun.specs.Checked.{IsReportOf}
 use Rattle.covlist.specs.Shown.{shown_name}
 use Rattle.covrun.specs.Check.{Held, Refused, Unread}
