@@ -5,7 +5,8 @@ ghost use Rattle.std.specs.Prelude.{◌≡◌, Bool, true, Option};
 ghost use Rattle.std.proofs.Common.{refl};
 ghost use Rattle.covstore.specs.PointIndexCounts.{change_of, is_above_at, is_hit_by_some, tests_fit, test_counts_with};
 ghost use Rattle.covstore.specs.SoleTest.{count_of_one};
-ghost use Rattle.covstore.specs.Kinds.{branch_above, function_above, line_above};
+ghost use Rattle.covstore.specs.Kinds.{Branch, Function, Line, branch_above, function_above, line_above};
+ghost use Rattle.covstore.specs.Runs.{addend_of};
 ghost use Rattle.covstore.specs.State.{has_checksum};
 ghost use Rattle.covstore.specs.Stays.{branch_stays, function_stays, line_stays};
 ghost use Rattle.covstore.specs.Sums.{branch_with, function_with, line_with};
@@ -24,14 +25,20 @@ pub(crate) trait PointSum: Value {
         ensures { result ≡ above self.now };
 }
 
-/// The amount that an item adds to the sum at a point. A sum above 0 stays above 0. `report` returns the change of the point's
-/// counts in the index.
+/// The amount that an item, or the sum of another test, adds to the sum at a point. A sum above 0 stays above 0. `report` returns
+/// the change of the point's counts in the index.
 pub(crate) trait PointAddend<S: PointSum>: ReportingAddend<S, TestsAddend> {
     ghost always_fits: { (more : Self) (before : Option S) → Self.fits more before };
 
     ghost stays: { (more : Self) (before : Option S) → is_above_at S.above before ≡ true → S.above (Self.sum more before) ≡ true };
 
     ghost tells: { (more : Self) (before : Option S) (after : S) → Self.reports more before after ≡ change_of S.above before after };
+
+    ghost addend: { S → Self };
+
+    /// Makes an addend that adds as much as `sum` has.
+    fn of(sum: &S) -> Self
+        ensures { result ≡ addend sum.now };
 }
 
 /// Whether `value` is a sum above 0.
@@ -115,6 +122,15 @@ impl PointAddend<LineSum> for LineAddend {
     ghost stays = { line_stays };
 
     ghost tells = { λ more before after. refl };
+
+    ghost addend = { addend_of Line };
+
+    fn of(sum: &LineSum) -> LineAddend {
+        LineAddend {
+            count: sum.count.get(),
+            has_checksum: sum.has_checksum,
+        }
+    }
 }
 
 /// A function's item: its start line and its count.
@@ -157,6 +173,15 @@ impl PointAddend<FunctionSum> for FunctionAddend {
     ghost stays = { function_stays };
 
     ghost tells = { λ more before after. refl };
+
+    ghost addend = { addend_of Function };
+
+    fn of(sum: &FunctionSum) -> FunctionAddend {
+        FunctionAddend {
+            line: sum.line.get(),
+            count: sum.count.get(),
+        }
+    }
 }
 
 /// A branch's item: how often the branch was taken, or `None` if its block was never executed.
@@ -195,6 +220,14 @@ impl PointAddend<BranchSum> for BranchAddend {
     ghost stays = { branch_stays };
 
     ghost tells = { λ more before after. refl };
+
+    ghost addend = { addend_of Branch };
+
+    fn of(sum: &BranchSum) -> BranchAddend {
+        BranchAddend {
+            times: sum.times.get(),
+        }
+    }
 }
 
 /// A test's change of a point's `TestCounts`. `is_new`: one more test has the point. `is_hit`: one more test hits the point (value
