@@ -1,0 +1,5 @@
+pub mod Joining
+pub mod Picks
+pub mod Grows
+pub mod Exchanges
+pub mod Maps
