@@ -1,10 +1,9 @@
 -- The order of sections doesn't matter: two elements of a list change places, and a store stands for the list still.
-use Rattle.std.proofs.Common.{◌≡◌, ℕ, zero, suc, ◌<◌, ◌≤◌, max, Bool, true, false, ◌||◌, List, [], ◌∷◌, ◌++◌, length, get_or, refl, sym, ap, ◌∙◌, subst, inl, inr, arith}
+use Rattle.std.proofs.Common.{◌≡◌, ℕ, zero, suc, ◌<◌, ◌≤◌, max, Bool, true, false, ◌||◌, List, [], ◌∷◌, ◌++◌, length, get_or, set, refl, sym, ap, ◌∙◌, subst, inl, inr, arith}
 use Rattle.std.specs.Cmp.Lexicographic.{slice_cmp}
 use Rattle.std.specs.List.{list_any, swap}
 use Rattle.std.specs.List.Sorted.{IsPermutation}
 use Rattle.std.specs.Ordering.{nat_cmp}
-use Rattle.std.proofs.Common.{set}
 use Rattle.std.proofs.lemmas.Bool.{cases_eq, cases_lt}
 use Rattle.std.proofs.lemmas.List.{append_assoc}
 use Rattle.std.proofs.lemmas.List.Edits.{swap_is}
@@ -65,10 +64,10 @@ module _ (store : RemarkStoreData) (front mid back : List RemarkSectData) (x y :
 -- ---- elements of a list by their indices
 
 record IsOneOf {X : Type 0} (d : X) (xs : List X) (i : ℕ) : Type 0 where
-  front : List X
-  back : List X
-  was : xs ≡ front ++ (get_or xs i d ∷ back)
-  put : (v : X) → set xs i v ≡ front ++ (v ∷ back)
+  pub front : List X
+  pub back : List X
+  pub was : xs ≡ front ++ (get_or xs i d ∷ back)
+  pub put : (v : X) → set xs i v ≡ front ++ (v ∷ back)
 
 one_of : {X : Type 0} (d : X) (xs : List X) (i : ℕ) → i < length xs → IsOneOf d xs i
 one_of d [] i within = absurd (omega (arith, within))
@@ -78,12 +77,12 @@ one_of {X} d (x ∷ xs) (suc i) within =
     record { front = x ∷ later.front; back = later.back; was = ap (λ (ys : List X). x ∷ ys) later.was; put = λ v. ap (λ (ys : List X). x ∷ ys) (later.put v) }
 
 record AreTwoOf {X : Type 0} (d : X) (xs : List X) (i j : ℕ) : Type 0 where
-  front : List X
-  mid : List X
-  back : List X
-  was : xs ≡ front ++ (get_or xs i d ∷ (mid ++ (get_or xs j d ∷ back)))
-  put : (v w : X) → set (set xs i v) j w ≡ front ++ (v ∷ (mid ++ (w ∷ back)))
-  put_back : (v w : X) → set (set xs j w) i v ≡ front ++ (v ∷ (mid ++ (w ∷ back)))
+  pub front : List X
+  pub mid : List X
+  pub back : List X
+  pub was : xs ≡ front ++ (get_or xs i d ∷ (mid ++ (get_or xs j d ∷ back)))
+  pub put : (v w : X) → set (set xs i v) j w ≡ front ++ (v ∷ (mid ++ (w ∷ back)))
+  pub put_back : (v w : X) → set (set xs j w) i v ≡ front ++ (v ∷ (mid ++ (w ∷ back)))
 
 two_of : {X : Type 0} (d : X) (xs : List X) (i j : ℕ) → i < j → j < length xs → AreTwoOf d xs i j
 two_of d [] i j below within = absurd (omega (arith, within))

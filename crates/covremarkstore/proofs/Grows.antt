@@ -1,5 +1,5 @@
 -- A store after one more section, and after another store is merged.
-use Rattle.std.proofs.Common.{◌≡◌, ℕ, max, Bool, true, false, ◌||◌, ◌&&◌, List, [], ◌∷◌, ◌++◌, Option, refl, sym, ap, ◌∙◌, subst}
+use Rattle.std.proofs.Common.{◌≡◌, ℕ, ◌+◌, ◌<◌, max, Bool, true, false, ◌||◌, ◌&&◌, List, [], ◌∷◌, ◌++◌, get_or, length, map, take, Option, refl, sym, ap, ◌∙◌, subst}
 use Rattle.std.specs.Prelude.{unwrap_or}
 use Rattle.std.specs.Cmp.Lexicographic.{slice_cmp}
 use Rattle.std.specs.List.{list_any}
@@ -8,6 +8,7 @@ use Rattle.std.specs.Ordering.{eq_by_cmp, is_eq, nat_cmp, ordering_then}
 use Rattle.std.specs.Str.{bytes_eq}
 use Rattle.std.specs.declared.cmp.Ordering.{Ordering}
 use Rattle.std.specs.declared.cmp.Ordering.TheVariants.{Less, Equal, Greater}
+use Rattle.std.proofs.lemmas.List.{append_assoc, map-append, take_more}
 use Rattle.std.proofs.lemmas.Map.Text.{is_eq-slice_cmp}
 use Rattle.std.proofs.lemmas.Map.Views.{tells_apart}
 use Rattle.std.proofs.lemmas.Slice.Eq.{bytes_eq-Decides}
@@ -147,3 +148,13 @@ merge_law other before after sects others merges stands stood = record {
       merges.there key ∙ ap (λ (b : Bool). b || is_some (found key_cmp key other.tests)) (stands.sections key) ∙ ap (λ (b : Bool). list_any is_counted (remarks_at key sects) || b) (stood.sections key)
       ∙ sym (any-append (has_sect_key key) sects others);
 }
+
+-- ---- section after section
+
+pub added_next : {X : Type 0} (f : X → RemarkSectData) (all : List X) (i : ℕ) (x : X) → i < length all → x ≡ get_or all i x → (before after : RemarkStoreData) (sects : List RemarkSectData)
+    → StandsFor before (sects ++ map f (take i all)) → AddsSect (f x) before after → StandsFor after (sects ++ map f (take (i + 1) all))
+added_next {X} f all i x within is before after sects stands adds =
+    let last : take (i + 1) all ≡ take i all ++ x ∷ [] = take_more all i x within ∙ ap (λ (y : X). take i all ++ y ∷ []) (sym is) in
+    let mapped : map f (take (i + 1) all) ≡ map f (take i all) ++ f x ∷ [] = ap (map f) last ∙ map-append f (take i all) (x ∷ []) in
+    subst (λ (l : List RemarkSectData). StandsFor after l) (append_assoc sects (map f (take i all)) (f x ∷ []) ∙ ap (λ (l : List RemarkSectData). sects ++ l) (sym mapped))
+    (add_law (f x) before after (sects ++ map f (take i all)) adds stands)

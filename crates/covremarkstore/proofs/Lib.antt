@@ -3,3 +3,5 @@ pub mod Picks
 pub mod Grows
 pub mod Exchanges
 pub mod Maps
+pub mod Names
+pub mod Merging

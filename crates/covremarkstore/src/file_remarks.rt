@@ -47,7 +47,8 @@ impl<A: Allocator + Copy> FileRemarks<A> {
     {
         put_all(&mut self.ends, alloc, remarks.ends())?;
         put_all(&mut self.marks, alloc, remarks.marks())?;
-        put_all(&mut self.worded_marks, alloc, remarks.worded_marks())
+        put_all(&mut self.worded_marks, alloc, remarks.worded_marks())?;
+        Ok(())
     }
 
     /// Joins what another store says of the file. After `Memory`, a part of it is joined.
@@ -56,7 +57,8 @@ impl<A: Allocator + Copy> FileRemarks<A> {
     {
         put_map(&mut self.ends, alloc, &other.ends)?;
         put_map(&mut self.marks, alloc, &other.marks)?;
-        put_map(&mut self.worded_marks, alloc, &other.worded_marks)
+        put_map(&mut self.worded_marks, alloc, &other.worded_marks)?;
+        Ok(())
     }
 }
 

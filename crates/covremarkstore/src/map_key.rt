@@ -28,12 +28,12 @@ impl<A: Allocator> MapKey<A> for BranchPoint {
 
 impl<A: Allocator> MapKey<A> for WordedBranch<A> {
     fn copy_key(&self, alloc: A) -> Result<WordedBranch<A>, Memory> {
-        self.copy(alloc)
+        Ok(self.copy(alloc)?)
     }
 }
 
 impl<A: Allocator> MapKey<A> for Condition<A> {
     fn copy_key(&self, alloc: A) -> Result<Condition<A>, Memory> {
-        self.copy(alloc)
+        Ok(self.copy(alloc)?)
     }
 }

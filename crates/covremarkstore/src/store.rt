@@ -41,7 +41,8 @@ fn add_to_files<A: Allocator + Copy>(
     }
     let file = sect.file.get();
     if let Some(found) = files.get_mut(file) {
-        return found.add(alloc, &sect.remarks);
+        found.add(alloc, &sect.remarks)?;
+        return Ok(());
     }
     let mut made = FileRemarks::new(alloc);
     made.add(alloc, &sect.remarks)?;
@@ -63,7 +64,8 @@ fn add_to_tests<A: Allocator + Copy>(
     }
     let key = SectionKey::of(alloc, &sect.file, &sect.test)?;
     if let Some(found) = tests.get_mut(&key) {
-        return found.add(alloc, &sect.remarks);
+        found.add(alloc, &sect.remarks)?;
+        return Ok(());
     }
     let mut made = TestRemarks::new(alloc);
     made.add(alloc, &sect.remarks)?;
@@ -95,7 +97,8 @@ fn join_file<A: Allocator + Copy>(
     ensures { OnOk result (GrowsAt (slice_cmp nat_cmp) nothing_said (MergesFile remarks.now) file.now (named_files files.old.entries) (named_files files.new.entries)) }
 {
     if let Some(found) = files.get_mut(file) {
-        return found.join(alloc, remarks);
+        found.join(alloc, remarks)?;
+        return Ok(());
     }
     let mut made = FileRemarks::new(alloc);
     made.join(alloc, remarks)?;
@@ -129,7 +132,8 @@ fn join_test<A: Allocator + Copy>(
     ensures there { OnOk result (is_some (found key_cmp key.now tests.new.entries) ≡ true) }
 {
     if let Some(found) = tests.get_mut(key) {
-        return found.join(alloc, remarks);
+        found.join(alloc, remarks)?;
+        return Ok(());
     }
     let mut made = TestRemarks::new(alloc);
     made.join(alloc, remarks)?;
@@ -190,7 +194,8 @@ impl<A: Allocator + Copy> RemarkStore<A> {
         ensures { OnOk result (AddsSect (remark_sect_data sect.now) self.old self.new) }
     {
         add_to_files(&mut self.files, alloc, sect)?;
-        add_to_tests(&mut self.tests, alloc, sect)
+        add_to_tests(&mut self.tests, alloc, sect)?;
+        Ok(())
     }
 
     /// Joins all remarks of another store.
@@ -203,7 +208,8 @@ impl<A: Allocator + Copy> RemarkStore<A> {
         ensures stands { OnOk result ((sects others : List RemarkSectData) → StandsFor self.old sects → StandsFor other.now others → StandsFor self.new (sects ++ others)) }
     {
         join_files(&mut self.files, alloc, &other.files)?;
-        join_tests(&mut self.tests, alloc, &other.tests)
+        join_tests(&mut self.tests, alloc, &other.tests)?;
+        Ok(())
     }
 }
 

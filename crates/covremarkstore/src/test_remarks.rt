@@ -43,7 +43,8 @@ impl<A: Allocator + Copy> TestRemarks<A> {
         ensures { OnOk result (AddsToTest remarks.now self.old self.new) }
     {
         put_all(&mut self.taken, alloc, remarks.taken())?;
-        put_all(&mut self.sensed, alloc, remarks.sensed())
+        put_all(&mut self.sensed, alloc, remarks.sensed())?;
+        Ok(())
     }
 
     /// Joins what another store counts. After `Memory`, a part of it is joined.
@@ -51,7 +52,8 @@ impl<A: Allocator + Copy> TestRemarks<A> {
         ensures { OnOk result (MergesTest other.now self.old self.new) }
     {
         put_map(&mut self.taken, alloc, &other.taken)?;
-        put_map(&mut self.sensed, alloc, &other.sensed)
+        put_map(&mut self.sensed, alloc, &other.sensed)?;
+        Ok(())
     }
 }
 
