@@ -27,13 +27,14 @@ with_sensed condition count r = record { ends = r.ends; marks = r.marks; worded_
 
 -- ---- any
 
--- nothing is said of the source
-pub record SaysNothing (r : RemarksData) : Type 0 where
+-- nothing is counted
+pub record CountNothing (r : RemarksData) : Type 0 where
+  pub taken : r.taken ≡ []
+  pub sensed : r.sensed ≡ []
+
+-- nothing is said at all
+pub record SayNothing (r : RemarksData) : Type 0 where
   pub ends : r.ends ≡ []
   pub marks : r.marks ≡ []
   pub worded_marks : r.worded_marks ≡ []
-
--- nothing is counted
-pub record CountsNothing (r : RemarksData) : Type 0 where
-  pub taken : r.taken ≡ []
-  pub sensed : r.sensed ≡ []
+  pub counts : CountNothing r

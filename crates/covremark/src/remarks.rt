@@ -49,7 +49,7 @@ impl<A: Allocator + Copy> Remarks<A> {
 
 impl<A: Allocator> Remarks<A> {
     ghost use Rattle.std.specs.Prelude.{◌≡◌, ◌↔◌, [], IsTrue, OnErr, OnOk, map};
-    ghost use Rattle.covremark.specs.RemarksView.{SaysNothing, CountsNothing, name_data, with_end, with_mark, with_sensed, with_taken, with_worded_mark};
+    ghost use Rattle.covremark.specs.RemarksView.{CountNothing, SayNothing, name_data, with_end, with_mark, with_sensed, with_taken, with_worded_mark};
 
     /// Appends the end line of the function `name`; copies the name. Leaves the remarks unchanged on `Memory`.
     pub fn push_end(&mut self, alloc: A, name: &[u8], end: u64) -> Result<(), Memory>
@@ -133,16 +133,19 @@ impl<A: Allocator> Remarks<A> {
         self.sensed.as_slice()
     }
 
-    /// Whether nothing is said of the source: no end line, and no mark.
-    pub fn says_nothing(&self) -> bool
-        ensures { IsTrue result ↔ SaysNothing self.now }
+    /// Whether there are no remarks.
+    pub fn is_empty(&self) -> bool
+        ensures { IsTrue result ↔ SayNothing self.now }
     {
-        self.ends.is_empty() && self.marks.is_empty() && self.worded_marks.is_empty()
+        self.ends.is_empty()
+            && self.marks.is_empty()
+            && self.worded_marks.is_empty()
+            && self.counts_nothing()
     }
 
     /// Whether nothing is counted: no branch with an expression, and no condition.
     pub fn counts_nothing(&self) -> bool
-        ensures { IsTrue result ↔ CountsNothing self.now }
+        ensures { IsTrue result ↔ CountNothing self.now }
     {
         self.taken.is_empty() && self.sensed.is_empty()
     }

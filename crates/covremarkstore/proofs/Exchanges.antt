@@ -42,12 +42,18 @@ module _ (test : RemarkSectData → Bool) where
 
 stands_exchanged : (store : RemarkStoreData) (front xs ys back : List RemarkSectData) → StandsFor store (front ++ (xs ++ (ys ++ back))) → StandsFor store (front ++ (ys ++ (xs ++ back)))
 stands_exchanged store front xs ys back stands = record {
-  ends = λ file name. stands.ends file name ∙ value_exchanged (of_file file) (slice_cmp nat_cmp) max (λ (r : RemarksData). r.ends) name ends_join front xs ys back;
-  marks = λ file point. stands.marks file point ∙ value_exchanged (of_file file) point_cmp stronger (λ (r : RemarksData). r.marks) point marks_join front xs ys back;
-  worded_marks = λ file branch. stands.worded_marks file branch ∙ value_exchanged (of_file file) worded_cmp stronger (λ (r : RemarksData). r.worded_marks) branch marks_join front xs ys back;
-  taken = λ key branch. stands.taken key branch ∙ value_exchanged (has_sect_key key) worded_cmp taken_sum (λ (r : RemarksData). r.taken) branch taken_join front xs ys back;
-  sensed = λ key condition. stands.sensed key condition ∙ value_exchanged (has_sect_key key) condition_cmp count_sum (λ (r : RemarksData). r.sensed) condition counts_join front xs ys back;
-  sections = λ key. stands.sections key ∙ any_exchanged (has_sect_key key) front xs ys back;
+  files = record {
+    ends = λ file name. stands.files.ends file name ∙ value_exchanged (of_file file) (slice_cmp nat_cmp) max (λ (r : RemarksData). r.ends) name ends_join front xs ys back;
+    marks = λ file point. stands.files.marks file point ∙ value_exchanged (of_file file) point_cmp stronger (λ (r : RemarksData). r.marks) point marks_join front xs ys back;
+    worded_marks = λ file branch. stands.files.worded_marks file branch ∙ value_exchanged (of_file file) worded_cmp stronger (λ (r : RemarksData). r.worded_marks) branch marks_join front xs ys back;
+    taken = λ file branch. stands.files.taken file branch ∙ value_exchanged (of_file file) worded_cmp taken_sum (λ (r : RemarksData). r.taken) branch taken_join front xs ys back;
+    sensed = λ file condition. stands.files.sensed file condition ∙ value_exchanged (of_file file) condition_cmp count_sum (λ (r : RemarksData). r.sensed) condition counts_join front xs ys back;
+  };
+  tests = record {
+    taken = λ key branch. stands.tests.taken key branch ∙ value_exchanged (has_sect_key key) worded_cmp taken_sum (λ (r : RemarksData). r.taken) branch taken_join front xs ys back;
+    sensed = λ key condition. stands.tests.sensed key condition ∙ value_exchanged (has_sect_key key) condition_cmp count_sum (λ (r : RemarksData). r.sensed) condition counts_join front xs ys back;
+    there = λ key. stands.tests.there key ∙ any_exchanged (has_sect_key key) front xs ys back;
+  };
 }
 
 module _ (store : RemarkStoreData) (front mid back : List RemarkSectData) (x y : RemarkSectData) where

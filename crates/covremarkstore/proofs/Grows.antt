@@ -12,23 +12,21 @@ use Rattle.std.proofs.lemmas.List.{append_assoc, map-append, take_more}
 use Rattle.std.proofs.lemmas.Map.Text.{is_eq-slice_cmp}
 use Rattle.std.proofs.lemmas.Map.Views.{tells_apart}
 use Rattle.std.proofs.lemmas.Slice.Eq.{bytes_eq-Decides}
-use Rattle.covline.specs.declared.point.BranchPoint.{BranchPoint}
-use Rattle.covremark.specs.declared.mark.Mark.{Mark}
 use Rattle.covremark.specs.Orders.{condition_cmp, worded_cmp}
-use Rattle.covremark.specs.Remark.{ConditionData, RemarkSectData, RemarksData, WordedBranchData}
-use Rattle.covstore.proofs.Orders.{keys_order}
-use Rattle.covstore.specs.Value.{Key, key_cmp}
-use Rattle.covremarkstore.specs.FileRemarks.{AddsToFile, FileRemarksData, nothing_said}
+use Rattle.covremark.specs.Remark.{RemarkSectData, RemarksData, no_remarks}
+use Rattle.covremarkstore.specs.FileRemarks.{AddsToFile}
 use Rattle.covremarkstore.specs.Growth.{AddsSect, MergesStore, key_of_sect}
-use Rattle.covremarkstore.specs.Joined.{found, joined_all, values_at}
+use Rattle.covremarkstore.specs.Joined.{Joins, Merges, found, joined_all, values_at}
 use Rattle.covremarkstore.specs.Laws.{AddLaw, MergeLaw}
 use Rattle.covremarkstore.specs.Store.{RemarkStoreData, StandsFor, file_in, is_counted, test_in}
 use Rattle.covremarkstore.specs.TestRemarks.{AddsToTest, TestRemarksData, nothing_counted}
-use Rattle.covremarkstore.specs.Values.{count_sum, end_of, has_sect_key, mark_of, on_file, point_cmp, remarks_at, sensed_of, stronger, taken_of, taken_sum, worded_mark_of}
-use Rattle.covremarkstore.proofs.Joining.{counts_join, ends_join, marks_join, taken_join}
-use Rattle.covremarkstore.proofs.Picks.{any-append, any_elsewhere, any_here, value_elsewhere, value_here, value_merged}
+use Rattle.covremarkstore.specs.Values.{count_sum, has_sect_key, point_cmp, remarks_at, stronger, taken_sum}
+use Rattle.covremarkstore.proofs.Joining.{IsJoin, counts_join, ends_join, marks_join, taken_join}
+use Rattle.covremarkstore.proofs.Picks.{any-append, any_elsewhere, any_here, value_elsewhere, value_here, value_in, value_merged}
+use Rattle.covstore.proofs.Orders.{keys_order}
+use Rattle.covstore.specs.Value.{Key, key_cmp}
 
-abbrev of_file : List ℕ → RemarkSectData → Bool
+abbrev pub of_file : List ℕ → RemarkSectData → Bool
 of_file file s = bytes_eq s.file file
 
 -- ---- equal files and keys
@@ -44,35 +42,44 @@ has_key s key =
     ∙ ap (λ (b : Bool). is_eq (slice_cmp nat_cmp s.file key.file) && b) (sym (is_eq-slice_cmp s.test key.test))
     ∙ sym (both_eq (slice_cmp nat_cmp s.file key.file) (slice_cmp nat_cmp s.test key.test))
 
+-- ---- one list of remarks, of the sections that pass a test
+
+module _ {K V : Type 0} (cmp : K → K → Ordering) (join : V → V → V) (part : RemarksData → List (K × V)) (test : RemarkSectData → Bool) where
+  -- the table of it after one more section
+  grown_here : (s : RemarkSectData) (sects : List RemarkSectData) (before after : List (K × V)) → test s ≡ true → ((key : K) → found cmp key before ≡ value_in test cmp join part key sects) → Joins cmp join (part s.remarks) before after
+      → (key : K) → found cmp key after ≡ value_in test cmp join part key (sects ++ s ∷ [])
+  grown_here s sects before after e is joins key =
+      joins key ∙ ap (λ (f : Option V). joined_all join f (values_at (eq_by_cmp cmp key) (part s.remarks))) (is key) ∙ sym (value_here test cmp join part key sects s e)
+
+  grown_elsewhere : (s : RemarkSectData) (sects : List RemarkSectData) (before after : List (K × V)) → test s ≡ false → ((key : K) → found cmp key before ≡ value_in test cmp join part key sects) → after ≡ before
+      → (key : K) → found cmp key after ≡ value_in test cmp join part key (sects ++ s ∷ [])
+  grown_elsewhere s sects before after e is same key = ap (found cmp key) same ∙ is key ∙ sym (value_elsewhere test cmp join part key sects s e)
+
+  -- and after the table of other sections is merged
+  merged_both : IsJoin join → (sects others : List RemarkSectData) (other before after : List (K × V)) → ((key : K) → found cmp key before ≡ value_in test cmp join part key sects)
+      → ((key : K) → found cmp key other ≡ value_in test cmp join part key others) → Merges cmp join other before after → (key : K) → found cmp key after ≡ value_in test cmp join part key (sects ++ others)
+  merged_both laws sects others other before after is was merges key =
+      merges key ∙ ap (λ (f : Option V). joined_all join f (option_to_list (found cmp key other))) (is key)
+      ∙ ap (λ (f : Option V). joined_all join (value_in test cmp join part key sects) (option_to_list f)) (was key) ∙ value_merged test cmp join part key laws sects others
+
 -- ---- one more section
 
 module _ (s : RemarkSectData) (before after : RemarkStoreData) (sects : List RemarkSectData) (adds : AddsSect s before after) (stands : StandsFor before sects) where
   -- what the store has of a file is what it had, if the section is of another file
   file_stays : (file : List ℕ) → of_file file s ≡ false → file_in after file ≡ file_in before file
-  file_stays file e = ap (λ (f : Option FileRemarksData). unwrap_or f nothing_said) (adds.files.others file (is_eq-slice_cmp s.file file ∙ e))
+  file_stays file e = ap (λ (f : Option RemarksData). unwrap_or f no_remarks) (adds.files.others file (is_eq-slice_cmp s.file file ∙ e))
 
   file_grows : (file : List ℕ) → of_file file s ≡ true → AddsToFile s.remarks (file_in before file) (file_in after file)
   file_grows file e = subst (λ (f : List ℕ). AddsToFile s.remarks (file_in before f) (file_in after f)) ((bytes_eq-Decides s.file file).0 e) adds.files.here
 
-  ends_grow : (file name : List ℕ) (here : Bool) → of_file file s ≡ here → found (slice_cmp nat_cmp) name (file_in after file).ends ≡ end_of file name (sects ++ s ∷ [])
-  ends_grow file name true e =
-      (file_grows file e).ends name ∙ ap (λ (o : Option ℕ). joined_all max o (values_at (eq_by_cmp (slice_cmp nat_cmp) name) s.remarks.ends)) (stands.ends file name) ∙ sym (value_here (of_file file) (slice_cmp nat_cmp) max (λ (r : RemarksData). r.ends) name sects s e)
-  ends_grow file name false e =
-      ap (λ (f : FileRemarksData). found (slice_cmp nat_cmp) name f.ends) (file_stays file e) ∙ stands.ends file name ∙ sym (value_elsewhere (of_file file) (slice_cmp nat_cmp) max (λ (r : RemarksData). r.ends) name sects s e)
-
-  marks_grow : (file : List ℕ) (point : BranchPoint) (here : Bool) → of_file file s ≡ here → found point_cmp point (file_in after file).marks ≡ mark_of file point (sects ++ s ∷ [])
-  marks_grow file point true e =
-      (file_grows file e).marks point ∙ ap (λ (o : Option Mark). joined_all stronger o (values_at (eq_by_cmp point_cmp point) s.remarks.marks)) (stands.marks file point) ∙ sym (value_here (of_file file) point_cmp stronger (λ (r : RemarksData). r.marks) point sects s e)
-  marks_grow file point false e =
-      ap (λ (f : FileRemarksData). found point_cmp point f.marks) (file_stays file e) ∙ stands.marks file point ∙ sym (value_elsewhere (of_file file) point_cmp stronger (λ (r : RemarksData). r.marks) point sects s e)
-
-  worded_grow : (file : List ℕ) (branch : WordedBranchData) (here : Bool) → of_file file s ≡ here → found worded_cmp branch (file_in after file).worded_marks ≡ worded_mark_of file branch (sects ++ s ∷ [])
-  worded_grow file branch true e =
-      (file_grows file e).worded_marks branch ∙ ap (λ (o : Option Mark). joined_all stronger o (values_at (eq_by_cmp worded_cmp branch) s.remarks.worded_marks)) (stands.worded_marks file branch)
-      ∙ sym (value_here (of_file file) worded_cmp stronger (λ (r : RemarksData). r.worded_marks) branch sects s e)
-  worded_grow file branch false e =
-      ap (λ (f : FileRemarksData). found worded_cmp branch f.worded_marks) (file_stays file e) ∙ stands.worded_marks file branch
-      ∙ sym (value_elsewhere (of_file file) worded_cmp stronger (λ (r : RemarksData). r.worded_marks) branch sects s e)
+  -- one of the five tables of a file
+  module _ {K V : Type 0} (cmp : K → K → Ordering) (join : V → V → V) (part : RemarksData → List (K × V)) (is : (file : List ℕ) (key : K) → found cmp key (part (file_in before file)) ≡ value_in (of_file file) cmp join part key sects)
+      (joins : (a b : RemarksData) → AddsToFile s.remarks a b → Joins cmp join (part s.remarks) (part a) (part b)) where
+    file_part : (file : List ℕ) (here : Bool) → of_file file s ≡ here → (key : K) → found cmp key (part (file_in after file)) ≡ value_in (of_file file) cmp join part key (sects ++ s ∷ [])
+    file_part file true e =
+        grown_here cmp join part (of_file file) s sects (part (file_in before file)) (part (file_in after file)) e (is file) (joins (file_in before file) (file_in after file) (file_grows file e))
+    file_part file false e =
+        grown_elsewhere cmp join part (of_file file) s sects (part (file_in before file)) (part (file_in after file)) e (is file) (ap part (file_stays file e))
 
   found_stays : (key : Key) → has_sect_key key s ≡ false → found key_cmp key after.tests ≡ found key_cmp key before.tests
   found_stays key e = adds.tests.others key (sym (has_key s key) ∙ e)
@@ -86,36 +93,35 @@ module _ (s : RemarkSectData) (before after : RemarkStoreData) (sects : List Rem
   test_grows : (key : Key) → has_sect_key key s ≡ true → AddsToTest s.remarks (test_in before key) (test_in after key)
   test_grows key e = subst (λ (k : Key). AddsToTest s.remarks (test_in before k) (test_in after k)) (same_key key e) adds.tests.here
 
-  taken_grow : (key : Key) (branch : WordedBranchData) (here : Bool) → has_sect_key key s ≡ here → found worded_cmp branch (test_in after key).taken ≡ taken_of key branch (sects ++ s ∷ [])
-  taken_grow key branch true e =
-      (test_grows key e).taken branch ∙ ap (λ (o : Option (Option ℕ)). joined_all taken_sum o (values_at (eq_by_cmp worded_cmp branch) s.remarks.taken)) (stands.taken key branch)
-      ∙ sym (value_here (has_sect_key key) worded_cmp taken_sum (λ (r : RemarksData). r.taken) branch sects s e)
-  taken_grow key branch false e =
-      ap (λ (t : TestRemarksData). found worded_cmp branch t.taken) (test_stays key e) ∙ stands.taken key branch
-      ∙ sym (value_elsewhere (has_sect_key key) worded_cmp taken_sum (λ (r : RemarksData). r.taken) branch sects s e)
+  -- one of the two tables of a test
+  module _ {K V : Type 0} (cmp : K → K → Ordering) (join : V → V → V) (part : RemarksData → List (K × V)) (own : TestRemarksData → List (K × V))
+      (is : (at : Key) (key : K) → found cmp key (own (test_in before at)) ≡ value_in (has_sect_key at) cmp join part key sects) (joins : (a b : TestRemarksData) → AddsToTest s.remarks a b → Joins cmp join (part s.remarks) (own a) (own b)) where
+    test_part : (at : Key) (here : Bool) → has_sect_key at s ≡ here → (key : K) → found cmp key (own (test_in after at)) ≡ value_in (has_sect_key at) cmp join part key (sects ++ s ∷ [])
+    test_part at true e =
+        grown_here cmp join part (has_sect_key at) s sects (own (test_in before at)) (own (test_in after at)) e (is at) (joins (test_in before at) (test_in after at) (test_grows at e))
+    test_part at false e =
+        grown_elsewhere cmp join part (has_sect_key at) s sects (own (test_in before at)) (own (test_in after at)) e (is at) (ap own (test_stays at e))
 
-  sensed_grow : (key : Key) (condition : ConditionData) (here : Bool) → has_sect_key key s ≡ here → found condition_cmp condition (test_in after key).sensed ≡ sensed_of key condition (sects ++ s ∷ [])
-  sensed_grow key condition true e =
-      (test_grows key e).sensed condition ∙ ap (λ (o : Option ℕ). joined_all count_sum o (values_at (eq_by_cmp condition_cmp condition) s.remarks.sensed)) (stands.sensed key condition)
-      ∙ sym (value_here (has_sect_key key) condition_cmp count_sum (λ (r : RemarksData). r.sensed) condition sects s e)
-  sensed_grow key condition false e =
-      ap (λ (t : TestRemarksData). found condition_cmp condition t.sensed) (test_stays key e) ∙ stands.sensed key condition
-      ∙ sym (value_elsewhere (has_sect_key key) condition_cmp count_sum (λ (r : RemarksData). r.sensed) condition sects s e)
-
-  sections_grow : (key : Key) (here : Bool) → has_sect_key key s ≡ here → is_some (found key_cmp key after.tests) ≡ list_any is_counted (remarks_at key (sects ++ s ∷ []))
-  sections_grow key true e =
+  there_grow : (key : Key) (here : Bool) → has_sect_key key s ≡ here → is_some (found key_cmp key after.tests) ≡ list_any is_counted (remarks_at key (sects ++ s ∷ []))
+  there_grow key true e =
       subst (λ (k : Key). is_some (found key_cmp k after.tests) ≡ (is_some (found key_cmp k before.tests) || is_counted s.remarks)) (same_key key e) adds.there
-      ∙ ap (λ (b : Bool). b || is_counted s.remarks) (stands.sections key) ∙ sym (any_here (has_sect_key key) sects s e)
-  sections_grow key false e = ap is_some (found_stays key e) ∙ stands.sections key ∙ sym (any_elsewhere (has_sect_key key) sects s e)
+      ∙ ap (λ (b : Bool). b || is_counted s.remarks) (stands.tests.there key) ∙ sym (any_here (has_sect_key key) sects s e)
+  there_grow key false e = ap is_some (found_stays key e) ∙ stands.tests.there key ∙ sym (any_elsewhere (has_sect_key key) sects s e)
 
   stands_more : StandsFor after (sects ++ s ∷ [])
   stands_more = record {
-    ends = λ file name. ends_grow file name (of_file file s) refl;
-    marks = λ file point. marks_grow file point (of_file file s) refl;
-    worded_marks = λ file branch. worded_grow file branch (of_file file s) refl;
-    taken = λ key branch. taken_grow key branch (has_sect_key key s) refl;
-    sensed = λ key condition. sensed_grow key condition (has_sect_key key s) refl;
-    sections = λ key. sections_grow key (has_sect_key key s) refl;
+    files = record {
+      ends = λ file name. file_part (slice_cmp nat_cmp) max (λ (r : RemarksData). r.ends) stands.files.ends (λ a b h. h.ends) file (of_file file s) refl name;
+      marks = λ file point. file_part point_cmp stronger (λ (r : RemarksData). r.marks) stands.files.marks (λ a b h. h.marks) file (of_file file s) refl point;
+      worded_marks = λ file branch. file_part worded_cmp stronger (λ (r : RemarksData). r.worded_marks) stands.files.worded_marks (λ a b h. h.worded_marks) file (of_file file s) refl branch;
+      taken = λ file branch. file_part worded_cmp taken_sum (λ (r : RemarksData). r.taken) stands.files.taken (λ a b h. h.taken) file (of_file file s) refl branch;
+      sensed = λ file condition. file_part condition_cmp count_sum (λ (r : RemarksData). r.sensed) stands.files.sensed (λ a b h. h.sensed) file (of_file file s) refl condition;
+    };
+    tests = record {
+      taken = λ key branch. test_part worded_cmp taken_sum (λ (r : RemarksData). r.taken) (λ (t : TestRemarksData). t.taken) stands.tests.taken (λ a b h. h.taken) key (has_sect_key key s) refl branch;
+      sensed = λ key condition. test_part condition_cmp count_sum (λ (r : RemarksData). r.sensed) (λ (t : TestRemarksData). t.sensed) stands.tests.sensed (λ a b h. h.sensed) key (has_sect_key key s) refl condition;
+      there = λ key. there_grow key (has_sect_key key s) refl;
+    };
   }
 
 pub add_law : AddLaw
@@ -125,28 +131,34 @@ add_law s before after sects adds stands = stands_more s before after sects adds
 
 pub merge_law : MergeLaw
 merge_law other before after sects others merges stands stood = record {
-  ends = λ file name.
-      (merges.files file).ends name ∙ ap (λ (o : Option ℕ). joined_all max o (option_to_list (found (slice_cmp nat_cmp) name (file_in other file).ends))) (stands.ends file name) ∙ ap (λ (o : Option ℕ). joined_all max (end_of file name sects) (option_to_list o)) (stood.ends file name)
-      ∙ value_merged (of_file file) (slice_cmp nat_cmp) max (λ (r : RemarksData). r.ends) name ends_join sects others;
-  marks = λ file point.
-      (merges.files file).marks point ∙ ap (λ (o : Option Mark). joined_all stronger o (option_to_list (found point_cmp point (file_in other file).marks))) (stands.marks file point)
-      ∙ ap (λ (o : Option Mark). joined_all stronger (mark_of file point sects) (option_to_list o)) (stood.marks file point)
-      ∙ value_merged (of_file file) point_cmp stronger (λ (r : RemarksData). r.marks) point marks_join sects others;
-  worded_marks = λ file branch.
-      (merges.files file).worded_marks branch ∙ ap (λ (o : Option Mark). joined_all stronger o (option_to_list (found worded_cmp branch (file_in other file).worded_marks))) (stands.worded_marks file branch)
-      ∙ ap (λ (o : Option Mark). joined_all stronger (worded_mark_of file branch sects) (option_to_list o)) (stood.worded_marks file branch)
-      ∙ value_merged (of_file file) worded_cmp stronger (λ (r : RemarksData). r.worded_marks) branch marks_join sects others;
-  taken = λ key branch.
-      (merges.tests key).taken branch ∙ ap (λ (o : Option (Option ℕ)). joined_all taken_sum o (option_to_list (found worded_cmp branch (test_in other key).taken))) (stands.taken key branch)
-      ∙ ap (λ (o : Option (Option ℕ)). joined_all taken_sum (taken_of key branch sects) (option_to_list o)) (stood.taken key branch)
-      ∙ value_merged (has_sect_key key) worded_cmp taken_sum (λ (r : RemarksData). r.taken) branch taken_join sects others;
-  sensed = λ key condition.
-      (merges.tests key).sensed condition ∙ ap (λ (o : Option ℕ). joined_all count_sum o (option_to_list (found condition_cmp condition (test_in other key).sensed))) (stands.sensed key condition)
-      ∙ ap (λ (o : Option ℕ). joined_all count_sum (sensed_of key condition sects) (option_to_list o)) (stood.sensed key condition)
-      ∙ value_merged (has_sect_key key) condition_cmp count_sum (λ (r : RemarksData). r.sensed) condition counts_join sects others;
-  sections = λ key.
-      merges.there key ∙ ap (λ (b : Bool). b || is_some (found key_cmp key other.tests)) (stands.sections key) ∙ ap (λ (b : Bool). list_any is_counted (remarks_at key sects) || b) (stood.sections key)
-      ∙ sym (any-append (has_sect_key key) sects others);
+  files = record {
+    ends = λ file.
+        merged_both (slice_cmp nat_cmp) max (λ (r : RemarksData). r.ends) (of_file file) ends_join sects others (file_in other file).ends (file_in before file).ends (file_in after file).ends
+        (stands.files.ends file) (stood.files.ends file) (merges.files file).ends;
+    marks = λ file.
+        merged_both point_cmp stronger (λ (r : RemarksData). r.marks) (of_file file) marks_join sects others (file_in other file).marks (file_in before file).marks (file_in after file).marks
+        (stands.files.marks file) (stood.files.marks file) (merges.files file).marks;
+    worded_marks = λ file.
+        merged_both worded_cmp stronger (λ (r : RemarksData). r.worded_marks) (of_file file) marks_join sects others (file_in other file).worded_marks (file_in before file).worded_marks
+        (file_in after file).worded_marks (stands.files.worded_marks file) (stood.files.worded_marks file) (merges.files file).worded_marks;
+    taken = λ file.
+        merged_both worded_cmp taken_sum (λ (r : RemarksData). r.taken) (of_file file) taken_join sects others (file_in other file).taken (file_in before file).taken (file_in after file).taken
+        (stands.files.taken file) (stood.files.taken file) (merges.files file).taken;
+    sensed = λ file.
+        merged_both condition_cmp count_sum (λ (r : RemarksData). r.sensed) (of_file file) counts_join sects others (file_in other file).sensed (file_in before file).sensed (file_in after file).sensed
+        (stands.files.sensed file) (stood.files.sensed file) (merges.files file).sensed;
+  };
+  tests = record {
+    taken = λ key.
+        merged_both worded_cmp taken_sum (λ (r : RemarksData). r.taken) (has_sect_key key) taken_join sects others (test_in other key).taken (test_in before key).taken (test_in after key).taken
+        (stands.tests.taken key) (stood.tests.taken key) (merges.tests key).taken;
+    sensed = λ key.
+        merged_both condition_cmp count_sum (λ (r : RemarksData). r.sensed) (has_sect_key key) counts_join sects others (test_in other key).sensed (test_in before key).sensed (test_in after key).sensed
+        (stands.tests.sensed key) (stood.tests.sensed key) (merges.tests key).sensed;
+    there = λ key.
+        merges.there key ∙ ap (λ (b : Bool). b || is_some (found key_cmp key other.tests)) (stands.tests.there key)
+        ∙ ap (λ (b : Bool). list_any is_counted (remarks_at key sects) || b) (stood.tests.there key) ∙ sym (any-append (has_sect_key key) sects others);
+  };
 }
 
 -- ---- section after section

@@ -13,7 +13,8 @@ use Rattle.std.specs.declared.cmp.Ordering.TheVariants.{Less}
 use Rattle.std.proofs.lemmas.Cmp.{eq_by_cmp_equiv, tied_itself}
 use Rattle.std.proofs.lemmas.List.{append-nil, append_assoc}
 use Rattle.std.proofs.lemmas.Map.Views.{tells_apart}
-use Rattle.covremarkstore.specs.FileRemarks.{FileRemarksData, MergesFile, nothing_said}
+use Rattle.covremark.specs.Remark.{RemarksData, no_remarks}
+use Rattle.covremarkstore.specs.FileRemarks.{MergesFile}
 use Rattle.covremarkstore.specs.Growth.{GrowsAt, HasBoth, MergesAll, found_or}
 use Rattle.covremarkstore.specs.Joined.{Merges, found, joined_all}
 use Rattle.covremarkstore.specs.TestRemarks.{MergesTest, TestRemarksData, nothing_counted}
@@ -167,18 +168,20 @@ module _ {K T : Type 0} {cmp : K → K → Ordering} (o : IsExactOrder cmp) wher
 
 -- ---- files and tests
 
-pub file_keeps : (t : FileRemarksData) → MergesFile nothing_said t t
-file_keeps t = record { ends = λ key. refl; marks = λ key. refl; worded_marks = λ key. refl }
+pub file_keeps : (t : RemarksData) → MergesFile no_remarks t t
+file_keeps t = record { ends = λ key. refl; marks = λ key. refl; worded_marks = λ key. refl; taken = λ key. refl; sensed = λ key. refl }
 
 -- a table that has what another one has can take its place before a merge
 first_same : {K V : Type 0} (cmp : K → K → Ordering) (join : V → V → V) (other a b c : List (K × V)) → Merges cmp join [] a b → Merges cmp join other b c → Merges cmp join other a c
 first_same {K} {V} cmp join other a b c same merges key = merges key ∙ ap (λ (f : Option V). joined_all join f (option_to_list (found cmp key other))) (same key)
 
-pub file_then : (t a b c : FileRemarksData) → MergesFile nothing_said a b → MergesFile t b c → MergesFile t a c
+pub file_then : (t a b c : RemarksData) → MergesFile no_remarks a b → MergesFile t b c → MergesFile t a c
 file_then t a b c same merges = record {
   ends = first_same (slice_cmp nat_cmp) max t.ends a.ends b.ends c.ends same.ends merges.ends;
   marks = first_same point_cmp stronger t.marks a.marks b.marks c.marks same.marks merges.marks;
   worded_marks = first_same worded_cmp stronger t.worded_marks a.worded_marks b.worded_marks c.worded_marks same.worded_marks merges.worded_marks;
+  taken = first_same worded_cmp taken_sum t.taken a.taken b.taken c.taken same.taken merges.taken;
+  sensed = first_same condition_cmp count_sum t.sensed a.sensed b.sensed c.sensed same.sensed merges.sensed;
 }
 
 pub test_keeps : (t : TestRemarksData) → MergesTest nothing_counted t t

@@ -4,16 +4,16 @@ use Rattle.std.specs.Cmp.Lexicographic.{slice_cmp}
 use Rattle.std.specs.Option.{is_some}
 use Rattle.std.specs.Ordering.{is_eq, nat_cmp}
 use Rattle.std.specs.declared.cmp.Ordering.{Ordering}
-use Rattle.covremark.specs.Remark.{RemarkSectData, RemarksData}
+use Rattle.covremark.specs.Remark.{RemarkSectData, RemarksData, no_remarks}
 use Rattle.covremark.specs.RemarksView.{name_data}
-use Rattle.covremarkstore.specs.FileRemarks.{AddsToFile, FileRemarksData, MergesFile, nothing_said}
+use Rattle.covremarkstore.specs.FileRemarks.{AddsToFile, MergesFile}
 use Rattle.covremarkstore.specs.Joined.{found}
 use Rattle.covremarkstore.specs.Store.{RemarkStoreData, is_counted}
-use Rattle.covremarkstore.specs.TestRemarks.{AddsToTest, MergesTest, TestRemarksData, nothing_counted}
+use Rattle.covremarkstore.specs.TestRemarks.{AddsToTest, MergesTest, nothing_counted}
 use Rattle.covstore.specs.Value.{Key, key_cmp}
 
 -- the files of a map, with their paths as plain data
-abbrev pub named_files : {A : Type 0} → List (Vec ℕ A × FileRemarksData) → List (List ℕ × FileRemarksData)
+abbrev pub named_files : {A : Type 0} → List (Vec ℕ A × RemarksData) → List (List ℕ × RemarksData)
 named_files files = map name_data files
 
 -- what a table has at a key, or `none`
@@ -40,12 +40,12 @@ key_of_sect s = record { file = s.file; test = s.test }
 
 -- the remarks of a section are joined
 pub record AddsSect (s : RemarkSectData) (before after : RemarkStoreData) : Type 0 where
-  pub files : GrowsAt (slice_cmp nat_cmp) nothing_said (AddsToFile s.remarks) s.file before.files after.files
+  pub files : GrowsAt (slice_cmp nat_cmp) no_remarks (AddsToFile s.remarks) s.file before.files after.files
   pub tests : GrowsAt key_cmp nothing_counted (AddsToTest s.remarks) (key_of_sect s) before.tests after.tests
   pub there : is_some (found key_cmp (key_of_sect s) after.tests) ≡ (is_some (found key_cmp (key_of_sect s) before.tests) || is_counted s.remarks)
 
 -- the remarks of another store are joined
 pub record MergesStore (other before after : RemarkStoreData) : Type 0 where
-  pub files : MergesAll (slice_cmp nat_cmp) nothing_said MergesFile other.files before.files after.files
+  pub files : MergesAll (slice_cmp nat_cmp) no_remarks MergesFile other.files before.files after.files
   pub tests : MergesAll key_cmp nothing_counted MergesTest other.tests before.tests after.tests
   pub there : HasBoth key_cmp other.tests before.tests after.tests

@@ -6,4 +6,5 @@ pub mod FileRemarks
 pub mod TestRemarks
 pub mod Store
 pub mod Growth
+pub mod Totals
 pub mod Laws

@@ -1,4 +1,4 @@
--- What is counted in one test of a source file.
+-- What sections count in one test of a source file, joined.
 use Rattle.std.specs.Prelude.{ℕ, Option, List, []}
 use Rattle.covremark.specs.Orders.{condition_cmp, worded_cmp}
 use Rattle.covremark.specs.Remark.{ConditionData, RemarksData, WordedBranchData}
@@ -18,7 +18,7 @@ pub record AddsToTest (r : RemarksData) (before after : TestRemarksData) : Type 
   pub taken : Joins worded_cmp taken_sum r.taken before.taken after.taken
   pub sensed : Joins condition_cmp count_sum r.sensed before.sensed after.sensed
 
--- what other tables have is joined
+-- what another store has of the test is joined
 pub record MergesTest (other before after : TestRemarksData) : Type 0 where
   pub taken : Merges worded_cmp taken_sum other.taken before.taken after.taken
   pub sensed : Merges condition_cmp count_sum other.sensed before.sensed after.sensed

@@ -64,3 +64,10 @@ taken_of key branch sects = value_of worded_cmp taken_sum branch (flat_map (λ r
 -- how often a condition was sensed. `None` if no section counts it
 abbrev pub sensed_of : Key → ConditionData → List RemarkSectData → Option ℕ
 sensed_of key condition sects = value_of condition_cmp count_sum condition (flat_map (λ r. r.sensed) (remarks_at key sects))
+
+-- the same over all tests of a file
+abbrev pub taken_in : (file : List ℕ) → WordedBranchData → List RemarkSectData → Option (Option ℕ)
+taken_in file branch sects = value_of worded_cmp taken_sum branch (flat_map (λ r. r.taken) (on_file file sects))
+
+abbrev pub sensed_in : (file : List ℕ) → ConditionData → List RemarkSectData → Option ℕ
+sensed_in file condition sects = value_of condition_cmp count_sum condition (flat_map (λ r. r.sensed) (on_file file sects))

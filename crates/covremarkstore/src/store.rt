@@ -5,7 +5,8 @@ ghost use Rattle.std.specs.Cmp.Lexicographic.{slice_cmp};
 ghost use Rattle.std.specs.Option.{is_some};
 ghost use Rattle.std.specs.Ordering.{nat_cmp};
 ghost use Rattle.covremark.specs.SectView.{remark_sect_data};
-ghost use Rattle.covremarkstore.specs.FileRemarks.{AddsToFile, MergesFile, nothing_said};
+ghost use Rattle.covremark.specs.Remark.{no_remarks};
+ghost use Rattle.covremarkstore.specs.FileRemarks.{AddsToFile, MergesFile};
 ghost use Rattle.covremarkstore.specs.Growth.{GrowsAt, HasBoth, MergesAll, key_of_sect, named_files};
 ghost use Rattle.covremarkstore.specs.Joined.{found};
 ghost use Rattle.covremarkstore.specs.Store.{is_counted};
@@ -34,9 +35,9 @@ fn add_to_files<A: Allocator + Copy>(
     alloc: A,
     sect: &RemarkSect<A>,
 ) -> Result<(), Memory>
-    ensures { OnOk result (GrowsAt (slice_cmp nat_cmp) nothing_said (AddsToFile sect.now.remarks) sect.now.file (named_files files.old.entries) (named_files files.new.entries)) }
+    ensures { OnOk result (GrowsAt (slice_cmp nat_cmp) no_remarks (AddsToFile sect.now.remarks) sect.now.file (named_files files.old.entries) (named_files files.new.entries)) }
 {
-    if sect.remarks.says_nothing() {
+    if sect.remarks.is_empty() {
         return Ok(());
     }
     let file = sect.file.get();
@@ -79,7 +80,7 @@ fn join_files<A: Allocator + Copy>(
     alloc: A,
     others: &Files<A>,
 ) -> Result<(), Memory>
-    ensures { OnOk result (MergesAll (slice_cmp nat_cmp) nothing_said MergesFile (named_files others.now.entries) (named_files files.old.entries) (named_files files.new.entries)) }
+    ensures { OnOk result (MergesAll (slice_cmp nat_cmp) no_remarks MergesFile (named_files others.now.entries) (named_files files.old.entries) (named_files files.new.entries)) }
 {
     for (file, remarks) in others.iter() {
         join_file(files, alloc, file.as_slice(), remarks)?;
@@ -94,7 +95,7 @@ fn join_file<A: Allocator + Copy>(
     file: &[u8],
     remarks: &FileRemarks<A>,
 ) -> Result<(), Memory>
-    ensures { OnOk result (GrowsAt (slice_cmp nat_cmp) nothing_said (MergesFile remarks.now) file.now (named_files files.old.entries) (named_files files.new.entries)) }
+    ensures { OnOk result (GrowsAt (slice_cmp nat_cmp) no_remarks (MergesFile remarks.now) file.now (named_files files.old.entries) (named_files files.new.entries)) }
 {
     if let Some(found) = files.get_mut(file) {
         found.join(alloc, remarks)?;
@@ -219,6 +220,7 @@ impl<A: Allocator> RemarkStore<A> {
     ghost use Rattle.std.specs.List.Sorted.{IsStrictlySortedBy};
     ghost use Rattle.std.specs.Map.{keys_of};
     ghost use Rattle.std.specs.Ordering.{nat_cmp};
+    ghost use Rattle.covremarkstore.specs.Growth.{named_files};
     ghost use Rattle.covremarkstore.specs.Joined.{found};
     ghost use Rattle.covstore.specs.Value.{key_cmp};
 
@@ -227,6 +229,14 @@ impl<A: Allocator> RemarkStore<A> {
         ensures { option_copied result ≡ found (slice_cmp nat_cmp) file.now self.now.files }
     {
         self.files.get(file)
+    }
+
+    /// The source files of which something is said, ascending by path. Never allocates.
+    pub fn files(&self) -> Iter<'_, Vec<u8, A>, FileRemarks<A>>
+        ensures value { named_files result ≡ self.now.files }
+        ensures ascend { IsStrictlySortedBy (slice_cmp nat_cmp) (keys_of self.now.files) }
+    {
+        self.files.iter()
     }
 
     /// The tests of files in which something is counted, ascending by file and then by test. Never allocates.
