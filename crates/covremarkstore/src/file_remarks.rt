@@ -1,5 +1,9 @@
 //! What is said of a source file.
 
+ghost use Rattle.std.specs.Prelude.{◌≡◌, count_by, nat_lt};
+ghost use Rattle.std.specs.BTreeMap.{values};
+ghost use Rattle.covstore.specs.Value.{is_taken};
+
 use crate::put::{put_all, put_map};
 use covline::{BranchPoint, Memory};
 use covremark::{Condition, Mark, Remarks, WordedBranch};
@@ -36,6 +40,30 @@ pub struct RemarkTotals {
     pub branches_hit: u64,
     pub conditions_found: u64,
     pub conditions_hit: u64,
+}
+
+/// Whether the branch was taken.
+fn was_taken(taken: Option<u128>) -> bool
+    ensures { result ≡ is_taken taken }
+{
+    match taken {
+        None => false,
+        Some(times) => times > 0,
+    }
+}
+
+/// The number of branches that were taken.
+fn taken_hit<A: Allocator>(taken: &BTreeMap<WordedBranch<A>, Option<u128>, A>) -> usize
+    ensures { result ≡ count_by is_taken (values taken.now) }
+{
+    taken.values().filter(|times| was_taken(**times)).count()
+}
+
+/// The number of conditions that were sensed.
+fn sensed_hit<A: Allocator>(sensed: &BTreeMap<Condition<A>, u128, A>) -> usize
+    ensures { result ≡ count_by (λ count. nat_lt 0 count) (values sensed.now) }
+{
+    sensed.values().filter(|count| **count > 0).count()
 }
 
 impl<A: Allocator + Copy> FileRemarks<A> {
@@ -117,31 +145,9 @@ impl<A: Allocator> FileRemarks<A> {
     {
         RemarkTotals {
             branches_found: self.taken.len() as u64,
-            branches_hit: self.taken_hit(),
+            branches_hit: taken_hit(&self.taken) as u64,
             conditions_found: self.sensed.len() as u64,
-            conditions_hit: self.sensed_hit(),
+            conditions_hit: sensed_hit(&self.sensed) as u64,
         }
-    }
-
-    /// The number of branches with an expression that were taken.
-    fn taken_hit(&self) -> u64
-        ensures { result ≡ (remark_totals self.now).branches_hit }
-    {
-        let mut hit = 0;
-        for (_, taken) in self.taken.iter() {
-            hit += u64::from(taken.is_some_and(|times| times > 0));
-        }
-        hit
-    }
-
-    /// The number of conditions that were sensed.
-    fn sensed_hit(&self) -> u64
-        ensures { result ≡ (remark_totals self.now).conditions_hit }
-    {
-        let mut hit = 0;
-        for (_, count) in self.sensed.iter() {
-            hit += u64::from(*count > 0);
-        }
-        hit
     }
 }
