@@ -1,7 +1,5 @@
 //! The remarks of a section.
 
-ghost use Rattle.covremark.specs.RemarksView.{name_data};
-
 use crate::condition::Condition;
 use crate::mark::Mark;
 use crate::worded_branch::WordedBranch;

@@ -5,3 +5,4 @@ pub mod Exchanges
 pub mod Maps
 pub mod Names
 pub mod Merging
+pub mod Stores

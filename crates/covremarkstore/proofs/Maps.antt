@@ -9,7 +9,6 @@ use Rattle.std.specs.Option.{option_to_list}
 use Rattle.std.specs.Ordering.{eq_by_cmp, is_eq}
 use Rattle.std.specs.declared.cmp.Ordering.{Ordering}
 use Rattle.std.specs.declared.cmp.Ordering.TheVariants.{Less, Equal}
-use Rattle.std.proofs.lemmas.Bool.{false≢true}
 use Rattle.std.proofs.lemmas.Cmp.{eq_by_cmp_equiv}
 use Rattle.std.proofs.lemmas.List.{append-nil, append_assoc, take_more}
 use Rattle.covremarkstore.specs.Joined.{Joins, Merges, joined, joined_all, values_at}
@@ -24,7 +23,7 @@ lookup_same test other same [] = refl
 lookup_same {K} {X} test other same (e ∷ es) =
     ap (λ (b : Bool). cond b (Some e.1) (lookup test es)) (same e.0) ∙ ap (λ (o : Option X). cond (other e.0) (Some e.1) o) (lookup_same test other same es)
 
-other_entries : {K X : Type 0} (eq : K → K → Bool) (test : K → Bool) (old new : List (K × X)) → KeepsOthers eq test old new → (other : K → Bool) → IsKeyTest eq other → AreApart test other → lookup other new ≡ lookup other old
+pub other_entries : {K X : Type 0} (eq : K → K → Bool) (test : K → Bool) (old new : List (K × X)) → KeepsOthers eq test old new → (other : K → Bool) → IsKeyTest eq other → AreApart test other → lookup other new ≡ lookup other old
 unfolding KeepsOthers
 other_entries eq test old new keeps = keeps
 
@@ -73,7 +72,7 @@ module _ {K V : Type 0} {cmp : K → K → Ordering} (o : IsTotalOrder cmp) (joi
 
       by : (b : Bool) → test stored ≡ b → cond (test stored) (Some w) (lookup test old.entries) ≡ joined_all join (lookup test old.entries) (values_at test ((key, value) ∷ []))
       by true e =
-          ap (λ (c : Bool). cond c (Some w) (lookup test old.entries)) e ∙ is ∙ ap (λ (f : Option V). joined join f value) (found_there test laws stored e old.entries)
+          ap (λ (c : Bool). cond c (Some w) (lookup test old.entries)) e ∙ is ∙ ap (λ (f : Option V). joined join f value) (found_there {cmp = cmp} test laws stored e old.entries)
           ∙ sym (ap (joined_all join (lookup test old.entries)) (values true e))
       by false e =
           ap (λ (c : Bool). cond c (Some w) (lookup test old.entries)) e ∙ sym (ap (joined_all join (lookup test old.entries)) (values false e))

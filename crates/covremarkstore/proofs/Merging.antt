@@ -80,7 +80,7 @@ module _ {K T : Type 0} {cmp : K → K → Ordering} (o : IsExactOrder cmp) wher
       let less : cmp x.0 pair.0 ≡ Less = all_mid x.0 xs pair ys sorted.0 in
       ap (λ (b : Bool). cond b (Some x.1) (found cmp pair.0 xs)) (ap is_eq (o.total.antisymm pair.0 x.0 ∙ ap ordering_reverse less)) ∙ not_before xs pair ys sorted.1
 
-  module _ (none : T) (Merge : T → T → T → Type 0) (keeps : (t : T) → Merge none t t) (then : (t a b c : T) → Merge none a b → Merge t b c → Merge t a c) where
+  module _ (none : T) (Merge : T → T → T → Type 0) (keeps : (t : T) → Merge none t t) (chained : (t a b c : T) → Merge none a b → Merge t b c → Merge t a c) where
     or_none : (b : Bool) → b ≡ (b || false)
     or_none true = refl
     or_none false = refl
@@ -126,7 +126,7 @@ module _ {K T : Type 0} {cmp : K → K → Ordering} (o : IsExactOrder cmp) wher
       merged_here : Merge (found_or cmp none key taken_now) (found_or cmp none key first) (found_or cmp none key next)
       merged_here =
           subst (λ (t : T). Merge t (found_or cmp none key first) (found_or cmp none key next)) (sym (ap (λ (f : Option T). unwrap_or f none) key_found))
-          (then value (found_or cmp none key first) (found_or cmp none key now) (found_or cmp none key next)
+          (chained value (found_or cmp none key first) (found_or cmp none key now) (found_or cmp none key next)
           (subst (λ (f : Option T). Merge (unwrap_or f none) (found_or cmp none key first) (found_or cmp none key now)) new_key (so_far.merges key)) grown.here)
 
       merged_at : (other : K) (b : Bool) → is_eq (cmp key other) ≡ b → Merge (found_or cmp none other taken_now) (found_or cmp none other first) (found_or cmp none other next)
