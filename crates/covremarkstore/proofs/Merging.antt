@@ -175,8 +175,8 @@ file_keeps t = record { ends = λ key. refl; marks = λ key. refl; worded_marks 
 first_same : {K V : Type 0} (cmp : K → K → Ordering) (join : V → V → V) (other a b c : List (K × V)) → Merges cmp join [] a b → Merges cmp join other b c → Merges cmp join other a c
 first_same {K} {V} cmp join other a b c same merges key = merges key ∙ ap (λ (f : Option V). joined_all join f (option_to_list (found cmp key other))) (same key)
 
-pub file_then : (t a b c : RemarksData) → MergesFile no_remarks a b → MergesFile t b c → MergesFile t a c
-file_then t a b c same merges = record {
+pub file_chained : (t a b c : RemarksData) → MergesFile no_remarks a b → MergesFile t b c → MergesFile t a c
+file_chained t a b c same merges = record {
   ends = first_same (slice_cmp nat_cmp) max t.ends a.ends b.ends c.ends same.ends merges.ends;
   marks = first_same point_cmp stronger t.marks a.marks b.marks c.marks same.marks merges.marks;
   worded_marks = first_same worded_cmp stronger t.worded_marks a.worded_marks b.worded_marks c.worded_marks same.worded_marks merges.worded_marks;
@@ -187,8 +187,8 @@ file_then t a b c same merges = record {
 pub test_keeps : (t : TestRemarksData) → MergesTest nothing_counted t t
 test_keeps t = record { taken = λ key. refl; sensed = λ key. refl }
 
-pub test_then : (t a b c : TestRemarksData) → MergesTest nothing_counted a b → MergesTest t b c → MergesTest t a c
-test_then t a b c same merges = record {
+pub test_chained : (t a b c : TestRemarksData) → MergesTest nothing_counted a b → MergesTest t b c → MergesTest t a c
+test_chained t a b c same merges = record {
   taken = first_same worded_cmp taken_sum t.taken a.taken b.taken c.taken same.taken merges.taken;
   sensed = first_same condition_cmp count_sum t.sensed a.sensed b.sensed c.sensed same.sensed merges.sensed;
 }

@@ -95,7 +95,8 @@ fn join_file<A: Allocator + Copy>(
     file: &[u8],
     remarks: &FileRemarks<A>,
 ) -> Result<(), Memory>
-    ensures { OnOk result (GrowsAt (slice_cmp nat_cmp) no_remarks (MergesFile remarks.now) file.now (named_files files.old.entries) (named_files files.new.entries)) }
+    ensures grows { OnOk result (GrowsAt (slice_cmp nat_cmp) no_remarks (MergesFile remarks.now) file.now (named_files files.old.entries) (named_files files.new.entries)) }
+    ensures there { OnOk result (is_some (found (slice_cmp nat_cmp) file.now (named_files files.new.entries)) ≡ true) }
 {
     if let Some(found) = files.get_mut(file) {
         found.join(alloc, remarks)?;
