@@ -1,5 +1,5 @@
 -- A store after one more section, and after another store is merged.
-use Rattle.std.proofs.Common.{◌≡◌, ℕ, ◌+◌, ◌<◌, max, Bool, true, false, ◌||◌, ◌&&◌, List, [], ◌∷◌, ◌++◌, get_or, length, map, take, Option, refl, sym, ap, ◌∙◌, subst}
+use Rattle.std.proofs.Common.{◌≡◌, ℕ, ◌+◌, ◌<◌, ◌≤◌, max, Bool, true, false, ◌||◌, ◌&&◌, List, [], ◌∷◌, ◌++◌, get_or, length, map, take, Option, refl, sym, ap, ◌∙◌, subst}
 use Rattle.std.specs.Prelude.{unwrap_or}
 use Rattle.std.specs.Cmp.Lexicographic.{slice_cmp}
 use Rattle.std.specs.List.{list_any}
@@ -8,7 +8,7 @@ use Rattle.std.specs.Ordering.{eq_by_cmp, is_eq, nat_cmp, ordering_then}
 use Rattle.std.specs.Str.{bytes_eq}
 use Rattle.std.specs.declared.cmp.Ordering.{Ordering}
 use Rattle.std.specs.declared.cmp.Ordering.TheVariants.{Less, Equal, Greater}
-use Rattle.std.proofs.lemmas.List.{append_assoc, map-append, take_more}
+use Rattle.std.proofs.lemmas.List.{append_assoc, map-append, take_all, take_more}
 use Rattle.std.proofs.lemmas.Map.Text.{is_eq-slice_cmp}
 use Rattle.std.proofs.lemmas.Map.Views.{tells_apart}
 use Rattle.std.proofs.lemmas.Slice.Eq.{bytes_eq-Decides}
@@ -161,6 +161,20 @@ merge_law other before after sects others merges stands stood = record {
   };
 }
 
+-- ---- no sections
+
+pub none_law : StandsFor (record { files = []; tests = [] }) []
+none_law = record {
+  files = record {
+    ends = λ file name. refl;
+    marks = λ file point. refl;
+    worded_marks = λ file branch. refl;
+    taken = λ file branch. refl;
+    sensed = λ file condition. refl;
+  };
+  tests = record { taken = λ key branch. refl; sensed = λ key condition. refl; there = λ key. refl };
+}
+
 -- ---- section after section
 
 pub added_next : {X : Type 0} (f : X → RemarkSectData) (all : List X) (i : ℕ) (x : X) → i < length all → x ≡ get_or all i x → (before after : RemarkStoreData) (sects : List RemarkSectData)
@@ -170,3 +184,8 @@ added_next {X} f all i x within is before after sects stands adds =
     let mapped : map f (take (i + 1) all) ≡ map f (take i all) ++ f x ∷ [] = ap (map f) last ∙ map-append f (take i all) (x ∷ []) in
     subst (λ (l : List RemarkSectData). StandsFor after l) (append_assoc sects (map f (take i all)) (f x ∷ []) ∙ ap (λ (l : List RemarkSectData). sects ++ l) (sym mapped))
     (add_law (f x) before after (sects ++ map f (take i all)) adds stands)
+
+pub added_all : {X : Type 0} (f : X → RemarkSectData) (all : List X) (i : ℕ) → length all ≤ i → (after : RemarkStoreData) (sects list : List RemarkSectData) → map f all ≡ list
+    → StandsFor after (sects ++ map f (take i all)) → StandsFor after (sects ++ list)
+added_all {X} f all i past after sects list is stands =
+    subst (λ (l : List RemarkSectData). StandsFor after (sects ++ l)) (ap (map f) (take_all i all past) ∙ is) stands
