@@ -1,0 +1,6 @@
+pub mod Chunks
+pub mod Digits
+pub mod LaterRows
+pub mod NamesApart
+pub mod ReadAgain
+pub mod SafeNames

@@ -1,0 +1,6 @@
+use Rattle.std.proofs.Common.{◌≡◌, None, drop}
+use Rattle.covhtml.specs.Rows.{last_missed}
+use Rattle.covhtml.proofs.rows.last_missed.Given as goal
+
+abbrev pub invariant-loop-row : goal.invariant-loop-row
+invariant-loop-row l = last_missed l.last (drop l.row-index l.rows) ≡ last_missed None l.rows
