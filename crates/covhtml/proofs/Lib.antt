@@ -1,3 +1,4 @@
+pub mod Branches
 pub mod Chunks
 pub mod Digits
 pub mod LaterRows

@@ -1,13 +1,30 @@
 -- The index of source files by directory.
-use Rattle.std.specs.Prelude.{ℕ, ◌==◌, if◌then◌else◌, Option, None, Some, List, [], ◌∷◌, ◌++◌, codes, flat_map, option_map}
+use Rattle.std.specs.Prelude.{ℕ, ◌==◌, if◌then◌else◌, Option, None, Some, List, [], ◌∷◌, ◌++◌, codes, flat_map}
+use Rattle.covstore.specs.declared.totals.Totals.{Totals}
 use Rattle.covlist.specs.Table.{rate}
 use Rattle.covhtml.specs.Frame.{head, heading}
 use Rattle.covhtml.specs.Rates.{cards, totals_cells}
 use Rattle.covhtml.specs.Shown.{shown}
 use Rattle.covhtml.specs.declared.markup.TheConstants.{DIRECTORY, FILES, FOOT, TABLE_END}
-use Rattle.covhtml.specs.declared.pages.Directory.{Directory}
-use Rattle.covhtml.specs.declared.pages.IndexedFile.{IndexedFile}
-use Rattle.covhtml.specs.declared.pages.IndexPage.{IndexPage}
+
+-- a source file: the name of its page, its path and its totals
+pub record IndexedFileData : Type 0 where
+  pub page : List ℕ
+  pub path : List ℕ
+  pub totals : Totals
+
+-- a directory: its path, the totals of its files, and its files
+pub record DirectoryData : Type 0 where
+  pub path : List ℕ
+  pub totals : Totals
+  pub files : List IndexedFileData
+
+-- what the page shows: a title, a date if one is given, the totals of all files, and their directories
+pub record IndexPageData : Type 0 where
+  pub title : List ℕ
+  pub date : Option (List ℕ)
+  pub totals : Totals
+  pub directories : List DirectoryData
 
 -- what follows the last slash of a path; `name` if there is no slash
 abbrev pub name_in : (name path : List ℕ) → List ℕ
@@ -19,25 +36,25 @@ abbrev pub name_of : (path : List ℕ) → List ℕ
 name_of path = name_in path path
 
 -- a link to the file's page, and the file's totals
-abbrev pub file_row : IndexedFile → List ℕ
+abbrev pub file_row : IndexedFileData → List ℕ
 file_row file =
-    codes "<tr><th scope=\"row\"><a href=\"" ++ shown file.page.now ++ codes "\">" ++ shown (name_of file.path.now) ++ codes "</a>" ++ totals_cells file.totals
+    codes "<tr><th scope=\"row\"><a href=\"" ++ shown file.page ++ codes "\">" ++ shown (name_of file.path) ++ codes "</a>" ++ totals_cells file.totals
 
 -- the path of a directory, and its rate of lines hit
-abbrev pub directory_start : Directory → List ℕ
+abbrev pub directory_start : DirectoryData → List ℕ
 directory_start directory =
-    DIRECTORY.now ++ shown directory.path.now ++ codes " " ++ rate directory.totals.lh directory.totals.lf ++ FILES.now
+    DIRECTORY.now ++ shown directory.path ++ codes " " ++ rate directory.totals.lh directory.totals.lf ++ FILES.now
 
 -- a directory with its files, which can be opened and closed
-abbrev pub directory_part : Directory → List ℕ
-directory_part directory = directory_start directory ++ flat_map file_row directory.files.now ++ TABLE_END.now ++ codes "</details>\n"
+abbrev pub directory_part : DirectoryData → List ℕ
+directory_part directory = directory_start directory ++ flat_map file_row directory.files ++ TABLE_END.now ++ codes "</details>\n"
 
 -- the date, if one is given
 abbrev pub date_line : Option (List ℕ) → List ℕ
 date_line None = []
 date_line (Some date) = codes "<p>" ++ shown date ++ codes "</p>\n"
 
-abbrev pub index_page : IndexPage → List ℕ
+abbrev pub index_page : IndexPageData → List ℕ
 index_page page =
-    head page.title.now ++ heading page.title.now ++ date_line (option_map (λ d. d.now) page.date) ++ cards page.totals
-    ++ flat_map directory_part page.directories.now ++ FOOT.now
+    head page.title ++ heading page.title ++ date_line page.date ++ cards page.totals
+    ++ flat_map directory_part page.directories ++ FOOT.now

@@ -4,5 +4,7 @@ pub mod PageName
 pub mod Rates
 pub mod Frame
 pub mod Rows
+pub mod RowView
 pub mod SourcePage
 pub mod IndexPage
+pub mod PagesView

@@ -2,10 +2,15 @@
 use Rattle.std.specs.Prelude.{ℕ, ◌+◌, Bool, false, ◌==◌, nat_lt, is_some, if◌then◌else◌, Option, None, Some, List, [], ◌∷◌, ◌++◌, length, count_by, codes, decimal, flat_map}
 use Rattle.covline.specs.Printed.{taken_text}
 use Rattle.covstore.specs.Value.{is_taken}
-use Rattle.covstore.specs.declared.values.BranchValue.{BranchValue}
+use Rattle.covstore.specs.Content.{BranchValueData}
 use Rattle.covlist.specs.Table.{numbers}
 use Rattle.covhtml.specs.Shown.{shown}
-use Rattle.covhtml.specs.declared.rows.Row.{Row}
+
+-- a line with points: its count, if it has one, and its branches
+pub record RowData : Type 0 where
+  pub number : ℕ
+  pub count : Option ℕ
+  pub branches : List BranchValueData
 
 -- ---- which rows
 
@@ -15,17 +20,17 @@ is_missed None = false
 is_missed (Some count) = count == 0
 
 -- the number of the first of these rows that was never run
-abbrev pub first_missed : List Row → Option ℕ
+abbrev pub first_missed : List RowData → Option ℕ
 first_missed [] = None
 first_missed (row ∷ rows) = if is_missed row.count then Some row.number else first_missed rows
 
 -- the number of the last of these rows that was never run, or `last` if all were run
-abbrev pub last_missed : (last : Option ℕ) → List Row → Option ℕ
+abbrev pub last_missed : (last : Option ℕ) → List RowData → Option ℕ
 last_missed last [] = last
 last_missed last (row ∷ rows) = last_missed (if is_missed row.count then Some row.number else last) rows
 
 -- the rows after a line: those from the first one with a larger number on
-abbrev pub rows_after : (line : ℕ) → List Row → List Row
+abbrev pub rows_after : (line : ℕ) → List RowData → List RowData
 rows_after line [] = []
 rows_after line (row ∷ rows) = if nat_lt line row.number then row ∷ rows else rows_after line rows
 
@@ -55,22 +60,22 @@ next_link None = []
 next_link (Some line) = codes " <a href=\"#L" ++ decimal line ++ codes "\" title=\"next line not run\">&darr;" ++ decimal line ++ codes "</a>"
 
 -- the count of a line that was never run, with a link to the next one among the later rows
-abbrev pub missed_cell : (later : List Row) → List ℕ
+abbrev pub missed_cell : (later : List RowData) → List ℕ
 missed_cell later = codes "<td>0" ++ next_link (first_missed later)
 
 -- the count of a line, if it has one
-abbrev pub line_count_cell : Option ℕ → (later : List Row) → List ℕ
+abbrev pub line_count_cell : Option ℕ → (later : List RowData) → List ℕ
 line_count_cell None later = codes "<td>"
 line_count_cell (Some count) later = if count == 0 then missed_cell later else count_cell count
 
-abbrev pub branches_hit : List BranchValue → ℕ
+abbrev pub branches_hit : List BranchValueData → ℕ
 branches_hit branches = count_by (λ b. is_taken b.taken) branches
 
-abbrev pub taken_item : BranchValue → List ℕ
+abbrev pub taken_item : BranchValueData → List ℕ
 taken_item b = codes " " ++ taken_text b.taken
 
 -- how many branches were taken, of how many, with the count of each one in the title
-abbrev pub branch_cell : List BranchValue → List ℕ
+abbrev pub branch_cell : List BranchValueData → List ℕ
 branch_cell branches =
     if length branches == 0
     then codes "<td>"
@@ -79,10 +84,10 @@ branch_cell branches =
 -- ---- rows
 
 -- how a row is marked: never run, with a branch that was never taken, or run
-abbrev pub class_of : Row → List ℕ
+abbrev pub class_of : RowData → List ℕ
 class_of row =
     if is_missed row.count then codes " class=\"n\""
-    else if nat_lt (branches_hit row.branches.now) (length row.branches.now) then codes " class=\"p\""
+    else if nat_lt (branches_hit row.branches) (length row.branches) then codes " class=\"p\""
     else if is_some row.count then codes " class=\"y\""
     else []
 
@@ -91,35 +96,35 @@ abbrev pub row_start : (line : ℕ) (class : List ℕ) → List ℕ
 row_start line class = codes "<tr id=\"L" ++ decimal line ++ codes "\"" ++ class ++ codes "><td>" ++ line_link line
 
 -- a row up to the beginning of its last cell
-abbrev pub row_cells : Row → (later : List Row) → List ℕ
-row_cells row later = row_start row.number (class_of row) ++ line_count_cell row.count later ++ branch_cell row.branches.now ++ codes "<td>"
+abbrev pub row_cells : RowData → (later : List RowData) → List ℕ
+row_cells row later = row_start row.number (class_of row) ++ line_count_cell row.count later ++ branch_cell row.branches ++ codes "<td>"
 
 -- the row of a line without points
 abbrev pub blank_cells : (line : ℕ) → List ℕ
 blank_cells line = row_start line [] ++ codes "<td><td><td>"
 
 -- the cells of a line, of which these are the rows from the line on
-abbrev pub cells_of : (line : ℕ) → List Row → List ℕ
+abbrev pub cells_of : (line : ℕ) → List RowData → List ℕ
 cells_of line [] = blank_cells line
 cells_of line (row ∷ rows) = if row.number == line then row_cells row rows else blank_cells line
 
-abbrev pub source_row : (line : ℕ) → List Row → (text : List ℕ) → List ℕ
+abbrev pub source_row : (line : ℕ) → List RowData → (text : List ℕ) → List ℕ
 source_row line rows text = cells_of line rows ++ shown text ++ codes "\n"
 
 -- the row of a line that the source doesn't have
-abbrev pub other_row : Row → (later : List Row) → List ℕ
+abbrev pub other_row : RowData → (later : List RowData) → List ℕ
 other_row row later = row_cells row later ++ codes "\n"
 
-abbrev pub other_rows : List Row → List ℕ
+abbrev pub other_rows : List RowData → List ℕ
 other_rows [] = []
 other_rows (row ∷ rows) = other_row row rows ++ other_rows rows
 
 -- a row for each line of the source after this line, and then the rows that are left
-abbrev pub rows_below : (line : ℕ) → List Row → (texts : List (List ℕ)) → List ℕ
+abbrev pub rows_below : (line : ℕ) → List RowData → (texts : List (List ℕ)) → List ℕ
 rows_below line rows [] = other_rows (rows_after line rows)
 rows_below line rows (text ∷ texts) = source_row (line + 1) (rows_after line rows) text ++ rows_below (line + 1) rows texts
 
 -- the row of line 0, which no source has, if there is one
-abbrev pub row_zero : List Row → List ℕ
+abbrev pub row_zero : List RowData → List ℕ
 row_zero [] = []
 row_zero (row ∷ rows) = if row.number == 0 then other_row row rows else []

@@ -1,23 +1,30 @@
 -- The page of a source file.
-use Rattle.std.specs.Prelude.{ℕ, ◌==◌, if◌then◌else◌, Option, None, Some, List, [], ◌∷◌, ◌++◌, length, codes, decimal, flat_map}
+use Rattle.std.specs.Prelude.{ℕ, ◌==◌, if◌then◌else◌, Option, None, Some, List, [], ◌++◌, codes, flat_map}
 use Rattle.covline.specs.Lines.{lines_of}
-use Rattle.covstore.specs.declared.values.FunctionValue.{FunctionValue}
+use Rattle.covstore.specs.Content.{FunctionValueData}
+use Rattle.covstore.specs.declared.totals.Totals.{Totals}
 use Rattle.covhtml.specs.Frame.{head, heading}
 use Rattle.covhtml.specs.Rates.{cards}
-use Rattle.covhtml.specs.Rows.{count_cell, first_missed, last_missed, line_link, row_zero, rows_below}
+use Rattle.covhtml.specs.Rows.{RowData, count_cell, first_missed, last_missed, line_link, row_zero, rows_below}
 use Rattle.covhtml.specs.Shown.{shown}
 use Rattle.covhtml.specs.declared.markup.TheConstants.{BACK, FOOT, FUNCTIONS, LINES, TABLE_END}
-use Rattle.covhtml.specs.declared.pages.SourcePage.{SourcePage}
-use Rattle.covhtml.specs.declared.rows.Row.{Row}
+
+-- what the page shows: the file's path, its totals, its functions, its lines with points, and its source
+pub record SourcePageData : Type 0 where
+  pub path : List ℕ
+  pub totals : Totals
+  pub functions : List FunctionValueData
+  pub rows : List RowData
+  pub source : List ℕ
 
 -- the name, the start line and the count of a function
-abbrev pub function_row : FunctionValue → List ℕ
-function_row f = codes "<tr><td>" ++ shown f.name.now ++ codes "<td>" ++ line_link f.line ++ count_cell f.count ++ codes "\n"
+abbrev pub function_row : FunctionValueData → List ℕ
+function_row f = codes "<tr><td>" ++ shown f.name ++ codes "<td>" ++ line_link f.line ++ count_cell f.count ++ codes "\n"
 
--- the table of functions; no table if there is no function
-abbrev pub function_table : List FunctionValue → List ℕ
-function_table functions =
-    if length functions == 0 then [] else FUNCTIONS.now ++ flat_map function_row functions ++ TABLE_END.now ++ codes "</details>\n"
+-- the table of functions; no table if no function is found
+abbrev pub function_table : (found : ℕ) → List FunctionValueData → List ℕ
+function_table found functions =
+    if found == 0 then [] else FUNCTIONS.now ++ flat_map function_row functions ++ TABLE_END.now ++ codes "</details>\n"
 
 -- links to the first and the last line that was never run
 abbrev pub missed_links : (first last : Option ℕ) → List ℕ
@@ -26,14 +33,14 @@ missed_links (Some first) None = []
 missed_links None last = []
 
 -- the table of the lines of this source
-abbrev pub line_table : List Row → (source : List ℕ) → List ℕ
+abbrev pub line_table : List RowData → (source : List ℕ) → List ℕ
 line_table rows source = LINES.now ++ row_zero rows ++ rows_below 0 rows (lines_of source) ++ TABLE_END.now
 
 -- what stands above the table of lines
-abbrev pub source_front : SourcePage → List ℕ
+abbrev pub source_front : SourcePageData → List ℕ
 source_front page =
-    head page.path.now ++ BACK.now ++ heading page.path.now ++ cards page.totals ++ function_table page.functions.now
-    ++ missed_links (first_missed page.rows.now) (last_missed None page.rows.now)
+    head page.path ++ BACK.now ++ heading page.path ++ cards page.totals ++ function_table page.totals.ff page.functions
+    ++ missed_links (first_missed page.rows) (last_missed None page.rows)
 
-abbrev pub source_page : SourcePage → List ℕ
-source_page page = source_front page ++ line_table page.rows.now page.source.now ++ FOOT.now
+abbrev pub source_page : SourcePageData → List ℕ
+source_page page = source_front page ++ line_table page.rows page.source ++ FOOT.now

@@ -1,11 +1,13 @@
 //! Prints the cells of a row in the table of lines.
 
-ghost use Rattle.std.specs.Prelude.{◌≡◌, ◌++◌, flat_map};
+ghost use Rattle.std.specs.Prelude.{◌≡◌, ◌++◌, flat_map, map};
 ghost use Rattle.covline.specs.Printed.{taken_text};
+ghost use Rattle.covstore.specs.ValuesView.{branch_data};
+ghost use Rattle.covhtml.specs.RowView.{row_data};
 ghost use Rattle.covhtml.specs.Rows.{branch_cell, class_of as class_of_row, count_cell, line_count_cell, line_link, missed_cell, next_link, shortened, shortened_cell, taken_item};
 
 use crate::numbers::{put_count, put_number, put_numbers};
-use crate::rows::{Row, branches_hit, first_missed, is_missed};
+use crate::rows::{Row, branches_found, branches_hit, first_missed, is_missed};
 use covreport::Printer;
 use covstore::BranchValue;
 use itoa::Buffer;
@@ -63,7 +65,7 @@ fn put_shortened<P: Printer>(digits: &[u8], out: &mut P)
 
 /// Prints the cell with a line's count. `later` are the rows of later lines.
 pub(crate) fn put_line_count_cell<P: Printer>(count: Option<u128>, later: &[Row<'_>], out: &mut P)
-    ensures { P.text out.new ≡ P.text out.old ++ line_count_cell count later.now }
+    ensures { P.text out.new ≡ P.text out.old ++ line_count_cell count (map row_data later.now) }
 {
     let Some(count) = count else {
         return out.put(b"<td>");
@@ -77,7 +79,7 @@ pub(crate) fn put_line_count_cell<P: Printer>(count: Option<u128>, later: &[Row<
 
 /// Prints the cell with the count of a line that was never run.
 fn put_missed_cell<P: Printer>(later: &[Row<'_>], out: &mut P)
-    ensures { P.text out.new ≡ P.text out.old ++ missed_cell later.now }
+    ensures { P.text out.new ≡ P.text out.old ++ missed_cell (map row_data later.now) }
 {
     out.put(b"<td>0");
     put_next_link(first_missed(later), out);
@@ -99,20 +101,21 @@ fn put_next_link<P: Printer>(next: Option<u64>, out: &mut P)
 
 /// Prints the cell with a line's branches.
 pub(crate) fn put_branch_cell<P: Printer>(branches: &[BranchValue], out: &mut P)
-    ensures { P.text out.new ≡ P.text out.old ++ branch_cell branches.now }
+    ensures { P.text out.new ≡ P.text out.old ++ branch_cell (map branch_data branches.now) }
 {
-    if branches.is_empty() {
+    let found = branches_found(branches);
+    if found == 0 {
         return out.put(b"<td>");
     }
     out.put(b"<td title=\"taken");
     put_taken_items(branches, out);
     out.put(b"\">");
-    put_numbers(branches_hit(branches) as u64, branches.len() as u64, out);
+    put_numbers(branches_hit(branches), found, out);
 }
 
 /// Prints how often each branch was taken.
 fn put_taken_items<P: Printer>(branches: &[BranchValue], out: &mut P)
-    ensures { P.text out.new ≡ P.text out.old ++ flat_map taken_item branches.now }
+    ensures { P.text out.new ≡ P.text out.old ++ flat_map taken_item (map branch_data branches.now) }
 {
     for branch in branches {
         put_taken_item(branch, out);
@@ -121,7 +124,7 @@ fn put_taken_items<P: Printer>(branches: &[BranchValue], out: &mut P)
 
 /// Prints how often a branch was taken.
 fn put_taken_item<P: Printer>(branch: &BranchValue, out: &mut P)
-    ensures { P.text out.new ≡ P.text out.old ++ taken_item branch.now }
+    ensures { P.text out.new ≡ P.text out.old ++ taken_item (branch_data branch.now) }
 {
     out.put(b" ");
     put_taken(branch.taken, out);
@@ -139,12 +142,12 @@ fn put_taken<P: Printer>(taken: Option<u128>, out: &mut P)
 
 /// The attribute that marks a row.
 pub(crate) fn class_of(row: &Row<'_>) -> &'static [u8]
-    ensures { result.now ≡ class_of_row row.now }
+    ensures { result.now ≡ class_of_row (row_data row.now) }
 {
     if is_missed(row.count) {
         return b" class=\"n\"";
     }
-    if branches_hit(row.branches) < row.branches.len() {
+    if branches_hit(row.branches) < branches_found(row.branches) {
         return b" class=\"p\"";
     }
     if row.count.is_some() {

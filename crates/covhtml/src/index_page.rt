@@ -1,7 +1,8 @@
 //! Prints the index of source files.
 
-ghost use Rattle.std.specs.Prelude.{◌≡◌, ◌++◌, flat_map, option_map};
+ghost use Rattle.std.specs.Prelude.{◌≡◌, ◌++◌, flat_map, map, option_map};
 ghost use Rattle.covhtml.specs.IndexPage.{date_line, directory_part, directory_start, file_row, index_page, name_of as name_of_path};
+ghost use Rattle.covhtml.specs.PagesView.{directory_data, index_page_data, indexed_file_data};
 
 use crate::frame::{put_head, put_heading};
 use crate::markup::{DIRECTORY, FILES, FOOT, TABLE_END};
@@ -14,7 +15,7 @@ use covreport::Printer;
 /// can be opened and closed, and has a row for each of its files, with a link to the file's page and the file's totals. Never
 /// allocates.
 pub fn put_index_page<P: Printer>(page: &IndexPage<'_>, out: &mut P)
-    ensures { P.text out.new ≡ P.text out.old ++ index_page page.now }
+    ensures { P.text out.new ≡ P.text out.old ++ index_page (index_page_data page.now) }
 {
     put_head(page.title, out);
     put_heading(page.title, out);
@@ -38,7 +39,7 @@ fn put_date<P: Printer>(date: Option<&[u8]>, out: &mut P)
 
 /// Prints the directories.
 fn put_directories<P: Printer>(directories: &[Directory<'_>], out: &mut P)
-    ensures { P.text out.new ≡ P.text out.old ++ flat_map directory_part directories.now }
+    ensures { P.text out.new ≡ P.text out.old ++ flat_map directory_part (map directory_data directories.now) }
 {
     for directory in directories {
         put_directory(directory, out);
@@ -47,7 +48,7 @@ fn put_directories<P: Printer>(directories: &[Directory<'_>], out: &mut P)
 
 /// Prints a directory with its files.
 fn put_directory<P: Printer>(directory: &Directory<'_>, out: &mut P)
-    ensures { P.text out.new ≡ P.text out.old ++ directory_part directory.now }
+    ensures { P.text out.new ≡ P.text out.old ++ directory_part (directory_data directory.now) }
 {
     put_directory_start(directory, out);
     put_files(directory.files, out);
@@ -57,7 +58,7 @@ fn put_directory<P: Printer>(directory: &Directory<'_>, out: &mut P)
 
 /// Prints a directory up to the rows of its files.
 fn put_directory_start<P: Printer>(directory: &Directory<'_>, out: &mut P)
-    ensures { P.text out.new ≡ P.text out.old ++ directory_start directory.now }
+    ensures { P.text out.new ≡ P.text out.old ++ directory_start (directory_data directory.now) }
 {
     out.put(DIRECTORY);
     put_shown(directory.path, out);
@@ -68,7 +69,7 @@ fn put_directory_start<P: Printer>(directory: &Directory<'_>, out: &mut P)
 
 /// Prints the rows of files.
 fn put_files<P: Printer>(files: &[IndexedFile<'_>], out: &mut P)
-    ensures { P.text out.new ≡ P.text out.old ++ flat_map file_row files.now }
+    ensures { P.text out.new ≡ P.text out.old ++ flat_map file_row (map indexed_file_data files.now) }
 {
     for file in files {
         put_file(file, out);
@@ -77,7 +78,7 @@ fn put_files<P: Printer>(files: &[IndexedFile<'_>], out: &mut P)
 
 /// Prints the row of a file.
 fn put_file<P: Printer>(file: &IndexedFile<'_>, out: &mut P)
-    ensures { P.text out.new ≡ P.text out.old ++ file_row file.now }
+    ensures { P.text out.new ≡ P.text out.old ++ file_row (indexed_file_data file.now) }
 {
     out.put(b"<tr><th scope=\"row\"><a href=\"");
     put_shown(file.page, out);

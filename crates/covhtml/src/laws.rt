@@ -4,9 +4,8 @@ ghost use Rattle.std.specs.Prelude.{◌≡◌, ◌≢◌, ◌+◌, ◌^◌, ◌<
 ghost use Rattle.std.specs.List.{AllByRecursion};
 ghost use Rattle.covhtml.specs.PageName.{IsSafeName, page_name};
 ghost use Rattle.covhtml.specs.ReadBack.{is_escaped, read_back};
-ghost use Rattle.covhtml.specs.Rows.{blank_cells, cells_of, row_cells, rows_after};
+ghost use Rattle.covhtml.specs.Rows.{RowData, blank_cells, cells_of, row_cells, rows_after};
 ghost use Rattle.covhtml.specs.Shown.{shown, visible};
-ghost use Rattle.covhtml.specs.declared.rows.Row.{Row};
 
 /// A shown text has no markup: no `<`, no `>` and no `"`, and each `&` begins a character reference.
 pub fn a_shown_text_has_no_markup()
@@ -30,6 +29,6 @@ pub fn page_names_are_safe()
 
 /// In ascending rows, each line of a source shows its own row, and a line without a row is blank.
 pub fn a_line_shows_its_own_row()
-    ensures own { (line : ℕ) (front later : List Row) (row : Row) → AllByRecursion (λ r. r.number ≤ line) front → row.number ≡ line + 1 → cells_of (line + 1) (rows_after line (front ++ row ∷ later)) ≡ row_cells row later }
-    ensures blank { (line : ℕ) (front later : List Row) → AllByRecursion (λ r. r.number ≤ line) front → AllByRecursion (λ r. line + 1 < r.number) later → cells_of (line + 1) (rows_after line (front ++ later)) ≡ blank_cells (line + 1) }
+    ensures own { (line : ℕ) (front later : List RowData) (row : RowData) → AllByRecursion (λ r. r.number ≤ line) front → row.number ≡ line + 1 → cells_of (line + 1) (rows_after line (front ++ row ∷ later)) ≡ row_cells row later }
+    ensures blank { (line : ℕ) (front later : List RowData) → AllByRecursion (λ r. r.number ≤ line) front → AllByRecursion (λ r. line + 1 < r.number) later → cells_of (line + 1) (rows_after line (front ++ later)) ≡ blank_cells (line + 1) }
 {}

@@ -1,8 +1,10 @@
 //! The lines of a source file that have points.
 
-ghost use Rattle.std.specs.Prelude.{◌≡◌, None};
-ghost use Rattle.covhtml.specs.Rows.{branches_hit as count_hit, first_missed as number_of_first, is_missed as is_missed_count, last_missed as number_of_last, rows_after as after_line};
+ghost use Rattle.std.specs.Prelude.{◌≡◌, None, count_by, length, map};
 ghost use Rattle.covstore.specs.Value.{is_taken as is_taken_value};
+ghost use Rattle.covstore.specs.ValuesView.{branch_data};
+ghost use Rattle.covhtml.specs.RowView.{row_data};
+ghost use Rattle.covhtml.specs.Rows.{branches_hit as hit_among, first_missed as number_of_first, is_missed as is_missed_count, last_missed as number_of_last, rows_after as after_line};
 
 use covstore::BranchValue;
 
@@ -19,7 +21,7 @@ pub struct Row<'a> {
 
 /// The rows from the first one with a number above `line` on. In ascending rows, these are the rows of all later lines.
 pub(crate) fn rows_after<'r, 'a>(line: u64, rows: &'r [Row<'a>]) -> &'r [Row<'a>]
-    ensures { result.now ≡ after_line line rows.now }
+    ensures { map row_data result.now ≡ after_line line (map row_data rows.now) }
 {
     let mut rest = rows;
     while let Some((row, after)) = rest.split_first() {
@@ -33,7 +35,7 @@ pub(crate) fn rows_after<'r, 'a>(line: u64, rows: &'r [Row<'a>]) -> &'r [Row<'a>
 
 /// The number of the first row that was found and never run.
 pub(crate) fn first_missed(rows: &[Row<'_>]) -> Option<u64>
-    ensures { result ≡ number_of_first rows.now }
+    ensures { result ≡ number_of_first (map row_data rows.now) }
 {
     for row in rows {
         if is_missed(row.count) {
@@ -45,7 +47,7 @@ pub(crate) fn first_missed(rows: &[Row<'_>]) -> Option<u64>
 
 /// The number of the last row that was found and never run.
 pub(crate) fn last_missed(rows: &[Row<'_>]) -> Option<u64>
-    ensures { result ≡ number_of_last None rows.now }
+    ensures { result ≡ number_of_last None (map row_data rows.now) }
 {
     let mut last = None;
     for row in rows {
@@ -63,9 +65,23 @@ pub(crate) fn is_missed(count: Option<u128>) -> bool
     count.is_some_and(|times| times == 0)
 }
 
+/// The number of branches.
+pub(crate) fn branches_found(branches: &[BranchValue]) -> u64
+    ensures { result ≡ length (map branch_data branches.now) }
+{
+    branches.len() as u64
+}
+
 /// How many of the branches were taken at least once.
-pub(crate) fn branches_hit(branches: &[BranchValue]) -> usize
-    ensures { result ≡ count_hit branches.now }
+pub(crate) fn branches_hit(branches: &[BranchValue]) -> u64
+    ensures { result ≡ hit_among (map branch_data branches.now) }
+{
+    taken_among(branches) as u64
+}
+
+/// How many of the branches were taken at least once.
+fn taken_among(branches: &[BranchValue]) -> usize
+    ensures { result ≡ count_by (λ b. is_taken_value b.taken) branches.now }
 {
     branches
         .iter()

@@ -1,6 +1,9 @@
 //! Prints the page of a source file.
 
-ghost use Rattle.std.specs.Prelude.{◌≡◌, ◌++◌, flat_map};
+ghost use Rattle.std.specs.Prelude.{◌≡◌, ◌++◌, flat_map, map};
+ghost use Rattle.covstore.specs.ValuesView.{function_data};
+ghost use Rattle.covhtml.specs.PagesView.{source_page_data};
+ghost use Rattle.covhtml.specs.RowView.{row_data};
 ghost use Rattle.covhtml.specs.SourcePage.{function_row, function_table, line_table, missed_links, source_front, source_page};
 
 use crate::cells::{put_count_cell, put_line_link};
@@ -20,7 +23,7 @@ use covstore::FunctionValue;
 ///
 /// A line with points that the source doesn't have is shown without a text. Never allocates.
 pub fn put_source_page<P: Printer>(page: &SourcePage<'_>, out: &mut P)
-    ensures { P.text out.new ≡ P.text out.old ++ source_page page.now }
+    ensures { P.text out.new ≡ P.text out.old ++ source_page (source_page_data page.now) }
 {
     put_front(page, out);
     put_line_table(page.rows, page.source, out);
@@ -29,21 +32,21 @@ pub fn put_source_page<P: Printer>(page: &SourcePage<'_>, out: &mut P)
 
 /// Prints what stands above the table of lines.
 fn put_front<P: Printer>(page: &SourcePage<'_>, out: &mut P)
-    ensures { P.text out.new ≡ P.text out.old ++ source_front page.now }
+    ensures { P.text out.new ≡ P.text out.old ++ source_front (source_page_data page.now) }
 {
     put_head(page.path, out);
     out.put(BACK);
     put_heading(page.path, out);
     put_cards(&page.totals, out);
-    put_function_table(page.functions, out);
+    put_function_table(page.totals.ff, page.functions, out);
     put_missed_links(first_missed(page.rows), last_missed(page.rows), out);
 }
 
-/// Prints the table of functions, if there are any.
-fn put_function_table<P: Printer>(functions: &[FunctionValue<'_>], out: &mut P)
-    ensures { P.text out.new ≡ P.text out.old ++ function_table functions.now }
+/// Prints the table of functions, if any are found.
+fn put_function_table<P: Printer>(found: u64, functions: &[FunctionValue<'_>], out: &mut P)
+    ensures { P.text out.new ≡ P.text out.old ++ function_table found (map function_data functions.now) }
 {
-    if functions.is_empty() {
+    if found == 0 {
         return;
     }
     out.put(FUNCTIONS);
@@ -54,7 +57,7 @@ fn put_function_table<P: Printer>(functions: &[FunctionValue<'_>], out: &mut P)
 
 /// Prints the rows of functions.
 fn put_function_rows<P: Printer>(functions: &[FunctionValue<'_>], out: &mut P)
-    ensures { P.text out.new ≡ P.text out.old ++ flat_map function_row functions.now }
+    ensures { P.text out.new ≡ P.text out.old ++ flat_map function_row (map function_data functions.now) }
 {
     for function in functions {
         put_function_row(function, out);
@@ -63,7 +66,7 @@ fn put_function_rows<P: Printer>(functions: &[FunctionValue<'_>], out: &mut P)
 
 /// Prints the row of a function.
 fn put_function_row<P: Printer>(function: &FunctionValue<'_>, out: &mut P)
-    ensures { P.text out.new ≡ P.text out.old ++ function_row function.now }
+    ensures { P.text out.new ≡ P.text out.old ++ function_row (function_data function.now) }
 {
     out.put(b"<tr><td>");
     put_shown(function.name, out);
@@ -89,7 +92,7 @@ fn put_missed_links<P: Printer>(first: Option<u64>, last: Option<u64>, out: &mut
 
 /// Prints the table of lines.
 fn put_line_table<P: Printer>(rows: &[Row<'_>], source: &[u8], out: &mut P)
-    ensures { P.text out.new ≡ P.text out.old ++ line_table rows.now source.now }
+    ensures { P.text out.new ≡ P.text out.old ++ line_table (map row_data rows.now) source.now }
 {
     out.put(LINES);
     put_row_zero(rows, out);

@@ -1,7 +1,8 @@
 //! Prints the rows of the table of lines.
 
-ghost use Rattle.std.specs.Prelude.{◌≡◌, ◌++◌};
+ghost use Rattle.std.specs.Prelude.{◌≡◌, ◌++◌, map};
 ghost use Rattle.covline.specs.Lines.{lines_of};
+ghost use Rattle.covhtml.specs.RowView.{row_data};
 ghost use Rattle.covhtml.specs.Rows.{blank_cells, cells_of, other_row, other_rows, row_cells, row_start, row_zero, rows_below, source_row};
 
 use crate::cells::{class_of, put_branch_cell, put_line_count_cell, put_line_link};
@@ -13,7 +14,7 @@ use covreport::Printer;
 
 /// Prints a row for each line of the source, and then the rows of later lines.
 pub(crate) fn put_rows<P: Printer>(rows: &[Row<'_>], source: &[u8], out: &mut P)
-    ensures { P.text out.new ≡ P.text out.old ++ rows_below 0 rows.now (lines_of source.now) }
+    ensures { P.text out.new ≡ P.text out.old ++ rows_below 0 (map row_data rows.now) (lines_of source.now) }
 {
     let mut rest = rows;
     let mut line: u64 = 0;
@@ -27,7 +28,7 @@ pub(crate) fn put_rows<P: Printer>(rows: &[Row<'_>], source: &[u8], out: &mut P)
 
 /// Prints the row of a line of the source. `rows` are those from this line on.
 fn put_source_row<P: Printer>(line: u64, rows: &[Row<'_>], text: &[u8], out: &mut P)
-    ensures { P.text out.new ≡ P.text out.old ++ source_row line rows.now text.now }
+    ensures { P.text out.new ≡ P.text out.old ++ source_row line (map row_data rows.now) text.now }
 {
     put_cells(line, rows, out);
     put_shown(text, out);
@@ -36,7 +37,7 @@ fn put_source_row<P: Printer>(line: u64, rows: &[Row<'_>], text: &[u8], out: &mu
 
 /// Prints the cells of a line, up to the beginning of the last one.
 fn put_cells<P: Printer>(line: u64, rows: &[Row<'_>], out: &mut P)
-    ensures { P.text out.new ≡ P.text out.old ++ cells_of line rows.now }
+    ensures { P.text out.new ≡ P.text out.old ++ cells_of line (map row_data rows.now) }
 {
     let Some((row, later)) = rows.split_first() else {
         return put_blank_cells(line, out);
@@ -50,7 +51,7 @@ fn put_cells<P: Printer>(line: u64, rows: &[Row<'_>], out: &mut P)
 
 /// Prints the cells of a line with points, up to the beginning of the last one.
 fn put_row_cells<P: Printer>(row: &Row<'_>, later: &[Row<'_>], out: &mut P)
-    ensures { P.text out.new ≡ P.text out.old ++ row_cells row.now later.now }
+    ensures { P.text out.new ≡ P.text out.old ++ row_cells (row_data row.now) (map row_data later.now) }
 {
     put_row_start(row.number, class_of(row), out);
     put_line_count_cell(row.count, later, out);
@@ -80,7 +81,7 @@ fn put_row_start<P: Printer>(line: u64, class: &[u8], out: &mut P)
 
 /// Prints rows of lines that the source doesn't have.
 fn put_other_rows<P: Printer>(rows: &[Row<'_>], out: &mut P)
-    ensures { P.text out.new ≡ P.text out.old ++ other_rows rows.now }
+    ensures { P.text out.new ≡ P.text out.old ++ other_rows (map row_data rows.now) }
 {
     let mut rest = rows;
     while let Some((row, later)) = rest.split_first() {
@@ -91,7 +92,7 @@ fn put_other_rows<P: Printer>(rows: &[Row<'_>], out: &mut P)
 
 /// Prints the row of a line that the source doesn't have.
 fn put_other_row<P: Printer>(row: &Row<'_>, later: &[Row<'_>], out: &mut P)
-    ensures { P.text out.new ≡ P.text out.old ++ other_row row.now later.now }
+    ensures { P.text out.new ≡ P.text out.old ++ other_row (row_data row.now) (map row_data later.now) }
 {
     put_row_cells(row, later, out);
     out.put(b"\n");
@@ -99,7 +100,7 @@ fn put_other_row<P: Printer>(row: &Row<'_>, later: &[Row<'_>], out: &mut P)
 
 /// Prints the row of line 0 if the first row is of this line.
 pub(crate) fn put_row_zero<P: Printer>(rows: &[Row<'_>], out: &mut P)
-    ensures { P.text out.new ≡ P.text out.old ++ row_zero rows.now }
+    ensures { P.text out.new ≡ P.text out.old ++ row_zero (map row_data rows.now) }
 {
     let Some((row, later)) = rows.split_first() else {
         return;

@@ -1,5 +1,6 @@
-use Rattle.std.proofs.Common.{◌≡◌, ℕ, List, ap, length, arith}
+use Rattle.std.proofs.Common.{◌≡◌, ℕ, List, ap, length, map, arith}
 use Rattle.covline.specs.Lines.{lines_of}
+use Rattle.covhtml.specs.RowView.{row_data}
 use Rattle.covhtml.proofs.LaterRows.{rows_put, source_row_put}
 use Rattle.covhtml.proofs.source_rows.put_rows.Goals as goal
 
@@ -8,7 +9,7 @@ loop-text-preserved g c =
     let text = g.P.Printer.text in
     record {
       written =
-          source_row_put c.loop-text.line c.loop-text.rest.now c.rows_after-rest.result.now c.in-Some.text.now _ (lines_of c.next.new.self) (text c.loop-text.out) (text c.put_source_row.new.out) _
+          source_row_put c.loop-text.line (map row_data c.loop-text.rest.now) (map row_data c.rows_after-rest.result.now) c.in-Some.text.now _ (lines_of c.next.new.self) (text c.loop-text.out) (text c.put_source_row.new.out) _
           c.in-Some.ensures.steps c.rows_after-rest.ensures c.put_source_row.ensures c.loop-text.invariant.written;
       counted = omega (arith, c.loop-text.invariant.counted, ap length c.in-Some.ensures.steps);
     }
@@ -16,5 +17,5 @@ loop-text-preserved g c =
 pub returns : goal.returns
 returns g c =
     let text = g.P.Printer.text in
-    rows_put c.loop-text.line c.loop-text.rest.now c.rows_after.result.now _ (text c.loop-text.out) (text c.put_other_rows.new.out) _
+    rows_put c.loop-text.line (map row_data c.loop-text.rest.now) (map row_data c.rows_after.result.now) _ (text c.loop-text.out) (text c.put_other_rows.new.out) _
     c.in-None.ensures.steps.0 c.rows_after.ensures c.put_other_rows.ensures c.loop-text.invariant.written
