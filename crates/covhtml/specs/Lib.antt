@@ -5,6 +5,7 @@ pub mod Rates
 pub mod Frame
 pub mod Rows
 pub mod RowView
+pub mod SectionRows
 pub mod SourcePage
 pub mod IndexPage
 pub mod PagesView
