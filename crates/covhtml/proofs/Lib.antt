@@ -4,5 +4,6 @@ pub mod Digits
 pub mod Fronts
 pub mod LaterRows
 pub mod NamesApart
+pub mod PointsKept
 pub mod ReadAgain
 pub mod SafeNames

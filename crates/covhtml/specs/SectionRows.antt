@@ -1,5 +1,6 @@
 -- The lines and the branches of a section, by line.
-use Rattle.std.specs.Prelude.{ℕ, Bool, ◌==◌, nat_lt, if◌then◌else◌, Some, None, List, [], ◌∷◌, ◌++◌}
+use Rattle.std.specs.Prelude.{◌≡◌, ℕ, Bool, ◌==◌, nat_lt, if◌then◌else◌, Option, Some, None, List, [], ◌∷◌, ◌++◌, flat_map}
+use Rattle.std.specs.List.{AllByRecursion}
 use Rattle.covstore.specs.Content.{BranchValueData, LineValueData}
 use Rattle.covhtml.specs.Rows.{RowData}
 
@@ -51,3 +52,21 @@ line_rows l branches =
 abbrev pub section_rows : List LineValueData → List BranchValueData → List RowData
 section_rows [] branches = branch_rows branches
 section_rows (l ∷ lines) branches = line_rows l branches ++ section_rows lines (branches_after l.line branches)
+
+-- ---- what rows tell of a section
+
+-- the line's number and its count, if the row has a count
+abbrev pub counted_line : (line : ℕ) → Option ℕ → List (ℕ × ℕ)
+counted_line line None = []
+counted_line line (Some count) = (line, count) ∷ []
+
+-- the lines that have a count, each with it
+abbrev pub counts_in : List RowData → List (ℕ × ℕ)
+counts_in rows = flat_map (λ row. counted_line row.number row.count) rows
+
+abbrev pub branches_in : List RowData → List BranchValueData
+branches_in rows = flat_map (λ row. row.branches) rows
+
+-- each branch of a row is of the row's line
+abbrev pub HasOwnBranches : RowData → Type 0
+HasOwnBranches row = AllByRecursion (λ b. b.point.line ≡ row.number) row.branches

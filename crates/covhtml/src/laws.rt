@@ -1,10 +1,12 @@
 //! Laws about the definitions that this crate's contracts cite. Each function does nothing: its contract is the law.
 
-ghost use Rattle.std.specs.Prelude.{◌≡◌, ◌≢◌, ◌+◌, ◌^◌, ◌<◌, ◌≤◌, ℕ, true, List, ◌∷◌, ◌++◌};
+ghost use Rattle.std.specs.Prelude.{◌≡◌, ◌≢◌, ◌+◌, ◌^◌, ◌<◌, ◌≤◌, ℕ, true, List, ◌∷◌, ◌++◌, map};
 ghost use Rattle.std.specs.List.{AllByRecursion};
+ghost use Rattle.covstore.specs.Content.{BranchValueData, LineValueData};
 ghost use Rattle.covhtml.specs.PageName.{IsSafeName, page_name};
 ghost use Rattle.covhtml.specs.ReadBack.{is_escaped, read_back};
 ghost use Rattle.covhtml.specs.Rows.{RowData, blank_cells, cells_of, row_cells, rows_after};
+ghost use Rattle.covhtml.specs.SectionRows.{HasOwnBranches, branches_in, counts_in, section_rows};
 ghost use Rattle.covhtml.specs.Shown.{shown, visible};
 
 /// A shown text has no markup: no `<`, no `>` and no `"`, and each `&` begins a character reference.
@@ -31,4 +33,12 @@ pub fn page_names_are_safe()
 pub fn a_line_shows_its_own_row()
     ensures own { (line : ℕ) (front later : List RowData) (row : RowData) → AllByRecursion (λ r. r.number ≤ line) front → row.number ≡ line + 1 → cells_of (line + 1) (rows_after line (front ++ row ∷ later)) ≡ row_cells row later }
     ensures blank { (line : ℕ) (front later : List RowData) → AllByRecursion (λ r. r.number ≤ line) front → AllByRecursion (λ r. line + 1 < r.number) later → cells_of (line + 1) (rows_after line (front ++ later)) ≡ blank_cells (line + 1) }
+{}
+
+/// The rows of a section have all of its lines with their counts, and all of its branches, in order. No other line has a count, no
+/// branch is added, and each branch stands in the row of its line.
+pub fn rows_have_all_points()
+    ensures counts { (lines : List LineValueData) (branches : List BranchValueData) → counts_in (section_rows lines branches) ≡ map (λ l. (l.line, l.count)) lines }
+    ensures branches { (lines : List LineValueData) (branches : List BranchValueData) → branches_in (section_rows lines branches) ≡ branches }
+    ensures places { (lines : List LineValueData) (branches : List BranchValueData) → AllByRecursion HasOwnBranches (section_rows lines branches) }
 {}
