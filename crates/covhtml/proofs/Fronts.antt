@@ -52,14 +52,14 @@ module _ {X Y : Type 0} (f : X → Y) (p : Y → Bool) (xs rest : List X) (is : 
 
 -- ---- collecting
 
-module _ {X Y : Type 0} (f : X → Y) (given : List Y) where
-  map_push : (xs : List X) (x : X) → map f (xs ++ x ∷ []) ≡ map f xs ++ f x ∷ []
-  map_push xs x = map-append f xs (x ∷ [])
+-- what is seen of a list with one more element
+pub pushed : {X Y : Type 0} (f : X → Y) (xs new : List X) (x : X) → new ≡ xs ++ x ∷ [] → map f new ≡ map f xs ++ f x ∷ []
+pushed f xs new x is = ap (map f) is ∙ map-append f xs (x ∷ [])
 
+module _ {X Y : Type 0} (f : X → Y) (given : List Y) where
   pub collects : (xs new : List X) (x : X) (left more : List Y) → left ≡ f x ∷ more → map f xs ++ left ≡ given → new ≡ xs ++ x ∷ [] → map f new ++ more ≡ given
   collects xs new x left more next so_far push =
-      ap (λ (zs : List X). map f zs ++ more) push
-      ∙ ap (λ (ys : List Y). ys ++ more) (map_push xs x)
+      ap (λ (ys : List Y). ys ++ more) (pushed f xs new x push)
       ∙ append_assoc (map f xs) (f x ∷ []) more
       ∙ ap (λ (ys : List Y). map f xs ++ ys) (sym next)
       ∙ so_far

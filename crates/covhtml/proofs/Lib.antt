@@ -2,6 +2,7 @@ pub mod Branches
 pub mod Chunks
 pub mod Digits
 pub mod Fronts
+pub mod LastNames
 pub mod LaterRows
 pub mod NamesApart
 pub mod PointsKept

@@ -95,10 +95,10 @@ fn name_of(path: &[u8]) -> &[u8]
     let mut name = path;
     let mut rest = path;
     while let Some((byte, after)) = rest.split_first() {
+        rest = after;
         if *byte == b'/' {
             name = after;
         }
-        rest = after;
     }
     name
 }

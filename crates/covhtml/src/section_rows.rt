@@ -1,6 +1,6 @@
 //! Collects the points of a section for its page.
 
-ghost use Rattle.std.specs.Prelude.{◌≡◌, ◌++◌, IfOk, OnOk, length, map};
+ghost use Rattle.std.specs.Prelude.{◌≡◌, ◌++◌, IfOk, OnOk, map};
 ghost use Rattle.covstore.specs.ValuesView.{branch_data, function_data, line_data};
 ghost use Rattle.covhtml.specs.RowView.{row_data};
 ghost use Rattle.covhtml.specs.SectionRows.{behind, branch_rows, branches_after as after_line, branches_from as from_line, front, is_of, line_rows, section_rows};
@@ -89,11 +89,13 @@ fn push_line_rows<'b, A: Allocator>(
     ensures { OnOk result (map row_data rows.new.items ≡ map row_data rows.old.items ++ line_rows (line_data line.now) (map branch_data branches.now)) }
 {
     let rest = branches_from(line.line, branches);
-    push_branch_rows(&branches[..branches.len() - rest.len()], rows)?;
+    let earlier = &branches[..branches.len() - rest.len()];
+    let own = own_branches(line.line, rest);
+    push_branch_rows(earlier, rows)?;
     rows.push(Row {
         number: line.line,
         count: Some(line.count),
-        branches: own_branches(line.line, rest),
+        branches: own,
     })?;
     Ok(())
 }
@@ -107,10 +109,11 @@ fn push_branch_rows<'b, A: Allocator>(
 {
     let mut rest = branches;
     while let Some((first, _)) = rest.split_first() {
+        let own = own_branches(first.line, rest);
         rows.push(Row {
             number: first.line,
             count: None,
-            branches: own_branches(first.line, rest),
+            branches: own,
         })?;
         rest = without_own(first.line, rest);
     }

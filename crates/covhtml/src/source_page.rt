@@ -80,7 +80,10 @@ fn put_function_row<P: Printer>(function: &FunctionValue<'_>, out: &mut P)
 fn put_missed_links<P: Printer>(first: Option<u64>, last: Option<u64>, out: &mut P)
     ensures { P.text out.new ≡ P.text out.old ++ missed_links first last }
 {
-    let (Some(first), Some(last)) = (first, last) else {
+    let Some(first) = first else {
+        return;
+    };
+    let Some(last) = last else {
         return;
     };
     out.put(b"<p>Not run: first line ");

@@ -3,10 +3,10 @@ use Rattle.covhtml.specs.RowView.{row_data}
 use Rattle.covhtml.proofs.LaterRows.{cells_of_blank, cells_of_none, cells_of_row, none_seen}
 use Rattle.covhtml.proofs.source_rows.put_cells.Goals as goal
 
-pub returns-in-None : goal.returns-in-None
-returns-in-None g c =
-    c.put_blank_cells-in-None.ensures
-    ∙ ap (λ (x : List ℕ). g.P.Printer.text c.args.out.now ++ x) (cells_of_none c.args.line (map row_data c.args.rows.now) (none_seen row_data c.args.rows.now c.in-None.ensures.cases))
+pub returns-in_default : goal.returns-in_default
+returns-in_default g c =
+    c.put_blank_cells-in_default.ensures
+    ∙ ap (λ (x : List ℕ). g.P.Printer.text c.args.out.now ++ x) (cells_of_none c.args.line (map row_data c.args.rows.now) (none_seen row_data c.args.rows.now c.in_default.ensures.cases))
 
 pub returns-then-row-line : goal.returns-then-row-line
 returns-then-row-line g c =
