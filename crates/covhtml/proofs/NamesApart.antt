@@ -55,9 +55,9 @@ tells b c x y false false false false is_b q_is is_c s_is e =
 
 -- what a name has of a byte isn't empty
 some_named : (b : ℕ) (x : List ℕ) (p q : Bool) → named_by p q b ++ x ≡ [] → ⊥
-some_named b x true q e = let l : suc (length x) ≡ 0 = ap length e in omega (arith, l)
-some_named b x false true e = let l : suc (length x) ≡ 0 = ap length e in omega (arith, l)
-some_named b x false false e = let l : suc (suc (suc (length x))) ≡ 0 = ap length e in omega (arith, l)
+some_named b x true q e = let l : suc (length x) ≡ 0 = ap length e in absurd (omega (arith, l))
+some_named b x false true e = let l : suc (length x) ≡ 0 = ap length e in absurd (omega (arith, l))
+some_named b x false false e = let l : suc (suc (suc (length x))) ≡ 0 = ap length e in absurd (omega (arith, l))
 
 path_tells : (one other : List ℕ) → encoded_path one ≡ encoded_path other → one ≡ other
 path_tells [] [] e = refl

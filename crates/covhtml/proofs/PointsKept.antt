@@ -6,7 +6,7 @@ use Rattle.std.proofs.lemmas.List.{append-nil}
 use Rattle.std.proofs.lemmas.List.Concat.{flat_map-append}
 use Rattle.covstore.specs.Content.{BranchValueData, LineValueData}
 use Rattle.covhtml.specs.Rows.{RowData}
-use Rattle.covhtml.specs.SectionRows.{HasOwnBranches, branch_row, branch_rows, branches_after, branches_from, branches_in, behind, counted_line, counts_in, front, is_before, is_of, line_rows, onto_rows, section_rows}
+use Rattle.covhtml.specs.SectionRows.{HasOwnBranches, branch_row, branch_rows, branches_after, branches_from, branches_in, behind, counted_line, counts_in, front, is_before, is_of, line_count, line_rows, onto_rows, section_rows}
 use Rattle.covhtml.proofs.Fronts.{parts}
 
 -- the row of a line with its count
@@ -63,7 +63,7 @@ line_counts l branches =
     flat_map-append (λ (row : RowData). counted_line row.number row.count) (branch_rows (front (is_before l.line) branches)) (own_row l branches ∷ [])
     ∙ ap (λ (cs : List (ℕ × ℕ)). cs ++ ((l.line, l.count) ∷ [])) (alone_counts (front (is_before l.line) branches))
 
-pub counts_kept : (lines : List LineValueData) (branches : List BranchValueData) → counts_in (section_rows lines branches) ≡ map (λ l. (l.line, l.count)) lines
+pub counts_kept : (lines : List LineValueData) (branches : List BranchValueData) → counts_in (section_rows lines branches) ≡ map line_count lines
 counts_kept [] branches = alone_counts branches
 counts_kept (l ∷ lines) branches =
     flat_map-append (λ (row : RowData). counted_line row.number row.count) (line_rows l branches) (section_rows lines (branches_after l.line branches))

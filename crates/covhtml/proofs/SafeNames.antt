@@ -1,5 +1,5 @@
 -- The names of pages have only bytes that are safe in a link and in each file system, and aren't too long.
-use Rattle.std.proofs.Common.{◌≡◌, ℕ, ◌+◌, ◌/◌, ◌%◌, ◌^◌, ◌≤◌, ◌<◌, Bool, true, false, ◌==◌, nat_le, List, [], ◌∷◌, ◌++◌, IsTrue, length, take, refl, sym, ap, ◌∙◌, subst, rules, arith, codes, if◌then◌else◌, inl, inr}
+use Rattle.std.proofs.Common.{◌≡◌, ℕ, ◌+◌, ◌/◌, ◌%◌, ◌^◌, ◌≤◌, ◌<◌, Bool, true, false, ◌==◌, ◌||◌, nat_le, List, [], ◌∷◌, ◌++◌, IsTrue, length, take, refl, sym, ap, ◌∙◌, subst, rules, arith, codes, if◌then◌else◌, inl, inr}
 use Rattle.std.specs.Char.{digit_char}
 use Rattle.std.specs.List.{AllByRecursion}
 use Rattle.std.specs.Prelude.{decimal}
@@ -21,7 +21,7 @@ digit_safe d small = agree_below_at (λ (n : ℕ). is_name_byte (digit_char n)) 
 
 -- a byte that stays, a slash, or any other byte
 byte_safe : (b : ℕ) (p q : Bool) → stays b ≡ p → b < 256 → AreSafe (if p then b ∷ [] else if q then 45 ∷ [] else 126 ∷ digit_char (b / 16) ∷ digit_char (b % 16) ∷ [])
-byte_safe b true q is_b small = (or_left (stays b) (b == 45 || b == 126) is_b, tt)
+byte_safe b true q is_b small = (or_left (stays b || b == 45) (b == 126) (or_left (stays b) (b == 45) is_b), tt)
 byte_safe b false true is_b small = (refl, tt)
 byte_safe b false false is_b small = (refl, (digit_safe (b / 16) (omega (arith, small)), (digit_safe (b % 16) (omega arith), tt)))
 

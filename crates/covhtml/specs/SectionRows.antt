@@ -55,7 +55,11 @@ section_rows (l ∷ lines) branches = line_rows l branches ++ section_rows lines
 
 -- ---- what rows tell of a section
 
--- the line's number and its count, if the row has a count
+-- a line's number and its count
+abbrev pub line_count : LineValueData → ℕ × ℕ
+line_count l = (l.line, l.count)
+
+-- the same of a row, if it has a count
 abbrev pub counted_line : (line : ℕ) → Option ℕ → List (ℕ × ℕ)
 counted_line line None = []
 counted_line line (Some count) = (line, count) ∷ []
