@@ -6,6 +6,7 @@ use std::test::*;
 mod collected;
 mod index;
 mod names;
+mod sections;
 mod sources;
 mod texts;
 
