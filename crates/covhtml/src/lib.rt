@@ -32,7 +32,7 @@ mod section_rows;
 mod shown;
 mod source_page;
 mod source_rows;
-mod style;
+mod style_sheet;
 
 pub use index_page::put_index_page;
 pub use names::page_name;
@@ -41,4 +41,4 @@ pub use rows::Row;
 pub use section_rows::{branches_of, functions_of, rows_of};
 pub use shown::put_shown;
 pub use source_page::put_source_page;
-pub use style::STYLE;
+pub use style_sheet::STYLE;

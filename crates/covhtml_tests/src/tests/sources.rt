@@ -80,10 +80,10 @@ fn each_kind_of_row(rt: HostRuntime) {
         count: 123_456,
     }];
     let rows = [
-        row(1, Some(99_999), &[]),
-        row(2, Some(0), &[]),
-        row(4, Some(1), BRANCHES),
-        row(9, Some(u128::MAX), &[]),
+        row_of(1, Some(99_999), &[]),
+        row_of(2, Some(0), &[]),
+        row_of(4, Some(1), BRANCHES),
+        row_of(9, Some(u128::MAX), &[]),
     ];
     let page = SourcePage {
         path: b"src/a.c",
@@ -103,7 +103,7 @@ fn each_kind_of_row(rt: HostRuntime) {
 }
 
 /// A row of a page.
-fn row<'a>(number: u64, count: Option<u128>, branches: &'a [BranchValue]) -> Row<'a> {
+fn row_of<'a>(number: u64, count: Option<u128>, branches: &'a [BranchValue]) -> Row<'a> {
     Row {
         number,
         count,
@@ -152,10 +152,10 @@ fn a_source_that_is_not_there(rt: HostRuntime) {
         taken: None,
     }];
     let rows = [
-        row(0, Some(100_000), &[]),
-        row(2, Some(0), &[]),
-        row(3, None, &branch),
-        row(5, Some(0), &[]),
+        row_of(0, Some(100_000), &[]),
+        row_of(2, Some(0), &[]),
+        row_of(3, None, &branch),
+        row_of(5, Some(0), &[]),
     ];
     let page = SourcePage {
         path: b"<b>",
