@@ -13,6 +13,9 @@ fn printed(alloc: Global, page: &IndexPage<'_>) -> Collected {
     printer
 }
 
+/// The date of the index.
+const DATE: &[u8] = b"2026-11-30";
+
 /// An index with a date, and two directories of one file each.
 const TWO_DIRECTORIES: &[u8] = b"\
 <!doctype html>
@@ -95,7 +98,7 @@ fn two_directories(rt: HostRuntime) {
     ];
     let page = IndexPage {
         title: b"R&D",
-        date: Some(b"2026-11-30"),
+        date: Some(DATE),
         totals: Totals {
             lf: 3,
             lh: 2,
