@@ -7,4 +7,5 @@ pub mod LaterRows
 pub mod NamesApart
 pub mod PointsKept
 pub mod ReadAgain
+pub mod RowsRise
 pub mod SafeNames

@@ -10,7 +10,7 @@ use Rattle.covhtml.specs.SectionRows.{HasOwnBranches, branch_row, branch_rows, b
 use Rattle.covhtml.proofs.Fronts.{parts}
 
 -- the row of a line with its count
-abbrev own_row : LineValueData → List BranchValueData → RowData
+abbrev pub own_row : LineValueData → List BranchValueData → RowData
 own_row l branches = record { number = l.line; count = Some l.count; branches = front (is_of l.line) (branches_from l.line branches) }
 
 -- ---- branches

@@ -1,5 +1,5 @@
 -- The lines and the branches of a section, by line.
-use Rattle.std.specs.Prelude.{◌≡◌, ℕ, Bool, ◌==◌, nat_lt, if◌then◌else◌, Option, Some, None, List, [], ◌∷◌, ◌++◌, flat_map}
+use Rattle.std.specs.Prelude.{◌≡◌, ⊤, ℕ, ◌+◌, ◌≤◌, Bool, ◌==◌, nat_lt, if◌then◌else◌, Option, Some, None, List, [], ◌∷◌, ◌++◌, flat_map}
 use Rattle.std.specs.List.{AllByRecursion}
 use Rattle.covstore.specs.Content.{BranchValueData, LineValueData}
 use Rattle.covhtml.specs.Rows.{RowData}
@@ -74,3 +74,12 @@ branches_in rows = flat_map (λ row. row.branches) rows
 -- each branch of a row is of the row's line
 abbrev pub HasOwnBranches : RowData → Type 0
 HasOwnBranches row = AllByRecursion (λ b. b.point.line ≡ row.number) row.branches
+
+-- the numbers rise from `least` on, or at least never fall
+abbrev pub Rises : (least : ℕ) → List ℕ → Type 0
+Rises least [] = ⊤
+Rises least (n ∷ numbers) = (least ≤ n) × Rises (n + 1) numbers
+
+abbrev pub NeverFalls : (least : ℕ) → List ℕ → Type 0
+NeverFalls least [] = ⊤
+NeverFalls least (n ∷ numbers) = (least ≤ n) × NeverFalls n numbers

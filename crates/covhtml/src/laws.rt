@@ -6,7 +6,7 @@ ghost use Rattle.covstore.specs.Content.{BranchValueData, LineValueData};
 ghost use Rattle.covhtml.specs.PageName.{IsSafeName, page_name};
 ghost use Rattle.covhtml.specs.ReadBack.{is_escaped, read_back};
 ghost use Rattle.covhtml.specs.Rows.{RowData, blank_cells, cells_of, row_cells, rows_after};
-ghost use Rattle.covhtml.specs.SectionRows.{HasOwnBranches, branches_in, counts_in, line_count, section_rows};
+ghost use Rattle.covhtml.specs.SectionRows.{HasOwnBranches, NeverFalls, Rises, branches_in, counts_in, line_count, section_rows};
 ghost use Rattle.covhtml.specs.Shown.{shown, visible};
 
 /// A shown text has no markup: no `<`, no `>` and no `"`, and each `&` begins a character reference.
@@ -36,9 +36,10 @@ pub fn a_line_shows_its_own_row()
 {}
 
 /// The rows of a section have all of its lines with their counts, and all of its branches, in order. No other line has a count, no
-/// branch is added, and each branch stands in the row of its line.
+/// branch is added, and each branch stands in the row of its line. The rows rise by line, since the lines and branches of a section do.
 pub fn rows_have_all_points()
     ensures counts { (lines : List LineValueData) (branches : List BranchValueData) → counts_in (section_rows lines branches) ≡ map line_count lines }
     ensures branches { (lines : List LineValueData) (branches : List BranchValueData) → branches_in (section_rows lines branches) ≡ branches }
+    ensures order { (lines : List LineValueData) (branches : List BranchValueData) → Rises 0 (map (λ l. l.line) lines) → NeverFalls 0 (map (λ b. b.point.line) branches) → Rises 0 (map (λ r. r.number) (section_rows lines branches)) }
     ensures places { (lines : List LineValueData) (branches : List BranchValueData) → AllByRecursion HasOwnBranches (section_rows lines branches) }
 {}
