@@ -1,0 +1,3 @@
+#!/bin/bash
+echo 10 > /proc/self/autogroup
+exec "$@"
