@@ -20,8 +20,8 @@ class Lanes:
     """So many lanes, which the checks of all crates share."""
 
     def __init__(self, number):
-        # When each check began that runs now.
-        self.number, self.running = number, []
+        # How many crates use the lanes now, and when each check began that runs now.
+        self.number, self.crates, self.running = number, 0, []
         self.turn = threading.Condition()
         self.pool = ThreadPoolExecutor(number)
 
@@ -55,12 +55,21 @@ class CrateLanes:
     """The lanes as one crate uses them: each of its checks gets a folder, in which what its checks have in common is kept."""
 
     def __init__(self, lanes):
-        self.lanes, self.number, self.made, self.free = lanes, lanes.number, [], []
+        self.lanes, self.made, self.free = lanes, [], []
 
     def __enter__(self):
+        with self.lanes.turn:
+            self.lanes.crates += 1
         return self
 
+    @property
+    def number(self):
+        """How many lanes there are for each crate that uses some now. More checks at once would only load the libraries more often."""
+        return max(1, self.lanes.number // self.lanes.crates)
+
     def __exit__(self, *_):
+        with self.lanes.turn:
+            self.lanes.crates -= 1
         for it in self.made:
             it.cleanup()
 

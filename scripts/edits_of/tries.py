@@ -4,7 +4,7 @@ import os
 from . import edit as verdicts
 from .checks import Checks
 from .functions import Functions
-from .kept import SCRIPT
+from .kept import CHECKS
 from .kit import kit_sum, sum_of
 
 # How rt's verdict on an edit that it tried alone begins. Any other says that it couldn't be tried.
@@ -79,10 +79,11 @@ class Tries:
         return made
 
     def control(self, edits):
-        """Checks the functions of the edits as they stand, if this script hasn't seen them without an open goal. An edit of one that has is not tried."""
+        """Checks the functions of the edits as they stand, if they weren't seen without an open goal. An edit of one that has is not tried."""
         functions = list(dict.fromkeys(it for edit in edits for it in edit.functions))
-        names = {it: sum_of("control", kit_sum(), SCRIPT, self.crate.name, it.name) for it in functions}
-        new = [it for it in functions if not self.kept.read(names[it])]
+        names = {it: sum_of("control", kit_sum(), CHECKS, self.crate.name, it.name) for it in functions}
+        recorded = self.kept.controlled_of(self.crate.name)
+        new = [it for it in functions if it.name not in recorded and not self.kept.read(names[it])]
         if not new:
             return
         self.controlled, most = len(new), self.most(len(new))
@@ -94,6 +95,7 @@ class Tries:
                 self.kept.remove(names[it])
             else:
                 self.kept.write(names[it], True)
+        self.kept.record(self.crate.name, [it.name for it in functions if it not in self.broken])
         if self.broken:
             self.settle_broken(edits)
 
