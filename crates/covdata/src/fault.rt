@@ -3,7 +3,8 @@
 ghost use Rattle.std.specs.Prelude.{◌≡◌};
 ghost use Rattle.covdata.specs.declared.fault.ReadFault.TheVariants.{Memory as NoMemory};
 
-use covdata::{LineFault, Memory};
+use crate::memory::Memory;
+use crate::trace_line::LineFault;
 use std::alloc::AllocFailed;
 use thiserror::Error;
 
