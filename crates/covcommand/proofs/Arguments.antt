@@ -20,4 +20,4 @@ pub added_subcommand : {E : Type 0} {before : App} (app : App) (sub : Result Com
     → IfOk sub (HasNoGlobals app) → IsOkAnd sub (λ s. AddsSubcommand old s new) → app_of new ≡ with_subcommand before app.top
 added_subcommand app (Ok s) old new is described adds =
     adds.shape described.1 ∙ ap₂ with_subcommand is (ap (λ (a : App). a.top) described.0)
-added_subcommand app (Err _) old new is described adds = adds
+added_subcommand app (Err _) old new is described adds = absurd adds
