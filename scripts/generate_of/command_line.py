@@ -73,6 +73,6 @@ class Description:
 def command_line(described, texts):
     """The arguments and options of each subcommand, by its name, and the options of the program itself."""
     description = Description(described, texts)
-    names = re.findall(r"\.subcommand\((\w+)\(alloc\)\?\)", described)
+    names = re.findall(r"\bwith\(.*, (\w+)\(alloc\)\)", described)
     of_program = [HELP, VERSION] if ".version(" in description.functions["program"][2] else [HELP]
     return {it: list(description.arguments(it)) for it in names}, of_program

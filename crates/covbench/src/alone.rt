@@ -2,7 +2,7 @@
 
 use covbook::{Answer, Book, Entry, JobLog, Op, SubRef};
 use covread::read_trace;
-use covstore::Totals;
+use covtable::Totals;
 use std::alloc::Global;
 
 /// Checks that a single thread with its own book gets the same answers and totals for the history's operations in order. The

@@ -2,7 +2,7 @@
 
 use crate::random::Random;
 use covbook::{Op, SubRef};
-use covline::Bytes;
+use covdata::Bytes;
 use covread::read_trace;
 use std::alloc::Global;
 

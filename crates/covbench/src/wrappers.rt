@@ -4,9 +4,9 @@
 ghost use Rattle.std.specs.Prelude.{◌≡◌};
 
 use covbook::{BookFault, Op, SubRef};
+use covdata::{Memory, ReadFault, Submission};
 use covjobs::{Done, Live, Name, ReaderFault, Seat, Seats, Shared, Start};
-use covline::{Memory, Submission};
-use covread::{ReadFault, read_trace};
+use covread::read_trace;
 use std::alloc::Allocator;
 use std::sync::Wait;
 

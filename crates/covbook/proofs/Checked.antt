@@ -6,7 +6,7 @@ use Rattle.std.specs.List.{All, AllByRecursion}
 use Rattle.std.proofs.lemmas.Bool.{and_from, and_parts, eq-eqb, eqb-true}
 use Rattle.std.proofs.lemmas.List.{length-map, take_more, map-append}
 use Rattle.std.proofs.lemmas.List.Elements.{All-from_recursion, recursion_from_All}
-use Rattle.covstore.specs.declared.totals.Totals.{Totals}
+use Rattle.covtable.specs.declared.totals.Totals.{Totals}
 use Rattle.covbook.specs.declared.entry.Receipt.{Receipt}
 use Rattle.covbook.specs.declared.gather_fault.GatherFault.{GatherFault}
 use Rattle.covbook.specs.declared.gather_fault.GatherFault.TheVariants.{Backwards, BadReading, Differs, SameJob, Stranger}

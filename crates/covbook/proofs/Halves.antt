@@ -1,12 +1,12 @@
 -- What the first half of a step makes ready is what the second half requires.
 use Rattle.std.proofs.Common.{◌≡◌, ℕ, Bool, true, List, length, sym, ap, ◌∙◌, subst}
-use Rattle.covstore.specs.declared.totals.Totals.{Totals}
-use Rattle.covstore.specs.Renamed.{renamed}
+use Rattle.covtable.specs.declared.totals.Totals.{Totals}
+use Rattle.covtable.specs.Renamed.{renamed}
 use Rattle.covstore.specs.Renaming.{RenamingData, IsRenamingOf}
 use Rattle.covstore.specs.Store.{StoreData}
-use Rattle.covstore.specs.Table.{Table}
-use Rattle.covstore.specs.Totals.{totals_of}
-use Rattle.covstore.specs.Without.{sections_of_test, without_test}
+use Rattle.covtable.specs.Table.{Table}
+use Rattle.covtable.specs.Totals.{totals_of}
+use Rattle.covtable.specs.Without.{sections_of_test, without_test}
 use Rattle.covbook.specs.Held.{BookData, SameBook, IsBook}
 use Rattle.covbook.specs.Op.{OpData, DropTestOp, RenameOp, AnswerData, DroppedAnswer, RenamedAnswer, EntryData}
 use Rattle.covbook.specs.Ready.{ReadyData, ChangeData, RenameChange, HasRoom, IsNextOf, IsPlanned, IsAfter, IsReadyFor}

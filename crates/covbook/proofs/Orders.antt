@@ -8,11 +8,11 @@ use Rattle.std.proofs.lemmas.List.{append-nil, map-append}
 use Rattle.std.proofs.lemmas.List.Concat.{flat_map-append}
 use Rattle.std.proofs.lemmas.List.Elements.{All-contains, All-from_recursion, Contains-append_left}
 use Rattle.std.proofs.lemmas.List.Sorted.{IsPermutation-map}
-use Rattle.covline.specs.Row.{SubmissionData, Row, rows_of, items_in}
-use Rattle.covstore.specs.Clash.{Checksum, ClashData, Agree, checksum_of_row, checksums_in, first_clash}
-use Rattle.covstore.specs.Content.{SectionData, content_at}
-use Rattle.covstore.specs.Table.{Table, all_rows, clash_at}
-use Rattle.covstore.specs.Totals.{totals_of}
+use Rattle.covdata.specs.Row.{SubmissionData, Row, rows_of, items_in}
+use Rattle.covtable.specs.Clash.{Checksum, ClashData, Agree, checksum_of_row, checksums_in, first_clash}
+use Rattle.covtable.specs.Content.{SectionData, content_at}
+use Rattle.covtable.specs.Table.{Table, all_rows, clash_at}
+use Rattle.covtable.specs.Totals.{totals_of}
 use Rattle.covreport.specs.Choice.{AllFiles, Extracted, Removed}
 use Rattle.covreport.specs.Report.{report_text}
 use Rattle.covreport.specs.Summary.{summary_of}

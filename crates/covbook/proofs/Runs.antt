@@ -1,13 +1,13 @@
 -- A run with one more operation, and a history with one more entry.
 use Rattle.std.proofs.Common.{◌≡◌, ℕ, ◌+◌, ◌<◌, ◌≤◌, List, [], ◌∷◌, ◌++◌, length, None, refl, sym, ap, ◌∙◌, subst, arith}
 use Rattle.std.proofs.lemmas.List.{map_push, length_push}
-use Rattle.covstore.specs.declared.totals.Totals.{Totals}
-use Rattle.covline.specs.Row.{SubmissionData, items_in, rows_of}
-use Rattle.covstore.specs.Renamed.{renamed}
+use Rattle.covtable.specs.declared.totals.Totals.{Totals}
+use Rattle.covdata.specs.Row.{SubmissionData, items_in, rows_of}
+use Rattle.covtable.specs.Renamed.{renamed}
 use Rattle.covstore.specs.Renaming.{RenamingData, IsRenamingOf}
 use Rattle.covstore.specs.Store.{StoreData, PlanData, IsPlanOf, SameContent, StandsFor}
-use Rattle.covstore.specs.Table.{Table, clash_at}
-use Rattle.covstore.specs.Without.{without_test}
+use Rattle.covtable.specs.Table.{Table, clash_at}
+use Rattle.covtable.specs.Without.{without_test}
 use Rattle.covbook.proofs.Members.{members_kept, members_stay}
 use Rattle.covbook.specs.Held.{BookData, IsBook}
 use Rattle.covbook.specs.Op.{OpData, AreLawfulOps, IsLawfulOp, SubmitOp, AnswerData, AcceptedAnswer, EntryData}

@@ -1,10 +1,10 @@
 -- The texts that a book prints are those of the table that its store represents.
 use Rattle.std.proofs.Common.{◌≡◌, ℕ, List, Result, Ok, Err, IfOk, sym, ap, ◌∙◌}
-use Rattle.covstore.specs.declared.totals.Totals.{Totals}
-use Rattle.covstore.specs.Content.{SectionData, content_at}
+use Rattle.covtable.specs.declared.totals.Totals.{Totals}
+use Rattle.covtable.specs.Content.{SectionData, content_at}
 use Rattle.covstore.specs.Store.{StoreData, StandsFor}
-use Rattle.covstore.specs.Table.{Table}
-use Rattle.covstore.specs.Totals.{totals_of}
+use Rattle.covtable.specs.Table.{Table}
+use Rattle.covtable.specs.Totals.{totals_of}
 use Rattle.covreport.specs.Choice.{ChoiceData}
 use Rattle.covreport.specs.Report.{report_text}
 use Rattle.covreport.specs.Summary.{summary_of}

@@ -1,11 +1,11 @@
 -- Tables of runs have no two different checksums of one line of a file.
 use Rattle.std.proofs.Common.{◌≡◌, List, [], ◌∷◌, ◌++◌, refl}
 use Rattle.std.specs.Prelude.{ℕ, Bool, true, false, Option, Some, None}
-use Rattle.covline.specs.Row.{SubmissionData, rows_of}
-use Rattle.covstore.specs.Clash.{ClashData, Agree, checksums_in}
-use Rattle.covstore.specs.Renamed.{renamed}
-use Rattle.covstore.specs.Table.{Table, all_rows, clash_at}
-use Rattle.covstore.specs.Without.{without_test}
+use Rattle.covdata.specs.Row.{SubmissionData, rows_of}
+use Rattle.covtable.specs.Clash.{ClashData, Agree, checksums_in}
+use Rattle.covtable.specs.Renamed.{renamed}
+use Rattle.covtable.specs.Table.{Table, all_rows, clash_at}
+use Rattle.covtable.specs.Without.{without_test}
 use Rattle.covbook.specs.Op.{OpData, SubmitOp, DropTestOp, RenameOp}
 use Rattle.covbook.specs.Step.{has_test, table_after, table_after_drop, table_after_rename, table_after_submit, table_from}
 

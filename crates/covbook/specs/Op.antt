@@ -1,10 +1,10 @@
 -- Operations, answers, entries of a history and receipts, as plain data.
 use Rattle.std.specs.Prelude.{ℕ, List}
 use Rattle.std.specs.List.{AllByRecursion}
-use Rattle.covline.specs.Lawful.{IsGoodTest, IsLawful}
-use Rattle.covline.specs.Row.{SubmissionData}
-use Rattle.covstore.specs.declared.totals.Totals.{Totals}
-use Rattle.covstore.specs.Clash.{ClashData}
+use Rattle.covdata.specs.Lawful.{IsGoodTest, IsLawful}
+use Rattle.covdata.specs.Row.{SubmissionData}
+use Rattle.covtable.specs.declared.totals.Totals.{Totals}
+use Rattle.covtable.specs.Clash.{ClashData}
 
 pub data OpData : Type 0 where
   SubmitOp : (submission : SubmissionData) → OpData

@@ -2,8 +2,8 @@
 use Rattle.std.specs.Prelude.{List, [], ◌∷◌}
 use Rattle.std.specs.List.{AllByRecursion, flat_map}
 use Rattle.std.specs.List.Sorted.{IsPermutation}
-use Rattle.covline.specs.Row.{SubmissionData, rows_of}
-use Rattle.covstore.specs.Clash.{Agree, checksums_in}
+use Rattle.covdata.specs.Row.{SubmissionData, rows_of}
+use Rattle.covtable.specs.Clash.{Agree, checksums_in}
 use Rattle.covbook.specs.Op.{OpData, SubmitOp, DropTestOp, RenameOp, ReportOp, ExtractOp, RemoveOp, SummaryOp}
 
 -- the submission that an operation adds, if it adds one

@@ -1,12 +1,12 @@
 -- A step in two halves: what the first half leaves for the second half, and when the second half may be taken.
 use Rattle.std.specs.Prelude.{◌≡◌, ℕ, ◌<◌, List, [], ◌∷◌, ◌++◌, length}
-use Rattle.covline.specs.Row.{SubmissionData, rows_of}
-use Rattle.covstore.specs.declared.totals.Totals.{Totals}
+use Rattle.covdata.specs.Row.{SubmissionData, rows_of}
+use Rattle.covtable.specs.declared.totals.Totals.{Totals}
 use Rattle.covstore.specs.Store.{StoreData, PlanData, IsPlanOf}
-use Rattle.covstore.specs.Renamed.{renamed}
+use Rattle.covtable.specs.Renamed.{renamed}
 use Rattle.covstore.specs.Renaming.{RenamingData, IsRenamingOf}
-use Rattle.covstore.specs.Table.{Table}
-use Rattle.covstore.specs.Without.{without_test}
+use Rattle.covtable.specs.Table.{Table}
+use Rattle.covtable.specs.Without.{without_test}
 use Rattle.covbook.specs.Held.{BookData}
 use Rattle.covbook.specs.Op.{OpData, EntryData}
 use Rattle.covbook.specs.Step.{table_after, table_of, totals_at, ops_in, ComesNext, max_entries}

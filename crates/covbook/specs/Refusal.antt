@@ -1,6 +1,6 @@
 -- What a book answers if its store can't hold a submission.
 use Rattle.std.specs.Prelude.{Option, Some, None}
-use Rattle.covstore.specs.Store.{RefuseData, ClashRefuse, MemoryRefuse}
+use Rattle.covtable.specs.Refuse.{RefuseData, ClashRefuse, MemoryRefuse}
 use Rattle.covbook.specs.Op.{AnswerData, ClashAnswer}
 
 -- the answer to a clash; `None` if memory was refused, since that isn't answered

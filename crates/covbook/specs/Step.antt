@@ -1,14 +1,14 @@
 -- One step of the plain table of counts, and whole runs of steps.
 use Rattle.std.specs.Prelude.{◌≡◌, ℕ, ◌+◌, Bool, true, false, List, [], ◌∷◌, ◌++◌, length, Option, Some, None, map}
 use Rattle.std.specs.List.{list_any}
-use Rattle.covline.specs.Row.{SubmissionData, rows_of, items_in}
-use Rattle.covstore.specs.declared.totals.Totals.{Totals}
-use Rattle.covstore.specs.Clash.{ClashData}
-use Rattle.covstore.specs.Content.{content_at}
-use Rattle.covstore.specs.Renamed.{renamed}
-use Rattle.covstore.specs.Table.{Table, all_rows, clash_at}
-use Rattle.covstore.specs.Totals.{totals_of}
-use Rattle.covstore.specs.Without.{is_of_test, without_test, sections_of_test}
+use Rattle.covdata.specs.Row.{SubmissionData, rows_of, items_in}
+use Rattle.covtable.specs.declared.totals.Totals.{Totals}
+use Rattle.covtable.specs.Clash.{ClashData}
+use Rattle.covtable.specs.Content.{content_at}
+use Rattle.covtable.specs.Renamed.{renamed}
+use Rattle.covtable.specs.Table.{Table, all_rows, clash_at}
+use Rattle.covtable.specs.Totals.{totals_of}
+use Rattle.covtable.specs.Without.{is_of_test, without_test, sections_of_test}
 use Rattle.covreport.specs.Choice.{AllFiles, Extracted, Removed}
 use Rattle.covreport.specs.Report.{report_text}
 use Rattle.covreport.specs.Summary.{summary_of}

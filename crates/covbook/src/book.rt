@@ -7,10 +7,11 @@ use crate::op::{Answer, Op};
 use crate::ready::{Change, Ready};
 use crate::shared::TextRef;
 use crate::submitted::Submitted;
-use covline::{Bytes, Memory};
+use covdata::{Bytes, Memory};
 use covreport::{Choice, Printing, summary_text, trace_text};
-use covstore::laws::renaming_keeps_totals;
-use covstore::{Plan, Refuse, Renaming, Store, Totals};
+use covstore::{Plan, Renaming, Store};
+use covtable::laws::renaming_keeps_totals;
+use covtable::{Refuse, Totals};
 use std::alloc::{Allocator, Global};
 use std::marker::Model;
 use thiserror::Error;
@@ -99,8 +100,8 @@ impl<A: Allocator + Copy> Book<A> {
 impl<A: Allocator + Copy, K: Keep<Of = Entry<A>>> Book<A, K> {
     ghost use Rattle.std.specs.Prelude.{◌≡◌, ◌↔◌, ◌+◌, ◌<◌, ◌≤◌, ◌++◌, [], ◌∷◌, length, IsTrue, IfOk, OnOk, OnErr, Err, map};
     ghost use Rattle.covstore.specs.Store.{SameContent, StandsFor};
-    ghost use Rattle.covstore.specs.Totals.{AreTotals};
-    ghost use Rattle.covstore.specs.Without.{sections_of_test, without_test};
+    ghost use Rattle.covtable.specs.Totals.{AreTotals};
+    ghost use Rattle.covtable.specs.Without.{sections_of_test, without_test};
     ghost use Rattle.covbook.specs.ChangeView.{change_data};
     ghost use Rattle.covbook.specs.Op.{SubmitOp, DropTestOp, RenameOp, AcceptedAnswer, DroppedAnswer, RenamedAnswer, TextAnswer, AreLawfulOps, IsLawfulOp};
     ghost use Rattle.covbook.specs.Step.{IsLegal, answer_of, last_totals, next_entry, receipt_of, table_after, table_of, totals_at, ops_in, max_entries};
@@ -515,7 +516,7 @@ impl<A: Allocator> Book<A> {
 }
 
 ghost use Rattle.std.specs.Prelude.{◌≡◌, Some, None, MatchResult};
-ghost use Rattle.covstore.specs.RefuseView.{refuse_data};
+ghost use Rattle.covtable.specs.RefuseView.{refuse_data};
 ghost use Rattle.covbook.specs.Refusal.{refusal_answer};
 ghost use Rattle.covbook.specs.View.{answer_data};
 

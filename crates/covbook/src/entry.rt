@@ -1,8 +1,8 @@
 //! Entries, receipts, and lists of both.
 
 use crate::op::{Answer, Op};
-use covline::Memory;
-use covstore::Totals;
+use covdata::Memory;
+use covtable::Totals;
 use std::alloc::{Allocator, Global};
 use std::marker::Model;
 

@@ -14,7 +14,7 @@ use crate::gather_fault::GatherFault;
 use crate::log::JobLog;
 use crate::places::least_missing;
 use crate::reading::Reading;
-use covstore::Totals;
+use covtable::Totals;
 use std::alloc::Allocator;
 
 /// Checks that the entries are a merge of the logs and that the readings are right. That is: the logs' jobs differ, the `place`s

@@ -2,7 +2,7 @@
 
 use crate::entry::{Entry, MAX_ENTRIES, Receipt};
 use crate::keep::Keep;
-use covline::Memory;
+use covdata::Memory;
 use std::alloc::Allocator;
 use std::marker::Model;
 

@@ -11,11 +11,11 @@ ghost use Rattle.covbook.specs.Op.{EntryData, OpData, ReceiptData, SubmitOp, Cla
 ghost use Rattle.covbook.specs.Order.{submissions_in, AreTheSame, AreAgreeing, OnlySubmitsAndAsks};
 ghost use Rattle.covbook.specs.Step.{answer_of, answers_to, receipt_of, table_after, table_of, totals_at, totals_to};
 ghost use Rattle.covbook.specs.Texts.{IsText};
-ghost use Rattle.covline.specs.Row.{SubmissionData, rows_of};
-ghost use Rattle.covstore.specs.Clash.{ClashData, Agree, checksums_in};
-ghost use Rattle.covstore.specs.Table.{all_rows};
+ghost use Rattle.covdata.specs.Row.{SubmissionData, rows_of};
+ghost use Rattle.covtable.specs.Clash.{ClashData, Agree, checksums_in};
+ghost use Rattle.covtable.specs.Table.{all_rows};
 
-use covstore::laws::{
+use covtable::laws::{
     accepted_rows_agree, order_of_submissions_does_not_matter, renaming_keeps_totals,
     the_first_clash_is_told,
 };

@@ -2,7 +2,7 @@
 
 use crate::entry::Receipts;
 use crate::reading::Readings;
-use covline::Memory;
+use covdata::Memory;
 use std::alloc::{Allocator, Global};
 use std::marker::Model;
 

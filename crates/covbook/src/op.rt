@@ -1,7 +1,7 @@
 //! The operations of a book, and their answers.
 
 use crate::shared::{PackedRef, SubRef, TextRef};
-use covline::{Bytes, Memory};
+use covdata::{Bytes, Memory};
 use covreport::Patterns;
 use std::alloc::{Allocator, Global};
 
@@ -16,7 +16,7 @@ pub enum Op<A: Allocator = Global> {
     DropTest(Bytes<A>),
     /// Rename the test `old` to `new` in all files. If a test named `new` exists, the counts of both are added, for each coverage
     /// point. Any new name is accepted, but a printed tracefile can be read back only if the name fits into one line
-    /// (`covline::good_test`).
+    /// (`covdata::good_test`).
     Rename { old: Bytes<A>, new: Bytes<A> },
     /// Print the merged tracefile.
     Report,

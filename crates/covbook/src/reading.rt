@@ -1,7 +1,7 @@
 //! Readings of the totals, and lists of readings.
 
-use covline::Memory;
-use covstore::Totals;
+use covdata::Memory;
+use covtable::Totals;
 use std::alloc::{Allocator, Global};
 use std::marker::Model;
 

@@ -1,8 +1,9 @@
 //! Steps that are ready to be finished.
 
 use crate::entry::{Entry, Receipt};
-use covline::Bytes;
-use covstore::{Plan, Renaming, Totals};
+use covdata::Bytes;
+use covstore::{Plan, Renaming};
+use covtable::Totals;
 use std::alloc::{Allocator, Global};
 use std::marker::Model;
 
@@ -30,7 +31,7 @@ pub struct Ready<A: Allocator = Global> {
 
 impl<A: Allocator> Model for Ready<A> {
     ghost use Rattle.std.specs.Prelude.{◌≡◌};
-    ghost use Rattle.covstore.specs.Totals.{AreTotals};
+    ghost use Rattle.covtable.specs.Totals.{AreTotals};
     ghost use Rattle.covbook.specs.EntryView.{entry_data, receipt_data};
     ghost use Rattle.covbook.specs.Ready.{ReadyData};
     ghost use Rattle.covbook.specs.ChangeView.{change_data};
@@ -47,7 +48,7 @@ impl<A: Allocator> Model for Ready<A> {
 
 impl<A: Allocator> Ready<A> {
     ghost use Rattle.std.specs.Prelude.{◌≡◌};
-    ghost use Rattle.covstore.specs.Totals.{AreTotals};
+    ghost use Rattle.covtable.specs.Totals.{AreTotals};
     ghost use Rattle.covbook.specs.EntryView.{entry_data, receipt_data};
     ghost use Rattle.covbook.specs.ChangeView.{change_data};
     ghost use Rattle.covbook.specs.Op.{IsLawfulOp};

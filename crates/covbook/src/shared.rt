@@ -1,6 +1,6 @@
 //! Submissions and texts that several owners share.
 
-use covline::{Bytes, Memory, Submission};
+use covdata::{Bytes, Memory, Submission};
 use covpacked::PackedSubmission;
 use std::alloc::{Allocator, Global};
 use std::marker::Model;
@@ -54,7 +54,7 @@ pub struct SubRef<A: Allocator = Global> {
 }
 
 impl<A: Allocator> Model for SubRef<A> {
-    ghost use Rattle.covline.specs.Row.{SubmissionData};
+    ghost use Rattle.covdata.specs.Row.{SubmissionData};
 
     ghost Value = { SubmissionData };
 
@@ -104,7 +104,7 @@ pub struct PackedRef<A: Allocator = Global> {
 }
 
 impl<A: Allocator> Model for PackedRef<A> {
-    ghost use Rattle.covline.specs.Row.{SubmissionData};
+    ghost use Rattle.covdata.specs.Row.{SubmissionData};
 
     ghost Value = { SubmissionData };
 

@@ -2,20 +2,22 @@
 
 use crate::op::Op;
 use crate::shared::{PackedRef, SubRef};
-use covline::Memory;
-use covstore::{Plan, Refuse, Store};
+use covdata::Memory;
+use covstore::{Plan, Store};
+use covtable::Refuse;
 use std::alloc::Allocator;
 
 /// A shared submission, packed or not. Contracts see the submission.
 pub(crate) trait Submitted<A: Allocator + Copy> {
     ghost use Rattle.std.specs.Prelude.{◌≡◌, ◌≢◌, ◌<◌, ◌++◌, [], ◌∷◌, None, IfErr, IfOk, OnErr};
-    ghost use Rattle.covline.specs.Lawful.{IsLawful};
-    ghost use Rattle.covline.specs.Row.{SubmissionData, items_in, rows_of};
-    ghost use Rattle.covstore.specs.Content.{content_at};
-    ghost use Rattle.covstore.specs.RefuseView.{refuse_data};
-    ghost use Rattle.covstore.specs.Store.{IsPlanOf, IsRefusedAt, SameContent, StandsFor, max_members};
-    ghost use Rattle.covstore.specs.Table.{Table, clash_at};
-    ghost use Rattle.covstore.specs.Totals.{totals_of};
+    ghost use Rattle.covdata.specs.Lawful.{IsLawful};
+    ghost use Rattle.covdata.specs.Row.{SubmissionData, items_in, rows_of};
+    ghost use Rattle.covtable.specs.Content.{content_at};
+    ghost use Rattle.covtable.specs.RefuseView.{refuse_data};
+    ghost use Rattle.covstore.specs.Store.{IsPlanOf, SameContent, StandsFor, max_members};
+    ghost use Rattle.covtable.specs.Refuse.{IsRefusedAt};
+    ghost use Rattle.covtable.specs.Table.{Table, clash_at};
+    ghost use Rattle.covtable.specs.Totals.{totals_of};
     ghost use Rattle.covbook.specs.Op.{SubmitOp};
     ghost use Rattle.covbook.specs.View.{op_data};
 

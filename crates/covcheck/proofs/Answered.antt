@@ -1,9 +1,9 @@
 -- The result of a check fits what its reader returned.
 use Rattle.std.proofs.Common.{◌≡◌, ◌⊎◌, inl, inr, ℕ, List, Result, Ok, Err, refl, sym, ap, subst, ◌∙◌}
-use Rattle.covline.specs.Row.{SubmissionData}
+use Rattle.covdata.specs.Row.{SubmissionData}
 use Rattle.covread.specs.Outcome.{IsOrMemory}
-use Rattle.covread.specs.declared.fault.ReadFault.{ReadFault}
-use Rattle.covread.specs.declared.fault.ReadFault.TheVariants.{Memory}
+use Rattle.covdata.specs.declared.fault.ReadFault.{ReadFault}
+use Rattle.covdata.specs.declared.fault.ReadFault.TheVariants.{Memory}
 use Rattle.covcheck.specs.TextSummary.{Holds, Tells}
 use Rattle.covcheck.specs.declared.text_summary.TextSummary.{TextSummary}
 

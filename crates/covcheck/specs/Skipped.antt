@@ -1,6 +1,7 @@
 -- Which lines of a text aren't read, and how one of them begins.
 use Rattle.std.specs.Prelude.{◌≡◌, ◌≢◌, ◌⊎◌, ℕ, Bool, ◌||◌, ◌==◌, if◌then◌else◌, List, [], ◌∷◌, codes, take}
-use Rattle.covline.specs.Spells.{Begins, BeginsWithOneOf, Spells, Skip}
+use Rattle.covdata.specs.Records.{Skip}
+use Rattle.covline.specs.Spells.{Begins, BeginsWithOneOf, Spells}
 use Rattle.covlcov2.specs.Spells.{Lcov2Spells, Plain}
 use Rattle.covread.specs.Gcov.{IsShapeOf, Other}
 use Rattle.covcheck.specs.declared.format.Format.{Format}

@@ -2,8 +2,8 @@
 use Rattle.std.specs.Prelude.{◌≡◌, ℕ, List, [], ◌∷◌, length, Option, Some, None, Result, Ok, Err}
 use Rattle.std.specs.List.{enumerate_from}
 use Rattle.covline.specs.Lines.{lines_of}
-use Rattle.covline.specs.Row.{SubmissionData, items_in}
-use Rattle.covread.specs.declared.fault.ReadFault.{ReadFault}
+use Rattle.covdata.specs.Row.{SubmissionData, items_in}
+use Rattle.covdata.specs.declared.fault.ReadFault.{ReadFault}
 use Rattle.covcheck.specs.declared.text_summary.TextSummary.{TextSummary}
 use Rattle.covcheck.specs.declared.text_summary.SkippedLine.{SkippedLine}
 use Rattle.covcheck.specs.Skipped.{AreAllThat, start_of}

@@ -1,9 +1,9 @@
 //! Checks one input.
 
 ghost use Rattle.std.specs.Prelude.{◌≡◌, ◌⊎◌, [], Result, Err};
-ghost use Rattle.covline.specs.Row.{SubmissionData};
-ghost use Rattle.covread.specs.declared.fault.ReadFault.{ReadFault as Fault};
-ghost use Rattle.covread.specs.declared.fault.ReadFault.TheVariants.{Memory as NoMemory};
+ghost use Rattle.covdata.specs.Row.{SubmissionData};
+ghost use Rattle.covdata.specs.declared.fault.ReadFault.{ReadFault as Fault};
+ghost use Rattle.covdata.specs.declared.fault.ReadFault.TheVariants.{Memory as NoMemory};
 ghost use Rattle.covread.specs.Outcome.{Answers, GrowsLate, IsOutcome};
 ghost use Rattle.covread.specs.GcovOutcome as gcov;
 ghost use Rattle.covlcov2.specs.Outcome as lcov2;
@@ -13,9 +13,10 @@ ghost use Rattle.covcheck.specs.Skipped.{IsSkippedGcov, IsSkippedIn, IsSkippedLc
 use crate::format::Format;
 use crate::skipped_lines::skipped_lines_in;
 use crate::text_summary::TextSummary;
+use covdata::ReadFault;
 use covlcov2::read_lcov2_packed;
 use covpacked::ReadText;
-use covread::{ReadFault, read_gcov_packed, read_trace_packed};
+use covread::{read_gcov_packed, read_trace_packed};
 use std::alloc::Allocator;
 
 /// Reads a tracefile (geninfo(1) of LCOV 1.x, section FILES). Returns its summary, or the error of `read_trace`. Frees the

@@ -1,12 +1,14 @@
 //! The formats of inputs, and the lines that each format skips.
 
 ghost use Rattle.std.specs.Prelude.{◌≡◌, ◌++◌, ◌↔◌, IsTrue, IfSome, codes};
-ghost use Rattle.covline.specs.Spells.{line_data, Begins, HasKey, Skip, Spells};
+ghost use Rattle.covdata.specs.Records.{line_data, Skip};
+ghost use Rattle.covline.specs.Spells.{Begins, HasKey, Spells};
 ghost use Rattle.covlcov2.specs.Spells.{lcov2_data, Lcov2Spells, Plain};
 ghost use Rattle.covcheck.specs.Skipped.{IsOfLcov2Alone, IsOnConditions, IsSkippedIn, IsSkippedLcov2, IsSkippedRecord};
 
+use covdata::TraceLine;
 use covlcov2::{Lcov2Line, read_lcov2_line};
-use covline::{TraceLine, read_line, strip_key};
+use covline::{read_line, strip_key};
 use covread::fits_no_shape;
 
 /// The format of an input.

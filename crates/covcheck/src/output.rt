@@ -4,7 +4,7 @@ ghost use Rattle.std.specs.Prelude.{◌≡◌, ◌++◌, IfOk, OnOk, decimal, ma
 ghost use Rattle.covcheck.specs.SummaryLine.{first_text, summary_text, shown};
 
 use crate::text_summary::{SkippedLine, TextSummary};
-use covline::Memory;
+use covdata::Memory;
 use itoa::Buffer;
 use std::alloc::Allocator;
 

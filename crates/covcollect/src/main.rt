@@ -23,28 +23,25 @@ use covcommand::{CommandFault, word_at};
 pub use covlaws::{
     a_merge_of_merges_is_the_merge_of_all, each_report_of_a_history_reads_back, reports_read_back,
 };
-use covrun::{FromFiles, IntoFiles, refuse, run};
-use covsession::{FromRead, FromWrite};
+use covrun::{FromFiles, IntoFiles, Sinks, World, refuse, run};
+use covstream::{FromRead, FromWrite};
 use std::env::FillError;
 use std::io;
 use std::process::ExitCode;
 use std::rt::Env;
 
 fn main(rt: HostRuntime) -> ExitCode {
-    let mut input = FromRead::new(rt.reader());
-    let mut output = FromWrite::new(io::writer(&rt));
-    let mut faults = FromWrite::new(rt.stderr());
+    let mut world = World {
+        files: IntoFiles::new(&rt),
+        input: FromRead::new(rt.reader()),
+        sinks: Sinks {
+            output: FromWrite::new(io::writer(&rt)),
+            faults: FromWrite::new(rt.stderr()),
+        },
+    };
     let status = match words_of_call(&rt) {
-        Ok(words) => run(
-            &rt,
-            &FromFiles::new(&rt),
-            words.as_slice(),
-            &mut IntoFiles::new(&rt),
-            &mut input,
-            &mut output,
-            &mut faults,
-        ),
-        Err(fault) => refuse(fault, &mut output, &mut faults),
+        Ok(words) => run(&rt, &FromFiles::new(&rt), words.as_slice(), &mut world),
+        Err(fault) => refuse(fault, &mut world.sinks),
     };
     ExitCode::from(status)
 }

@@ -13,7 +13,7 @@ use Rattle.covcommand.specs.declared.asked.Strictness.TheVariants.{Lenient, Stri
 use Rattle.covcommand.specs.declared.asked.TextSize.TheVariants.{Limited, Large}
 use Rattle.covcommand.specs.declared.asked.TotalsForm.TheVariants.{Words, Json}
 use Rattle.covcommand.specs.declared.asked.TextFormat.TheVariants as format
-use Rattle.covcommand.specs.declared.asked.LcovVersion.TheVariants.{One, Two}
+use Rattle.covdata.specs.declared.version.LcovVersion.TheVariants.{One, Two}
 
 pub session_taken : takes covcollect (codes "covcollect" ∷ []) ≡ true
 unfolding clap_on_literals

@@ -19,8 +19,8 @@ use Rattle.covcommand.specs.declared.asked.TotalsForm.TheVariants.{Words, Json}
 use Rattle.covcommand.specs.declared.asked.Limits.{Limits}
 use Rattle.covcommand.specs.declared.asked.TextFormat.{TextFormat}
 use Rattle.covcommand.specs.declared.asked.TextFormat.TheVariants as format
-use Rattle.covcommand.specs.declared.asked.LcovVersion.{LcovVersion}
-use Rattle.covcommand.specs.declared.asked.LcovVersion.TheVariants.{One, Two}
+use Rattle.covdata.specs.declared.version.LcovVersion.{LcovVersion}
+use Rattle.covdata.specs.declared.version.LcovVersion.TheVariants.{One, Two}
 
 -- the words that clap found for the argument, in their order
 abbrev pub values_of : Text → List Row → List Text

@@ -1,7 +1,7 @@
 //! A parsed command line.
 
 use crate::names::Names;
-use covline::Bytes;
+use covdata::{Bytes, LcovVersion};
 
 /// A parsed command line: the command, its strictness, its size limit for tracefiles, and its output file.
 #[derive(Drop)]
@@ -149,13 +149,4 @@ pub enum TextFormat {
     Tracefile(LcovVersion),
     /// Annotated source, which gcov writes.
     Gcov,
-}
-
-/// The versions of tracefiles that are read.
-#[derive(Clone, Copy)]
-pub enum LcovVersion {
-    /// Only tracefiles of LCOV 1.x.
-    One,
-    /// Also tracefiles of LCOV 2.x.
-    Two,
 }

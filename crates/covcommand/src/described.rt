@@ -1,6 +1,7 @@
 //! Describes the command line to clap.
 
-ghost use Rattle.std.specs.Prelude.{◌≡◌, IfOk, codes};
+ghost use Rattle.std.specs.Prelude.{◌≡◌, IfOk, IsOkAnd, codes};
+ghost use Rattle.clap.specs.Built.{AddsSubcommand};
 ghost use Rattle.clap.specs.Words.{app_of};
 ghost use Rattle.covcommand.specs.CommandLine as line;
 ghost use Rattle.covcommand.specs.Built.{HasNoGlobals, IsRule};
@@ -13,14 +14,23 @@ use std::alloc::{AllocError, Global};
 pub(crate) fn described<'a>(alloc: Global) -> Result<Command<'a>, AllocError>
     ensures { IfOk result (λ c. app_of c ≡ line.covcollect) }
 {
-    program(alloc)
-        .subcommand(merge(alloc)?)?
-        .subcommand(summary(alloc)?)?
-        .subcommand(list(alloc)?)?
-        .subcommand(extract(alloc)?)?
-        .subcommand(remove(alloc)?)?
-        .subcommand(gcov(alloc)?)?
-        .subcommand(check(alloc)?)
+    let merging = with(program(alloc), merge(alloc))?;
+    let summing = with(merging, summary(alloc))?;
+    let listing = with(summing, list(alloc))?;
+    let extracting = with(listing, extract(alloc))?;
+    let removing = with(extracting, remove(alloc))?;
+    let converting = with(removing, gcov(alloc))?;
+    with(converting, check(alloc))
+}
+
+/// Adds a subcommand to `command`. A chain of calls with `?` in their arguments would take the prover minutes.
+fn with<'a>(
+    command: Command<'a>,
+    subcommand: Result<Command<'a>, AllocError>,
+) -> Result<Command<'a>, AllocError>
+    ensures { IfOk result (λ c. IsOkAnd subcommand.entry (λ s. AddsSubcommand command.entry s c)) }
+{
+    command.subcommand(subcommand?)
 }
 
 /// Returns the description of the program, without its subcommands.

@@ -1,7 +1,7 @@
 //! The errors of parsing a command line.
 
 use clap::error::{Error as LineError, ErrorKind};
-use covline::Memory;
+use covdata::Memory;
 use std::alloc::{AllocError, AllocFailed, Global};
 use thiserror::Error;
 

@@ -14,7 +14,7 @@ ghost use Rattle.covcommand.specs.declared.asked.Strictness.TheVariants.{Lenient
 ghost use Rattle.covcommand.specs.declared.asked.TextSize.TheVariants.{Limited, Large};
 ghost use Rattle.covcommand.specs.declared.asked.TotalsForm.TheVariants.{Words, Json};
 ghost use Rattle.covcommand.specs.declared.asked.TextFormat.TheVariants as format;
-ghost use Rattle.covcommand.specs.declared.asked.LcovVersion.TheVariants.{One, Two};
+ghost use Rattle.covdata.specs.declared.version.LcovVersion.TheVariants.{One, Two};
 
 /// Accepted command lines of each kind. For each of them, the only error of `command` is `Memory`.
 pub fn calls_are_taken()

@@ -27,8 +27,9 @@ mod parsing;
 mod word;
 
 pub use asked::{
-    Asked, Command, LcovVersion, Limits, SourceFilter, Strictness, TextFormat, TextSize, TotalsForm,
+    Asked, Command, Limits, SourceFilter, Strictness, TextFormat, TextSize, TotalsForm,
 };
+pub use covdata::LcovVersion;
 pub use fault::CommandFault;
 pub use help::VERSION;
 pub use laws::{

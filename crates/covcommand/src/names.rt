@@ -1,6 +1,6 @@
 //! A list of names on a command line.
 
-use covline::Memory;
+use covdata::Memory;
 use std::alloc::Global;
 use std::marker::Model;
 

@@ -10,13 +10,13 @@ ghost use Rattle.covcommand.specs.Fault.{IsFaultAmong};
 ghost use Rattle.covcommand.specs.declared.fault.CommandFault.TheVariants as faults;
 
 use crate::asked::{
-    Asked, Command, LcovVersion, Limits, SourceFilter, Strictness, TextFormat, TextSize, TotalsForm,
+    Asked, Command, Limits, SourceFilter, Strictness, TextFormat, TextSize, TotalsForm,
 };
 use crate::described::described;
 use crate::fault::CommandFault;
 use crate::names::Names;
 use clap::ArgMatches;
-use covline::{Bytes, Memory};
+use covdata::{Bytes, LcovVersion, Memory};
 use std::alloc::Global;
 
 /// Parses the arguments `words`. The first one is the program's name.

@@ -7,7 +7,7 @@ ghost use Rattle.covcommand.specs.Word.{shown, not_text, IsWordFault};
 ghost use Rattle.covcommand.specs.declared.fault.CommandFault.TheVariants as faults;
 
 use crate::fault::CommandFault;
-use covline::Memory;
+use covdata::Memory;
 use itoa::Buffer;
 use std::alloc::Global;
 

@@ -1,12 +1,12 @@
 -- What covread's readers return for a text is the outcome of the input.
 use Rattle.std.proofs.Common.{◌≡◌, inl, inr, ℕ, List, Result, Ok, Err, refl}
-use Rattle.covline.specs.Row.{SubmissionData}
-use Rattle.covread.specs.declared.fault.ReadFault.{ReadFault}
-use Rattle.covread.specs.declared.fault.ReadFault.TheVariants as faults
+use Rattle.covdata.specs.Row.{SubmissionData}
+use Rattle.covdata.specs.declared.fault.ReadFault.{ReadFault}
+use Rattle.covdata.specs.declared.fault.ReadFault.TheVariants as faults
 use Rattle.covread.specs.Outcome as trace
 use Rattle.covread.specs.GcovOutcome as gcov
 use Rattle.covlcov2.specs.Outcome as lcov2
-use Rattle.covjobs.specs.Collect.{InputData, TraceInput, Lcov2Input, GcovInput, IsOutcomeOf}
+use Rattle.covjobs.specs.Inputs.{InputData, TraceInput, Lcov2Input, GcovInput, IsOutcomeOf}
 
 pub trace_outcome : (text : List ℕ) (answer : Result SubmissionData ReadFault) → trace.Answers text answer → IsOutcomeOf (TraceInput text) answer
 trace_outcome text answer (inl (few, refused)) = inr (few, refused)

@@ -1,7 +1,7 @@
 -- The program's inputs as plain data.
 use Rattle.covjobs.specs.declared.input.Input.{Input}
 use Rattle.covjobs.specs.declared.input.Input.TheVariants as inputs
-use Rattle.covjobs.specs.Collect.{InputData, TraceInput, Lcov2Input, GcovInput}
+use Rattle.covjobs.specs.Inputs.{InputData, TraceInput, Lcov2Input, GcovInput}
 
 abbrev pub input_data : {A : Type 0} → Input A → InputData
 input_data (inputs.Trace text) = TraceInput text

@@ -1,4 +1,7 @@
-pub mod GivenView
+pub use Rattle.covworkers.specs.CollectFault
+pub use Rattle.covworkers.specs.Collect
+pub use Rattle.covworkers.specs.Late
+pub use Rattle.covworkers.specs.Work
 pub use Rattle.covlock.specs.Start
 pub use Rattle.covlock.specs.Seat
 pub use Rattle.covlock.specs.Handed
@@ -6,11 +9,5 @@ pub use Rattle.covlock.specs.Call
 pub use Rattle.covlock.specs.Shared
 pub use Rattle.covlock.specs.OpenFault
 pub use Rattle.covlock.specs.CloseFault
-pub mod CollectFault
-pub mod Collect
 pub mod InputView
-pub mod Shares
-pub mod Work
-pub mod Late
-pub mod Stops
-pub mod Latest
+pub mod Inputs

@@ -1,10 +1,11 @@
 //! Inputs that are in memory.
 
 use covbook::{PackedRef, SubRef};
+use covdata::{Bytes, ReadFault, Submission};
 use covlcov2::{read_lcov2, read_lcov2_packed};
-use covline::{Bytes, Submission};
 use covpacked::PackedSubmission;
-use covread::{ReadFault, read_gcov, read_gcov_packed, read_trace, read_trace_packed};
+use covread::{read_gcov, read_gcov_packed, read_trace, read_trace_packed};
+use covworkers::{Given, LateFault, LateInput, Part};
 use std::alloc::{Allocator, Global};
 
 /// An input in memory: the bytes of one file, and their format.
@@ -19,7 +20,7 @@ pub enum Input<A: Allocator = Global> {
 }
 
 impl<A: Allocator + Copy> Input<A> {
-    ghost use Rattle.covjobs.specs.Collect.{IsOutcomeOf};
+    ghost use Rattle.covjobs.specs.Inputs.{IsOutcomeOf};
     ghost use Rattle.covjobs.specs.InputView.{input_data};
 
     /// Parses the input. Returns its submission, or why the input is rejected. Fails with `Memory` also if the submission can't be
@@ -61,5 +62,57 @@ impl<A: Allocator + Copy> Input<A> {
             Input::Lcov2(text) => read_lcov2_packed(alloc, text.get()),
             Input::Gcov { test, text } => read_gcov_packed(alloc, test.get(), text.get()),
         }
+    }
+}
+
+/// An input in memory. It has one part, and is freed after it is read.
+impl<A: Allocator + Copy> LateInput<A> for Input<A> {
+    ghost use Rattle.covworkers.specs.Collect.{IsReadWhole};
+    ghost use Rattle.covjobs.specs.Inputs.{IsOutcomeOf};
+    ghost use Rattle.covjobs.specs.InputView.{input_data};
+
+    ghost may_give = { λ late. IsReadWhole (IsOutcomeOf (input_data late)) };
+
+    ghost may_fail = { λ late. ⊥ };
+
+    ghost most = { λ late. 1 };
+
+    type Fault = ReadFault;
+
+    fn read_part(self, alloc: A) -> Result<Part<Self, A>, LateFault> {
+        match self.read(alloc) {
+            Ok(submission) => Ok(Part::Last(Given::plain(submission))),
+            Err(fault) => Err(LateFault::Refused(fault)),
+        }
+    }
+
+    fn most_parts(&self) -> u64 {
+        1
+    }
+}
+
+/// A borrowed input in memory. It has one part, and its owner keeps it.
+impl<'a, A: Allocator + Copy> LateInput<A> for &'a Input<A> {
+    ghost use Rattle.covworkers.specs.Collect.{IsReadWhole};
+    ghost use Rattle.covjobs.specs.Inputs.{IsOutcomeOf};
+    ghost use Rattle.covjobs.specs.InputView.{input_data};
+
+    ghost may_give = { λ late. IsReadWhole (IsOutcomeOf (input_data late.now)) };
+
+    ghost may_fail = { λ late. ⊥ };
+
+    ghost most = { λ late. 1 };
+
+    type Fault = ReadFault;
+
+    fn read_part(self, alloc: A) -> Result<Part<Self, A>, LateFault> {
+        match Input::read(self, alloc) {
+            Ok(submission) => Ok(Part::Last(Given::plain(submission))),
+            Err(fault) => Err(LateFault::Refused(fault)),
+        }
+    }
+
+    fn most_parts(&self) -> u64 {
+        1
     }
 }

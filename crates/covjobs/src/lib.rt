@@ -1,6 +1,6 @@
 //! A book that many jobs share, and workers that collect inputs into it.
 //!
-//! The shared book is covlock's. This crate re-exports it:
+//! The shared book is covlock's, and the workers are covworkers'. This crate re-exports both. Of the book:
 //!
 //! - `open_book` makes a book and one `Seat` per job out of a `Start`.
 //! - `Shared::perform` performs one step of the book with a seat, under the book's lock.
@@ -36,38 +36,18 @@
 //! ```
 #![tactic(auto)]
 
-mod book_fault;
-mod collect_fault;
 mod collected;
-mod done;
-mod gate;
-mod given;
 mod input;
-mod into_book;
-mod late;
-mod late_fault;
-mod part;
-mod readers;
-mod refused;
-mod shares;
-mod stop;
-mod worker;
-mod workers;
 
-pub use book_fault::IntoBookFault;
-pub use collect_fault::CollectFault;
-pub use collected::{Collected, collect, collect_owned};
+pub use collected::{collect, collect_owned};
+pub use covworkers::{
+    CollectFault, Collected, CollectedBook, Gate, Given, IntoBookFault, LateFault, LateInput,
+    NoGate, Part, Refused, RefusedInput, collect_into_book,
+};
 // `gather` also checks a reader that isn't a job, if its readings are in a log without receipts and with a job number of no seat.
 pub use covbook::{Answered, Book, BookFault, Entries, JobLog, Keep, Op, Reading, Receipt, gather};
 pub use covlock::{
     CloseFault, Done, Live, MAX_JOBS, MAX_READERS, Name, News, OpenFault, ReaderFault, Seat, Seats,
     Shared, Start, open_book, open_book_keeping,
 };
-pub use gate::{Gate, NoGate};
-pub use given::Given;
 pub use input::Input;
-pub use into_book::{CollectedBook, collect_into_book};
-pub use late::LateInput;
-pub use late_fault::LateFault;
-pub use part::Part;
-pub use refused::{Refused, RefusedInput};

@@ -9,8 +9,6 @@ mod collecting;
 mod gates;
 mod into_book;
 mod jobs;
-mod kept;
-mod parts;
 mod readers;
 mod refusals;
 mod said;

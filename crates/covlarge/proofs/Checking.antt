@@ -1,8 +1,8 @@
 -- A tracefile of which pieces are read one after another.
 use Rattle.std.proofs.Common.{◌≡◌, ℕ, List, [], ◌∷◌, ◌++◌, Option, Result, Ok, Err, sym, subst, append_assoc}
-use Rattle.covline.specs.Row.{SubmissionData}
-use Rattle.covread.specs.declared.fault.ReadFault.{ReadFault}
-use Rattle.covcommand.specs.declared.asked.LcovVersion.{LcovVersion}
+use Rattle.covdata.specs.Row.{SubmissionData}
+use Rattle.covdata.specs.declared.fault.ReadFault.{ReadFault}
+use Rattle.covdata.specs.declared.version.LcovVersion.{LcovVersion}
 use Rattle.covlarge.specs.Large.{MayBeReadAs}
 use Rattle.covlarge.specs.State.{IsChecked, IsNextPiece, MayFailFrom, MayGive}
 use Rattle.covlarge.specs.declared.fault.PieceFault.{PieceFault}

@@ -1,17 +1,17 @@
 -- What is read piece by piece is what the whole is read as.
 use Rattle.std.proofs.Common.{◌≡◌, ◌⊎◌, ℕ, suc, ◌+◌, ◌≤◌, List, [], ◌∷◌, ◌++◌, length, Option, Some, None, Result, Ok, Err, IsSome, IfSome, refl, sym, ap, subst, ◌∙◌, append_assoc, append-nil, arith, inl, inr}
 use Rattle.std.specs.List.{concat}
-use Rattle.covcommand.specs.declared.asked.LcovVersion.{LcovVersion}
-use Rattle.covcommand.specs.declared.asked.LcovVersion.TheVariants.{One, Two}
+use Rattle.covdata.specs.declared.version.LcovVersion.{LcovVersion}
+use Rattle.covdata.specs.declared.version.LcovVersion.TheVariants.{One, Two}
 use Rattle.covlcov2.specs.Outcome as lcov2
-use Rattle.covline.specs.Row.{SectData, SubmissionData}
+use Rattle.covdata.specs.Row.{SectData, SubmissionData}
 use Rattle.covpieces.proofs.InPieces.{joined_nothing}
 use Rattle.covpieces.specs.Pieces.{CarriedData, HaveBeenRead, OneByOne, all_of, carried_after, front_text, joined, lcov2_carried_after, moved, no_sections, nothing_carried, told}
 use Rattle.covpieces.specs.Sections.{EndsSection}
 use Rattle.covpieces.specs.Whole.{IsWholeLcov2Outcome, IsWholeOutcome}
 use Rattle.covread.specs.Outcome as trace
-use Rattle.covread.specs.declared.fault.ReadFault.{ReadFault}
-use Rattle.covread.specs.declared.fault.ReadFault.TheVariants.{TooLong, Line, Outside, Inside, OpenEnd, BadMark, NoSource, Percent, Instances, Misplaced, LostFunction, BadTest, Memory}
+use Rattle.covdata.specs.declared.fault.ReadFault.{ReadFault}
+use Rattle.covdata.specs.declared.fault.ReadFault.TheVariants.{TooLong, Line, Outside, Inside, OpenEnd, BadMark, NoSource, Percent, Instances, Misplaced, LostFunction, BadTest, Memory}
 use Rattle.covlarge.proofs.Summary.{holds_all_if_told}
 use Rattle.covlarge.proofs.ToCome.{all_at_once}
 use Rattle.covlarge.specs.Large.{BeginsTooLong, IsReadAs, IsStop, MayBeReadAs, max_pieces, told_fault}

@@ -3,9 +3,9 @@ use Rattle.std.proofs.Common.{◌≡◌, ℕ, ◌+◌, ◌-◌, ◌<◌, ◌≤�
 use Rattle.std.proofs.KnownBytes.{Consumes-nil, Consumes-trans}
 use Rattle.std.proofs.lemmas.List.{take-append-le, drop-append-le}
 use Rattle.std.specs.Io.KnownBytes.{Consumes, IsAtEnd}
-use Rattle.covline.specs.Lines.{line_feed}
+use Rattle.covdata.specs.Delimiters.{line_feed}
 use Rattle.covpieces.specs.Sections.{AreWholeSections, EndsSection}
-use Rattle.covlarge.specs.Blocks.{HasReadOn}
+use Rattle.covstream.specs.Blocks.{HasReadOn}
 use Rattle.covlarge.specs.Found.{HasFound, HasReadUntil, IsFound}
 use Rattle.covlarge.specs.declared.piece_text.Found.{Found}
 use Rattle.covlarge.specs.declared.piece_text.Found.TheVariants.{Last, Sections, TooLong}

@@ -1,4 +1,3 @@
-pub mod ReadBlocks
 pub mod ToCome
 pub mod Stages
 pub mod Summary

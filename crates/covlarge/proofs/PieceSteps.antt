@@ -2,21 +2,21 @@
 use Rattle.std.proofs.Common.{◌≡◌, ℕ, ◌+◌, ◌-◌, ◌^◌, ◌<◌, ◌≤◌, List, [], ◌∷◌, ◌++◌, length, take, drop, Option, Ok, Err, sym, ap, subst, ◌∙◌, length-drop, length-take, take-append-drop, arith}
 use Rattle.std.proofs.Math.Seq.{take-length}
 use Rattle.std.specs.Io.KnownBytes.{Consumes, IsAtEnd}
-use Rattle.covcommand.specs.declared.asked.LcovVersion.{LcovVersion}
+use Rattle.covdata.specs.declared.version.LcovVersion.{LcovVersion}
 use Rattle.covline.proofs.Cut.{length-lines}
 use Rattle.covline.specs.Lines.{lines_of}
-use Rattle.covline.specs.Row.{SectData, SubmissionData}
+use Rattle.covdata.specs.Row.{SectData, SubmissionData}
 use Rattle.covpieces.specs.Pieces.{CarriedData, front_text}
 use Rattle.covpieces.specs.Sections.{EndsSection}
 use Rattle.covread.specs.Outcome.{max_bytes}
-use Rattle.covread.specs.declared.fault.ReadFault.TheVariants.{TooLong}
-use Rattle.covsession.specs.declared.session.fault.SessionFault.{SessionFault}
-use Rattle.covsession.specs.declared.session.fault.SessionFault.TheVariants as session
+use Rattle.covdata.specs.declared.fault.ReadFault.TheVariants.{TooLong}
+use Rattle.covstream.specs.Blocks.{IsReadFault}
+use Rattle.covstream.specs.declared.fault.BlockFault.{BlockFault}
+use Rattle.covstream.specs.declared.fault.BlockFault.TheVariants as blocks
 use Rattle.covlarge.proofs.Stages.{stops, ends_here, last_refused, piece_refused, too_long, lines_over, gives_more}
 use Rattle.covlarge.proofs.ToCome.{fails_here, fails_on}
-use Rattle.covlarge.specs.Blocks.{IsReadFault, of_read}
 use Rattle.covlarge.specs.Found.{BeginsLong, HasFound, IsFound}
-use Rattle.covlarge.specs.Piece.{IsRefused, IsUnread}
+use Rattle.covlarge.specs.Piece.{IsRefused, IsUnread, of_block}
 use Rattle.covlarge.specs.State.{IsNextPiece, MayGive}
 use Rattle.covlarge.specs.StateData.{IsWithin, StateData}
 use Rattle.covlarge.specs.Summary.{HoldsOnIfTold, SummaryData}
@@ -55,14 +55,12 @@ module _ {S : Type 0} (left : S → Option (List ℕ)) (failed : S → ℕ) (vie
   some_left some = subst (λ (s : StateData S). 0 < s.left) same some
 
   -- no text was read
-  unread_view : (after : S) (fault : SessionFault) → IsReadFault (left view.source) (left after) (failed view.source) (failed after) fault → IsNextPiece left failed view (Err (of_read fault))
-  unread_view after session.Read (bytes, took, more) = fails_here left failed view.source after bytes took more
-  unread_view after session.Memory fault = tt
-  unread_view after session.Write none = absurd none
-  unread_view after session.Full none = absurd none
+  unread_view : (after : S) (fault : BlockFault) → IsReadFault (left view.source) (left after) (failed view.source) (failed after) fault → IsNextPiece left failed view (Err (of_block fault))
+  unread_view after blocks.Unreadable (bytes, took, more) = fails_here left failed view.source after bytes took more
+  unread_view after blocks.Memory fault = tt
 
-  pub unread : (after : S) (fault : SessionFault) → IsReadFault (left view.source) (left after) (failed view.source) (failed after) fault → IsNextPiece left failed state (Err (of_read fault))
-  unread after fault why = subst (λ (s : StateData S). IsNextPiece left failed s (Err (of_read fault))) same (unread_view after fault why)
+  pub unread : (after : S) (fault : BlockFault) → IsReadFault (left view.source) (left after) (failed view.source) (failed after) fault → IsNextPiece left failed state (Err (of_block fault))
+  unread after fault why = subst (λ (s : StateData S). IsNextPiece left failed s (Err (of_block fault))) same (unread_view after fault why)
 
   -- ---- after a text was read
 

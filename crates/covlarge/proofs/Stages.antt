@@ -4,16 +4,16 @@ use Rattle.std.proofs.lemmas.List.{take-append-le, length-take-le}
 use Rattle.std.proofs.lemmas.Bool.{cases_order}
 use Rattle.std.specs.List.{concat}
 use Rattle.std.specs.Io.KnownBytes.{Consumes, IsAtEnd}
-use Rattle.covcommand.specs.declared.asked.LcovVersion.{LcovVersion}
-use Rattle.covcommand.specs.declared.asked.LcovVersion.TheVariants.{One, Two}
+use Rattle.covdata.specs.declared.version.LcovVersion.{LcovVersion}
+use Rattle.covdata.specs.declared.version.LcovVersion.TheVariants.{One, Two}
 use Rattle.covline.specs.Lines.{lines_of}
-use Rattle.covline.specs.Row.{SectData, SubmissionData}
+use Rattle.covdata.specs.Row.{SectData, SubmissionData}
 use Rattle.covpieces.proofs.InPieces.{joined_nothing}
 use Rattle.covpieces.specs.Pieces.{CarriedData, HaveBeenRead, all_of, front_text, joined}
 use Rattle.covpieces.specs.Sections.{EndsSection}
 use Rattle.covread.specs.Outcome.{max_bytes}
-use Rattle.covread.specs.declared.fault.ReadFault.{ReadFault}
-use Rattle.covread.specs.declared.fault.ReadFault.TheVariants.{TooLong}
+use Rattle.covdata.specs.declared.fault.ReadFault.{ReadFault}
+use Rattle.covdata.specs.declared.fault.ReadFault.TheVariants.{TooLong}
 use Rattle.covlarge.proofs.Summary.{holds_then_if_told}
 use Rattle.covlarge.proofs.ToCome.{some_text, all_to_end, all_further, all_on}
 use Rattle.covlarge.specs.Found.{BeginsLong}

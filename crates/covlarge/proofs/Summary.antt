@@ -10,11 +10,11 @@ use Rattle.covcheck.specs.declared.text_summary.SkippedLine.{SkippedLine}
 use Rattle.covcheck.specs.declared.text_summary.TextSummary.{TextSummary}
 use Rattle.covlarge.specs.HeldView.{format_of, moved_line, with_first, with_numbers}
 use Rattle.covlarge.specs.Version.{IsSkippedOf}
-use Rattle.covcommand.specs.declared.asked.LcovVersion.{LcovVersion}
-use Rattle.covcommand.specs.declared.asked.LcovVersion.TheVariants.{One, Two}
+use Rattle.covdata.specs.declared.version.LcovVersion.{LcovVersion}
+use Rattle.covdata.specs.declared.version.LcovVersion.TheVariants.{One, Two}
 use Rattle.covlarge.specs.Summary.{SkippedData, SummaryData, HoldsAll, HoldsAllIfTold, HoldsOn, HoldsOnIfTold, first_of, nothing_held, or_first, told_number}
 use Rattle.covline.specs.Lines.{lines_of}
-use Rattle.covline.specs.Row.{SubmissionData, items_in}
+use Rattle.covdata.specs.Row.{SubmissionData, items_in}
 use Rattle.covpieces.specs.Pieces.{joined}
 use Rattle.covpieces.specs.Sections.{EndsSection}
 use Rattle.covpieces.proofs.InPieces.{lines_after}

@@ -4,8 +4,8 @@ use Rattle.covcheck.specs.declared.text_summary.SkippedLine.{SkippedLine}
 use Rattle.covcheck.specs.declared.text_summary.TextSummary.{TextSummary}
 use Rattle.covcheck.specs.declared.format.Format.{Format}
 use Rattle.covcheck.specs.declared.format.Format.TheVariants.{Lcov2, Trace}
-use Rattle.covcommand.specs.declared.asked.LcovVersion.{LcovVersion}
-use Rattle.covcommand.specs.declared.asked.LcovVersion.TheVariants.{One, Two}
+use Rattle.covdata.specs.declared.version.LcovVersion.{LcovVersion}
+use Rattle.covdata.specs.declared.version.LcovVersion.TheVariants.{One, Two}
 use Rattle.covlarge.specs.Summary.{SkippedData, SummaryData, or_first, told_number}
 use Rattle.covlarge.specs.declared.held.FirstSkipped.{FirstSkipped}
 

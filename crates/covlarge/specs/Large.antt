@@ -1,15 +1,15 @@
 -- What a tracefile is read as that is read in pieces, each a submission of its own (geninfo(1), FILES).
 use Rattle.std.specs.Prelude.{◌≡◌, ◌⊎◌, ◌<◌, ◌≤◌, ℕ, List, ◌++◌, length, take, Option, Some, None, Result, Ok, Err}
 use Rattle.std.specs.List.{concat}
-use Rattle.covcommand.specs.declared.asked.LcovVersion.{LcovVersion}
+use Rattle.covdata.specs.declared.version.LcovVersion.{LcovVersion}
 use Rattle.covlarge.specs.Summary.{SummaryData, HoldsAllIfTold, told_number}
 use Rattle.covlarge.specs.Version.{IsOutcomeOf, IsSkippedOf, IsWholeOf, carried_over}
-use Rattle.covline.specs.Row.{SubmissionData}
+use Rattle.covdata.specs.Row.{SubmissionData}
 use Rattle.covpieces.specs.Pieces.{CarriedData, HaveBeenRead, all_of, front_text, nothing_carried, renumbered}
 use Rattle.covpieces.specs.Sections.{EndsSection}
 use Rattle.covread.specs.Outcome.{max_bytes}
-use Rattle.covread.specs.declared.fault.ReadFault.{ReadFault}
-use Rattle.covread.specs.declared.fault.ReadFault.TheVariants.{TooLong}
+use Rattle.covdata.specs.declared.fault.ReadFault.{ReadFault}
+use Rattle.covdata.specs.declared.fault.ReadFault.TheVariants.{TooLong}
 
 -- the most pieces that a tracefile may have. So the entries of one tracefile and of a last operation have room in a history
 abbrev pub max_pieces : ℕ

@@ -4,7 +4,6 @@ pub mod HeldView
 pub mod Large
 pub mod StateData
 pub mod State
-pub mod Blocks
 pub mod PieceData
 pub mod Found
 pub mod Piece

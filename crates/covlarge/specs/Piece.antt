@@ -1,22 +1,29 @@
 -- Private steps: how one piece is read after others.
 use Rattle.std.specs.Prelude.{◌≡◌, ℕ, List, ◌++◌, Option, Result, Ok, Err}
-use Rattle.covcommand.specs.declared.asked.LcovVersion.{LcovVersion}
-use Rattle.covcommand.specs.declared.asked.LcovVersion.TheVariants.{One, Two}
+use Rattle.covdata.specs.declared.version.LcovVersion.{LcovVersion}
+use Rattle.covdata.specs.declared.version.LcovVersion.TheVariants.{One, Two}
 use Rattle.covlarge.specs.Summary.{HoldsOnIfTold, SummaryData}
 use Rattle.covlarge.specs.Version.{IsOutcomeOf, IsSkippedOf}
 use Rattle.covlarge.specs.declared.fault.PieceFault.{PieceFault}
 use Rattle.covlarge.specs.declared.fault.PieceFault.TheVariants.{Refused, Unreadable, Memory}
 use Rattle.covlcov2.specs.Outcome as lcov2
-use Rattle.covline.specs.Row.{SubmissionData}
+use Rattle.covdata.specs.Row.{SubmissionData}
 use Rattle.covpieces.specs.Pieces.{CarriedData, told}
 use Rattle.covread.specs.Outcome as trace
-use Rattle.covread.specs.declared.fault.ReadFault.{ReadFault}
-use Rattle.covread.specs.declared.fault.ReadFault.TheVariants as faults
+use Rattle.covdata.specs.declared.fault.ReadFault.{ReadFault}
+use Rattle.covdata.specs.declared.fault.ReadFault.TheVariants as faults
+use Rattle.covstream.specs.declared.fault.BlockFault.{BlockFault}
+use Rattle.covstream.specs.declared.fault.BlockFault.TheVariants as blocks
 
 -- the answer of a reader is what the text is read as, or memory ran out
 abbrev pub AnswersOf : LcovVersion → List ℕ → Result SubmissionData ReadFault → Type 0
 AnswersOf One text answer = trace.Answers text answer
 AnswersOf Two text answer = lcov2.Answers text answer
+
+-- a fault of reading blocks, as that of the whole tracefile
+abbrev pub of_block : BlockFault → PieceFault
+of_block blocks.Unreadable = Unreadable
+of_block blocks.Memory = Memory
 
 -- a reader's fault in a piece, as that of the whole tracefile
 abbrev pub IsFaultOf : CarriedData → ReadFault → PieceFault → Type 0

@@ -2,7 +2,7 @@
 use Rattle.std.specs.Io.KnownBytes.{Consumes}
 use Rattle.std.specs.Prelude.{◌≡◌, ◌⊎◌, ◌<◌, ◌≤◌, ℕ, List, [], ◌∷◌, ◌++◌, length, option_map, Option, Some, Result, Ok, Err}
 use Rattle.std.specs.List.{concat}
-use Rattle.covcommand.specs.declared.asked.LcovVersion.{LcovVersion}
+use Rattle.covdata.specs.declared.version.LcovVersion.{LcovVersion}
 use Rattle.covlarge.specs.Large.{BeginsTooLong, IsAll, MayBeReadAs, max_pieces}
 use Rattle.covlarge.specs.StateData.{StateData}
 use Rattle.covlarge.specs.Summary.{HoldsOnIfTold, SummaryData}
@@ -11,11 +11,11 @@ use Rattle.covlarge.specs.declared.fault.PieceFault.{PieceFault}
 use Rattle.covlarge.specs.declared.fault.PieceFault.TheVariants.{Refused, Unreadable, Memory}
 use Rattle.covlarge.specs.declared.large_tracefile.NextPiece.{NextPiece}
 use Rattle.covlarge.specs.declared.large_tracefile.NextPiece.TheVariants.{Last, More}
-use Rattle.covline.specs.Row.{SubmissionData}
+use Rattle.covdata.specs.Row.{SubmissionData}
 use Rattle.covpieces.specs.Pieces.{CarriedData, HaveBeenRead, all_of, front_text, nothing_carried, told}
 use Rattle.covpieces.specs.Sections.{EndsSection}
-use Rattle.covread.specs.declared.fault.ReadFault.{ReadFault}
-use Rattle.covread.specs.declared.fault.ReadFault.TheVariants.{TooLong}
+use Rattle.covdata.specs.declared.fault.ReadFault.{ReadFault}
+use Rattle.covdata.specs.declared.fault.ReadFault.TheVariants.{TooLong}
 
 -- before the first piece
 abbrev pub begun_state : {S : Type 0} → LcovVersion → Option SummaryData → S → StateData S

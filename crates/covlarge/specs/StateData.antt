@@ -1,6 +1,6 @@
 -- A tracefile of which some pieces were read.
 use Rattle.std.specs.Prelude.{◌≡◌, ◌≤◌, ◌+◌, ◌*◌, ◌^◌, ℕ, List, Option}
-use Rattle.covcommand.specs.declared.asked.LcovVersion.{LcovVersion}
+use Rattle.covdata.specs.declared.version.LcovVersion.{LcovVersion}
 use Rattle.covlarge.specs.Summary.{SummaryData}
 use Rattle.covpieces.specs.Pieces.{CarriedData}
 

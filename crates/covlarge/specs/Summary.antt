@@ -6,7 +6,7 @@ use Rattle.covcheck.specs.TextSummary.{AreLinesThat}
 use Rattle.covcheck.specs.declared.text_summary.SkippedLine.{SkippedLine}
 use Rattle.covcheck.specs.declared.text_summary.TextSummary.{TextSummary}
 use Rattle.covline.specs.Lines.{lines_of}
-use Rattle.covline.specs.Row.{SubmissionData, items_in}
+use Rattle.covdata.specs.Row.{SubmissionData, items_in}
 
 -- a number as it is told: 2^64 - 1 if it is larger
 abbrev pub told_number : ℕ → ℕ

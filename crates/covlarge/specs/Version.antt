@@ -1,14 +1,14 @@
 -- The two versions of tracefiles: what a text is read as, and which of its lines aren't read.
 use Rattle.std.specs.Prelude.{ℕ, List, Result}
 use Rattle.covcheck.specs.Skipped.{IsSkippedLcov2, IsSkippedRecord}
-use Rattle.covcommand.specs.declared.asked.LcovVersion.{LcovVersion}
-use Rattle.covcommand.specs.declared.asked.LcovVersion.TheVariants.{One, Two}
+use Rattle.covdata.specs.declared.version.LcovVersion.{LcovVersion}
+use Rattle.covdata.specs.declared.version.LcovVersion.TheVariants.{One, Two}
 use Rattle.covlcov2.specs.Outcome as lcov2
-use Rattle.covline.specs.Row.{SectData, SubmissionData}
+use Rattle.covdata.specs.Row.{SectData, SubmissionData}
 use Rattle.covpieces.specs.Pieces.{CarriedData, carried_after, lcov2_carried_after}
 use Rattle.covpieces.specs.Whole.{IsWholeLcov2Outcome, IsWholeOutcome}
 use Rattle.covread.specs.Outcome as trace
-use Rattle.covread.specs.declared.fault.ReadFault.{ReadFault}
+use Rattle.covdata.specs.declared.fault.ReadFault.{ReadFault}
 
 -- what a text is read as that isn't too long
 abbrev pub IsOutcomeOf : LcovVersion → List ℕ → Result SubmissionData ReadFault → Type 0

@@ -6,11 +6,11 @@ ghost use Rattle.covlarge.specs.State.{IsChecked};
 use crate::fault::PieceFault;
 use crate::held::Held;
 use crate::large_tracefile::{LargeTracefile, NextPiece};
-use covcommand::LcovVersion;
-use covsession::Source;
+use covdata::LcovVersion;
+use covstream::Source;
 use std::alloc::Global;
 
-/// Reads the rest of the source as a tracefile and returns its summary. Stores one chunk at a time.
+/// Reads the rest of the source as a tracefile, one chunk at a time, and returns the tracefile's summary.
 pub fn check_large<S: Source + Drop>(
     alloc: Global,
     version: LcovVersion,

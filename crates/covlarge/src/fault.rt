@@ -1,8 +1,7 @@
 //! Why reading of a tracefile stopped.
 
-use covline::Memory;
-use covread::ReadFault;
-use covsession::SessionFault;
+use covdata::{Memory, ReadFault};
+use covstream::BlockFault;
 use std::alloc::AllocError;
 
 /// Why reading of a tracefile stopped.
@@ -38,16 +37,16 @@ impl From<AllocError> for PieceFault {
     }
 }
 
-impl From<SessionFault> for PieceFault {
-    ghost use Rattle.covlarge.specs.Blocks.{of_read};
+impl From<BlockFault> for PieceFault {
     ghost use Rattle.std.specs.Prelude.{◌≡◌};
+    ghost use Rattle.covlarge.specs.Piece.{of_block};
 
-    ghost from_gives = { λ fault f. f ≡ of_read fault };
+    ghost from_gives = { λ fault f. f ≡ of_block fault };
 
-    fn from(fault: SessionFault) -> PieceFault {
+    fn from(fault: BlockFault) -> PieceFault {
         match fault {
-            SessionFault::Memory => PieceFault::Memory,
-            SessionFault::Read | SessionFault::Write | SessionFault::Full => PieceFault::Unreadable,
+            BlockFault::Unreadable => PieceFault::Unreadable,
+            BlockFault::Memory => PieceFault::Memory,
         }
     }
 }

@@ -6,8 +6,7 @@ ghost use Rattle.covlarge.specs.Summary.{HoldsOn, nothing_held, skipped_data, su
 ghost use Rattle.covlarge.specs.Version.{IsSkippedOf};
 
 use covcheck::{Format, SkippedLine, TextSummary, summary_of};
-use covcommand::LcovVersion;
-use covline::{Bytes, Memory};
+use covdata::{Bytes, LcovVersion, Memory};
 use covpacked::PackedSubmission;
 use std::alloc::Global;
 use std::marker::Model;
@@ -53,8 +52,8 @@ impl Held {
         }
     }
 
-    /// Adds the summary of the next chunk, which was read as `submission`. The chunks before it have `lines` lines. Changes nothing
-    /// if an allocation fails.
+    /// Adds the summary of the next chunk, `piece`, which was read as `submission`. The earlier chunks have `lines` lines. Changes
+    /// nothing if an allocation fails.
     pub(crate) fn add(
         &mut self,
         alloc: Global,
@@ -72,7 +71,8 @@ impl Held {
         Ok(())
     }
 
-    /// Stores the next chunk's first skipped line, unless an earlier chunk has one. The chunks before it have `lines` lines.
+    /// Stores `line`, the next chunk's first skipped line, unless an earlier chunk has a skipped line. The earlier chunks have
+    /// `lines` lines.
     fn keep_first(
         &mut self,
         alloc: Global,
@@ -112,7 +112,7 @@ impl Held {
     }
 }
 
-/// Copies a chunk's skipped line and gives it its number in the whole tracefile. The chunks before it have `lines` lines.
+/// Copies a chunk's skipped line, with the line number in the whole tracefile. The earlier chunks have `lines` lines.
 fn first_skipped(
     alloc: Global,
     lines: u64,

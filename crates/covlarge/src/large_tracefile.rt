@@ -4,21 +4,18 @@ ghost use Rattle.std.specs.Prelude.{◌≡◌, ℕ, List, [], ◌∷◌, None, S
 ghost use Rattle.covlarge.specs.Large.{MayBeReadAs, max_pieces};
 ghost use Rattle.covlarge.specs.State.{IsNextPiece, MayGive, begun_state};
 ghost use Rattle.covlarge.specs.Summary.{SummaryData, nothing_held};
-ghost use Rattle.covline.specs.Row.{SubmissionData};
+ghost use Rattle.covdata.specs.Row.{SubmissionData};
 ghost use Rattle.covpieces.specs.Pieces.{front_text};
-ghost use Rattle.covread.specs.declared.fault.ReadFault.{ReadFault as Fault};
+ghost use Rattle.covdata.specs.declared.fault.ReadFault.{ReadFault as Fault};
 
-use crate::blocks::BLOCK_BYTES;
 use crate::fault::PieceFault;
 use crate::held::Held;
 use crate::piece_text::{Found, PieceText};
 use crate::so_far::SoFar;
-use covbook::PackedRef;
-use covcommand::LcovVersion;
-use covline::{Bytes, Memory};
+use covdata::{Bytes, LcovVersion, Memory, ReadFault};
+use covpacked::PackedSubmission;
 use covpieces::{Carried, pieces_are_read_one_by_one};
-use covread::ReadFault;
-use covsession::Source;
+use covstream::{BLOCK_BYTES, Source};
 use std::alloc::Global;
 use std::marker::Model;
 
@@ -57,13 +54,13 @@ impl<S: Source> Model for LargeTracefile<S> {
 #[derive(Drop)]
 pub enum NextPiece<S: Source> {
     /// The last chunk, and the summary of the whole tracefile if one was collected.
-    Last(PackedRef, Option<Held>),
+    Last(PackedSubmission, Option<Held>),
     /// A chunk, and the rest of the tracefile.
-    More(PackedRef, LargeTracefile<S>),
+    More(PackedSubmission, LargeTracefile<S>),
 }
 
 impl<S: Source + Drop> LargeTracefile<S> {
-    /// Opens the rest of the source as a tracefile. Reading all its chunks gives the same as reading the tracefile as a whole.
+    /// Opens the rest of the source as a tracefile. Reading all chunks gives the same as reading the tracefile as a whole.
     pub fn new(alloc: Global, version: LcovVersion, source: S) -> LargeTracefile<S>
         requires reads { S.reads source ≡ 0 }
         requires failed_reads { S.failed_reads source ≡ 0 }
@@ -76,7 +73,7 @@ impl<S: Source + Drop> LargeTracefile<S> {
         LargeTracefile::begun(alloc, version, None, source)
     }
 
-    /// Like `new`, but the last chunk also returns a summary of the whole tracefile.
+    /// Like `new`, but a summary of the whole tracefile comes with the last chunk.
     pub fn summed(alloc: Global, version: LcovVersion, source: S) -> LargeTracefile<S>
         requires reads { S.reads source ≡ 0 }
         requires failed_reads { S.failed_reads source ≡ 0 }
@@ -120,12 +117,12 @@ impl<S: Source + Drop> LargeTracefile<S> {
         self.left
     }
 
-    /// Reads the next chunk: whole sections, or the rest of the tracefile. This submission, followed by those of the returned rest,
-    /// are the submissions of this tracefile.
+    /// Reads the next chunk: whole sections, or the rest of the tracefile. The submissions of this tracefile are the returned one
+    /// and then the submissions of the returned rest.
     ///
     /// # Errors
     ///
-    /// `Refused` with the first error of the whole tracefile, whose line number there saturates at 2^64 - 1. `Refused` with
+    /// `Refused` with the first error of the whole tracefile and the line number there, which saturates at 2^64 - 1. `Refused` with
     /// `TooLong` if no section ends in the next 67,108,864 bytes, including the chunk's prefix, or after 1,048,575 chunks.
     /// `Unreadable` only if a read failed. `Memory` at any time.
     pub fn next_piece(self, alloc: Global) -> Result<NextPiece<S>, PieceFault>
@@ -164,7 +161,7 @@ impl<S: Source + Drop> LargeTracefile<S> {
     }
 }
 
-/// The prefix of the next chunk, followed by the bytes that no chunk contains yet.
+/// The prefix of the next chunk, followed by `rest`, the bytes that no chunk contains yet.
 fn begun_text(alloc: Global, carried: &Carried, rest: Bytes) -> Result<PieceText, Memory>
     ensures front { IfOk result (λ t. t.front ≡ front_text carried.now) }
     ensures bytes { IfOk result (λ t. t.bytes ≡ rest) }

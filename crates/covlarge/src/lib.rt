@@ -1,8 +1,8 @@
 //! Reads tracefiles of any length in chunks (pieces).
 //!
-//! A chunk is a run of whole sections, as in covpieces, and becomes one submission. The submissions' sections, in order, are those
-//! of the whole tracefile, and their numbers of inconsistent lines add up to its number. An error is the first error of the whole
-//! tracefile, with its line number there. A section is rejected if it has, with the prefix of its chunk, more than 64 MiB.
+//! A chunk is a run of whole sections, as in covpieces, and becomes one submission. The submissions together have the sections of
+//! the whole tracefile, in order, and as many inconsistent lines. An error is the first error of the whole tracefile, with the line
+//! number there. A section of more than 64 MiB, counted with the prefix of the chunk, is rejected.
 //!
 //! An example that submits each chunk of a tracefile:
 //!
@@ -20,7 +20,6 @@
 //! ```
 #![tactic(auto)]
 
-mod blocks;
 mod check;
 mod fault;
 mod held;
@@ -28,7 +27,6 @@ mod large_tracefile;
 mod piece_text;
 mod so_far;
 
-pub use blocks::{BLOCK_BYTES, read_at_most};
 pub use check::check_large;
 pub use fault::PieceFault;
 pub use held::Held;

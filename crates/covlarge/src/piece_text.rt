@@ -1,16 +1,14 @@
-//! The input of the reader for one chunk: its prefix (`front`), then bytes of the tracefile.
+//! The reader's input for one chunk: the chunk's prefix (`front`), then bytes of the tracefile.
 
 ghost use Rattle.std.specs.Prelude.{◌≡◌, ◌<◌, ◌≤◌, ◌+◌, ◌-◌, ◌^◌, ◌++◌, length, take, drop, None, IfOk, IfErr, IfSome};
-ghost use Rattle.covlarge.specs.Blocks.{IsReadFault};
 ghost use Rattle.covlarge.specs.Found.{HasFound, HasReadUntil, IsFound};
 ghost use Rattle.covpieces.specs.Pieces.{front_text};
 ghost use Rattle.covread.specs.Outcome.{max_bytes};
+ghost use Rattle.covstream.specs.Blocks.{IsReadFault};
 
-use crate::blocks::read_at_most;
-use covline::{Bytes, Memory};
+use covdata::{Bytes, MAX_BYTES, Memory};
 use covpieces::{Carried, whole_sections};
-use covread::MAX_BYTES;
-use covsession::{SessionFault, Source};
+use covstream::{BlockFault, Source, read_at_most};
 use std::alloc::Global;
 use std::marker::Model;
 
@@ -28,7 +26,7 @@ pub(crate) enum Found {
     TooLong,
 }
 
-/// The input of the reader for one chunk: its prefix (`front`), then bytes of the tracefile. Contracts see these two.
+/// The reader's input for one chunk: the chunk's prefix (`front`), then bytes of the tracefile. Contracts see these two.
 #[derive(Drop)]
 pub(crate) struct PieceText {
     text: Bytes,
@@ -47,7 +45,7 @@ impl Model for PieceText {
 }
 
 impl PieceText {
-    /// The prefix of the next chunk, followed by these bytes of the tracefile.
+    /// The prefix of the next chunk, followed by `bytes` of the tracefile.
     pub(crate) fn begun(alloc: Global, carried: &Carried, bytes: &[u8]) -> Result<PieceText, Memory>
         ensures front { IfOk result (λ t. t.front ≡ front_text carried.now) }
         ensures bytes { IfOk result (λ t. t.bytes ≡ bytes.now) }
@@ -58,12 +56,12 @@ impl PieceText {
         Ok(PieceText { text, front })
     }
 
-    /// Reads until the buffer holds a complete section, the file ends, or the size limit is reached without a section end.
+    /// Reads until the text holds a complete section, the source ends, or the text exceeds the size limit.
     pub(crate) fn read_on<S: Source>(
         self,
         source: &mut S,
         block: &mut [u8],
-    ) -> Result<(PieceText, Found), SessionFault>
+    ) -> Result<(PieceText, Found), BlockFault>
         requires some { 0 < length block.old }
         requires reads { S.reads source.old < 2 ^ 61 }
         requires failed_reads { S.failed_reads source.old < 2 ^ 61 }
@@ -112,7 +110,7 @@ fn read_on<S: Source>(
     block: &mut [u8],
     least: usize,
     most: usize,
-) -> Result<(Bytes, Found), SessionFault>
+) -> Result<(Bytes, Found), BlockFault>
     requires front { front ≤ length text }
     requires some { 0 < length block.old }
     requires least { 0 < least }
@@ -137,8 +135,8 @@ fn read_on<S: Source>(
     }
 }
 
-/// Decides what follows the prefix of a text of at least `wanted` bytes; a shorter text ends at the end of the source. Returns
-/// `None` if more bytes have to be read.
+/// Decides what follows the prefix of `text`. The source is at its end if `text` has less than `wanted` bytes. Returns `None` if
+/// more bytes have to be read.
 fn found_in(text: &[u8], front: usize, wanted: usize, most: usize) -> Option<Found>
     requires front { front ≤ length text.now }
     requires wanted { wanted ≤ most + 1 }

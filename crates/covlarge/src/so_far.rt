@@ -1,4 +1,4 @@
-//! Reads one chunk after others.
+//! Reads chunks, one after another.
 
 ghost use Rattle.std.specs.Prelude.{◌≡◌, ◌<◌, ◌≤◌, ◌+◌, ◌^◌, ◌++◌, length, take, IfOk, OnOk};
 ghost use Rattle.covlarge.specs.Piece.{AnswersOf, IsFaultOf, IsLastPiece, IsPieceRead, IsReadAs};
@@ -10,13 +10,11 @@ ghost use Rattle.covread.specs.Outcome.{max_bytes};
 use crate::fault::PieceFault;
 use crate::held::Held;
 use crate::piece_text::PieceText;
-use covbook::PackedRef;
-use covcommand::LcovVersion;
+use covdata::{LcovVersion, Memory, ReadFault};
 use covlcov2::read_lcov2_packed;
-use covline::Memory;
 use covpacked::PackedSubmission;
 use covpieces::Carried;
-use covread::{ReadFault, read_trace_packed};
+use covread::read_trace_packed;
 use std::alloc::Global;
 
 /// The state between two chunks: the tracefile's version, the state carried over to the next chunk, and the summary of the chunks
@@ -29,12 +27,13 @@ pub(crate) struct SoFar {
 }
 
 impl SoFar {
-    /// Reads the last chunk: all of the text after its prefix. Returns its submission and the summary of all chunks.
+    /// Reads the last chunk: all of `text` after the prefix. Returns the chunk's submission, and the summary of all chunks if one
+    /// is collected.
     pub(crate) fn last_piece(
         self,
         alloc: Global,
         text: &PieceText,
-    ) -> Result<(PackedRef, Option<Held>), PieceFault>
+    ) -> Result<(PackedSubmission, Option<Held>), PieceFault>
         requires { length text.now.front + length text.now.bytes ≤ max_bytes }
         ensures { IsLastPiece self.version self.carried self.held text.now.front text.now.bytes result }
     {
@@ -52,7 +51,7 @@ impl SoFar {
             text.bytes(),
             &submission,
         )?;
-        Ok((PackedRef::of(alloc, submission)?, held))
+        Ok((submission, held))
     }
 
     /// Reads the first `len` bytes after the prefix as a chunk, and goes on to the next chunk.
@@ -61,7 +60,7 @@ impl SoFar {
         alloc: Global,
         text: &PieceText,
         len: usize,
-    ) -> Result<PackedRef, PieceFault>
+    ) -> Result<PackedSubmission, PieceFault>
         requires within { len ≤ length text.now.bytes }
         requires few { length text.now.front + len ≤ max_bytes }
         requires ends { EndsSection (take len text.now.bytes) }
@@ -81,11 +80,11 @@ impl SoFar {
             &submission,
         )?;
         pass(&mut self.carried, alloc, self.version, piece, &submission)?;
-        Ok(PackedRef::of(alloc, submission)?)
+        Ok(submission)
     }
 }
 
-/// Reads a chunk with its prefix. The line number in an error counts from the start of the whole tracefile.
+/// Reads `text`, a chunk with its prefix. The line number in an error counts from the start of the whole tracefile.
 fn read_piece(
     alloc: Global,
     version: LcovVersion,
@@ -115,7 +114,7 @@ fn read_text(
     }
 }
 
-/// Turns a chunk's error into that of the whole tracefile.
+/// Turns a chunk's error into the error of the whole tracefile.
 fn piece_fault(carried: &Carried, fault: ReadFault) -> PieceFault
     ensures { IsFaultOf carried.now fault result }
 {
@@ -125,7 +124,7 @@ fn piece_fault(carried: &Carried, fault: ReadFault) -> PieceFault
     }
 }
 
-/// Adds the next chunk to the summary, if one is collected.
+/// Adds the next chunk to the summary, if a summary is collected.
 fn hold(
     held: &mut Option<Held>,
     alloc: Global,

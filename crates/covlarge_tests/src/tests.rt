@@ -3,15 +3,14 @@
 ghost use Rattle.std.specs.Prelude.{None};
 
 use covcheck::summary_line;
-use covcommand::LcovVersion;
+use covdata::LcovVersion;
 use covlarge::{Held, LargeTracefile, NextPiece, PieceFault, check_large};
 use covpacked::PackedSubmission;
-use covsession::{Failed, Source};
+use covstream::{Failed, Source};
 use std::alloc::Global;
 use std::process::Abort;
 use std::test::*;
 
-mod blocks;
 mod checks;
 mod longer;
 mod pieces;
@@ -100,11 +99,11 @@ fn pieces_of<S: Source + Drop>(alloc: Global, large: LargeTracefile<S>) -> Resul
     for _ in 0..u64::MAX {
         match left.next_piece(alloc) {
             Ok(NextPiece::More(piece, rest)) => {
-                push_piece(alloc, &mut told, piece.get())?;
+                push_piece(alloc, &mut told, &piece)?;
                 left = rest;
             }
             Ok(NextPiece::Last(piece, held)) => {
-                push_piece(alloc, &mut told, piece.get())?;
+                push_piece(alloc, &mut told, &piece)?;
                 let end = match held {
                     Some(held) => held_words(alloc, &held)?,
                     None => String::from_str(alloc, "end\n")?,

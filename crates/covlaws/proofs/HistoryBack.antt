@@ -4,7 +4,7 @@ use Rattle.std.proofs.Common.{◌≡◌, ℕ, ◌≤◌, List, [], ◌∷◌, �
 use Rattle.covbook.specs.Op.{OpData, EntryData, TextAnswer, AreLawfulOps, HaveGoodNames}
 use Rattle.covbook.specs.Step.{IsLegal, answer_of, answers_from, answers_in, ops_in, table_after, table_from, table_of}
 use Rattle.covread.specs.Outcome.{max_bytes}
-use Rattle.covstore.specs.Table.{Table}
+use Rattle.covtable.specs.Table.{Table}
 use Rattle.covlaws.specs.ReadsBack.{IsReport, ReadsBack}
 
 same_first : {X : Type 0} (x y : X) (xs ys : List X) → x ∷ xs ≡ y ∷ ys → x ≡ y

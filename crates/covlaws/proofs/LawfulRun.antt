@@ -3,18 +3,19 @@ use Rattle.std.proofs.Common.{◌≡◌, ℕ, Bool, true, false, not, cond, Opti
 use Rattle.std.specs.List.{AllByRecursion, flat_map}
 use Rattle.std.specs.Str.{bytes_eq}
 use Rattle.std.proofs.lemmas.List.Elements.{filter-append, recursion_from_All}
-use Rattle.covstore.specs.Clash.{ClashData}
-use Rattle.covline.specs.Lawful.{AllFit, IsGoodName, IsGoodTest, IsLawful, IsLawfulItem, IsLawfulSect}
+use Rattle.covtable.specs.Clash.{ClashData}
+use Rattle.covdata.specs.Lawful.{AllFit, IsGoodName, IsGoodTest, IsLawful, IsLawfulItem, IsLawfulSect}
 use Rattle.covbook.specs.Op.{OpData, SubmitOp, DropTestOp, RenameOp, ReportOp, ExtractOp, RemoveOp, SummaryOp, AreLawfulOps, IsLawfulOp, HasGoodName, HaveGoodNames}
 use Rattle.covlaws.specs.Printable.{IsLawfulRow}
-use Rattle.covline.specs.Row.{ItemData, Row, SectData, SubmissionData, rows_of, rows_of_sect}
+use Rattle.covdata.specs.Row.{ItemData, Row, SectData, SubmissionData, rows_of, rows_of_sect}
 use Rattle.covbook.specs.Step.{has_test, table_after, table_after_drop, table_after_rename, table_after_submit, table_from, table_of}
-use Rattle.covstore.specs.Renamed.{renamed_row}
-use Rattle.covstore.specs.Table.{Table, all_rows, clash_at}
-use Rattle.covstore.specs.Without.{is_of_test, without_test}
-use Rattle.covstore.proofs.WithoutContent.{All-picked}
-use Rattle.covstore.proofs.Stores.{All-joined, rows_accepted}
-use Rattle.covstore.proofs.RenamedTables.{rows_renamed}
+use Rattle.covtable.specs.Renamed.{renamed_row}
+use Rattle.covtable.specs.Table.{Table, all_rows, clash_at}
+use Rattle.covtable.specs.Without.{is_of_test, without_test}
+use Rattle.covtable.proofs.WithoutContent.{All-picked}
+use Rattle.covtable.proofs.Members.{All-joined}
+use Rattle.covtable.proofs.Clashes.{rows_accepted}
+use Rattle.covtable.proofs.RenamedTables.{rows_renamed}
 
 -- ---- the rows of a lawful submission
 

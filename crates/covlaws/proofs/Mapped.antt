@@ -1,7 +1,7 @@
 -- Lists of mapped elements, and lists with an element.
 use Rattle.std.proofs.Common.{◌<◌, List, [], ◌∷◌, length, map, arith}
 use Rattle.std.specs.List.{AllByRecursion}
-use Rattle.covstore.proofs.Members.{In}
+use Rattle.covtable.proofs.Members.{In}
 
 pub All-mapped : {X Y : Type 0} (P : Y → Type 0) (f : X → Y) (xs : List X) → AllByRecursion (λ x. P (f x)) xs → AllByRecursion P (map f xs)
 All-mapped P f [] all = tt

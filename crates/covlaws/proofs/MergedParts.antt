@@ -8,31 +8,29 @@ use Rattle.std.proofs.lemmas.List.Concat.{flat_map-append}
 use Rattle.std.proofs.lemmas.List.Folds.{flat_map-map}
 use Rattle.std.proofs.lemmas.List.Sorted.{IsPermutation-append_comm}
 use Rattle.covreport.specs.Choice.{AllFiles, Extracted, Removed}
-use Rattle.covstore.specs.Clash.{Agree, Checksum, checksum_of_row, checksums_in}
-use Rattle.covstore.specs.Content.{SectionData, content_at, content_of}
-use Rattle.covline.specs.Lawful.{IsLawful}
+use Rattle.covtable.specs.Clash.{Agree, Checksum, checksum_of_row, checksums_in}
+use Rattle.covtable.specs.Content.{SectionData, content_at, content_of}
+use Rattle.covdata.specs.Lawful.{IsLawful}
 use Rattle.covline.specs.LineLaws.{OneAfterOther, PrintedSpells}
 use Rattle.covbook.specs.Op.{OpData, SubmitOp, DropTestOp, RenameOp, ReportOp, ExtractOp, RemoveOp, SummaryOp, TextAnswer}
 use Rattle.covbook.specs.Order.{AreAgreeing}
 use Rattle.covlaws.specs.Printable.{IsLawfulRow, submission_shown}
 use Rattle.covlaws.specs.ReadsBack.{AreMergesOf, IsMergeOf, IsReadAs}
 use Rattle.covreport.specs.Report.{report_text, section_text}
-use Rattle.covline.specs.Row.{Row, SubmissionData, rows_of}
-use Rattle.covread.specs.declared.fault.ReadFault.{ReadFault}
+use Rattle.covdata.specs.Row.{Row, SubmissionData, rows_of}
+use Rattle.covdata.specs.declared.fault.ReadFault.{ReadFault}
 use Rattle.covread.specs.Outcome.{IsOutcome, max_bytes}
 use Rattle.covbook.specs.Step.{answer_of, table_of}
 use Rattle.covreport.specs.Summary.{summary_of}
-use Rattle.covstore.specs.Table.{Table}
+use Rattle.covtable.specs.Table.{Table}
 use Rattle.covbook.specs.Texts.{IsText}
-use Rattle.covstore.specs.Totals.{totals_of}
-use Rattle.covmap.proofs.Leads.{all_back, all_front}
+use Rattle.covtable.specs.Totals.{totals_of}
+use Rattle.covtable.proofs.Members.{All-back, All-front, All-joined, Contains-from, In, In-from, In-joined, In-parts}
 use Rattle.covlaws.proofs.LawfulRun.{lawful_rows}
 use Rattle.covlaws.proofs.PrintableContent.{checksums_shown, printable_content}
 use Rattle.covlaws.proofs.ReadBack.{shown_is_lawful}
 use Rattle.covlaws.proofs.ReportsBack.{same_text, text_of_all, text_read}
-use Rattle.covstore.proofs.Stores.{All-joined}
-use Rattle.covstore.proofs.Members.{Contains-from, In, In-from, In-joined, In-parts}
-use Rattle.covstore.proofs.Contents.{content-append}
+use Rattle.covtable.proofs.Contents.{content-append}
 use Rattle.covlaws.proofs.SameContentAsRows.{stands_for_rows}
 
 -- ---- rows whose checksums are among those of others
@@ -204,8 +202,8 @@ module _ (taken : AllAreTaken) where
     merges_are [] (merge ∷ merges) lawful agree are = absurd are
     merges_are (part ∷ parts) [] lawful agree are = absurd are
     merges_are (part ∷ parts) (merge ∷ merges) lawful agree are =
-        let here : merge ≡ shown_of part = merge_is part merge (all_front IsLawful part (all_in parts) lawful) (agree_front part (all_in parts) agree) are.0 in
-        let others : merges ≡ map shown_of parts = merges_are parts merges (all_back IsLawful part (all_in parts) lawful) (agree_back part (all_in parts) agree) are.1 in
+        let here : merge ≡ shown_of part = merge_is part merge (All-front IsLawful part (all_in parts) lawful) (agree_front part (all_in parts) agree) are.0 in
+        let others : merges ≡ map shown_of parts = merges_are parts merges (All-back IsLawful part (all_in parts) lawful) (agree_back part (all_in parts) agree) are.1 in
         ap (λ (s : SubmissionData). s ∷ merges) here ∙ ap (λ (more : List SubmissionData). shown_of part ∷ more) others
 
     -- ---- the law
@@ -216,8 +214,8 @@ module _ (taken : AllAreTaken) where
     merges_lawful [] (merge ∷ merges) lawful agree are = absurd are
     merges_lawful (part ∷ parts) [] lawful agree are = absurd are
     merges_lawful (part ∷ parts) (merge ∷ merges) lawful agree are = (
-      merge_lawful part merge (all_front IsLawful part (all_in parts) lawful) (agree_front part (all_in parts) agree) are.0,
-      merges_lawful parts merges (all_back IsLawful part (all_in parts) lawful) (agree_back part (all_in parts) agree) are.1,
+      merge_lawful part merge (All-front IsLawful part (all_in parts) lawful) (agree_front part (all_in parts) agree) are.0,
+      merges_lawful parts merges (All-back IsLawful part (all_in parts) lawful) (agree_back part (all_in parts) agree) are.1,
     )
 
     module _ (order : SameInAnyOrder) (parts : List (List SubmissionData)) (others : List SubmissionData) (agree : AreAgreeing (all_in parts ++ others)) where

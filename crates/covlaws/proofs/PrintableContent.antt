@@ -4,23 +4,21 @@ use Rattle.std.specs.Prelude.{Contains}
 use Rattle.std.specs.List.{AllByRecursion, flat_map}
 use Rattle.std.specs.List.Sorted.{IsStrictlySortedBy}
 use Rattle.std.proofs.lemmas.Bool.{eqb-true}
-use Rattle.covstore.specs.Clash.{Agree, Checksum, checksum_of, checksum_of_row, checksums_in}
-use Rattle.covstore.specs.Content.{content_of, section_of}
-use Rattle.covline.specs.Lawful.{FitsItem, IsLawfulItem}
+use Rattle.covtable.specs.Clash.{Agree, Checksum, checksum_of, checksum_of_row, checksums_in}
+use Rattle.covtable.specs.Content.{content_of, section_of}
+use Rattle.covdata.specs.Lawful.{FitsItem, IsLawfulItem}
 use Rattle.covlaws.specs.Printable.{IsLawfulRow, IsPrintable, IsPrintableSection, items_shown, sect_shown, submission_shown}
-use Rattle.covline.specs.Row.{ItemData, LineItem, FuncItem, BranchItem, Row, rows_of, rows_of_sect}
-use Rattle.covstore.specs.Value.{Key, checksum_said, has_key, items_at, key_cmp, key_of_row, keys_of, line_checksum, line_value}
-use Rattle.covstore.proofs.ContentsChecksums.{own_row}
-use Rattle.covstore.proofs.WithoutContent.{All-picked}
-use Rattle.covstore.proofs.ContentsSections.{own_key}
+use Rattle.covdata.specs.Row.{ItemData, LineItem, FuncItem, BranchItem, Row, rows_of, rows_of_sect}
+use Rattle.covtable.specs.Value.{Key, checksum_said, has_key, items_at, key_cmp, key_of_row, keys_of, line_checksum, line_value}
+use Rattle.covtable.proofs.ContentsChecksums.{own_row}
+use Rattle.covtable.proofs.WithoutContent.{All-picked}
+use Rattle.covtable.proofs.ContentsSections.{own_key}
 use Rattle.covlaws.proofs.PrintablePoints.{all_shown, first_in, fit_shown, lawful_shown, map_back, points_in_order, some_shown}
-use Rattle.covstore.proofs.Members.{In, All-in, Contains-from, In-from, In-map, In-unmap}
-use Rattle.covstore.proofs.TotalsDifferent.{All-from}
-use Rattle.covstore.proofs.Stores.{All-joined}
+use Rattle.covtable.proofs.Members.{In, All-in, Contains-from, In-from, In-map, In-unmap, All-from, All-joined}
 use Rattle.covlaws.proofs.Mapped.{All-mapped}
-use Rattle.covstore.proofs.ContentsLists.{In-filter, In-flat, In-unfilter, In-unflat}
-use Rattle.covstore.proofs.Ascend.{All-weaker, In-ascending, ascending_sorted}
-use Rattle.covstore.proofs.Orders.{keys_order}
+use Rattle.covtable.proofs.ContentsLists.{In-filter, In-flat, In-unfilter, In-unflat}
+use Rattle.covtable.proofs.Ascend.{All-weaker, In-ascending, ascending_sorted}
+use Rattle.covtable.proofs.Orders.{keys_order}
 
 -- ---- the checksums that are shown are among those of the rows
 

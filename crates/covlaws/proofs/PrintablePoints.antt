@@ -10,20 +10,18 @@ use Rattle.std.specs.Ordering.{match_ordering, nat_cmp}
 use Rattle.std.specs.Str.{bytes_eq}
 use Rattle.std.proofs.Math.Nat.{min-le_left, min-le_right}
 use Rattle.std.proofs.lemmas.Option.{same_Some, none-some}
-use Rattle.covstore.specs.Content.{FunctionValueData, SectionData, function_at, branch_at, line_at, section_with}
-use Rattle.covline.specs.Lawful.{AllFit, FitsItem, IsChecksum, IsGoodName, IsLawfulItem}
-use Rattle.covline.specs.Points.{BranchPoint, line_point, func_point, branch_point, line_points, func_points, branch_points, least}
+use Rattle.covtable.specs.Content.{FunctionValueData, SectionData, function_at, branch_at, line_at, section_with}
+use Rattle.covdata.specs.Lawful.{AllFit, FitsItem, IsChecksum, IsGoodName, IsLawfulItem}
+use Rattle.covdata.specs.Points.{BranchPoint, line_point, func_point, branch_point, line_points, func_points, branch_points, least}
 use Rattle.covlaws.specs.Printable.{HasPointsInOrder, start_item, call_item, branch_item, line_item, items_shown}
 use Rattle.covreport.specs.Report.{put_in, sorted, function_cmp, by_start}
-use Rattle.covline.specs.Row.{ItemData, LineItem, FuncItem, BranchItem}
-use Rattle.covstore.specs.Value.{Key, bounded, branch_cmp, branches_in, checksum_said, first_of, function_start, line_checksum, line_value, lines_in, names_in, start_said, sum_if_any, taken_said}
-use Rattle.covstore.proofs.Members.{In, All-in}
-use Rattle.covstore.proofs.TotalsDifferent.{All-from}
-use Rattle.covstore.proofs.Stores.{All-joined}
+use Rattle.covdata.specs.Row.{ItemData, LineItem, FuncItem, BranchItem}
+use Rattle.covtable.specs.Value.{Key, bounded, branch_cmp, branches_in, checksum_said, first_of, function_start, line_checksum, line_value, lines_in, names_in, start_said, sum_if_any, taken_said}
+use Rattle.covtable.proofs.Members.{In, All-in, All-from, All-joined}
 use Rattle.covlaws.proofs.Mapped.{All-mapped, In-some}
-use Rattle.covstore.proofs.ContentsLists.{In-flat, In-unflat}
-use Rattle.covstore.proofs.Ascend.{All-match, In-ascending, In-to_ascending, ascending_sorted}
-use Rattle.covstore.proofs.Orders.{branches_order, lines_order, names_order}
+use Rattle.covtable.proofs.ContentsLists.{In-flat, In-unflat}
+use Rattle.covtable.proofs.Ascend.{All-match, In-ascending, In-to_ascending, ascending_sorted}
+use Rattle.covtable.proofs.Orders.{branches_order, lines_order, names_order}
 
 -- ---- sorted lists
 

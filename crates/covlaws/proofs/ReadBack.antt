@@ -3,15 +3,15 @@ use Rattle.std.proofs.Common.{◌≡◌, ℕ, ◌≤◌, List, [], ◌∷◌, �
 use Rattle.std.specs.List.{flat_map, sum_by, AllByRecursion}
 use Rattle.std.proofs.lemmas.List.Elements.{All-from_recursion}
 use Rattle.std.proofs.lemmas.List.Sums.{sum_by-cons}
-use Rattle.covline.specs.declared.trace_line.TotalKind.TheVariants.{FuncFound, FuncHit, BranchFound, BranchHit}
-use Rattle.covline.specs.Row.{ItemData, SectData}
-use Rattle.covline.specs.Lawful.{AllFit, IsLawful, IsLawfulSect}
+use Rattle.covdata.specs.declared.trace_line.TotalKind.TheVariants.{FuncFound, FuncHit, BranchFound, BranchHit}
+use Rattle.covdata.specs.Row.{ItemData, SectData}
+use Rattle.covdata.specs.Lawful.{AllFit, IsLawful, IsLawfulSect}
 use Rattle.covline.specs.Lines.{lines_of}
 use Rattle.covline.specs.LineLaws.{OneAfterOther, PrintedSpells}
 use Rattle.covread.specs.Outcome.{max_bytes}
-use Rattle.covline.specs.Spells.{LineData, Test, Path, End}
+use Rattle.covdata.specs.Records.{LineData, Test, Path, End}
 use Rattle.covread.specs.Reads.{Part, Outside, Section, IsInside, IsLawfulPart, AllSpell, records_of, odd_in, sects_from, Reads}
-use Rattle.covstore.specs.Content.{SectionData}
+use Rattle.covtable.specs.Content.{SectionData}
 use Rattle.covreport.specs.Report.{by_start, start_record, call_record, branch_record, line_record, section_records, section_text}
 use Rattle.covlaws.specs.Printable.{sect_shown, submission_shown, IsPrintable}
 use Rattle.covlaws.proofs.Apart.{all_more, all_mapped, always}

@@ -4,8 +4,8 @@ use Rattle.std.specs.Prelude.{◌↔◌, Contains}
 use Rattle.std.specs.List.{AllByRecursion, flat_map}
 use Rattle.std.proofs.lemmas.List.{append-nil}
 use Rattle.covreport.specs.Choice.{ChoiceData, AllFiles, Extracted, Removed, is_chosen}
-use Rattle.covstore.specs.Clash.{Agree, Checksum, checksum_of_row, checksums_in, first_clash}
-use Rattle.covstore.specs.Content.{SectionData, content_at, content_of}
+use Rattle.covtable.specs.Clash.{Agree, Checksum, checksum_of_row, checksums_in, first_clash}
+use Rattle.covtable.specs.Content.{SectionData, content_at, content_of}
 use Rattle.covline.specs.LineLaws.{OneAfterOther, PrintedSpells}
 use Rattle.covline.specs.Lines.{lines_of}
 use Rattle.covbook.specs.Op.{OpData, SubmitOp, DropTestOp, RenameOp, ReportOp, ExtractOp, RemoveOp, SummaryOp, AcceptedAnswer, TextAnswer, AreLawfulOps, HaveGoodNames}
@@ -14,16 +14,16 @@ use Rattle.covlaws.specs.Printable.{IsLawfulRow, IsPrintable, submission_shown}
 use Rattle.covread.specs.Reads.{Reads}
 use Rattle.covlaws.specs.ReadsBack.{IsReport, ReadsBack}
 use Rattle.covreport.specs.Report.{report_text, section_text}
-use Rattle.covline.specs.Row.{Row, SubmissionData, items_in, rows_of}
+use Rattle.covdata.specs.Row.{Row, SubmissionData, items_in, rows_of}
 use Rattle.covbook.specs.Step.{answer_of, answer_to_submit, table_after_submit, table_of}
-use Rattle.covstore.specs.Table.{Table, all_rows, clash_at}
+use Rattle.covtable.specs.Table.{Table, all_rows, clash_at}
 use Rattle.covlaws.proofs.ChosenContent.{chosen_content}
-use Rattle.covstore.proofs.WithoutContent.{All-picked}
+use Rattle.covtable.proofs.WithoutContent.{All-picked}
 use Rattle.covlaws.proofs.LawfulRun.{lawful_run}
 use Rattle.covlaws.proofs.PrintableContent.{printable_content}
 use Rattle.covlaws.proofs.ReadBack.{shown_is_lawful, text_reads_back}
-use Rattle.covstore.proofs.Members.{Contains-from, In-from}
-use Rattle.covstore.proofs.ContentsLists.{In-flat, In-unfilter, In-unflat}
+use Rattle.covtable.proofs.Members.{Contains-from, In-from}
+use Rattle.covtable.proofs.ContentsLists.{In-flat, In-unfilter, In-unflat}
 use Rattle.covlaws.proofs.ShownRows.{content_shown}
 
 -- ---- texts

@@ -10,11 +10,11 @@ use Rattle.std.proofs.lemmas.List.Concat.{flat_map-append}
 use Rattle.std.proofs.lemmas.List.Folds.{flat_map-map}
 use Rattle.std.proofs.lemmas.List.Sorted.{IsPermutation-refl, IsPermutation-cons, IsPermutation-trans, IsPermutation-middle, IsPermutation-map, IsPermutation-append}
 use Rattle.std.proofs.lemmas.List.Sums.{sum_by-append}
-use Rattle.covstore.specs.Content.{FunctionValueData, BranchValueData, LineValueData, SectionData}
+use Rattle.covtable.specs.Content.{FunctionValueData, BranchValueData, LineValueData, SectionData}
 use Rattle.covlaws.specs.Printable.{start_item, call_item, branch_item, line_item, items_shown}
 use Rattle.covreport.specs.Report.{put_in, sorted, function_cmp, by_start}
-use Rattle.covline.specs.Row.{ItemData}
-use Rattle.covstore.proofs.Alike.{AreAlike, alike_permuted, sum_by-map}
+use Rattle.covdata.specs.Row.{ItemData}
+use Rattle.covtable.proofs.Alike.{AreAlike, alike_permuted, sum_by-map}
 use Rattle.covlaws.proofs.ShownLists.{flat_nothing, sum_nothing}
 
 -- ---- a sort only moves elements

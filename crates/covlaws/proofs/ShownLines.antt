@@ -4,20 +4,21 @@ use Rattle.std.specs.Prelude.{nat_lt}
 use Rattle.std.specs.List.{flat_map, AllByRecursion}
 use Rattle.std.proofs.lemmas.List.Concat.{flat_map-append}
 use Rattle.std.proofs.lemmas.List.Sums.{count_by-le-length}
-use Rattle.covline.specs.declared.trace_line.TotalKind.{TotalKind}
-use Rattle.covline.specs.declared.trace_line.TotalKind.TheVariants.{FuncFound, FuncHit, BranchFound, BranchHit, LineFound, LineHit}
-use Rattle.covline.specs.Row.{ItemData, LineItem, BranchItem}
-use Rattle.covline.specs.Lawful.{IsLawfulItem, FitsItem}
-use Rattle.covline.specs.Lines.{line_feed, lines_of}
+use Rattle.covdata.specs.declared.trace_line.TotalKind.{TotalKind}
+use Rattle.covdata.specs.declared.trace_line.TotalKind.TheVariants.{FuncFound, FuncHit, BranchFound, BranchHit, LineFound, LineHit}
+use Rattle.covdata.specs.Row.{ItemData, LineItem, BranchItem}
+use Rattle.covdata.specs.Lawful.{IsLawfulItem, FitsItem}
+use Rattle.covdata.specs.Delimiters.{line_feed}
+use Rattle.covline.specs.Lines.{lines_of}
 use Rattle.covline.specs.LineLaws.{OneAfterOther, PrintedSpells}
-use Rattle.covline.specs.Spells.{LineData, Test, Path, FuncStart, FuncCount, Branch, Line, Total, End, Skip}
-use Rattle.covline.specs.Printed.{line_text, printed, IsReadable}
+use Rattle.covdata.specs.Records.{LineData, Test, Path, FuncStart, FuncCount, Branch, Line, Total, End, Skip}
+use Rattle.covdata.specs.Printed.{line_text, printed, IsReadable}
 use Rattle.covread.specs.Reads.{AllSpell}
-use Rattle.covstore.specs.Value.{is_taken}
-use Rattle.covstore.specs.Content.{FunctionValueData, SectionData}
+use Rattle.covtable.specs.Value.{is_taken}
+use Rattle.covtable.specs.Content.{FunctionValueData, SectionData}
 use Rattle.covreport.specs.Report.{by_start, start_record, call_record, functions_hit, branch_record, branches_hit, line_record, lines_hit, section_records, section_text}
 use Rattle.covlaws.specs.Printable.{start_item, call_item, branch_item, line_item, items_shown, IsPrintableSection}
-use Rattle.covmap.proofs.Leads.{all_append, all_front, all_back}
+use Rattle.covtable.proofs.Members.{All-joined, All-front, All-back}
 use Rattle.covlaws.proofs.Apart.{all_zip, all_more, all_mapped, all_unmapped}
 use Rattle.covlaws.proofs.ShownParts.{function_totals, branch_totals, line_totals}
 use Rattle.covlaws.proofs.ShownTotals.{all_if_any, all_inside}
@@ -53,34 +54,34 @@ readable_hit kind hit found most small = readable_total kind hit (omega arith)
 -- if all items that a section shows are good, so are those of each part
 module _ (s : SectionData) (good : AllByRecursion IsGoodItem (items_shown s)) where
   after_starts : AllByRecursion IsGoodItem (map call_item (by_start s.functions) ++ (map branch_item s.branches ++ map line_item s.lines))
-  after_starts = all_back IsGoodItem (map start_item (by_start s.functions)) _ good
+  after_starts = All-back IsGoodItem (map start_item (by_start s.functions)) _ good
 
   after_calls : AllByRecursion IsGoodItem (map branch_item s.branches ++ map line_item s.lines)
-  after_calls = all_back IsGoodItem (map call_item (by_start s.functions)) _ after_starts
+  after_calls = All-back IsGoodItem (map call_item (by_start s.functions)) _ after_starts
 
   readable_starts : AllByRecursion IsReadable (map start_record (by_start s.functions))
   readable_starts =
       all_mapped start_record IsReadable (by_start s.functions)
       (all_more _ _ readable_start (by_start s.functions)
-      (all_unmapped start_item IsGoodItem (by_start s.functions) (all_front IsGoodItem (map start_item (by_start s.functions)) _ good)))
+      (all_unmapped start_item IsGoodItem (by_start s.functions) (All-front IsGoodItem (map start_item (by_start s.functions)) _ good)))
 
   readable_calls : AllByRecursion IsReadable (map call_record (by_start s.functions))
   readable_calls =
       all_mapped call_record IsReadable (by_start s.functions)
       (all_more _ _ readable_call (by_start s.functions)
-      (all_unmapped call_item IsGoodItem (by_start s.functions) (all_front IsGoodItem (map call_item (by_start s.functions)) _ after_starts)))
+      (all_unmapped call_item IsGoodItem (by_start s.functions) (All-front IsGoodItem (map call_item (by_start s.functions)) _ after_starts)))
 
   readable_branches : AllByRecursion IsReadable (map branch_record s.branches)
   readable_branches =
       all_mapped branch_record IsReadable s.branches
       (all_more _ _ (λ b good. readable_branch b.point.line b.point.block b.point.branch b.taken good.1) s.branches
-      (all_unmapped branch_item IsGoodItem s.branches (all_front IsGoodItem (map branch_item s.branches) _ after_calls)))
+      (all_unmapped branch_item IsGoodItem s.branches (All-front IsGoodItem (map branch_item s.branches) _ after_calls)))
 
   readable_lines : AllByRecursion IsReadable (map line_record s.lines)
   readable_lines =
       all_mapped line_record IsReadable s.lines
       (all_more _ _ (λ l good. readable_line l.line l.count l.checksum good) s.lines
-      (all_unmapped line_item IsGoodItem s.lines (all_back IsGoodItem (map branch_item s.branches) _ after_calls)))
+      (all_unmapped line_item IsGoodItem s.lines (All-back IsGoodItem (map branch_item s.branches) _ after_calls)))
 
 pub readable_section : (s : SectionData) → IsPrintableSection s → HasFewPoints s → AllByRecursion IsReadable (section_records s)
 readable_section s printable few =
@@ -143,4 +144,4 @@ pub readable_sections : (sections : List SectionData) → AllByRecursion IsPrint
     → AllByRecursion IsReadable (flat_map section_records sections)
 readable_sections [] printable few = tt
 readable_sections (s ∷ sections) printable few =
-    all_append IsReadable (section_records s) (flat_map section_records sections) (readable_section s printable.0 few.0) (readable_sections sections printable.1 few.1)
+    All-joined IsReadable (section_records s) (flat_map section_records sections) (readable_section s printable.0 few.0) (readable_sections sections printable.1 few.1)

@@ -8,10 +8,10 @@ use Rattle.std.specs.List.Sorted.{IsStrictlySortedBy}
 use Rattle.std.proofs.lemmas.Cmp.{tied_itself}
 use Rattle.std.proofs.lemmas.List.{append-nil}
 use Rattle.std.proofs.lemmas.List.Sums.{sum_by-cons}
-use Rattle.covstore.specs.Ascending.{ascending}
-use Rattle.covstore.proofs.Ascend.{IsExactOrder, In-ascending, In-to_ascending}
-use Rattle.covstore.proofs.ContentsKinds.{same_ascending}
-use Rattle.covstore.proofs.Members.{In, All-in}
+use Rattle.covtable.specs.Ascending.{ascending}
+use Rattle.covtable.proofs.Ascend.{IsExactOrder, In-ascending, In-to_ascending}
+use Rattle.covtable.proofs.ContentsKinds.{same_ascending}
+use Rattle.covtable.proofs.Members.{In, All-in}
 
 -- ---- lists in which no element adds anything
 

@@ -10,10 +10,10 @@ use Rattle.std.specs.Cmp.Lexicographic.{slice_cmp}
 use Rattle.std.specs.Str.{bytes_eq}
 use Rattle.std.proofs.lemmas.Cmp.{nat_list_eq_equiv}
 use Rattle.std.proofs.lemmas.Map.Text.{is_eq-slice_cmp}
-use Rattle.covline.specs.Points.{BranchPoint}
-use Rattle.covstore.specs.Value.{branch_cmp}
+use Rattle.covdata.specs.Points.{BranchPoint}
+use Rattle.covtable.specs.Value.{branch_cmp}
 use Rattle.covread.specs.Reads.{branch_eq}
-use Rattle.covstore.specs.Content.{FunctionValueData, BranchValueData, LineValueData, SectionData}
+use Rattle.covtable.specs.Content.{FunctionValueData, BranchValueData, LineValueData, SectionData}
 use Rattle.covreport.specs.Report.{by_start, function_cmp}
 use Rattle.covlaws.specs.Printable.{HasPointsInOrder}
 use Rattle.covlaws.proofs.Apart.{AreApart, apart_ordered, apart_sorted, apart_unmapped}

@@ -5,12 +5,12 @@ use Rattle.std.specs.List.{flat_map, AllByRecursion}
 use Rattle.std.specs.Str.{bytes_eq}
 use Rattle.std.proofs.lemmas.Cmp.{nat_list_eq_equiv}
 use Rattle.std.proofs.lemmas.List.{append-nil}
-use Rattle.covline.specs.declared.trace_line.TotalKind.{TotalKind}
-use Rattle.covline.specs.declared.trace_line.TotalKind.TheVariants.{FuncFound, FuncHit, BranchFound, BranchHit, LineFound, LineHit}
-use Rattle.covline.specs.Spells.{LineData, Total}
-use Rattle.covline.specs.Points.{least}
+use Rattle.covdata.specs.declared.trace_line.TotalKind.{TotalKind}
+use Rattle.covdata.specs.declared.trace_line.TotalKind.TheVariants.{FuncFound, FuncHit, BranchFound, BranchHit, LineFound, LineHit}
+use Rattle.covdata.specs.Records.{LineData, Total}
+use Rattle.covdata.specs.Points.{least}
 use Rattle.covread.specs.Reads.{start_said, start_in, counted, items_said, items_of}
-use Rattle.covstore.specs.Content.{FunctionValueData, SectionData}
+use Rattle.covtable.specs.Content.{FunctionValueData, SectionData}
 use Rattle.covreport.specs.Report.{totals, totals_if_any, by_start, start_record, call_record, functions_hit, branch_record, branches_hit, line_record, lines_hit}
 use Rattle.covlaws.specs.Printable.{start_item, call_item, branch_item, line_item, items_shown}
 use Rattle.covlaws.proofs.Apart.{AreApart, all_zip, all_more}

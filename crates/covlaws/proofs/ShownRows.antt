@@ -4,16 +4,16 @@ use Rattle.std.proofs.Common.{◌≡◌, Bool, true, ◌&&◌, List, [], ◌∷�
 use Rattle.std.specs.List.{flat_map}
 use Rattle.std.proofs.lemmas.Bool.{cond-true}
 use Rattle.std.proofs.lemmas.List.Folds.{flat_map-map}
-use Rattle.covstore.specs.Content.{SectionData, section_with, section_of, content_of}
+use Rattle.covtable.specs.Content.{SectionData, section_with, section_of, content_of}
 use Rattle.covlaws.specs.Printable.{items_shown, sect_shown, submission_shown}
-use Rattle.covline.specs.Row.{ItemData, Row, rows_of_sect, rows_of}
-use Rattle.covstore.specs.Value.{Key, key_cmp, key_of_row, keys_of, has_key, items_at}
-use Rattle.covstore.proofs.ContentsChecksums.{own_row}
-use Rattle.covstore.proofs.Ascend.{ascending_sorted, In-ascending}
-use Rattle.covstore.proofs.ContentsLists.{In-flat, In-unflat, In-filter}
-use Rattle.covstore.proofs.ContentsSections.{items_at-append, no_row}
-use Rattle.covstore.proofs.Members.{In, In-map, In-unmap}
-use Rattle.covstore.proofs.Orders.{keys_order}
+use Rattle.covdata.specs.Row.{ItemData, Row, rows_of_sect, rows_of}
+use Rattle.covtable.specs.Value.{Key, key_cmp, key_of_row, keys_of, has_key, items_at}
+use Rattle.covtable.proofs.ContentsChecksums.{own_row}
+use Rattle.covtable.proofs.Ascend.{ascending_sorted, In-ascending}
+use Rattle.covtable.proofs.ContentsLists.{In-flat, In-unflat, In-filter}
+use Rattle.covtable.proofs.ContentsSections.{items_at-append, no_row}
+use Rattle.covtable.proofs.Members.{In, In-map, In-unmap}
+use Rattle.covtable.proofs.Orders.{keys_order}
 use Rattle.covlaws.proofs.ShownLists.{flat_one, map_same_in, ascending_again}
 use Rattle.covlaws.proofs.ShownValues.{section_shown, some_shown}
 

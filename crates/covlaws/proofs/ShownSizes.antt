@@ -3,16 +3,16 @@ use Rattle.std.proofs.Common.{◌≡◌, ℕ, ◌+◌, ◌<◌, ◌≤◌, ◌^�
 use Rattle.std.specs.List.{flat_map, AllByRecursion}
 use Rattle.std.proofs.lemmas.List.{length-map}
 use Rattle.std.proofs.lemmas.List.Sums.{sum_by-cons}
-use Rattle.covline.specs.declared.trace_line.TotalKind.TheVariants.{FuncFound, FuncHit, BranchFound, BranchHit}
-use Rattle.covline.specs.Row.{ItemData, SectData, items_in}
-use Rattle.covline.specs.Lines.{line_feed}
-use Rattle.covline.specs.Spells.{LineData, Test, Path, End}
-use Rattle.covline.specs.Printed.{line_text, printed}
+use Rattle.covdata.specs.declared.trace_line.TotalKind.TheVariants.{FuncFound, FuncHit, BranchFound, BranchHit}
+use Rattle.covdata.specs.Row.{ItemData, SectData, items_in}
+use Rattle.covdata.specs.Delimiters.{line_feed}
+use Rattle.covdata.specs.Records.{LineData, Test, Path, End}
+use Rattle.covdata.specs.Printed.{line_text, printed}
 use Rattle.covread.specs.Outcome.{max_bytes}
-use Rattle.covstore.specs.Content.{SectionData}
+use Rattle.covtable.specs.Content.{SectionData}
 use Rattle.covreport.specs.Report.{by_start, function_cmp, start_record, call_record, branch_record, line_record, section_records, section_text}
 use Rattle.covlaws.specs.Printable.{start_item, call_item, branch_item, line_item, items_shown, sect_shown}
-use Rattle.covmap.proofs.Leads.{all_append}
+use Rattle.covtable.proofs.Members.{All-joined}
 use Rattle.covlaws.proofs.Apart.{all_mapped, always, length-sorted}
 use Rattle.covlaws.proofs.ShownParts.{inside_of, function_totals, branch_totals, line_totals}
 use Rattle.covlaws.proofs.ShownTotals.{all_if_any, all_inside}
@@ -30,7 +30,7 @@ records_shown s =
 
 -- what holds of the test's name, the path, what is inside and the end holds of each record of a section
 pub all_records : (P : LineData → Type 0) (s : SectionData) → P (Test s.key.test) → P (Path s.key.file) → AllByRecursion P (inside_of s) → P End → AllByRecursion P (section_records s)
-all_records P s test path inside end = subst (AllByRecursion P) (records_shown s) (test, (path, all_append P (inside_of s) (End ∷ []) inside (end, tt)))
+all_records P s test path inside end = subst (AllByRecursion P) (records_shown s) (test, (path, All-joined P (inside_of s) (End ∷ []) inside (end, tt)))
 
 -- ---- each printed record has at least one byte
 

@@ -7,17 +7,17 @@ use Rattle.std.proofs.lemmas.Cmp.{nat_list_eq_equiv}
 use Rattle.std.proofs.lemmas.List.{append-nil, length-map}
 use Rattle.std.proofs.lemmas.List.Elements.{filter-append}
 use Rattle.std.proofs.lemmas.List.Sums.{length-filter}
-use Rattle.covline.specs.declared.trace_line.TotalKind.{TotalKind}
-use Rattle.covline.specs.declared.trace_line.TotalKind.TheVariants.{FuncFound, FuncHit, BranchFound, BranchHit, LineFound, LineHit}
-use Rattle.covline.specs.Row.{ItemData, BranchItem}
-use Rattle.covline.specs.Spells.{LineData, Total}
-use Rattle.covline.specs.Points.{BranchPoint, line_point, func_point, branch_point, is_hit}
-use Rattle.covstore.specs.Value.{is_taken}
+use Rattle.covdata.specs.declared.trace_line.TotalKind.{TotalKind}
+use Rattle.covdata.specs.declared.trace_line.TotalKind.TheVariants.{FuncFound, FuncHit, BranchFound, BranchHit, LineFound, LineHit}
+use Rattle.covdata.specs.Row.{ItemData, BranchItem}
+use Rattle.covdata.specs.Records.{LineData, Total}
+use Rattle.covdata.specs.Points.{BranchPoint, line_point, func_point, branch_point, is_hit}
+use Rattle.covtable.specs.Value.{is_taken}
 use Rattle.covread.specs.Reads.{items_of, distinct, branch_eq, own_total, is_odd}
-use Rattle.covstore.specs.Content.{FunctionValueData, BranchValueData, LineValueData, SectionData}
+use Rattle.covtable.specs.Content.{FunctionValueData, BranchValueData, LineValueData, SectionData}
 use Rattle.covreport.specs.Report.{totals, totals_if_any, by_start, function_cmp, start_record, call_record, functions_hit, branch_record, branches_hit, line_record, lines_hit}
 use Rattle.covlaws.specs.Printable.{start_item, call_item, branch_item, line_item, items_shown}
-use Rattle.covmap.proofs.Leads.{all_append}
+use Rattle.covtable.proofs.Members.{All-joined}
 use Rattle.covlaws.proofs.Apart.{AreApart, all_more, all_mapped, always, distinct_apart, distinct_again, apart_kept, apart_mapped, length-sorted, count_by-sorted}
 use Rattle.covlaws.proofs.MappedParts.{joined, none_in, each_in, kept_in, none_kept_in, dropped_in}
 use Rattle.covlaws.proofs.ShownOrders.{HasPointsApart}
@@ -172,7 +172,7 @@ pub all_inside : (P : LineData → Type 0) (s : SectionData)
     → AllByRecursion P (map branch_record s.branches) → AllByRecursion P (branch_totals s)
     → AllByRecursion P (map line_record s.lines) → AllByRecursion P (line_totals s) → AllByRecursion P (inside_of s)
 all_inside P s starts calls called branches taken lines run =
-    all_append P _ _ starts (all_append P _ _ calls (all_append P _ _ called (all_append P _ _ branches (all_append P _ _ taken (all_append P _ _ lines run)))))
+    All-joined P _ _ starts (All-joined P _ _ calls (All-joined P _ _ called (All-joined P _ _ branches (All-joined P _ _ taken (All-joined P _ _ lines run)))))
 
 total_fits : (kind : TotalKind) (items : List ItemData) (value : ℕ) → own_total kind items ≡ value → not (value == own_total kind items) ≡ false
 total_fits kind items value own = ap not (eq-eqb value (own_total kind items) (sym own))

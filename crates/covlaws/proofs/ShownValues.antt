@@ -8,21 +8,21 @@ use Rattle.std.proofs.lemmas.Bool.{cond-true, eq-eqb}
 use Rattle.std.proofs.lemmas.List.Folds.{flat_map-map}
 use Rattle.std.proofs.lemmas.List.Sums.{sum_by-cons}
 use Rattle.std.proofs.lemmas.Slice.Eq.{bytes_eq-Decides}
-use Rattle.covstore.specs.Ascending.{ascending}
-use Rattle.covstore.specs.Content.{FunctionValueData, SectionData, function_at, branch_at, line_at, section_with}
-use Rattle.covline.specs.Points.{BranchPoint, line_point, func_point, branch_point, line_points, func_points, branch_points, least}
+use Rattle.covtable.specs.Ascending.{ascending}
+use Rattle.covtable.specs.Content.{FunctionValueData, SectionData, function_at, branch_at, line_at, section_with}
+use Rattle.covdata.specs.Points.{BranchPoint, line_point, func_point, branch_point, line_points, func_points, branch_points, least}
 use Rattle.covlaws.specs.Printable.{start_item, call_item, branch_item, line_item, items_shown}
 use Rattle.covreport.specs.Report.{by_start}
-use Rattle.covline.specs.Row.{ItemData, LineItem, FuncItem, BranchItem}
-use Rattle.covstore.specs.Value.{Key, bounded, branch_cmp, lines_in, names_in, branches_in, line_added, line_value, checksum_said, line_checksum, first_of, start_said, function_start, function_added, function_count, is_branch, taken_said, sum_if_any, branch_value}
-use Rattle.covstore.proofs.TotalsKinds.{itself}
-use Rattle.covstore.proofs.Alike.{alike_said, least_alike, sum_by-map}
-use Rattle.covstore.proofs.Ascend.{ascending_sorted, In-to_ascending}
-use Rattle.covstore.proofs.ContentsLists.{In-flat, In-unflat}
-use Rattle.covstore.proofs.ContentsPoints.{line_unadded, checksum_unsaid, same_line, count_unadded, start_unsaid, taken_unsaid, same_branch}
-use Rattle.covstore.proofs.ContentsSections.{same_section}
-use Rattle.covstore.proofs.Members.{In, In-joined, In-parts}
-use Rattle.covstore.proofs.Orders.{lines_order, names_order, branches_order}
+use Rattle.covdata.specs.Row.{ItemData, LineItem, FuncItem, BranchItem}
+use Rattle.covtable.specs.Value.{Key, bounded, branch_cmp, lines_in, names_in, branches_in, line_added, line_value, checksum_said, line_checksum, first_of, start_said, function_start, function_added, function_count, is_branch, taken_said, sum_if_any, branch_value}
+use Rattle.covtable.proofs.TotalsKinds.{itself}
+use Rattle.covtable.proofs.Alike.{alike_said, least_alike, sum_by-map}
+use Rattle.covtable.proofs.Ascend.{ascending_sorted, In-to_ascending}
+use Rattle.covtable.proofs.ContentsLists.{In-flat, In-unflat}
+use Rattle.covtable.proofs.ContentsPoints.{line_unadded, checksum_unsaid, same_line, count_unadded, start_unsaid, taken_unsaid, same_branch}
+use Rattle.covtable.proofs.ContentsSections.{same_section}
+use Rattle.covtable.proofs.Members.{In, In-joined, In-parts}
+use Rattle.covtable.proofs.Orders.{lines_order, names_order, branches_order}
 use Rattle.covlaws.proofs.ShownItems.{items_by_name, shown_alike, said_of_lines, said_of_branches, said_of_functions, added_by_lines, added_by_calls}
 use Rattle.covlaws.proofs.ShownLists.{flat_one, sum_one, flat_self, map_same_in, ascending_again}
 

@@ -4,11 +4,11 @@ use Rattle.std.specs.Cmp.Lexicographic.{slice_cmp}
 use Rattle.std.specs.List.{AllByRecursion}
 use Rattle.std.specs.List.Sorted.{IsStrictlySortedBy}
 use Rattle.std.specs.Ordering.{nat_cmp}
-use Rattle.covline.specs.Row.{ItemData, LineItem, FuncItem, BranchItem, SectData, SubmissionData, Row, rows_of}
-use Rattle.covline.specs.Lawful.{AllFit, FitsItem, IsGoodName, IsGoodTest, IsLawfulItem, IsLawfulSect}
-use Rattle.covstore.specs.Clash.{Agree, checksums_in}
-use Rattle.covstore.specs.Content.{FunctionValueData, BranchValueData, LineValueData, SectionData}
-use Rattle.covstore.specs.Value.{branch_cmp, key_cmp}
+use Rattle.covdata.specs.Row.{ItemData, LineItem, FuncItem, BranchItem, SectData, SubmissionData, Row, rows_of}
+use Rattle.covdata.specs.Lawful.{AllFit, FitsItem, IsGoodName, IsGoodTest, IsLawfulItem, IsLawfulSect}
+use Rattle.covtable.specs.Clash.{Agree, checksums_in}
+use Rattle.covtable.specs.Content.{FunctionValueData, BranchValueData, LineValueData, SectionData}
+use Rattle.covtable.specs.Value.{branch_cmp, key_cmp}
 use Rattle.covreport.specs.Report.{by_start}
 
 -- ---- what a printed section is read as

@@ -1,7 +1,7 @@
 -- What it means that a printed text reads back, and that submissions are merges of others.
 use Rattle.std.specs.Prelude.{◌≡◌, ℕ, List, [], ◌∷◌, Ok, map}
-use Rattle.covline.specs.Row.{SubmissionData, items_in}
-use Rattle.covline.specs.Lawful.{IsLawful}
+use Rattle.covdata.specs.Row.{SubmissionData, items_in}
+use Rattle.covdata.specs.Lawful.{IsLawful}
 use Rattle.covread.specs.Outcome.{IsOutcome}
 use Rattle.covbook.specs.Op.{OpData, SubmitOp, DropTestOp, RenameOp, ReportOp, ExtractOp, RemoveOp, SummaryOp, AcceptedAnswer, TextAnswer}
 use Rattle.covbook.specs.Step.{answer_of, table_of}

@@ -1,7 +1,7 @@
 //! Laws of reading, adding up and printing together. Each law is the contract of a function that does nothing.
 //!
 //! A printed tracefile reads back: an empty book to which it is submitted reports the same tracefile, byte for byte. This holds for
-//! at most 67,108,864 bytes, and only if each new name of a rename is a valid test name (`covline::good_test`). A book itself
+//! at most 67,108,864 bytes, and only if each new name of a rename is a valid test name (`covdata::good_test`). A book itself
 //! accepts any new name.
 //!
 //! So merges can be merged. Several machines each print a report. A book with these reports prints the same texts as a book with
@@ -18,14 +18,14 @@
 
 ghost use Rattle.std.specs.Prelude.{◌≡◌, ◌≤◌, ◌++◌, ◌∷◌, ℕ, List, length, map, filter};
 ghost use Rattle.std.specs.List.{AllByRecursion, flat_map};
-ghost use Rattle.covline.specs.Row.{Row, SubmissionData, rows_of};
+ghost use Rattle.covdata.specs.Row.{Row, SubmissionData, rows_of};
 ghost use Rattle.covline.specs.Lines.{lines_of};
-ghost use Rattle.covline.specs.Lawful.{IsLawful};
+ghost use Rattle.covdata.specs.Lawful.{IsLawful};
 ghost use Rattle.covread.specs.Outcome.{max_bytes};
 ghost use Rattle.covread.specs.Reads.{Reads};
-ghost use Rattle.covstore.specs.Clash.{Agree, checksums_in};
-ghost use Rattle.covstore.specs.Content.{SectionData, content_of};
-ghost use Rattle.covstore.specs.Table.{all_rows};
+ghost use Rattle.covtable.specs.Clash.{Agree, checksums_in};
+ghost use Rattle.covtable.specs.Content.{SectionData, content_of};
+ghost use Rattle.covtable.specs.Table.{all_rows};
 ghost use Rattle.covreport.specs.Choice.{ChoiceData, is_chosen};
 ghost use Rattle.covreport.specs.Report.{section_text};
 ghost use Rattle.covbook.specs.Op.{AreLawfulOps, EntryData, HaveGoodNames, OpData, SubmitOp, TextAnswer};
@@ -39,7 +39,7 @@ use covbook::laws::{no_versions_are_mixed, order_does_not_matter};
 use covline::laws::printed_records_spell;
 use covline::lines_are_the_text;
 use covread::each_text_has_one_outcome;
-use covstore::laws::{order_of_rows_does_not_matter, the_first_clash_is_told};
+use covtable::laws::{order_of_rows_does_not_matter, the_first_clash_is_told};
 
 /// The text of each report, extract and remove after a run of lawful operations reads back: the text is read as a lawful submission
 /// without inconsistent lines, and an empty book accepts this submission and then reports the same text. This holds if each new

@@ -7,7 +7,8 @@ use Rattle.std.proofs.lemmas.List.{drop_more, take-append-drop, get_or-drop, len
 use Rattle.std.proofs.lemmas.List.Elements.{All-nil, All-cons, All-head, All-tail, All-from_get_or}
 use Rattle.memchr.specs.Find.{Nowhere, NoneAfter, Passes, is_byte}
 use Rattle.covline.specs.declared.reader.Number.{Number}
-use Rattle.covline.specs.Spells.{IsDigit, IsNumeral, IsTaken, comma}
+use Rattle.covdata.specs.Delimiters.{comma}
+use Rattle.covline.specs.Spells.{IsDigit, IsNumeral, IsTaken}
 use Rattle.covline.specs.Reading.{number_of, sized_number}
 use Rattle.covline.proofs.ReadNumbers.{whole_is, whole_or_none}
 use Rattle.covlcov2.specs.Spells.{is_mark, is_exclusion, IsMark, IsBranchName}

@@ -2,12 +2,13 @@
 use Rattle.std.proofs.Common.{◌≡◌, ℕ, ◌<◌, ◌^◌, List, [], ◌∷◌, true, false, Option, Some, None, Result, Ok, Err, refl, sym, ap, subst, ◌∙◌}
 use Rattle.std.specs.Prelude.{is_some}
 use Rattle.std.proofs.lemmas.List.Elements.{All-nil}
-use Rattle.covline.specs.Spells.{LineData, Test, Path, Branch, Line, End, Skip, HasSmallNumbers, Spells}
-use Rattle.covline.specs.Printed.{line_text}
+use Rattle.covdata.specs.Records.{LineData, Test, Path, Branch, Line, End, Skip, HasSmallNumbers}
+use Rattle.covline.specs.Spells.{Spells}
+use Rattle.covdata.specs.Printed.{line_text}
 use Rattle.covline.proofs.PrintedLaws.{printed-spells}
 use Rattle.covline.proofs.ReadLaws.{one_meaning, no_fault_beside}
-use Rattle.covread.specs.declared.fault.ReadFault.{ReadFault}
-use Rattle.covread.specs.declared.fault.ReadFault.TheVariants as faults
+use Rattle.covdata.specs.declared.fault.ReadFault.{ReadFault}
+use Rattle.covdata.specs.declared.fault.ReadFault.TheVariants as faults
 use Rattle.covread.specs.declared.trace.placement_fault.PlacementFault.{PlacementFault}
 use Rattle.covread.specs.declared.trace.placement_fault.PlacementFault.TheVariants as version1
 use Rattle.covread.specs.declared.trace.reader.Reader.{Reader}

@@ -6,10 +6,10 @@ use Rattle.std.specs.List.{flat_map, sum_by, AllByRecursion}
 use Rattle.std.proofs.lemmas.List.{append-nil, map-append, length-append}
 use Rattle.std.proofs.lemmas.List.Elements.{All-head, All-cons, All-nil}
 use Rattle.std.proofs.lemmas.List.Sums.{sum_by_push}
-use Rattle.covline.specs.Lawful.{IsGoodTest}
+use Rattle.covdata.specs.Lawful.{IsGoodTest}
 use Rattle.covline.specs.LineLaws.{FewLines, FewBytes, GoodLines, GoodRest, PrintedSpells}
-use Rattle.covline.specs.Printed.{line_text, printed, IsReadable}
-use Rattle.covline.specs.Spells.{LineData, End}
+use Rattle.covdata.specs.Printed.{line_text, printed, IsReadable}
+use Rattle.covdata.specs.Records.{LineData, End}
 use Rattle.covread.specs.Reads.{AllSpell, Part, Section, records_of, sects_from, odd_in}
 use Rattle.covread.specs.TraceSteps.{HeldData, empty}
 use Rattle.covread.proofs.AllOf.{all_append}

@@ -4,11 +4,13 @@ use Rattle.std.proofs.lemmas.Option.{none-some}
 use Rattle.std.proofs.lemmas.Bool.{false≢true, cases_lt, cases_eq, eq-eqb, ne_eqb}
 use Rattle.std.specs.Prelude.{codes, MatchResult, IfOk, IfErr}
 use Rattle.covline.specs.declared.reader.Number.{Number}
-use Rattle.covline.specs.declared.trace_line.TotalKind.{TotalKind}
-use Rattle.covline.specs.declared.trace_line.TotalKind.TheVariants.{FuncFound, FuncHit, BranchFound, BranchHit, LineFound, LineHit}
-use Rattle.covline.specs.declared.trace_line.LineFault.{LineFault}
-use Rattle.covline.specs.declared.trace_line.LineFault.TheVariants.{BadLine, NumberTooLarge, EmptyPath}
-use Rattle.covline.specs.Spells.{LineData, Test, Path, FuncStart, FuncCount, Branch, Line, Total, End, Skip, comma, digits_value, Begins, IsNumeral, IsCount, HasForm}
+use Rattle.covdata.specs.declared.trace_line.TotalKind.{TotalKind}
+use Rattle.covdata.specs.declared.trace_line.TotalKind.TheVariants.{FuncFound, FuncHit, BranchFound, BranchHit, LineFound, LineHit}
+use Rattle.covdata.specs.declared.trace_line.LineFault.{LineFault}
+use Rattle.covdata.specs.declared.trace_line.LineFault.TheVariants.{BadLine, NumberTooLarge, EmptyPath}
+use Rattle.covdata.specs.Records.{LineData, Test, Path, FuncStart, FuncCount, Branch, Line, Total, End, Skip}
+use Rattle.covdata.specs.Delimiters.{comma}
+use Rattle.covline.specs.Spells.{digits_value, Begins, IsNumeral, IsCount, HasForm}
 use Rattle.covline.specs.Reading.{after_key, number_at, field_at, fit, sized_number, start_of, read_of}
 use Rattle.covline.proofs.ReadKeys.{begins_or_not, after_key-none}
 use Rattle.covline.proofs.ReadNumbers.{Stops, fit_small, fit_large, count_small, count_large, number_is, numeral_or_none, whole_is, whole_or_none, field_is, BeginsWithField, field_or_none, field_read, count_is, BeginsWithCount, count_or_none, count_read, comma_or_none, taken_is, taken_or_none}

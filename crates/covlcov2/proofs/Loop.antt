@@ -5,13 +5,13 @@ use Rattle.std.specs.List.{sum_by, AllByRecursion}
 use Rattle.std.proofs.lemmas.List.{append-nil, length-append, length-map}
 use Rattle.std.proofs.lemmas.List.Elements.{recursion_from_All}
 use Rattle.std.proofs.lemmas.List.Sums.{sum_by-append}
-use Rattle.covline.specs.Lawful.{IsGoodTest}
+use Rattle.covdata.specs.Lawful.{IsGoodTest}
 use Rattle.covline.specs.Lines.{lines_of}
-use Rattle.covline.specs.Printed.{line_text}
-use Rattle.covline.specs.Row.{SectData}
-use Rattle.covline.specs.Spells.{LineData, Path}
-use Rattle.covread.specs.declared.fault.ReadFault.{ReadFault}
-use Rattle.covread.specs.declared.fault.ReadFault.TheVariants as faults
+use Rattle.covdata.specs.Printed.{line_text}
+use Rattle.covdata.specs.Row.{SectData}
+use Rattle.covdata.specs.Records.{LineData, Path}
+use Rattle.covdata.specs.declared.fault.ReadFault.{ReadFault}
+use Rattle.covdata.specs.declared.fault.ReadFault.TheVariants as faults
 use Rattle.covread.specs.declared.trace.reader.OpenSection.{OpenSection}
 use Rattle.covread.specs.Outcome.{max_bytes}
 use Rattle.covread.specs.TraceSteps.{SectionData, HeldData, empty, kept_in, section_data, held_data, step_at, ends, ends_at, EndsLawfully}

@@ -8,10 +8,11 @@ use Rattle.std.proofs.lemmas.Bool.{cases_eq, eq-eqb, ne_eqb}
 use Rattle.std.proofs.lemmas.Option.{none-some, option_and_then_some}
 use Rattle.std.proofs.lemmas.List.Elements.{All-nil, All-cons, All-head, All-tail}
 use Rattle.covline.specs.declared.reader.BranchLine.{BranchLine}
-use Rattle.covline.specs.Lines.{line_feed, carriage_return, lines_of}
-use Rattle.covline.specs.Points.{BranchPoint}
-use Rattle.covline.specs.PointView.{branch_point_data}
-use Rattle.covline.specs.Spells.{comma, IsDigit, IsNumeral, IsTaken}
+use Rattle.covdata.specs.Delimiters.{line_feed, carriage_return, comma}
+use Rattle.covline.specs.Lines.{lines_of}
+use Rattle.covdata.specs.Points.{BranchPoint}
+use Rattle.covdata.specs.PointView.{branch_point_data}
+use Rattle.covline.specs.Spells.{IsDigit, IsNumeral, IsTaken}
 use Rattle.covline.specs.Reading.{after_key, field_at}
 use Rattle.covline.specs.Fronts.{BeginsWithBranchLine, IsSmallIfAny, small_front, branch_after_line, branch_front}
 use Rattle.covline.proofs.BranchLines.{branch_seen, branch_form}

@@ -2,12 +2,13 @@
 use Rattle.std.proofs.Common.{◌≡◌, ℕ, ◌<◌, ◌≤◌, ◌^◌, Bool, true, false, ◌&&◌, eqb, max, List, [], ◌∷◌, ◌++◌, length, Option, Some, None, refl, ap, subst, arith, inl, inr}
 use Rattle.std.specs.Prelude.{codes, IfSome, if◌then◌else◌}
 use Rattle.std.specs.List.{list_any, AllByRecursion}
-use Rattle.covline.specs.declared.trace_line.TotalKind.{TotalKind}
-use Rattle.covline.specs.declared.trace_line.TotalKind.TheVariants.{FuncFound, FuncHit, BranchFound, BranchHit, LineFound, LineHit}
-use Rattle.covline.specs.Lawful.{IsGoodTest, IsGoodName}
+use Rattle.covdata.specs.declared.trace_line.TotalKind.{TotalKind}
+use Rattle.covdata.specs.declared.trace_line.TotalKind.TheVariants.{FuncFound, FuncHit, BranchFound, BranchHit, LineFound, LineHit}
+use Rattle.covdata.specs.Lawful.{IsGoodTest, IsGoodName}
 use Rattle.covline.specs.LineLaws.{GoodRest}
-use Rattle.covline.specs.Printed.{IsReadable}
-use Rattle.covline.specs.Spells.{LineData, Test, Path, FuncStart, FuncCount, Branch, Line, Total, End, Skip, comma, key_of, HasSmallNumbers}
+use Rattle.covdata.specs.Printed.{IsReadable}
+use Rattle.covdata.specs.Records.{LineData, Test, Path, FuncStart, FuncCount, Branch, Line, Total, End, Skip, key_of, HasSmallNumbers}
+use Rattle.covdata.specs.Delimiters.{comma}
 use Rattle.covlcov2.specs.Spells.{Lcov2Data, Plain, Leader, Alias, Edge, IsNameIn, IsBelow, HasSmallLcov2Numbers, Lcov2Spells}
 use Rattle.covlcov2.specs.Reads.{leader, is_leader, has_expression, one_more, number_from, next_number, branch_number, total_said, plain_said, alias_said, edge_said, said, above_after}
 

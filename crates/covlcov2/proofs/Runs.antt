@@ -3,14 +3,14 @@ use Rattle.std.proofs.Common.{◌≡◌, ℕ, ◌+◌, ◌≤◌, List, [], ◌�
 use Rattle.std.specs.Prelude.{◌⊎◌}
 use Rattle.std.specs.List.{flat_map}
 use Rattle.std.proofs.lemmas.List.{append-nil, length-map}
-use Rattle.covline.specs.declared.trace_line.TotalKind.{TotalKind}
-use Rattle.covline.specs.declared.trace_line.TotalKind.TheVariants.{FuncFound, FuncHit, BranchFound, BranchHit, LineFound, LineHit}
+use Rattle.covdata.specs.declared.trace_line.TotalKind.{TotalKind}
+use Rattle.covdata.specs.declared.trace_line.TotalKind.TheVariants.{FuncFound, FuncHit, BranchFound, BranchHit, LineFound, LineHit}
 use Rattle.std.proofs.Common.{Bool, true, false}
 use Rattle.covline.specs.Lines.{lines_of}
-use Rattle.covline.specs.Printed.{line_text}
-use Rattle.covline.specs.Spells.{LineData, Test, Path, FuncStart, FuncCount, Total, Skip}
-use Rattle.covread.specs.declared.fault.ReadFault.{ReadFault}
-use Rattle.covread.specs.declared.fault.ReadFault.TheVariants as faults
+use Rattle.covdata.specs.Printed.{line_text}
+use Rattle.covdata.specs.Records.{LineData, Test, Path, FuncStart, FuncCount, Total, Skip}
+use Rattle.covdata.specs.declared.fault.ReadFault.{ReadFault}
+use Rattle.covdata.specs.declared.fault.ReadFault.TheVariants as faults
 use Rattle.covread.specs.Reads.{Part, records_of}
 use Rattle.covread.specs.Outcome as version1
 use Rattle.covread.specs.TraceSteps.{SectionData, HeldData, ends, EndsLawfully}

@@ -2,7 +2,7 @@
 use Rattle.std.specs.Prelude.{◌≡◌, ℕ, ◌==◌, ◌||◌, if◌then◌else◌, List, [], ◌∷◌, Option, Some, None, codes}
 use Rattle.std.specs.Option.{option_and_then}
 use Rattle.covline.specs.Lines.{lines_of}
-use Rattle.covline.specs.Points.{BranchPoint}
+use Rattle.covdata.specs.Points.{BranchPoint}
 use Rattle.covline.specs.Reading.{after_key, field_at}
 use Rattle.covline.specs.Fronts.{small_front, branch_after_line}
 use Rattle.covlcov2.specs.Spells.{Lcov2Data, Lcov2Spells}

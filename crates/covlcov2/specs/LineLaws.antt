@@ -1,6 +1,6 @@
 -- What is known of single lines: the laws of `each_lcov2_line_has_one_meaning`.
 use Rattle.std.specs.Prelude.{◌≡◌, ◌⊎◌, ℕ, List}
-use Rattle.covline.specs.declared.trace_line.LineFault.{LineFault}
+use Rattle.covdata.specs.declared.trace_line.LineFault.{LineFault}
 use Rattle.covlcov2.specs.Spells.{Lcov2Data, Lcov2Spells, HasLcov2Fault}
 
 -- each line says exactly one thing, or has exactly one fault

@@ -2,9 +2,10 @@
 -- that this agrees with `Spells`.
 use Rattle.std.specs.Prelude.{ℕ, ◌≡◌, ◌==◌, ◌||◌, Bool, false, if◌then◌else◌, List, [], ◌∷◌, Option, Some, None, Result, Ok, Err, codes, option_map}
 use Rattle.covline.specs.declared.reader.Number.{Number}
-use Rattle.covline.specs.declared.trace_line.LineFault.{LineFault}
-use Rattle.covline.specs.declared.trace_line.LineFault.TheVariants.{BadLine}
-use Rattle.covline.specs.Spells.{LineData, comma}
+use Rattle.covdata.specs.declared.trace_line.LineFault.{LineFault}
+use Rattle.covdata.specs.declared.trace_line.LineFault.TheVariants.{BadLine}
+use Rattle.covdata.specs.Records.{LineData}
+use Rattle.covdata.specs.Delimiters.{comma}
 use Rattle.covline.specs.Reading.{after_key, number_at, number_of, count_at, field_of, field_at, taken_of, fit, fit_count, start_of, read_of}
 use Rattle.covlcov2.specs.declared.line.Lcov2Line.{Lcov2Line}
 use Rattle.covlcov2.specs.Spells.{Lcov2Data, Plain, Leader, Alias, Edge, lcov2_data, is_mark, is_exclusion}

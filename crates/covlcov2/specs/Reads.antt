@@ -2,10 +2,10 @@
 -- of version 1, which say the same as in a tracefile of version 1.
 use Rattle.std.specs.Prelude.{◌≡◌, ℕ, ◌+◌, ◌-◌, ◌^◌, ◌==◌, ◌&&◌, if◌then◌else◌, min, max, Bool, true, false, List, [], ◌∷◌, ◌++◌, Option, Some, None}
 use Rattle.std.specs.List.{flat_map, sum_by, list_any, AllByRecursion}
-use Rattle.covline.specs.declared.trace_line.TotalKind.{TotalKind}
-use Rattle.covline.specs.declared.trace_line.TotalKind.TheVariants.{FuncFound, FuncHit}
-use Rattle.covline.specs.Row.{SubmissionData}
-use Rattle.covline.specs.Spells.{LineData, Path, FuncStart, FuncCount, Branch, Total, Skip}
+use Rattle.covdata.specs.declared.trace_line.TotalKind.{TotalKind}
+use Rattle.covdata.specs.declared.trace_line.TotalKind.TheVariants.{FuncFound, FuncHit}
+use Rattle.covdata.specs.Row.{SubmissionData}
+use Rattle.covdata.specs.Records.{LineData, Path, FuncStart, FuncCount, Branch, Total, Skip}
 use Rattle.covread.specs.Reads.{Part, IsLawfulPart, records_of, sects_from, odd_in}
 use Rattle.covlcov2.specs.Spells.{Lcov2Data, Plain, Leader, Alias, Edge, Lcov2Spells}
 

@@ -2,9 +2,11 @@
 -- at. Lines with the keys `FN:`, `FNL:`, `FNA:` and `BRDA:` are read otherwise than in version 1, all others as there.
 use Rattle.std.specs.Prelude.{◌≡◌, ◌≢◌, ℕ, ◌<◌, ◌^◌, ◌⊎◌, ◌==◌, ◌||◌, Bool, List, [], ◌∷◌, ◌++◌, length, Option, Some, None, All, IsTrue, codes}
 use Rattle.std.specs.List.{list_any}
-use Rattle.covline.specs.declared.trace_line.LineFault.{LineFault}
-use Rattle.covline.specs.declared.trace_line.LineFault.TheVariants.{BadLine, NumberTooLarge, EmptyPath}
-use Rattle.covline.specs.Spells.{LineData, FuncStart, Branch, Skip, line_data, comma, Begins, BeginsWithOneOf, keys, IsNumeral, IsCount, IsTaken, HasForm, HasSmallNumbers}
+use Rattle.covdata.specs.declared.trace_line.LineFault.{LineFault}
+use Rattle.covdata.specs.declared.trace_line.LineFault.TheVariants.{BadLine, NumberTooLarge, EmptyPath}
+use Rattle.covdata.specs.Records.{LineData, FuncStart, Branch, Skip, line_data, HasSmallNumbers}
+use Rattle.covdata.specs.Delimiters.{comma}
+use Rattle.covline.specs.Spells.{Begins, BeginsWithOneOf, keys, IsNumeral, IsCount, IsTaken, HasForm}
 use Rattle.covlcov2.specs.declared.line.Lcov2Line.{Lcov2Line}
 use Rattle.covlcov2.specs.declared.line.Lcov2Line.TheVariants as lines
 

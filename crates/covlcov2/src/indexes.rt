@@ -6,7 +6,7 @@ ghost use Rattle.covlcov2.specs.Reads.{branch_number, leader};
 ghost use Rattle.covlcov2.specs.Steps.{AreIndexes};
 
 use crate::numbers::{Block, Numbers};
-use covline::Memory;
+use covdata::Memory;
 use std::alloc::Allocator;
 use std::collections::BTreeMap;
 

@@ -1,10 +1,10 @@
 //! Laws of reading tracefiles of LCOV 2. Each law is the contract of a function that does nothing.
 
 ghost use Rattle.std.specs.Prelude.{◌≡◌, ◌⊎◌, ℕ, List, Result, Ok};
-ghost use Rattle.covline.specs.declared.trace_line.LineFault.{LineFault};
-ghost use Rattle.covline.specs.Lawful.{IsLawful};
-ghost use Rattle.covline.specs.Row.{SubmissionData};
-ghost use Rattle.covread.specs.declared.fault.ReadFault.{ReadFault as Fault};
+ghost use Rattle.covdata.specs.declared.trace_line.LineFault.{LineFault};
+ghost use Rattle.covdata.specs.Lawful.{IsLawful};
+ghost use Rattle.covdata.specs.Row.{SubmissionData};
+ghost use Rattle.covdata.specs.declared.fault.ReadFault.{ReadFault as Fault};
 ghost use Rattle.covlcov2.specs.Spells.{Lcov2Data, Lcov2Spells, HasLcov2Fault};
 ghost use Rattle.covlcov2.specs.Outcome.{IsOutcome};
 

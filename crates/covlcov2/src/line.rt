@@ -1,6 +1,6 @@
 //! One line of a tracefile of LCOV 2.
 
-use covline::TraceLine;
+use covdata::TraceLine;
 
 /// The meaning of one line. Names are slices of the line.
 #[derive(Clone, Copy)]

@@ -2,12 +2,13 @@
 //! mark.
 
 ghost use Rattle.std.specs.Prelude.{◌≡◌, Option, Some, false, IfSome, option_map};
-ghost use Rattle.covline.specs.PointView.{branch_point_data};
+ghost use Rattle.covdata.specs.PointView.{branch_point_data};
 ghost use Rattle.covlcov2.specs.Spells.{Edge};
 ghost use Rattle.covlcov2.specs.Fronts.{BeginsWithLcov2Line, after_mark, marked_front};
 
+use covdata::BranchPoint;
 use covline::fields::{after_feed, front_taken, small_field};
-use covline::{BranchLine, BranchPoint, strip_key};
+use covline::{BranchLine, strip_key};
 
 /// Parses the first line of the text in one pass if it is `BRDA:<line>,<mark><block>,<branch>,<taken>` with the mark `e` or `f`,
 /// numbers below 2^64 and a line feed. Returns `None` for any other line: the caller then cuts the line off and parses it.

@@ -7,7 +7,7 @@ ghost use Rattle.covlcov2.specs.Spells.{Lcov2Data, Edge};
 ghost use Rattle.covlcov2.specs.Reads.{branch_number, number_from, one_more as one_more_of};
 ghost use Rattle.covlcov2.specs.Numbers.{HasNumbers, HasRuns, block_cmp, next_in_run, next_in_runs, numbering_of, numbering_after, ArePut, IsPut};
 
-use covline::Memory;
+use covdata::Memory;
 use std::alloc::Allocator;
 use std::collections::BTreeMap;
 

@@ -1,10 +1,11 @@
 //! Reads a tracefile of LCOV 2 in one pass.
 
 ghost use Rattle.std.specs.Prelude.{◌≡◌, ◌≤◌, ◌<◌, ◌∷◌, ℕ, IfOk, length, List, Option, Some, false, Result, option_map};
-ghost use Rattle.covline.specs.Row.{SubmissionData};
+ghost use Rattle.covdata.specs.Row.{SubmissionData};
 ghost use Rattle.covline.specs.Lines.{lines_of};
-ghost use Rattle.covline.specs.Spells.{LineData, Line, Spells};
-ghost use Rattle.covread.specs.declared.fault.ReadFault.{ReadFault as Fault};
+ghost use Rattle.covdata.specs.Records.{LineData, Line};
+ghost use Rattle.covline.specs.Spells.{Spells};
+ghost use Rattle.covdata.specs.declared.fault.ReadFault.{ReadFault as Fault};
 ghost use Rattle.covread.specs.Outcome.{max_bytes, IsOrMemory};
 ghost use Rattle.covread.specs.TraceSteps.{held_data};
 ghost use Rattle.covlcov2.specs.Spells.{Lcov2Data, Edge, Lcov2Spells};
@@ -16,13 +17,13 @@ use crate::marked::try_marked_branch;
 use crate::numbers::Block;
 use crate::read_line::read_lcov2_line;
 use crate::reader::Lcov2Reader;
+use covdata::{BranchPoint, MAX_BYTES, ReadFault, Submission};
 use covline::laws::printed_records_spell;
 use covline::{
-    BranchPoint, Submission, each_line_has_one_meaning, first_line, lines_are_the_text,
-    try_branch_line, try_line_count,
+    each_line_has_one_meaning, first_line, lines_are_the_text, try_branch_line, try_line_count,
 };
 use covpacked::{PackedSubmission, unpack};
-use covread::{MAX_BYTES, ReadFault, take_branch, take_line_count};
+use covread::{take_branch, take_line_count};
 use std::alloc::Allocator;
 
 /// Reads a tracefile of LCOV 2 (geninfo(1) of LCOV 2.x, TRACEFILE FORMAT). Returns its submission or its first error. The error is

@@ -1,16 +1,17 @@
 //! Parses one line of a tracefile of LCOV 2. Records that LCOV 2 changed or added are parsed here, all others by covline.
 
 ghost use Rattle.std.specs.Prelude.{◌≡◌, ℕ, List, Option, false, codes, option_map, Err, MatchResult, IfOk, IfErr};
-ghost use Rattle.covline.specs.declared.trace_line.LineFault.{LineFault};
+ghost use Rattle.covdata.specs.declared.trace_line.LineFault.{LineFault};
 ghost use Rattle.covline.specs.Reading.{number_of};
 ghost use Rattle.covlcov2.specs.Spells.{Lcov2Data, lcov2_data, Lcov2Spells, HasLcov2Fault, is_mark};
 ghost use Rattle.covlcov2.specs.Reading.{GivesLcov2, name_in, end_of, start_fields, leader_fields, leader_of, alias_fields, alias_of, marks_from, last_cut, branch_name, edge_of, edge_end, edge_rest, edge_fields, read_of_lcov2, fit_any, fit_any_count};
 
 use crate::line::Lcov2Line;
+use covdata::{LineFault, TraceLine};
 use covline::fields::{
     Number, read_any, read_count, read_field, read_number, read_taken, read_whole, split_comma,
 };
-use covline::{LineFault, TraceLine, strip_key};
+use covline::strip_key;
 use memchr::memrchr;
 
 /// The name in the text after a start line. Skips an end line that is followed by a name.

@@ -2,7 +2,7 @@
 //! lines need from the lines since the last path.
 
 ghost use Rattle.std.specs.Prelude.{◌≡◌, ℕ, List, [], ◌∷◌, Option, Some, None, Ok, Err, cond};
-ghost use Rattle.covline.specs.Spells.{LineData, Path, Total, Branch, line_data};
+ghost use Rattle.covdata.specs.Records.{LineData, Path, Total, Branch, line_data};
 ghost use Rattle.covread.specs.TraceSteps.{held_data, empty, HasRoom, IsOpen};
 ghost use Rattle.covlcov2.specs.declared.take_fault.TakeFault.TheVariants as outside;
 ghost use Rattle.covlcov2.specs.Spells.{Lcov2Data, Plain, Leader, Alias, Edge, lcov2_data};
@@ -12,7 +12,7 @@ use crate::indexes::Indexes;
 use crate::line::Lcov2Line;
 use crate::numbers::Block;
 use crate::take_fault::{TakeFault, placed};
-use covline::{TotalKind, TraceLine};
+use covdata::{TotalKind, TraceLine};
 use covread::Reader;
 use std::alloc::Allocator;
 

@@ -4,8 +4,8 @@ ghost use Rattle.std.specs.Prelude.{◌≡◌};
 ghost use Rattle.covlcov2.specs.declared.take_fault.TakeFault.TheVariants.{Memory as NoMemory};
 ghost use Rattle.covlcov2.specs.Steps.{lcov2_fault_at, placed};
 
-use covline::Memory;
-use covread::{PlacementFault, ReadFault};
+use covdata::{Memory, ReadFault};
+use covread::PlacementFault;
 use std::alloc::AllocFailed;
 
 /// The reason why the reader rejects a line: the line is misplaced, or an allocation failed.

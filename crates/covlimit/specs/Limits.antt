@@ -1,6 +1,6 @@
 -- The least rates of points hit that a call asks for, as plain data, and which of them totals fall short of.
 use Rattle.std.specs.Prelude.{ℕ, Bool, ◌||◌, List, ◌++◌, Option, is_some, codes}
-use Rattle.covstore.specs.declared.totals.Totals.{Totals}
+use Rattle.covtable.specs.declared.totals.Totals.{Totals}
 use Rattle.covlimit.specs.Shortfalls.{shortfall}
 
 -- the words of the rates: `None` for a kind of points for which no rate is asked for

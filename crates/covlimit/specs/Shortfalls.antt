@@ -1,6 +1,6 @@
 -- When points are below a rate, and the line that says so.
 use Rattle.std.specs.Prelude.{ℕ, ◌*◌, ◌==◌, nat_lt, Bool, ◌||◌, if◌then◌else◌, List, [], ◌∷◌, ◌++◌, Option, None, Some, codes, decimal}
-use Rattle.covline.specs.Lines.{line_feed}
+use Rattle.covdata.specs.Delimiters.{line_feed}
 use Rattle.covlimit.specs.Rates.{millionths, hundred_percent}
 
 -- no point is found, or fewer are hit than the rate asks for: hit / found < rate, multiplied out

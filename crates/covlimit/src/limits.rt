@@ -6,8 +6,8 @@ ghost use Rattle.covlimit.specs.LimitsView.{limits_data};
 
 use crate::rate::Rate;
 use crate::shortfalls::put_shortfall;
-use covline::{Bytes, Memory};
-use covstore::Totals;
+use covdata::{Bytes, Memory};
+use covtable::Totals;
 use std::alloc::{Allocator, Global};
 
 /// The thresholds of a run for rates of points hit. A kind of points with `None` has no threshold.

@@ -1,7 +1,7 @@
 //! Rates that are used as thresholds.
 
 use crate::digits::{HUNDRED_PERCENT, read_millionths};
-use covline::Bytes;
+use covdata::Bytes;
 use std::alloc::{Allocator, Global};
 use std::marker::Model;
 

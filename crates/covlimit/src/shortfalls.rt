@@ -4,7 +4,7 @@ ghost use Rattle.std.specs.Prelude.{◌≡◌, ◌++◌, [], OnOk, IsOk, decimal
 ghost use Rattle.covlimit.specs.Shortfalls.{numbers_text, shortfall, shortfall_line};
 
 use crate::rate::Rate;
-use covline::{Bytes, Memory};
+use covdata::{Bytes, Memory};
 use itoa::Buffer;
 use std::alloc::Allocator;
 

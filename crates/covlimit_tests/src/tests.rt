@@ -2,9 +2,9 @@
 //!
 //! Each example is a line of text, so that examples add nothing to the proof of these tests.
 
+use covdata::Bytes;
 use covlimit::{Limits, Rate, shortfall_lines};
-use covline::Bytes;
-use covstore::Totals;
+use covtable::Totals;
 use std::process::Abort;
 use std::test::*;
 

@@ -7,10 +7,12 @@ use Rattle.std.proofs.lemmas.Option.{none-some, option_and_then_some}
 use Rattle.std.proofs.lemmas.List.Elements.{All-nil, All-cons, All-head, All-tail}
 use Rattle.covline.specs.declared.reader.Number.{Number}
 use Rattle.covline.specs.declared.reader.BranchLine.{BranchLine}
-use Rattle.covline.specs.Lines.{line_feed, carriage_return, lines_of, IsFirstCut}
-use Rattle.covline.specs.Points.{BranchPoint}
-use Rattle.covline.specs.PointView.{branch_point_data}
-use Rattle.covline.specs.Spells.{LineData, Branch, IsDigit, IsNumeral, IsTaken, HasSmallNumbers, Spells, BeginsWithLine, comma, minus}
+use Rattle.covdata.specs.Delimiters.{line_feed, carriage_return, comma}
+use Rattle.covline.specs.Lines.{lines_of, IsFirstCut}
+use Rattle.covdata.specs.Points.{BranchPoint}
+use Rattle.covdata.specs.PointView.{branch_point_data}
+use Rattle.covdata.specs.Records.{LineData, Branch, HasSmallNumbers, minus}
+use Rattle.covline.specs.Spells.{IsDigit, IsNumeral, IsTaken, Spells, BeginsWithLine}
 use Rattle.covline.specs.Reading.{after_key, field_at, number_at}
 use Rattle.covline.specs.Fronts.{BeginsWithBranchLine, IsSmallIfAny, after_feed, branch_after_block, branch_after_key, branch_after_line, branch_after_number, branch_end, branch_front, small_front, taken_front}
 use Rattle.covline.proofs.Cut.{HasNoFeed, NoReturn, cut_at, lines_at, strip-none}

@@ -6,8 +6,8 @@ use Rattle.std.proofs.lemmas.Bool.{and_from, and_parts, ne_eqb, eq-eqb, cases_eq
 use Rattle.std.proofs.lemmas.List.{length-append}
 use Rattle.std.proofs.Math.Seq.{take-append_seam}
 use Rattle.std.proofs.lemmas.List.Elements.{All-cons, All-nil, All-head, All-tail}
-use Rattle.covline.specs.Lawful.{IsChecksum, IsChecksumByte}
-use Rattle.covline.specs.Spells.{comma}
+use Rattle.covdata.specs.Lawful.{IsChecksum, IsChecksumByte}
+use Rattle.covdata.specs.Delimiters.{comma}
 use Rattle.covline.specs.Fronts.{after_checksum, checksum_bytes, checksum_front, some_front}
 use Rattle.covline.specs.Reading.{is_checksum_byte, all_checksum_bytes, is_checksum, checksum_of}
 

@@ -6,13 +6,15 @@ use Rattle.std.proofs.lemmas.Bool.{cases_Bool, cases_eq, eq-eqb, ne_eqb}
 use Rattle.std.proofs.lemmas.Option.{none-some, option_and_then_some}
 use Rattle.std.proofs.lemmas.List.Elements.{All-nil, All-cons, All-head, All-tail, All-append, All-weaker}
 use Rattle.covline.specs.declared.reader.LineCount.{LineCount}
-use Rattle.covline.specs.Lawful.{IsChecksum, IsChecksumByte, IsGoodTest}
-use Rattle.covline.specs.Lines.{line_feed, lines_of, IsFirstCut}
-use Rattle.covline.specs.Spells.{LineData, Line, IsDigit, IsNumeral, Spells, BeginsWithLine, comma}
+use Rattle.covdata.specs.Lawful.{IsChecksum, IsChecksumByte, IsGoodTest}
+use Rattle.covdata.specs.Delimiters.{line_feed, comma}
+use Rattle.covline.specs.Lines.{lines_of, IsFirstCut}
+use Rattle.covdata.specs.Records.{LineData, Line}
+use Rattle.covline.specs.Spells.{IsDigit, IsNumeral, Spells, BeginsWithLine}
 use Rattle.covline.specs.Reading.{after_key, field_at, is_checksum_byte, number_at, sized_number}
 use Rattle.covline.specs.Fronts.{BeginsWithCountedLine, EndsCount, after_checksum, after_feed, checked_end, checksum_bytes, checksum_front, count_end, counted_after_key, counted_after_line, counted_end, counted_front, plain_end, small_front, some_front}
 use Rattle.covline.proofs.Cut.{cut_at, lines_at, strip-none}
-use Rattle.covline.proofs.GoodTexts.{IsGoodTest-append, IsGoodTest-checksum, IsGoodTest-plain, IsPlain}
+use Rattle.covdata.proofs.GoodTexts.{IsGoodTest-append, IsGoodTest-checksum, IsGoodTest-plain, IsPlain}
 use Rattle.covline.proofs.Checksums.{byte_from, byte_is, checksum_parts}
 use Rattle.covline.proofs.ReadNumbers.{field_is, number_is}
 use Rattle.covline.proofs.SmallNumbers.{after_some, mapped_some, same_some, small_field_has, small_is, small_number_has}

@@ -7,8 +7,9 @@ use Rattle.std.proofs.lemmas.List.{append-nil, drop_more, take-append-drop, get_
 use Rattle.std.proofs.lemmas.List.Elements.{All-nil, All-cons, All-head, All-tail, All-from_get_or}
 use Rattle.std.proofs.lemmas.List.Sums.{sum_by-cons}
 use Rattle.memchr.specs.Find.{NoneBefore, Nowhere, Passes, is_byte}
-use Rattle.covline.specs.Lines.{line_feed, carriage_return, onto_first, pieces_of, before_feed, before_stripped, strip, line_of, lines_of, IsFirstCut}
-use Rattle.covline.specs.Lawful.{IsGoodTest}
+use Rattle.covdata.specs.Delimiters.{line_feed, carriage_return}
+use Rattle.covline.specs.Lines.{onto_first, pieces_of, before_feed, before_stripped, strip, line_of, lines_of, IsFirstCut}
+use Rattle.covdata.specs.Lawful.{IsGoodTest}
 
 -- no byte is a line feed
 abbrev pub HasNoFeed : List ℕ → Type 0

@@ -1,13 +1,8 @@
-pub mod Copied
-pub mod Alike
 pub mod BranchLines
 pub mod SmallNumbers
 pub mod CountedLines
-pub mod GoodTexts
 pub mod Cut
-pub mod SectLaws
 pub mod PrintedLaws
-pub mod ItemStarts
 pub mod LineLaws
 pub mod ReadKeys
 pub mod ReadNumbers

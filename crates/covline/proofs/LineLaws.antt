@@ -1,6 +1,6 @@
 -- The laws that `specs/LineLaws.antt` states of the lines of a text. Each is a lemma that is proved elsewhere.
 use Rattle.covline.specs.LineLaws.{JoinedAgain, GoodLines, GoodRest, FewLines, FewBytes, OnlyReturnsOff, OneAfterOther, MadeOfLines}
-use Rattle.covline.proofs.GoodTexts.{IsGoodTest-after}
+use Rattle.covdata.proofs.GoodTexts.{IsGoodTest-after}
 use Rattle.covline.proofs.Cut.{concat-pieces, IsGoodTest-lines, length-lines, bytes-lines, strip-parts, lines-append, lines-joined}
 
 pub joined_again : JoinedAgain

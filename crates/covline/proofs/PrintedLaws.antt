@@ -5,13 +5,15 @@ use Rattle.std.proofs.lemmas.Fmt.{decimal_by_steps_wide}
 use Rattle.std.proofs.lemmas.List.{append-nil, length_push}
 use Rattle.std.proofs.lemmas.List.Elements.{All-nil, All-cons, All-append, All-push, All-weaker, All-from_recursion}
 use Rattle.std.proofs.lemmas.List.Sums.{fold_push}
-use Rattle.covline.specs.Lines.{line_feed, lines_of}
-use Rattle.covline.specs.Lawful.{IsGoodTest}
-use Rattle.covline.specs.declared.trace_line.TotalKind.{TotalKind}
-use Rattle.covline.specs.declared.trace_line.TotalKind.TheVariants.{FuncFound, FuncHit, BranchFound, BranchHit, LineFound, LineHit}
-use Rattle.covline.specs.Spells.{LineData, Test, Path, FuncStart, FuncCount, Branch, Line, Total, End, Skip, comma, key_of, IsDigit, IsNumeral, Spells}
-use Rattle.covline.specs.Printed.{line_text, printed, IsReadable}
-use Rattle.covline.proofs.GoodTexts.{IsPlain, IsGoodTest-append, IsGoodTest-plain, IsGoodTest-checksum}
+use Rattle.covdata.specs.Delimiters.{line_feed, comma}
+use Rattle.covline.specs.Lines.{lines_of}
+use Rattle.covdata.specs.Lawful.{IsGoodTest}
+use Rattle.covdata.specs.declared.trace_line.TotalKind.{TotalKind}
+use Rattle.covdata.specs.declared.trace_line.TotalKind.TheVariants.{FuncFound, FuncHit, BranchFound, BranchHit, LineFound, LineHit}
+use Rattle.covdata.specs.Records.{LineData, Test, Path, FuncStart, FuncCount, Branch, Line, Total, End, Skip, key_of}
+use Rattle.covline.specs.Spells.{IsDigit, IsNumeral, Spells}
+use Rattle.covdata.specs.Printed.{line_text, printed, IsReadable}
+use Rattle.covdata.proofs.GoodTexts.{IsPlain, IsGoodTest-append, IsGoodTest-plain, IsGoodTest-checksum}
 use Rattle.covline.proofs.Cut.{lines_at, strip-none}
 
 -- ---- numbers

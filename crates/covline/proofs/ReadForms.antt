@@ -4,9 +4,11 @@ use Rattle.std.proofs.Common.{◌≡◌, ℕ, ◌^◌, ◌<◌, ◌⊎◌, inl, 
 use Rattle.std.specs.Prelude.{codes}
 use Rattle.std.proofs.lemmas.Bool.{cases_lt}
 use Rattle.std.proofs.lemmas.List.{append-nil}
-use Rattle.covline.specs.declared.trace_line.LineFault.{LineFault}
-use Rattle.covline.specs.declared.trace_line.LineFault.TheVariants.{BadLine, NumberTooLarge}
-use Rattle.covline.specs.Spells.{LineData, Test, Path, FuncStart, FuncCount, Branch, Line, Total, End, Skip, comma, IsNumeral, IsCount, IsTaken, HasForm, HasSmallNumbers}
+use Rattle.covdata.specs.declared.trace_line.LineFault.{LineFault}
+use Rattle.covdata.specs.declared.trace_line.LineFault.TheVariants.{BadLine, NumberTooLarge}
+use Rattle.covdata.specs.Records.{LineData, Test, Path, FuncStart, FuncCount, Branch, Line, Total, End, Skip, HasSmallNumbers}
+use Rattle.covdata.specs.Delimiters.{comma}
+use Rattle.covline.specs.Spells.{IsNumeral, IsCount, IsTaken, HasForm}
 use Rattle.covline.specs.Reading.{Fields, sized_number, with_fit, with_count, with_name, start_of, start_fields, func_count_of, func_count_fields, with_taken, branch_of, branch_fields, count_of, line_fields, total_of}
 use Rattle.covline.proofs.ReadNumbers.{Stops, fit_small, fit_large, count_small, count_large, field_is, BeginsWithField, field_or_none, field_read, count_is, BeginsWithCount, count_or_none, count_read, comma_or_none, taken_is, taken_or_none}
 use Rattle.covline.proofs.Checksums.{IsAfterCount, checksum_read, checksum_or_none}

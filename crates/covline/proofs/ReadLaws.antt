@@ -7,12 +7,14 @@ use Rattle.std.specs.Prelude.{codes, map, MatchResult, IfOk, IfErr}
 use Rattle.std.specs.List.{AllByRecursion}
 use Rattle.std.proofs.lemmas.Bool.{false≢true}
 use Rattle.covline.specs.declared.reader.Number.{Number}
-use Rattle.covline.specs.declared.trace_line.TraceLine.{TraceLine}
-use Rattle.covline.specs.declared.trace_line.TotalKind.{TotalKind}
-use Rattle.covline.specs.declared.trace_line.TotalKind.TheVariants.{FuncFound, FuncHit, BranchFound, BranchHit, LineFound, LineHit}
-use Rattle.covline.specs.declared.trace_line.LineFault.{LineFault}
-use Rattle.covline.specs.declared.trace_line.LineFault.TheVariants.{BadLine, NumberTooLarge, EmptyPath}
-use Rattle.covline.specs.Spells.{LineData, Test, Path, FuncStart, FuncCount, Branch, Line, Total, End, Skip, line_data, comma, Begins, BeginsWithOneOf, HasKey, key_of, IsNumeral, HasForm, HasSmallNumbers, Spells, HasFault}
+use Rattle.covdata.specs.declared.trace_line.TraceLine.{TraceLine}
+use Rattle.covdata.specs.declared.trace_line.TotalKind.{TotalKind}
+use Rattle.covdata.specs.declared.trace_line.TotalKind.TheVariants.{FuncFound, FuncHit, BranchFound, BranchHit, LineFound, LineHit}
+use Rattle.covdata.specs.declared.trace_line.LineFault.{LineFault}
+use Rattle.covdata.specs.declared.trace_line.LineFault.TheVariants.{BadLine, NumberTooLarge, EmptyPath}
+use Rattle.covdata.specs.Records.{LineData, Test, Path, FuncStart, FuncCount, Branch, Line, Total, End, Skip, line_data, key_of, HasSmallNumbers}
+use Rattle.covdata.specs.Delimiters.{comma}
+use Rattle.covline.specs.Spells.{Begins, BeginsWithOneOf, HasKey, IsNumeral, HasForm, Spells, HasFault}
 use Rattle.covline.specs.Reading.{Gives, Fields, after_key, keyed, read_by, forms, read_of, with_part, start_fields, func_count_fields, branch_fields, line_fields, total_of, total_fields, path_fields}
 use Rattle.covline.proofs.ReadKeys.{begins_or_not, after_key-none, after_key-same}
 use Rattle.covline.proofs.ReadNumbers.{whole_is, whole_or_none}

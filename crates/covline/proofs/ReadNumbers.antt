@@ -6,8 +6,10 @@ use Rattle.std.proofs.lemmas.List.{append-nil}
 use Rattle.std.proofs.lemmas.List.Elements.{All-cons, All-nil, All-head, All-tail}
 use Rattle.covline.specs.declared.reader.Number.{Number}
 use Rattle.covline.specs.declared.reader.Number.TheVariants.{Value, U128, TooLarge}
-use Rattle.covline.specs.Spells.{IsDigit, IsNumeral, IsCount, IsTaken, digits_value, comma, minus}
-use Rattle.covline.specs.declared.trace_line.LineFault.TheVariants.{NumberTooLarge}
+use Rattle.covdata.specs.Delimiters.{comma}
+use Rattle.covdata.specs.Records.{minus}
+use Rattle.covline.specs.Spells.{IsDigit, IsNumeral, IsCount, IsTaken, digits_value}
+use Rattle.covdata.specs.declared.trace_line.LineFault.TheVariants.{NumberTooLarge}
 use Rattle.covline.specs.Reading.{is_digit, sized_number, fit, fit_count, with_digit, digits_from, number_at, number_of, as_zero, count_at, before_comma, field_of, field_at, taken_of, whole}
 
 pub digit_is : (b : ℕ) → IsDigit b → is_digit b ≡ true

@@ -4,7 +4,8 @@ use Rattle.std.proofs.lemmas.Bool.{cases_lt}
 use Rattle.std.proofs.lemmas.Option.{none-some, option_and_then_some}
 use Rattle.covline.specs.declared.reader.Number.{Number}
 use Rattle.covline.specs.declared.reader.Number.TheVariants.{Value, U128, TooLarge}
-use Rattle.covline.specs.Spells.{IsNumeral, comma, digits_value}
+use Rattle.covdata.specs.Delimiters.{comma}
+use Rattle.covline.specs.Spells.{IsNumeral, digits_value}
 use Rattle.covline.specs.Reading.{sized_number, after_key, number_at, field_at}
 use Rattle.covline.specs.Fronts.{small_front, small_of}
 use Rattle.covline.proofs.ReadKeys.{begins_or_not, after_key-none, after_key-same}

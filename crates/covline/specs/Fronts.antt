@@ -4,10 +4,11 @@ use Rattle.std.specs.Prelude.{◌≡◌, ℕ, ◌<◌, ◌^◌, ◌==◌, if◌t
 use Rattle.std.specs.Option.{option_and_then}
 use Rattle.covline.specs.declared.reader.Number.{Number}
 use Rattle.covline.specs.declared.reader.Number.TheVariants.{Value, U128, TooLarge}
-use Rattle.covline.specs.Lawful.{IsChecksum}
-use Rattle.covline.specs.Lines.{line_feed}
-use Rattle.covline.specs.Points.{BranchPoint}
-use Rattle.covline.specs.Spells.{comma, minus, IsNumeral, IsTaken}
+use Rattle.covdata.specs.Lawful.{IsChecksum}
+use Rattle.covdata.specs.Delimiters.{line_feed, comma}
+use Rattle.covdata.specs.Points.{BranchPoint}
+use Rattle.covdata.specs.Records.{minus}
+use Rattle.covline.specs.Spells.{IsNumeral, IsTaken}
 use Rattle.covline.specs.Reading.{after_key, field_at, is_checksum_byte, number_at}
 
 -- the text after a line's count: a line feed, or a comma, this checksum and a line feed; `rest` follows the line feed

@@ -1,10 +1,12 @@
 -- What holds of the lines of each text.
 use Rattle.std.specs.Prelude.{◌≡◌, ℕ, ◌≤◌, List, [], ◌∷◌, ◌++◌, length, replicate, All}
 use Rattle.std.specs.List.{concat, flat_map, sum_by}
-use Rattle.covline.specs.Lines.{line_feed, carriage_return, pieces_of, strip, lines_of}
-use Rattle.covline.specs.Lawful.{IsGoodTest}
-use Rattle.covline.specs.Spells.{LineData, Spells}
-use Rattle.covline.specs.Printed.{IsReadable, line_text, printed}
+use Rattle.covdata.specs.Delimiters.{line_feed, carriage_return}
+use Rattle.covline.specs.Lines.{pieces_of, strip, lines_of}
+use Rattle.covdata.specs.Lawful.{IsGoodTest}
+use Rattle.covdata.specs.Records.{LineData}
+use Rattle.covline.specs.Spells.{Spells}
+use Rattle.covdata.specs.Printed.{IsReadable, line_text, printed}
 
 -- joined again, the pieces of a text make up the text
 abbrev pub JoinedAgain : Type 0

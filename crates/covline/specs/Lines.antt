@@ -1,12 +1,7 @@
 -- The lines of a text. A text is cut after each line feed. The last line may have no line feed. Line feeds, and the carriage
 -- returns at the end of a line, don't belong to the line.
 use Rattle.std.specs.Prelude.{◌≡◌, ℕ, List, [], ◌∷◌, ◌++◌, ◌==◌, map, if◌then◌else◌}
-
-abbrev pub line_feed : ℕ
-line_feed = 10
-
-abbrev pub carriage_return : ℕ
-carriage_return = 13
+use Rattle.covdata.specs.Delimiters.{line_feed, carriage_return}
 
 -- puts a byte at the beginning of the first piece
 abbrev pub onto_first : ℕ → List (List ℕ) → List (List ℕ)

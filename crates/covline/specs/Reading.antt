@@ -3,12 +3,13 @@
 use Rattle.std.specs.Prelude.{ℕ, ◌+◌, ◌-◌, ◌*◌, ◌^◌, ◌≡◌, Bool, true, false, not, ◌&&◌, ◌==◌, nat_lt, nat_le, if◌then◌else◌, List, [], ◌∷◌, Option, Some, None, Result, Ok, Err, codes, option_map}
 use Rattle.covline.specs.declared.reader.Number.{Number}
 use Rattle.covline.specs.declared.reader.Number.TheVariants.{Value, U128, TooLarge}
-use Rattle.covline.specs.declared.trace_line.TraceLine.{TraceLine}
-use Rattle.covline.specs.declared.trace_line.TotalKind.{TotalKind}
-use Rattle.covline.specs.declared.trace_line.TotalKind.TheVariants.{FuncFound, FuncHit, BranchFound, BranchHit, LineFound, LineHit}
-use Rattle.covline.specs.declared.trace_line.LineFault.{LineFault}
-use Rattle.covline.specs.declared.trace_line.LineFault.TheVariants.{BadLine, NumberTooLarge, EmptyPath}
-use Rattle.covline.specs.Spells.{LineData, Test, Path, FuncStart, FuncCount, Branch, Line, Total, End, Skip, line_data, comma, minus}
+use Rattle.covdata.specs.declared.trace_line.TraceLine.{TraceLine}
+use Rattle.covdata.specs.declared.trace_line.TotalKind.{TotalKind}
+use Rattle.covdata.specs.declared.trace_line.TotalKind.TheVariants.{FuncFound, FuncHit, BranchFound, BranchHit, LineFound, LineHit}
+use Rattle.covdata.specs.declared.trace_line.LineFault.{LineFault}
+use Rattle.covdata.specs.declared.trace_line.LineFault.TheVariants.{BadLine, NumberTooLarge, EmptyPath}
+use Rattle.covdata.specs.Records.{LineData, Test, Path, FuncStart, FuncCount, Branch, Line, Total, End, Skip, line_data, minus}
+use Rattle.covdata.specs.Delimiters.{comma}
 
 -- the result of a function, as plain data, is this one
 abbrev pub Gives : Result TraceLine LineFault → Result LineData LineFault → Type 0

@@ -1,8 +1,9 @@
 //! Laws of the definitions that the contracts cite. Each law is the contract of a function that does nothing.
 
 ghost use Rattle.std.specs.Prelude.{◌≡◌, ◌⊎◌, ℕ, List};
-ghost use Rattle.covline.specs.declared.trace_line.LineFault.{LineFault};
-ghost use Rattle.covline.specs.Spells.{LineData, Spells, HasFault};
+ghost use Rattle.covdata.specs.declared.trace_line.LineFault.{LineFault};
+ghost use Rattle.covdata.specs.Records.{LineData};
+ghost use Rattle.covline.specs.Spells.{Spells, HasFault};
 ghost use Rattle.covline.specs.LineLaws.{JoinedAgain, GoodLines, GoodRest, FewLines, FewBytes, OnlyReturnsOff, OneAfterOther, MadeOfLines, PrintedSpells};
 
 /// A text consists of its lines. Joining the pieces of a text, cut after each line feed, gives the text. A line is such a piece

@@ -1,8 +1,7 @@
-//! Lines of lcov tracefiles (geninfo(1) of LCOV 1.x, section FILES) and what the lines mean: records, items, sections, submissions.
+//! Lines of lcov tracefiles (geninfo(1) of LCOV 1.x, section FILES): reads and prints the record of a line.
 //!
-//! The crate cuts a text into lines and parses each line separately. A printed record parses back to the same record. A section
-//! holds the items (the counts of lines, functions and branches) of one test and one source file. Sections with lawful names and
-//! checksums make a submission.
+//! The crate cuts a text into lines and parses each line separately. A printed record parses back to the same record. The types of
+//! records, items, sections and submissions are covdata's. This crate re-exports them.
 //!
 //! An example, proved and run in `covuses`, prints the `DA:` lines of a tracefile again. `PrintFault` is the caller's own error
 //! type, made from a `LineFault` or from `Memory`.
@@ -21,35 +20,20 @@
 //! ```
 #![tactic(auto)]
 
-mod bytes;
-mod checks;
 pub mod fields;
-mod item;
 mod iter;
 pub mod laws;
-mod memory;
-mod names;
-mod point;
 mod print;
 mod reader;
-mod sect;
-mod submission;
 mod tail;
-mod tally;
 mod text_lines;
-mod trace_line;
 
-pub use bytes::Bytes;
-pub use item::{Item, Items};
+pub use covdata::{
+    BadSubmission, Bytes, Item, Items, LineFault, Memory, Sect, Sects, Submission, TotalKind,
+    TraceLine, good_test,
+};
 pub use iter::Lines;
 pub use laws::{each_line_has_one_meaning, lines_are_the_text};
-pub use memory::Memory;
-pub use names::good_test;
-pub use point::BranchPoint;
 pub use print::put_line;
 pub use reader::{BranchLine, LineCount, read_line, strip_key, try_branch_line, try_line_count};
-pub use sect::{Sect, Sects};
-pub use submission::{BadSubmission, Submission};
-pub use tally::Tally;
 pub use text_lines::{first_line, lines, without_returns};
-pub use trace_line::{LineFault, TotalKind, TraceLine};

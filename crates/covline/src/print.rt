@@ -1,15 +1,14 @@
 //! Prints one line of a tracefile.
 
 ghost use Rattle.std.specs.Prelude.{◌≡◌, ◌++◌, ◌∷◌, [], OnOk, OnErr, IsOk, ◌≤◌, ◌+◌, ℕ, List, codes, decimal, length, option_map};
-ghost use Rattle.covline.specs.Lines.{line_feed, lines_of};
-ghost use Rattle.covline.specs.Spells.{Branch, Line, Skip, line_data, comma, key_of, Spells};
-ghost use Rattle.covline.specs.Printed.{line_text, printed, taken_text, IsReadable};
+ghost use Rattle.covdata.specs.Delimiters.{line_feed, comma};
+ghost use Rattle.covline.specs.Lines.{lines_of};
+ghost use Rattle.covdata.specs.Records.{Branch, Line, Skip, line_data, key_of};
+ghost use Rattle.covline.specs.Spells.{Spells};
+ghost use Rattle.covdata.specs.Printed.{line_text, printed, taken_text, IsReadable};
 
-use crate::bytes::Bytes;
-use crate::memory::Memory;
-use crate::point::BranchPoint;
 use crate::tail::Tail;
-use crate::trace_line::{TotalKind, TraceLine};
+use covdata::{BranchPoint, Bytes, Memory, TotalKind, TraceLine};
 use std::alloc::Allocator;
 
 /// Appends the record to `text`, as a line with a line feed. Leaves `text` unchanged on `Memory`. Appends nothing for `Skip`, and

@@ -2,17 +2,16 @@
 //! fields from left to right.
 
 ghost use Rattle.std.specs.Prelude.{◌≡◌, ◌≤◌, ◌+◌, ◌*◌, ◌-◌, ◌++◌, ◌∷◌, ℕ, All, List, Option, [], None, Some, Ok, codes, option_map, Err, MatchOption, MatchResult, IfOk, IfErr, IfSome};
-ghost use Rattle.covline.specs.declared.trace_line.LineFault.{LineFault};
-ghost use Rattle.covline.specs.Points.{BranchPoint as BranchData};
-ghost use Rattle.covline.specs.PointView.{branch_point_data};
-ghost use Rattle.covline.specs.Spells.{LineData, Line, Branch, line_data, Spells, HasFault, BeginsWithLine};
+ghost use Rattle.covdata.specs.declared.trace_line.LineFault.{LineFault};
+ghost use Rattle.covdata.specs.Points.{BranchPoint as BranchData};
+ghost use Rattle.covdata.specs.PointView.{branch_point_data};
+ghost use Rattle.covdata.specs.Records.{LineData, Line, Branch, line_data};
+ghost use Rattle.covline.specs.Spells.{Spells, HasFault, BeginsWithLine};
 ghost use Rattle.covline.specs.Fronts.{BeginsWithBranchLine, BeginsWithCountedLine, after_checksum, branch_front, checksum_front, count_end, counted_front, small_front, small_of, taken_front};
-ghost use Rattle.covline.specs.Lines.{line_feed};
+ghost use Rattle.covdata.specs.Delimiters.{line_feed};
 ghost use Rattle.covline.specs.Reading.{Gives, after_key, sized_number, with_digit, digits_from, number_at, number_of, count_at, before_comma, field_at, taken_of, only_checksum, checksum_of, fit, fit_count, start_fields, func_count_fields, branch_of, branch_fields, line_fields, total_fields, path_fields, read_of};
 
-use crate::names::{good_checksum, is_checksum_byte};
-use crate::point::BranchPoint;
-use crate::trace_line::{LineFault, TotalKind, TraceLine};
+use covdata::{BranchPoint, LineFault, TotalKind, TraceLine, good_checksum, is_checksum_byte};
 
 /// A parsed number, in the variant for its size.
 #[derive(Clone, Copy)]

@@ -5,10 +5,10 @@ use Rattle.std.specs.Prelude.{codes, ⊤}
 use Rattle.std.proofs.lemmas.List.{append-nil}
 use Rattle.std.proofs.lemmas.List.Concat.{flat_map-append}
 use Rattle.std.proofs.lemmas.List.Elements.{filter-append}
-use Rattle.covstore.specs.Content.{SectionData}
-use Rattle.covstore.specs.Files.{FileTotalsData, file_with_totals, files_with_totals}
-use Rattle.covstore.specs.Totals.{AreTotals, files_in, own_sections}
-use Rattle.covstore.proofs.TotalsDifferent.{are_totals}
+use Rattle.covtable.specs.Content.{SectionData}
+use Rattle.covtable.specs.Files.{FileTotalsData, file_with_totals, files_with_totals}
+use Rattle.covtable.specs.Totals.{AreTotals, files_in, own_sections}
+use Rattle.covtable.proofs.TotalsDifferent.{are_totals}
 use Rattle.covreport.specs.Choice.{ChoiceData, is_chosen}
 use Rattle.covlist.specs.Chosen.{chosen_among}
 use Rattle.covlist.specs.Json.{file_object, further_object, objects}

@@ -1,9 +1,9 @@
 -- The files that a list shows, and their totals.
 use Rattle.std.specs.Prelude.{List, filter}
-use Rattle.covstore.specs.declared.totals.Totals.{Totals}
-use Rattle.covstore.specs.Content.{SectionData}
-use Rattle.covstore.specs.Files.{FileTotalsData, files_with_totals}
-use Rattle.covstore.specs.Totals.{totals_of}
+use Rattle.covtable.specs.declared.totals.Totals.{Totals}
+use Rattle.covtable.specs.Content.{SectionData}
+use Rattle.covtable.specs.Files.{FileTotalsData, files_with_totals}
+use Rattle.covtable.specs.Totals.{totals_of}
 use Rattle.covreport.specs.Choice.{ChoiceData, is_chosen}
 
 -- the chosen ones of these files

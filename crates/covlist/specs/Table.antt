@@ -1,7 +1,7 @@
 -- The table of files with their totals, like that of lcov(1), --list.
 use Rattle.std.specs.Prelude.{ℕ, ◌+◌, ◌-◌, ◌*◌, ◌/◌, ◌%◌, ◌==◌, if◌then◌else◌, List, ◌++◌, length, replicate, codes, decimal, flat_map}
-use Rattle.covstore.specs.declared.totals.Totals.{Totals}
-use Rattle.covstore.specs.Files.{FileTotalsData}
+use Rattle.covtable.specs.declared.totals.Totals.{Totals}
+use Rattle.covtable.specs.Files.{FileTotalsData}
 use Rattle.covreport.specs.Summary.{tenths_of}
 use Rattle.covlist.specs.Shown.{shown_name}
 

@@ -3,15 +3,16 @@
 ghost use Rattle.std.specs.Prelude.{◌≡◌, ◌++◌, IfOk, OnOk, codes, if◌then◌else◌};
 ghost use Rattle.hex.specs.Hex.{encode_lower};
 ghost use Rattle.json.specs.Print.{quoted};
-ghost use Rattle.covstore.specs.FilesView.{file_totals_data};
+ghost use Rattle.covtable.specs.ValuesView.{file_totals_data};
 ghost use Rattle.covreport.specs.ChoiceView.{choice_data};
 ghost use Rattle.covlist.specs.Chosen.{chosen_files, totals_of_chosen};
 ghost use Rattle.covlist.specs.Json.{file_object, hexadecimal_name, list_json_of, members, name_member, objects, points, string_name, summary_json_of};
 
 use crate::numbers::put_number;
-use covline::{Bytes, Memory};
+use covdata::{Bytes, Memory};
 use covreport::{Choice, chosen_totals};
-use covstore::{FileTotals, Store, Totals};
+use covstore::Store;
+use covtable::{FileTotals, Totals};
 use json::Writer;
 use std::alloc::Allocator;
 

@@ -2,7 +2,7 @@
 
 ghost use Rattle.std.specs.Prelude.{◌≡◌, ◌≤◌, ◌++◌, OnOk, decimal, length, replicate};
 
-use covline::{Bytes, Memory};
+use covdata::{Bytes, Memory};
 use itoa::Buffer;
 use std::alloc::Allocator;
 

@@ -4,7 +4,7 @@ ghost use Rattle.std.specs.Prelude.{◌≡◌, ◌++◌, ◌∷◌, [], OnOk};
 ghost use Rattle.hex.specs.Hex.{encode_lower};
 ghost use Rattle.covlist.specs.Shown.{is_control as is_control_byte, shown_byte, shown_in_lines, shown_lines, shown_name};
 
-use covline::{Bytes, Memory};
+use covdata::{Bytes, Memory};
 use std::alloc::Allocator;
 
 /// Appends a file's name. A control byte (below 32, or 127) is printed as `\x` and two lower-case hexadecimal digits, a backslash

@@ -1,8 +1,8 @@
 //! Prints the table of files with their totals.
 
 ghost use Rattle.std.specs.Prelude.{◌≡◌, ◌≤◌, ◌++◌, ◌∷◌, [], IfOk, OnOk, flat_map};
-ghost use Rattle.covstore.specs.FilesView.{file_totals_data};
-ghost use Rattle.covstore.specs.Totals.{AreTotals};
+ghost use Rattle.covtable.specs.ValuesView.{file_totals_data};
+ghost use Rattle.covtable.specs.Totals.{AreTotals};
 ghost use Rattle.covreport.specs.ChoiceView.{choice_data};
 ghost use Rattle.covlist.specs.Chosen.{chosen_among, chosen_files, totals_of_chosen};
 ghost use Rattle.covlist.specs.Shown.{shown_name};
@@ -10,9 +10,10 @@ ghost use Rattle.covlist.specs.Table.{cell, file_row, heading, headings, list_ta
 
 use crate::numbers::{digits, put_number, put_spaces};
 use crate::shown::put_shown_name;
-use covline::{Bytes, Memory};
+use covdata::{Bytes, Memory};
 use covreport::{Choice, chosen_totals, tenths};
-use covstore::{FileTotals, Store, Totals};
+use covstore::Store;
+use covtable::{FileTotals, Totals};
 use std::alloc::Allocator;
 
 /// Returns the table of the chosen files (lcov(1), `--list`): a line of headings, a row for each file, ascending by path, and a row

@@ -3,6 +3,7 @@
 use std::process::Abort;
 use std::test::*;
 
+mod forms;
 mod heap;
 mod names;
 mod objects;

@@ -1,7 +1,7 @@
 //! Lists of seats.
 
 use crate::seat::Seat;
-use covline::Memory;
+use covdata::Memory;
 use covnews::Name;
 use std::alloc::{Allocator, Global};
 use std::marker::Model;

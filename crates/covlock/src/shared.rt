@@ -5,7 +5,7 @@ use crate::seat_list::{Seats, seats_for};
 use crate::shared_state::SharedState;
 use crate::start::Start;
 use covbook::{Book, BookFault, Entries, Entry, Keep, Op, Receipt};
-use covline::Memory;
+use covdata::Memory;
 use covnews::{Live, Name, News, Publisher, ReaderFault};
 use std::alloc::{Allocator, Global};
 use std::marker::Model;

@@ -1,6 +1,6 @@
 //! The values that a shared book is made of.
 
-use covline::Memory;
+use covdata::Memory;
 use covnews::HistorySeed;
 use std::alloc::{Allocator, Global};
 use std::marker::{Model, PhantomData};

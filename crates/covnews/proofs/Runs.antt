@@ -2,7 +2,7 @@
 use Rattle.std.proofs.Common.{◌≡◌, List, [], ◌∷◌, ◌++◌, ap, refl, subst, sym}
 use mathlib.Core.List.{IsPrefix}
 use Rattle.covbook.specs.Op.{EntryData}
-use Rattle.covstore.specs.Table.{Table}
+use Rattle.covtable.specs.Table.{Table}
 use Rattle.covbook.specs.Step.{ComesNext, IsLegal, answer_of, answers_from, answers_in, last_totals, ops_in, table_after, table_from, totals_at, totals_from, totals_in}
 
 -- if the answers of a history are those of the run, and the next entry has the answer that comes next in the run, then the

@@ -1,6 +1,6 @@
 -- What a snapshot says of a noted history.
 use Rattle.std.specs.Prelude.{◌≡◌, ℕ, List, length}
-use Rattle.covstore.specs.declared.totals.Totals.{Totals}
+use Rattle.covtable.specs.declared.totals.Totals.{Totals}
 use Rattle.covbook.specs.Op.{EntryData}
 use Rattle.covbook.specs.Step.{last_totals}
 

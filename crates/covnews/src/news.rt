@@ -5,7 +5,7 @@ use crate::name::Name;
 use crate::noted::NotedEntry;
 use crate::snapshot::Snapshot;
 use covbook::{Entry, Reading};
-use covstore::Totals;
+use covtable::Totals;
 use logbook::Offer;
 use std::alloc::Allocator;
 use std::marker::{Model, PhantomData};

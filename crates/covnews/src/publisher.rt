@@ -7,7 +7,7 @@ use crate::name::{HistorySeed, Name};
 use crate::news::News;
 use crate::snapshot_cell::SnapshotCell;
 use covbook::Entry;
-use covline::Memory;
+use covdata::Memory;
 use std::alloc::{Allocator, Global};
 use std::marker::Model;
 use std::sync::Wait;

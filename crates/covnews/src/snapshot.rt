@@ -4,7 +4,7 @@ ghost use Rattle.covnews.specs.Snapshot.{Describes};
 
 use crate::ghost_history::SeenHistory;
 use crate::name::Name;
-use covstore::Totals;
+use covtable::Totals;
 use crossbeam_utils::rule::{Outcome, Protocol};
 use left_right::Absorb;
 use left_right::reader::Reader;

@@ -4,7 +4,7 @@ use Rattle.std.specs.Prelude.{OnErr, Result, Ok, Err, Option, Some, IfSome, slic
 use Rattle.std.specs.List.{AllByRecursion}
 use Rattle.std.proofs.lemmas.List.Sums.{sum_by-cons}
 use Rattle.std.proofs.lemmas.List.{drop_all, length-append, length-drop, length-map, length-take-le}
-use Rattle.covline.specs.Row.{ItemData, SectData, items_in}
+use Rattle.covdata.specs.Row.{ItemData, SectData, items_in}
 use Rattle.covpacked.specs.declared.packed_sects.ClosedSect.{ClosedSect}
 use Rattle.covpacked.specs.declared.packed_sects.TextPlace.{TextPlace}
 use Rattle.covpacked.specs.Layout.{BeginWith}

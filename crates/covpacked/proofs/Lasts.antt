@@ -3,7 +3,7 @@ use Rattle.std.proofs.Common.{◌≡◌, ℕ, suc, ◌+◌, ◌-◌, ◌<◌, Li
 use Rattle.std.specs.Prelude.{slice_get}
 use Rattle.std.proofs.lemmas.List.{take_all, take_more}
 use Rattle.std.proofs.lemmas.Option.{get_or_from_slice_get, slice_get_within}
-use Rattle.covline.specs.Row.{ItemData, SectData}
+use Rattle.covdata.specs.Row.{ItemData, SectData}
 use Rattle.covpacked.specs.PackedView.{sects_of}
 use Rattle.covpacked.specs.ReadTexts.{IsLastTest}
 use Rattle.covpacked.specs.Words.{text_at}

@@ -2,7 +2,7 @@
 use Rattle.std.proofs.Common.{◌≡◌, ℕ, ◌+◌, ◌-◌, ◌*◌, ◌/◌, ◌<◌, ◌≤◌, ◌%◌, Bool, true, false, if◌then◌else◌, nat_lt, List, [], ◌∷◌, ◌++◌, length, take, drop, Some, refl, sym, ap, ◌∙◌, subst, arith}
 use Rattle.std.specs.List.{AllByRecursion}
 use Rattle.std.proofs.lemmas.List.{get_or_append_left, length-append, length-drop, drop-append-le, take-append-le}
-use Rattle.covline.specs.Row.{ItemData, LineItem, FuncItem}
+use Rattle.covdata.specs.Row.{ItemData, LineItem, FuncItem}
 use Rattle.covpacked.specs.declared.parts.Kind.{Kind}
 use Rattle.covpacked.specs.declared.parts.Kind.TheVariants.{Line, Checked, Taken, Untaken, Function}
 use Rattle.covpacked.specs.declared.parts.Parts.{Parts}

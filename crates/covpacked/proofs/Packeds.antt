@@ -3,7 +3,7 @@ use Rattle.std.proofs.Common.{◌≡◌, ℕ, zero, suc, ◌+◌, ◌≤◌, Lis
 use Rattle.std.specs.Prelude.{OnErr, OnOk, Result, Ok, Err}
 use Rattle.std.specs.List.{AllByRecursion}
 use Rattle.std.proofs.lemmas.List.{length-append, length-drop, length-map, drop-append-le, take-append-le, take_all, drop-drop, drop_all, map-append}
-use Rattle.covline.specs.Row.{ItemData, LineItem, FuncItem, SectData}
+use Rattle.covdata.specs.Row.{ItemData, LineItem, FuncItem, SectData}
 use Rattle.covpacked.specs.declared.packed_sects.ClosedSect.{ClosedSect}
 use Rattle.covpacked.specs.declared.parts.Kind.{Kind}
 use Rattle.covpacked.specs.declared.parts.Kind.TheVariants.{Line, Checked, Taken, Untaken, Function}

@@ -2,7 +2,7 @@
 use Rattle.std.proofs.Common.{◌≡◌, ℕ, zero, suc, ◌+◌, ◌≤◌, ◌==◌, Bool, true, false, if◌then◌else◌, List, [], ◌∷◌, ◌++◌, length, map, take, drop, refl, sym, ap, ◌∙◌, subst, arith, append-nil, append_assoc, get_or, set, ◌<◌, rules}
 use Rattle.std.specs.List.{AllByRecursion}
 use Rattle.std.proofs.lemmas.List.{drop_all, drop_at, drop_more, drop-set-lt, take_more_set, length-append, length-map, length-take-le, map-append, take-append-drop, drop-map}
-use Rattle.covline.specs.Row.{ItemData}
+use Rattle.covdata.specs.Row.{ItemData}
 use Rattle.covpacked.specs.declared.packed_sects.ClosedSect.{ClosedSect}
 use Rattle.covpacked.specs.Layout.{HasText, LieBetween, begin_of, place_of, room_of}
 use Rattle.covpacked.specs.OpenItems.{left, starts_with}

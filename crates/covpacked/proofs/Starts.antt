@@ -3,7 +3,7 @@ use Rattle.std.proofs.Common.{◌≡◌, ◌≢◌, ℕ, zero, suc, ◌+◌, ◌
 use Rattle.std.specs.List.{AllByRecursion}
 use Rattle.std.proofs.lemmas.Bool.{ltb-false}
 use Rattle.std.proofs.lemmas.List.{get_or_read, get_or-set_other, get_or-set_same, length-drop, length-map, length-set}
-use Rattle.covline.specs.Row.{ItemData, SectData, with_start}
+use Rattle.covdata.specs.Row.{ItemData, SectData, with_start}
 use Rattle.covpacked.specs.declared.packed_sects.ClosedSect.{ClosedSect}
 use Rattle.covpacked.specs.declared.parts.Kind.{Kind}
 use Rattle.covpacked.specs.declared.parts.Kind.TheVariants.{Line, Checked, Taken, Untaken, Function}

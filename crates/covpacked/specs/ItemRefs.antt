@@ -1,6 +1,6 @@
 -- The `ItemRef` of the Rattle code, as plain data.
 use Rattle.std.specs.Prelude.{option_map}
-use Rattle.covline.specs.Row.{ItemData, LineItem, FuncItem, BranchItem}
+use Rattle.covdata.specs.Row.{ItemData, LineItem, FuncItem, BranchItem}
 use Rattle.covpacked.specs.declared.item_ref.ItemRef.{ItemRef}
 use Rattle.covpacked.specs.declared.item_ref.ItemRef.TheVariants as refs
 

@@ -1,6 +1,6 @@
 -- What is changed in the items of an open section.
 use Rattle.std.specs.Prelude.{ℕ, zero, suc, ◌+◌, ◌==◌, Bool, false, if◌then◌else◌, List, [], ◌∷◌}
-use Rattle.covline.specs.Row.{ItemData, with_start}
+use Rattle.covdata.specs.Row.{ItemData, with_start}
 
 -- these items, of which the one at this place got this start line
 abbrev pub start_set : ℕ → ℕ → List ItemData → List ItemData

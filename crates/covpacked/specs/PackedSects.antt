@@ -1,5 +1,5 @@
 -- The `PackedSect` of the Rattle code, as plain data.
-use Rattle.covline.specs.Row.{SectData}
+use Rattle.covdata.specs.Row.{SectData}
 use Rattle.covpacked.specs.declared.sect_iter.PackedSect.{PackedSect}
 
 abbrev pub packed_sect_data : PackedSect → SectData

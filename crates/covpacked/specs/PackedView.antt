@@ -1,7 +1,7 @@
 -- What packed sections say.
 use Rattle.std.specs.Prelude.{◌≡◌, ℕ, ◌+◌, ◌≤◌, List, [], ◌∷◌, length, map, take, drop}
 use Rattle.std.specs.List.{AllByRecursion}
-use Rattle.covline.specs.Row.{ItemData, SectData}
+use Rattle.covdata.specs.Row.{ItemData, SectData}
 use Rattle.covpacked.specs.declared.packed_sects.ClosedSect.{ClosedSect}
 use Rattle.covpacked.specs.declared.packed_sects.TextPlace.{TextPlace}
 use Rattle.covpacked.specs.Layout.{HasText, LieBetween}

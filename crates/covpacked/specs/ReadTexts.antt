@@ -1,6 +1,6 @@
 -- The test of the last section.
 use Rattle.std.specs.Prelude.{◌≡◌, ℕ, List, [], ◌∷◌, ◌++◌}
-use Rattle.covline.specs.Row.{SectData}
+use Rattle.covdata.specs.Row.{SectData}
 
 -- the last of these sections is of this test
 pub record IsLastTest (sects : List SectData) (test : List ℕ) : Type 0 where

@@ -3,7 +3,7 @@
 -- line (30 bits), and 31 bits for the count of a line without a checksum, or for the index of the item's first number. Any other
 -- word is 2^63 and the index of the first of six numbers, which are the item's parts.
 use Rattle.std.specs.Prelude.{ℕ, ◌+◌, ◌-◌, ◌*◌, ◌/◌, ◌%◌, ◌==◌, nat_lt, List, take, drop, Some, None, if◌then◌else◌, slice_index_or}
-use Rattle.covline.specs.Row.{ItemData, LineItem, FuncItem, BranchItem}
+use Rattle.covdata.specs.Row.{ItemData, LineItem, FuncItem, BranchItem}
 use Rattle.covpacked.specs.declared.parts.Kind.{Kind}
 use Rattle.covpacked.specs.declared.parts.Kind.TheVariants.{Line, Checked, Taken, Untaken, Function}
 use Rattle.covpacked.specs.declared.parts.Parts.{Parts}

@@ -1,8 +1,8 @@
 //! Packs and unpacks submissions.
 
 ghost use Rattle.std.specs.Prelude.{◌≡◌, ◌≢◌, ◌++◌, [], ◌∷◌, IfOk, OnErr, OnOk, map, option_map};
-ghost use Rattle.covline.specs.Row.{item_data};
-ghost use Rattle.covline.specs.SectView.{sect_data};
+ghost use Rattle.covdata.specs.Row.{item_data};
+ghost use Rattle.covdata.specs.SectView.{sect_data};
 ghost use Rattle.covpacked.specs.ItemRefs.{item_ref_data};
 ghost use Rattle.covpacked.specs.PackedSects.{packed_sect_data};
 
@@ -11,7 +11,7 @@ use crate::packed_items::PackedItems;
 use crate::packed_sects::PackedSects;
 use crate::packed_submission::PackedSubmission;
 use crate::sect_iter::PackedSect;
-use covline::{Bytes, Item, Items, Memory, Sect, Sects, Submission};
+use covdata::{Bytes, Item, Items, Memory, Sect, Sects, Submission};
 use std::alloc::Allocator;
 
 /// Packs a submission.

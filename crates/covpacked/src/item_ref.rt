@@ -1,13 +1,13 @@
 //! Items with borrowed names and checksums.
 
 ghost use Rattle.std.specs.Prelude.{◌≡◌, option_map, option_to_list};
-ghost use Rattle.covline.specs.PointView.{branch_point_data};
-ghost use Rattle.covline.specs.Points.{branch_point, is_hit, line_point};
+ghost use Rattle.covdata.specs.PointView.{branch_point_data};
+ghost use Rattle.covdata.specs.Points.{branch_point, is_hit, line_point};
 ghost use Rattle.covpacked.specs.ItemRefs.{item_ref_data};
 
-use covline::BranchPoint;
+use covdata::BranchPoint;
 
-/// One count of a source file, like covline's `Item`, but with a borrowed name or checksum (geninfo(1), section FILES).
+/// One count of a source file, like covdata's `Item`, but with a borrowed name or checksum (geninfo(1), section FILES).
 #[derive(Clone, Copy)]
 pub enum ItemRef<'a> {
     /// The execution count of an instrumented line, with the checksum of the line's text if the record has one (`DA:`).

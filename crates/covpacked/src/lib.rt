@@ -1,6 +1,6 @@
 //! Packed submissions: eight bytes for a line, sixteen for a branch, and more for a function, a checksum or a large number.
 //!
-//! [`PackedSects`] collects items and closes sections. [`PackedSubmission`] is the content of an input, like covline's
+//! [`PackedSects`] collects items and closes sections. [`PackedSubmission`] is the content of an input, like covdata's
 //! `Submission`. A packed submission consists of four lists, however many sections it has: a word for each item, further numbers,
 //! the bytes of all texts, and the locations of each section's names. Callers read items by index or by an iterator, as
 //! [`ItemRef`]s, which borrow names and checksums. Contracts see the same sections and items as for a `Submission`.

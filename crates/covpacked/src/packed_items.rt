@@ -1,7 +1,7 @@
 //! The packed items of a section.
 
 ghost use Rattle.std.specs.Prelude.{◌≡◌};
-ghost use Rattle.covline.specs.Row.{BranchItem};
+ghost use Rattle.covdata.specs.Row.{BranchItem};
 ghost use Rattle.covpacked.specs.ItemRefs.{item_ref_data};
 ghost use Rattle.covpacked.specs.Words.{item_of_parts, text_at};
 
@@ -19,7 +19,7 @@ pub struct PackedItems<'a> {
 
 impl<'a> Model for PackedItems<'a> {
     ghost use Rattle.std.specs.Prelude.{List};
-    ghost use Rattle.covline.specs.Row.{ItemData};
+    ghost use Rattle.covdata.specs.Row.{ItemData};
     ghost use Rattle.covpacked.specs.PackedView.{items_of};
 
     ghost Value = { List ItemData };

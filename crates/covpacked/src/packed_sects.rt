@@ -11,7 +11,7 @@ use crate::item_ref::ItemRef;
 use crate::packed_items::{PackedItems, text_at};
 use crate::parts::{Kind, Parts, append, set_line};
 use crate::sect_iter::PackedSectsIter;
-use covline::{BranchPoint, Memory};
+use covdata::{BranchPoint, Memory};
 use std::alloc::{Allocator, Global};
 use std::marker::Model;
 
@@ -75,7 +75,7 @@ impl<A: Allocator + Copy> PackedSects<A> {
 
 impl<A: Allocator> PackedSects<A> {
     ghost use Rattle.std.specs.Prelude.{◌≡◌, ◌<◌, ◌++◌, List, [], ◌∷◌, MatchOption, OnErr, OnOk, length, option_map};
-    ghost use Rattle.covline.specs.Row.{LineItem, FuncItem, BranchItem, items_in};
+    ghost use Rattle.covdata.specs.Row.{LineItem, FuncItem, BranchItem, items_in};
     ghost use Rattle.covpacked.specs.ReadTexts.{IsLastTest};
     ghost use Rattle.covpacked.specs.ItemRefs.{item_ref_data};
     ghost use Rattle.covpacked.specs.OpenItems.{left, start_set};

@@ -3,11 +3,11 @@
 use crate::packed_sects::PackedSects;
 use crate::same::{same_sects, same_sects_as};
 use crate::sect_iter::PackedSectsIter;
-use covline::Submission;
+use covdata::Submission;
 use std::alloc::{Allocator, Global};
 use std::marker::Model;
 
-/// The packed content of one input: its sections, and its number of inconsistent lines (`odd`), like covline's `Submission`. The
+/// The packed content of one input: its sections, and its number of inconsistent lines (`odd`), like covdata's `Submission`. The
 /// sections have lawful names and checksums, and together at most 67,108,864 items. Contracts see the sections and `odd`.
 #[derive(Drop)]
 pub struct PackedSubmission<A: Allocator = Global> {
@@ -16,8 +16,8 @@ pub struct PackedSubmission<A: Allocator = Global> {
 }
 
 impl<A: Allocator> Model for PackedSubmission<A> {
-    ghost use Rattle.covline.specs.Row.{SubmissionData};
-    ghost use Rattle.covline.specs.Lawful.{IsLawful};
+    ghost use Rattle.covdata.specs.Row.{SubmissionData};
+    ghost use Rattle.covdata.specs.Lawful.{IsLawful};
 
     ghost Value = { SubmissionData };
 
@@ -28,9 +28,9 @@ impl<A: Allocator> Model for PackedSubmission<A> {
 
 impl<A: Allocator> PackedSubmission<A> {
     ghost use Rattle.std.specs.Prelude.{◌≡◌, ◌↔◌, [], IsTrue, MatchOption, length};
-    ghost use Rattle.covline.specs.Row.{items_in};
+    ghost use Rattle.covdata.specs.Row.{items_in};
     ghost use Rattle.covpacked.specs.ReadTexts.{IsLastTest};
-    ghost use Rattle.covline.specs.Lawful.{IsLawful};
+    ghost use Rattle.covdata.specs.Lawful.{IsLawful};
 
     /// Makes a submission of the closed sections, which must be lawful. `odd` is the number of inconsistent lines in their input.
     /// Drops the items of the open section.

@@ -5,7 +5,7 @@ ghost use Rattle.covpacked.specs.Layout.{BeginWith, IsAppended, IsBranch, IsPack
 ghost use Rattle.covpacked.specs.declared.parts.Kind.TheVariants as kinds;
 ghost use Rattle.covpacked.specs.Words.{kind_number, kind_of, line_in, long_parts, long_word, number_at, parts_of, short_parts, upper_in};
 
-use covline::Memory;
+use covdata::Memory;
 use std::alloc::Allocator;
 
 /// The kind of an item.

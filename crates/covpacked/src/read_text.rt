@@ -1,13 +1,13 @@
 //! The trait of submissions, packed or not.
 
 use crate::packed_submission::PackedSubmission;
-use covline::Submission;
+use covdata::Submission;
 use std::alloc::Allocator;
 
 /// A submission that was read from an input, packed or not. Contracts see the submission.
 pub trait ReadText {
     ghost use Rattle.std.specs.Prelude.{◌≡◌, [], MatchOption, length};
-    ghost use Rattle.covline.specs.Row.{SubmissionData, items_in};
+    ghost use Rattle.covdata.specs.Row.{SubmissionData, items_in};
     ghost use Rattle.covpacked.specs.ReadTexts.{IsLastTest};
 
     // The submission, as contracts see it.

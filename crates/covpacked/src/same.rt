@@ -1,8 +1,8 @@
 //! Compares items and sections, without allocating.
 
 ghost use Rattle.std.specs.Prelude.{◌≡◌, ◌↔◌, ◌∷◌, IsTrue, drop, map, option_map};
-ghost use Rattle.covline.specs.Row.{BranchItem, FuncItem, LineItem};
-ghost use Rattle.covline.specs.SectView.{sect_data};
+ghost use Rattle.covdata.specs.Row.{BranchItem, FuncItem, LineItem};
+ghost use Rattle.covdata.specs.SectView.{sect_data};
 ghost use Rattle.covpacked.specs.ItemRefs.{item_ref_data};
 ghost use Rattle.covpacked.specs.PackedSects.{packed_sect_data};
 
@@ -10,7 +10,7 @@ use crate::convert::borrowed;
 use crate::item_ref::ItemRef;
 use crate::packed_items::PackedItems;
 use crate::sect_iter::{PackedSect, PackedSectsIter};
-use covline::{Items, Sect};
+use covdata::{Items, Sect};
 use std::alloc::Allocator;
 
 /// Whether both iterators return equal sections in the same order.

@@ -26,7 +26,7 @@ pub struct PackedSectsIter<'a> {
 
 impl<'a> Model for PackedSectsIter<'a> {
     ghost use Rattle.std.specs.Prelude.{List};
-    ghost use Rattle.covline.specs.Row.{SectData};
+    ghost use Rattle.covdata.specs.Row.{SectData};
     ghost use Rattle.covpacked.specs.PackedView.{items_of, sects_of};
 
     ghost Value = { List SectData };

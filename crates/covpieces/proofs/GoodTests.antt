@@ -2,9 +2,9 @@
 use Rattle.std.proofs.Common.{ℕ, List, [], ◌∷◌, ◌++◌, codes, lit<}
 use Rattle.std.specs.Prelude.{All}
 use Rattle.std.proofs.lemmas.List.Elements.{All-from_recursion, All-head, All-tail}
-use Rattle.covline.specs.Lawful.{IsGoodTest, IsLawfulSect}
-use Rattle.covline.specs.Row.{SectData}
-use Rattle.covline.proofs.GoodTexts.{IsPlain, IsGoodTest-append, IsGoodTest-plain}
+use Rattle.covdata.specs.Lawful.{IsGoodTest, IsLawfulSect}
+use Rattle.covdata.specs.Row.{SectData}
+use Rattle.covdata.proofs.GoodTexts.{IsPlain, IsGoodTest-append, IsGoodTest-plain}
 use Rattle.covpieces.specs.Pieces.{group_line, last_test}
 
 -- the line of a test's name

@@ -3,13 +3,14 @@ use Rattle.std.proofs.Common.{◌≡◌, ◌⊎◌, ℕ, ◌+◌, ◌-◌, Bool,
 use Rattle.std.specs.Prelude.{All, codes}
 use Rattle.std.specs.List.{concat}
 use Rattle.std.proofs.lemmas.List.{append-nil}
-use Rattle.covline.specs.Lawful.{IsGoodTest, IsLawful, IsLawfulSect}
-use Rattle.covline.specs.Lines.{line_feed, lines_of}
-use Rattle.covline.specs.Row.{SectData, SubmissionData}
+use Rattle.covdata.specs.Lawful.{IsGoodTest, IsLawful, IsLawfulSect}
+use Rattle.covdata.specs.Delimiters.{line_feed}
+use Rattle.covline.specs.Lines.{lines_of}
+use Rattle.covdata.specs.Row.{SectData, SubmissionData}
 use Rattle.covline.specs.Spells.{Begins}
 use Rattle.covline.proofs.Cut.{lines-append, lines_at, strip-none}
-use Rattle.covread.specs.declared.fault.ReadFault.{ReadFault}
-use Rattle.covread.specs.declared.fault.ReadFault.TheVariants.{TooLong, Line, Outside, Inside, OpenEnd, BadMark, NoSource, Percent, Instances, Misplaced, LostFunction, BadTest, Memory}
+use Rattle.covdata.specs.declared.fault.ReadFault.{ReadFault}
+use Rattle.covdata.specs.declared.fault.ReadFault.TheVariants.{TooLong, Line, Outside, Inside, OpenEnd, BadMark, NoSource, Percent, Instances, Misplaced, LostFunction, BadTest, Memory}
 use Rattle.covpieces.specs.Sections.{EndsSection}
 use Rattle.covpieces.specs.Pieces.{EndSections, IsCut, CarriedData, nothing_carried, group_line, with_name, front_lines, name_text, front_text, renumbered, moved_number, moved, joined, no_sections, with_first, ReadsInPieces}
 use Rattle.covpieces.proofs.Faults.{Reading, GoAlike}

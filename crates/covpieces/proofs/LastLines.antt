@@ -4,7 +4,8 @@ use Rattle.std.specs.Prelude.{codes, count_by}
 use Rattle.std.proofs.lemmas.List.Sums.{sum_by-cons}
 use Rattle.std.proofs.lemmas.List.{take_more, same_from_push, take-append-le, length-map}
 use Rattle.std.proofs.lemmas.List.Elements.{All-get_or}
-use Rattle.covline.specs.Lines.{line_feed, onto_first, pieces_of, line_of, strip, lines_of}
+use Rattle.covdata.specs.Delimiters.{line_feed}
+use Rattle.covline.specs.Lines.{onto_first, pieces_of, line_of, strip, lines_of}
 use Rattle.covline.specs.Spells.{Begins}
 use Rattle.covline.proofs.Cut.{lines_at, lines-append}
 use Rattle.covpieces.specs.Sections.{EndsSection, AreWholeSections, has_key, grouped_after}

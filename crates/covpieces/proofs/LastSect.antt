@@ -1,6 +1,6 @@
 -- The test of the last section.
 use Rattle.std.proofs.Common.{◌≡◌, ℕ, List, [], ◌∷◌, ◌++◌, refl, sym, ap, ◌∙◌}
-use Rattle.covline.specs.Row.{SectData}
+use Rattle.covdata.specs.Row.{SectData}
 use Rattle.covpacked.specs.ReadTexts.{IsLastTest}
 use Rattle.covpieces.specs.Pieces.{last_test}
 

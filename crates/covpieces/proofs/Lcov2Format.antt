@@ -1,11 +1,11 @@
 -- What is known of tracefiles of LCOV 2.
 use Rattle.std.proofs.Common.{◌≡◌, ◌⊎◌, ℕ, List, [], ◌∷◌, ◌++◌, Result, Ok, Err, refl, sym, ap, ◌∙◌, append_assoc, inl, inr}
 use Rattle.std.specs.List.{flat_map}
-use Rattle.covline.specs.Lawful.{IsLawful}
+use Rattle.covdata.specs.Lawful.{IsLawful}
 use Rattle.covline.specs.Lines.{lines_of}
-use Rattle.covline.specs.Row.{SubmissionData}
-use Rattle.covread.specs.declared.fault.ReadFault.{ReadFault}
-use Rattle.covread.specs.declared.fault.ReadFault.TheVariants.{TooLong}
+use Rattle.covdata.specs.Row.{SubmissionData}
+use Rattle.covdata.specs.declared.fault.ReadFault.{ReadFault}
+use Rattle.covdata.specs.declared.fault.ReadFault.TheVariants.{TooLong}
 use Rattle.covread.specs.Reads.{records_of}
 use Rattle.covlcov2.specs.LineLaws.{Lcov2LineLaw}
 use Rattle.covlcov2.specs.Reads.{Reads}

@@ -2,7 +2,7 @@
 use Rattle.std.proofs.Common.{◌≡◌, ℕ, ◌<◌, ◌≤◌, List, [], ◌∷◌, ◌++◌, length, take, refl, sym, ap, subst, ◌∙◌, length-append, take_at, arith, inl, inr}
 use Rattle.std.proofs.lemmas.Bool.{cases_lt}
 use Rattle.std.proofs.lemmas.List.{take-append-le}
-use Rattle.covline.specs.Lines.{line_feed}
+use Rattle.covdata.specs.Delimiters.{line_feed}
 use Rattle.covpieces.specs.Sections.{AreWholeSections, EndsSection}
 
 some_bytes : (piece : List ℕ) → EndsSection piece → 0 < length piece

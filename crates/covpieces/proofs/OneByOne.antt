@@ -2,9 +2,9 @@
 use Rattle.std.proofs.Common.{◌≡◌, ◌⊎◌, ℕ, ◌+◌, List, [], ◌∷◌, ◌++◌, Result, Ok, Err, refl, sym, ap, subst, ◌∙◌, append_assoc, arith, inl, inr}
 use Rattle.std.specs.List.{concat}
 use Rattle.std.proofs.lemmas.List.{append-nil}
-use Rattle.covline.specs.Row.{SectData, SubmissionData}
-use Rattle.covread.specs.declared.fault.ReadFault.{ReadFault}
-use Rattle.covread.specs.declared.fault.ReadFault.TheVariants.{TooLong, Line, Outside, Inside, OpenEnd, BadMark, NoSource, Percent, Instances, Misplaced, LostFunction, BadTest, Memory}
+use Rattle.covdata.specs.Row.{SectData, SubmissionData}
+use Rattle.covdata.specs.declared.fault.ReadFault.{ReadFault}
+use Rattle.covdata.specs.declared.fault.ReadFault.TheVariants.{TooLong, Line, Outside, Inside, OpenEnd, BadMark, NoSource, Percent, Instances, Misplaced, LostFunction, BadTest, Memory}
 use Rattle.covpieces.specs.Sections.{EndsSection}
 use Rattle.covpieces.specs.Pieces.{EndSections, IsCut, CarriedData, nothing_carried, front_text, moved, joined, no_sections, with_first, ReadsInPieces, all_of, HaveBeenRead, OneByOne}
 use Rattle.covpieces.proofs.InPieces.{Outcomes, Next, joined_nothing}

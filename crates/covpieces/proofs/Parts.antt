@@ -3,8 +3,8 @@ use Rattle.std.proofs.Common.{◌≡◌, ℕ, List, [], ◌∷◌, ◌++◌, ref
 use Rattle.std.specs.List.{flat_map, AllByRecursion}
 use Rattle.std.proofs.lemmas.List.{append_cancel_left}
 use Rattle.std.proofs.lemmas.List.Concat.{flat_map-append}
-use Rattle.covline.specs.Row.{SectData}
-use Rattle.covline.specs.Spells.{LineData, Path, End}
+use Rattle.covdata.specs.Row.{SectData}
+use Rattle.covdata.specs.Records.{LineData, Path, End}
 use Rattle.covread.specs.Reads as reads
 use Rattle.covread.specs.Reads.{Part, Outside, Section, IsOutside, IsInside, IsLawfulPart, records_of, items_of, sects_from}
 use Rattle.covread.proofs.AllOf.{all_back}

@@ -1,9 +1,9 @@
 -- Each list of pieces says something, and the whole text says one thing: so the whole is read in pieces as it is read at once.
 use Rattle.std.proofs.Common.{◌≡◌, ◌⊎◌, ℕ, List, [], ◌∷◌, ◌++◌, Result, Ok, Err, refl, ap, subst, inl, inr}
 use Rattle.covline.specs.Lines.{lines_of}
-use Rattle.covline.specs.Row.{SubmissionData}
-use Rattle.covread.specs.declared.fault.ReadFault.{ReadFault}
-use Rattle.covread.specs.declared.fault.ReadFault.TheVariants.{TooLong}
+use Rattle.covdata.specs.Row.{SubmissionData}
+use Rattle.covdata.specs.declared.fault.ReadFault.{ReadFault}
+use Rattle.covdata.specs.declared.fault.ReadFault.TheVariants.{TooLong}
 use Rattle.covread.proofs.TraceGrammar.{LineLaw}
 use Rattle.covread.proofs.TraceOutcome as trace
 use Rattle.covlcov2.specs.LineLaws.{Lcov2LineLaw}

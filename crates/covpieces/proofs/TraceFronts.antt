@@ -5,10 +5,11 @@ use Rattle.std.specs.List.{flat_map, sum_by, AllByRecursion}
 use Rattle.std.proofs.lemmas.List.{append-nil}
 use Rattle.std.proofs.lemmas.List.Concat.{flat_map-append}
 use Rattle.std.proofs.lemmas.List.Sums.{sum_by-cons, sum_by-append}
-use Rattle.covline.specs.Row.{SectData, SubmissionData}
-use Rattle.covline.specs.Spells.{LineData, Test, Path, End, Skip, Begins, Spells}
-use Rattle.covread.specs.declared.fault.ReadFault.{ReadFault}
-use Rattle.covread.specs.declared.fault.ReadFault.TheVariants as faults
+use Rattle.covdata.specs.Row.{SectData, SubmissionData}
+use Rattle.covdata.specs.Records.{LineData, Test, Path, End, Skip}
+use Rattle.covline.specs.Spells.{Begins, Spells}
+use Rattle.covdata.specs.declared.fault.ReadFault.{ReadFault}
+use Rattle.covdata.specs.declared.fault.ReadFault.TheVariants as faults
 use Rattle.covread.specs.Reads as reads
 use Rattle.covread.specs.Reads.{AllSpell, Part, Outside, Section, IsLawfulPart, records_of, odd_in, sects_from, Reads}
 use Rattle.covread.specs.Outcome.{IsLawfulText, MayGoOn, IsFirstFaulty, IsFirstFault}

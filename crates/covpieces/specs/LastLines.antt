@@ -1,6 +1,7 @@
 -- The last line of a text: for the private steps that go over the lines from the end.
 use Rattle.std.specs.Prelude.{◌≡◌, ◌≢◌, ◌⊎◌, ℕ, Bool, true, false, ◌==◌, if◌then◌else◌, List, [], ◌∷◌, ◌++◌, All, Option, None, Some, codes}
-use Rattle.covline.specs.Lines.{line_feed, strip}
+use Rattle.covdata.specs.Delimiters.{line_feed}
+use Rattle.covline.specs.Lines.{strip}
 use Rattle.covline.specs.Spells.{Begins}
 use Rattle.covpieces.specs.Sections.{EndsSection, has_key}
 

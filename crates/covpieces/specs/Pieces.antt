@@ -1,10 +1,11 @@
 -- A tracefile that is read in pieces: what a piece is, what goes over into the next piece, and what the pieces say together.
 use Rattle.std.specs.Prelude.{◌≡◌, ◌⊎◌, ℕ, ◌+◌, ◌-◌, ◌^◌, min, Bool, false, if◌then◌else◌, List, [], ◌∷◌, ◌++◌, length, Result, Ok, Err, codes}
 use Rattle.std.specs.List.{concat}
-use Rattle.covline.specs.Row.{SectData, SubmissionData}
-use Rattle.covline.specs.Lines.{line_feed, lines_of}
-use Rattle.covread.specs.declared.fault.ReadFault.{ReadFault}
-use Rattle.covread.specs.declared.fault.ReadFault.TheVariants.{TooLong, Line, Outside, Inside, OpenEnd, BadMark, NoSource, Percent, Instances, Misplaced, LostFunction, BadTest, Memory}
+use Rattle.covdata.specs.Row.{SectData, SubmissionData}
+use Rattle.covdata.specs.Delimiters.{line_feed}
+use Rattle.covline.specs.Lines.{lines_of}
+use Rattle.covdata.specs.declared.fault.ReadFault.{ReadFault}
+use Rattle.covdata.specs.declared.fault.ReadFault.TheVariants.{TooLong, Line, Outside, Inside, OpenEnd, BadMark, NoSource, Percent, Instances, Misplaced, LostFunction, BadTest, Memory}
 use Rattle.covpieces.specs.Sections.{EndsSection, grouped_after}
 
 -- each piece but the last ends with the last line of a section

@@ -1,7 +1,8 @@
 -- Sections of a tracefile, by the keys of their lines: where a section ends, and where functions are grouped (LCOV 2).
 use Rattle.std.specs.Prelude.{◌≡◌, ℕ, ◌<◌, ◌≤◌, Bool, true, false, if◌then◌else◌, List, [], ◌∷◌, ◌++◌, length, take, codes}
 use Rattle.std.specs.Option.{is_some}
-use Rattle.covline.specs.Lines.{line_feed, lines_of}
+use Rattle.covdata.specs.Delimiters.{line_feed}
+use Rattle.covline.specs.Lines.{lines_of}
 use Rattle.covline.specs.Reading.{after_key}
 use Rattle.covline.specs.Spells.{Begins}
 

@@ -1,8 +1,8 @@
 -- What a tracefile of any length is read as: as `IsOutcome` of covread and of covlcov2 has it, without a limit on the length.
 use Rattle.std.specs.Prelude.{ℕ, List, Result, Ok, Err}
-use Rattle.covline.specs.Row.{SubmissionData}
+use Rattle.covdata.specs.Row.{SubmissionData}
 use Rattle.covline.specs.Lines.{lines_of}
-use Rattle.covread.specs.declared.fault.ReadFault.{ReadFault}
+use Rattle.covdata.specs.declared.fault.ReadFault.{ReadFault}
 use Rattle.covread.specs.Reads.{Reads}
 use Rattle.covread.specs.Outcome.{IsFirstFault}
 use Rattle.covlcov2.specs.Reads as lcov2

@@ -1,9 +1,8 @@
 //! The state that is carried over from one chunk of a tracefile to the next.
 
 use crate::cut::{count_lines, grouped_after};
-use covline::{Bytes, Memory};
+use covdata::{Bytes, Memory, ReadFault};
 use covpacked::ReadText;
-use covread::ReadFault;
 use std::alloc::{Allocator, Global};
 use std::marker::Model;
 

@@ -1,9 +1,9 @@
 //! Laws of tracefiles that are read in chunks. Each law is the contract of a function that does nothing.
 
 ghost use Rattle.std.specs.Prelude.{◌≡◌, ◌⊎◌, ◌++◌, ◌<◌, ◌≤◌, ℕ, List, length, Result, Ok, Err};
-ghost use Rattle.covline.specs.Row.{SubmissionData};
-ghost use Rattle.covread.specs.declared.fault.ReadFault.{ReadFault as Fault};
-ghost use Rattle.covread.specs.declared.fault.ReadFault.TheVariants.{TooLong as TooMuch};
+ghost use Rattle.covdata.specs.Row.{SubmissionData};
+ghost use Rattle.covdata.specs.declared.fault.ReadFault.{ReadFault as Fault};
+ghost use Rattle.covdata.specs.declared.fault.ReadFault.TheVariants.{TooLong as TooMuch};
 ghost use Rattle.covread.specs.Outcome.{IsOutcome, max_bytes};
 ghost use Rattle.covlcov2.specs.Outcome.{IsOutcome as IsLcov2Outcome};
 ghost use Rattle.covpieces.specs.Whole.{IsWholeOutcome, IsWholeLcov2Outcome};

@@ -1,10 +1,10 @@
 //! Tests with expected values that were worked out by hand from geninfo(1), section FILES. Expected sections are written as a
 //! tracefile of version 1.
 
+use covdata::{Bytes, Memory, ReadFault, Submission};
 use covlcov2::read_lcov2;
-use covline::{Bytes, Memory, Submission};
 use covpieces::{Carried, whole_sections};
-use covread::{ReadFault, read_trace};
+use covread::read_trace;
 use std::alloc::Global;
 use std::process::Abort;
 use std::test::*;
@@ -68,11 +68,4 @@ fn pass(
         Version::Two => carried.pass_lcov2(alloc, &piece[..len], &submission)?,
     }
     Ok(true)
-}
-
-/// Appends a line.
-fn push_line(text: &mut Vec<u8>, line: &[u8]) -> Result<(), Fail> {
-    text.extend_from_slice(line)?;
-    text.push(b'\n')?;
-    Ok(())
 }

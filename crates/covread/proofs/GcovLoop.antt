@@ -4,11 +4,11 @@ use Rattle.std.proofs.lemmas.Bool.{ne_eqb}
 use Rattle.std.specs.Prelude.{is_ok, is_some}
 use Rattle.std.proofs.lemmas.List.{length-append, take_more, map_push}
 use Rattle.covline.specs.Lines.{lines_of}
-use Rattle.covline.specs.Lawful.{IsGoodTest, IsLawful}
-use Rattle.covline.specs.Row.{ItemData, FuncItem, SectData, SubmissionData}
+use Rattle.covdata.specs.Lawful.{IsGoodTest, IsLawful}
+use Rattle.covdata.specs.Row.{ItemData, FuncItem, SectData, SubmissionData}
 use Rattle.covline.proofs.LineLaws.{few_lines}
-use Rattle.covread.specs.declared.fault.ReadFault.{ReadFault}
-use Rattle.covread.specs.declared.fault.ReadFault.TheVariants as faults
+use Rattle.covdata.specs.declared.fault.ReadFault.{ReadFault}
+use Rattle.covdata.specs.declared.fault.ReadFault.TheVariants as faults
 use Rattle.covread.specs.declared.gcov.reader.Function.{Function}
 use Rattle.covread.specs.GcovItems.{func_item, place_fault, is_empty}
 use Rattle.covread.specs.Gcov.{GcovLine, Says, LineSays}

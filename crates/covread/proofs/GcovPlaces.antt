@@ -4,7 +4,7 @@ use Rattle.std.specs.Option.{option_or}
 use Rattle.std.specs.List.{list_any}
 use Rattle.std.proofs.lemmas.Bool.{cases_Bool}
 use Rattle.std.proofs.lemmas.List.{append-nil}
-use Rattle.covline.specs.Row.{ItemData, SectData}
+use Rattle.covdata.specs.Row.{ItemData, SectData}
 use Rattle.covread.specs.Gcov.{GcovLine, Path}
 use Rattle.covread.specs.GcovItems.{is_path, after_last, last_number, items_given, items_until, section_at, sects_from, is_empty}
 

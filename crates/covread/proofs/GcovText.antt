@@ -4,11 +4,12 @@ use Rattle.std.specs.Prelude.{All}
 use Rattle.std.proofs.lemmas.Bool.{cases_Bool, cases_lt, cases_eq, false≢true}
 use Rattle.std.proofs.lemmas.List.Elements.{All-nil, All-cons, All-head, All-tail}
 use Rattle.std.proofs.lemmas.List.{append-nil, length-append}
-use Rattle.covline.specs.Row.{SubmissionData, SectData}
-use Rattle.covline.specs.Lines.{line_feed, carriage_return, lines_of}
-use Rattle.covline.specs.Lawful.{IsGoodTest}
-use Rattle.covread.specs.declared.fault.ReadFault.{ReadFault}
-use Rattle.covread.specs.declared.fault.ReadFault.TheVariants as faults
+use Rattle.covdata.specs.Row.{SubmissionData, SectData}
+use Rattle.covdata.specs.Delimiters.{line_feed, carriage_return}
+use Rattle.covline.specs.Lines.{lines_of}
+use Rattle.covdata.specs.Lawful.{IsGoodTest}
+use Rattle.covdata.specs.declared.fault.ReadFault.{ReadFault}
+use Rattle.covdata.specs.declared.fault.ReadFault.TheVariants as faults
 use Rattle.covread.specs.Gcov.{GcovLine, Says, says_of, LineSays}
 use Rattle.covread.specs.GcovReading.{is_name, shape_of}
 use Rattle.covread.specs.GcovItems.{waiting, sects_from, is_empty, place_fault}

@@ -1,12 +1,12 @@
 -- What a reader makes of a test's name and of the text's end, between two sections and in one.
 use Rattle.std.proofs.Common.{refl, ◌≡◌, true, false, ℕ, List, Option, Some, None, Ok, Err, option_map}
 use Rattle.std.specs.Option.{is_some}
-use Rattle.covline.specs.Spells.{LineData, Test, Skip}
-use Rattle.covread.specs.declared.fault.ReadFault.TheVariants as faults
+use Rattle.covdata.specs.Records.{LineData, Test, Skip}
+use Rattle.covdata.specs.declared.fault.ReadFault.TheVariants as faults
 use Rattle.covread.specs.declared.trace.placement_fault.PlacementFault.TheVariants as placement
 use Rattle.covread.specs.declared.trace.reader.OpenSection.{OpenSection}
 use Rattle.covread.specs.TraceSteps.{HeldData, section_data, step_at, IsLawfulAt, ends_at, submission_held}
-use Rattle.covline.specs.Lawful.{IsLawful}
+use Rattle.covdata.specs.Lawful.{IsLawful}
 
 module _ {A : Type 0} (inside : List LineData) (held : HeldData) where
   -- a test's name

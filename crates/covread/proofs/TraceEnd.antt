@@ -1,8 +1,8 @@
 -- What the end of a section makes of what a reader holds.
 use Rattle.std.proofs.Common.{◌≡◌, ℕ, ◌+◌, List, [], ◌∷◌, ◌++◌, Option, Some, None, Ok, refl, sym, ap, subst, ◌∙◌}
 use Rattle.std.specs.Prelude.{count_by}
-use Rattle.covline.specs.Row.{ItemData, SectData}
-use Rattle.covline.specs.Spells.{End}
+use Rattle.covdata.specs.Row.{ItemData, SectData}
+use Rattle.covdata.specs.Records.{End}
 use Rattle.covread.specs.Reads.{items_of, is_odd}
 use Rattle.covread.specs.TraceSteps.{SectionData, HeldData, closed, step_at, step}
 

@@ -20,8 +20,8 @@ use Rattle.std.proofs.lemmas.Map.Keys.{IsDistinct-from_sorted}
 use Rattle.std.proofs.lemmas.Map.Made.{is_some-lookup, length-from_keys}
 use Rattle.std.proofs.lemmas.Map.Text.{btree_map_updates_str, is_eq-slice_cmp}
 use Rattle.std.proofs.lemmas.Slice.Eq.{bytes_eq-Decides}
-use Rattle.covline.specs.Points.{func_points, func_point, least}
-use Rattle.covline.specs.Spells.{LineData, Test, Path, FuncStart, FuncCount, Branch, Line, Total, End, Skip}
+use Rattle.covdata.specs.Points.{func_points, func_point, least}
+use Rattle.covdata.specs.Records.{LineData, Test, Path, FuncStart, FuncCount, Branch, Line, Total, End, Skip}
 use Rattle.covread.specs.declared.trace.functions.Function.{Function}
 use Rattle.covread.specs.Reads.{distinct, start_said, start_in, counted, items_said, items_of}
 use Rattle.covread.specs.TraceFunctions.{function_at, known, named, AreFunctions}

@@ -4,8 +4,9 @@ use Rattle.std.specs.Prelude.{◌⊎◌}
 use Rattle.std.specs.List.{flat_map, AllByRecursion}
 use Rattle.std.proofs.lemmas.List.{append-nil}
 use Rattle.covline.specs.LineLaws.{FewLines, GoodLines, GoodRest}
-use Rattle.covline.specs.Spells.{LineData, Test, Path, End, Skip, Spells, HasFault}
-use Rattle.covline.specs.declared.trace_line.LineFault.{LineFault}
+use Rattle.covdata.specs.Records.{LineData, Test, Path, End, Skip}
+use Rattle.covline.specs.Spells.{Spells, HasFault}
+use Rattle.covdata.specs.declared.trace_line.LineFault.{LineFault}
 use Rattle.covread.specs.Reads.{Part, Outside, Section, IsInside, IsLawfulPart, records_of}
 
 -- what is known of single lines

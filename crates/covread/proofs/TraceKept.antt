@@ -3,9 +3,9 @@ use Rattle.std.proofs.Common.{◌≡◌, ℕ, ◌≤◌, Bool, false, cond, List
 use Rattle.std.specs.Prelude.{count_by, not, is_none, ◌==◌}
 use Rattle.std.specs.List.{flat_map}
 use Rattle.std.proofs.lemmas.List.Sums.{sum_by-cons}
-use Rattle.covline.specs.Points.{least}
-use Rattle.covline.specs.Row.{ItemData}
-use Rattle.covline.specs.Spells.{LineData, FuncCount, Total, Skip}
+use Rattle.covdata.specs.Points.{least}
+use Rattle.covdata.specs.Row.{ItemData}
+use Rattle.covdata.specs.Records.{LineData, FuncCount, Total, Skip}
 use Rattle.covread.specs.Reads.{start_said, start_in, counted, items_said, items_of, own_total, is_odd}
 
 -- the records without the skipped ones

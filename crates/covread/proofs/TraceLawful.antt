@@ -6,11 +6,13 @@ use Rattle.std.specs.Str.{bytes_eq}
 use Rattle.std.proofs.lemmas.List.{append-nil, length-append}
 use Rattle.std.proofs.lemmas.List.Elements.{All-from_recursion, recursion_from_All, All-nil}
 use Rattle.std.proofs.lemmas.List.Sums.{sum_by-cons, count_by-le-length}
-use Rattle.covline.specs.Lines.{line_feed, carriage_return, lines_of}
-use Rattle.covline.specs.Points.{least}
-use Rattle.covline.specs.Row.{ItemData, LineItem, BranchItem, SectData, SubmissionData, items_in}
-use Rattle.covline.specs.Lawful.{IsGoodTest, IsGoodName, IsLawfulItem, IsLawfulSect, FitsItem, AllFit, IsLawful}
-use Rattle.covline.specs.Spells.{LineData, Test, Path, FuncStart, FuncCount, Branch, Line, End, comma, HasForm, HasSmallNumbers}
+use Rattle.covdata.specs.Delimiters.{line_feed, carriage_return, comma}
+use Rattle.covline.specs.Lines.{lines_of}
+use Rattle.covdata.specs.Points.{least}
+use Rattle.covdata.specs.Row.{ItemData, LineItem, BranchItem, SectData, SubmissionData, items_in}
+use Rattle.covdata.specs.Lawful.{IsGoodTest, IsGoodName, IsLawfulItem, IsLawfulSect, FitsItem, AllFit, IsLawful}
+use Rattle.covdata.specs.Records.{LineData, Test, Path, FuncStart, FuncCount, Branch, Line, End, HasSmallNumbers}
+use Rattle.covline.specs.Spells.{HasForm}
 use Rattle.covline.specs.LineLaws.{GoodRest}
 use Rattle.covline.proofs.LineLaws as line_laws
 use Rattle.covread.specs.Reads.{AllSpell, Part, Outside, Section, records_of, start_said, start_in, counted, items_said, items_of, is_odd, odd_in, test_after, sects_from}

@@ -4,11 +4,12 @@ use Rattle.std.specs.Prelude.{option_map, is_some}
 use Rattle.std.proofs.lemmas.Bool.{eqb-true}
 use Rattle.std.proofs.lemmas.List.{append-nil, length-append}
 use Rattle.covline.specs.Lines.{lines_of}
-use Rattle.covline.specs.Row.{ItemData, SectData}
-use Rattle.covline.specs.Lawful.{IsLawful}
-use Rattle.covline.specs.Spells.{LineData, Path, Spells}
-use Rattle.covread.specs.declared.fault.ReadFault.{ReadFault}
-use Rattle.covread.specs.declared.fault.ReadFault.TheVariants as faults
+use Rattle.covdata.specs.Row.{ItemData, SectData}
+use Rattle.covdata.specs.Lawful.{IsLawful}
+use Rattle.covdata.specs.Records.{LineData, Path}
+use Rattle.covline.specs.Spells.{Spells}
+use Rattle.covdata.specs.declared.fault.ReadFault.{ReadFault}
+use Rattle.covdata.specs.declared.fault.ReadFault.TheVariants as faults
 use Rattle.covread.specs.declared.trace.reader.OpenSection.{OpenSection}
 use Rattle.covread.specs.declared.trace.reader.Reader.{Reader}
 use Rattle.covread.specs.Reads.{Part}

@@ -13,9 +13,9 @@ use Rattle.std.proofs.lemmas.List.Concat.{flat_map-append}
 use Rattle.std.proofs.lemmas.List.Elements.{filter-append}
 use Rattle.std.proofs.lemmas.List.Sorted.{list_any-IsPermutation}
 use Rattle.std.proofs.lemmas.Map.Steps.{list_any_congr}
-use Rattle.covline.specs.declared.tally.Tally.{Tally}
-use Rattle.covline.specs.Points.{is_hit}
-use Rattle.covline.specs.Row.{ItemData}
+use Rattle.covdata.specs.declared.tally.Tally.{Tally}
+use Rattle.covdata.specs.Points.{is_hit}
+use Rattle.covdata.specs.Row.{ItemData}
 use Rattle.covread.specs.declared.trace.points.Hit.{Hit}
 use Rattle.covread.specs.Reads.{distinct}
 use Rattle.covread.specs.TracePoints.{hit_points, hits_of_item, hits_said, points_in, hits_in, goes_on, IsTally, AscendsTo, Reaches, IsNone, AreTotals}

@@ -4,9 +4,10 @@ use Rattle.std.specs.Prelude.{count_by}
 use Rattle.std.specs.List.{sum_by}
 use Rattle.std.proofs.lemmas.List.{append-nil}
 use Rattle.std.proofs.lemmas.List.Sums.{sum_by_push}
-use Rattle.covline.specs.Row.{ItemData, SectData}
-use Rattle.covline.specs.Spells.{LineData, Test, Path, End, Skip, Spells}
-use Rattle.covread.specs.declared.fault.ReadFault.TheVariants as faults
+use Rattle.covdata.specs.Row.{ItemData, SectData}
+use Rattle.covdata.specs.Records.{LineData, Test, Path, End, Skip}
+use Rattle.covline.specs.Spells.{Spells}
+use Rattle.covdata.specs.declared.fault.ReadFault.TheVariants as faults
 use Rattle.covread.specs.declared.trace.placement_fault.PlacementFault.{PlacementFault}
 use Rattle.covread.specs.declared.trace.placement_fault.PlacementFault.TheVariants as placement
 use Rattle.covread.specs.Reads.{Part, Outside, Section, items_of, is_odd, odd_in, test_after, sects_from}

@@ -10,10 +10,10 @@ use Rattle.std.proofs.lemmas.List.{append-nil, length-append}
 use Rattle.std.proofs.lemmas.List.Concat.{flat_map-append}
 use Rattle.std.proofs.lemmas.List.Elements.{filter-append}
 use Rattle.std.proofs.lemmas.List.Sums.{sum_by-cons}
-use Rattle.covline.specs.declared.point.BranchPoint.{BranchPoint}
-use Rattle.covline.specs.Points.{func_points, func_point, is_hit, line_point}
-use Rattle.covline.specs.Row.{ItemData, LineItem, FuncItem, BranchItem, with_start}
-use Rattle.covline.specs.Spells.{LineData, FuncStart, FuncCount, Branch, Line}
+use Rattle.covdata.specs.declared.point.BranchPoint.{BranchPoint}
+use Rattle.covdata.specs.Points.{func_points, func_point, is_hit, line_point}
+use Rattle.covdata.specs.Row.{ItemData, LineItem, FuncItem, BranchItem, with_start}
+use Rattle.covdata.specs.Records.{LineData, FuncStart, FuncCount, Branch, Line}
 use Rattle.covread.specs.declared.trace.points.Hit.{Hit}
 use Rattle.covpacked.specs.OpenItems.{left, start_set}
 use Rattle.covread.specs.Reads.{distinct, start_in, counted, items_said, items_of}

@@ -2,7 +2,7 @@
 use Rattle.std.proofs.Common.{◌≡◌, ◌+◌, cond, List, [], ◌∷◌, refl, arith}
 use Rattle.std.specs.Prelude.{count_by}
 use Rattle.std.proofs.lemmas.List.Sums.{sum_by-cons}
-use Rattle.covline.specs.Spells.{LineData, FuncCount, Total}
+use Rattle.covdata.specs.Records.{LineData, FuncCount, Total}
 use Rattle.covread.specs.Reads.{is_odd}
 use Rattle.covread.specs.TraceSettle.{is_unstarted}
 use Rattle.covread.specs.TraceTally.{is_other}

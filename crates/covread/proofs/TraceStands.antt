@@ -4,9 +4,10 @@ use Rattle.std.specs.Prelude.{codes}
 use Rattle.std.specs.List.{flat_map, sum_by, AllByRecursion}
 use Rattle.std.proofs.lemmas.List.{append-nil}
 use Rattle.std.proofs.lemmas.List.Concat.{flat_map-append}
-use Rattle.covline.specs.Spells.{LineData, Test, Path, End, Skip, Spells, HasFault}
-use Rattle.covline.specs.declared.trace_line.LineFault.{LineFault}
-use Rattle.covread.specs.declared.fault.ReadFault.TheVariants as faults
+use Rattle.covdata.specs.Records.{LineData, Test, Path, End, Skip}
+use Rattle.covline.specs.Spells.{Spells, HasFault}
+use Rattle.covdata.specs.declared.trace_line.LineFault.{LineFault}
+use Rattle.covdata.specs.declared.fault.ReadFault.TheVariants as faults
 use Rattle.covread.specs.Reads.{AllSpell, Part, Outside, Section, IsOutside, IsInside, IsLawfulPart, records_of, odd_in, sects_from, Reads}
 use Rattle.covread.specs.Outcome.{IsLawfulText, MayGoOn, IsFirstFaulty, NeedsSection, NeedsOutside, IsFirstFault}
 use Rattle.covread.proofs.AllOf.{all_push}

@@ -8,12 +8,12 @@ use Rattle.std.specs.declared.cmp.Ordering.TheVariants.{Less, Equal, Greater}
 use Rattle.std.proofs.lemmas.Bool.Decides.{nat_tests}
 use Rattle.std.proofs.lemmas.List.{map-id, map-append}
 use Rattle.std.proofs.lemmas.List.Sums.{sum_by-cons}
-use Rattle.covline.specs.declared.point.BranchPoint as code
-use Rattle.covline.specs.declared.trace_line.TotalKind.{TotalKind}
-use Rattle.covline.specs.declared.trace_line.TotalKind.TheVariants.{FuncFound, FuncHit, BranchFound, BranchHit, LineFound, LineHit}
-use Rattle.covline.specs.Points.{BranchPoint, branch_point, branch_points, line_point, is_hit}
-use Rattle.covline.specs.Row.{ItemData, LineItem, FuncItem, BranchItem}
-use Rattle.covline.specs.Spells.{LineData, Total}
+use Rattle.covdata.specs.declared.point.BranchPoint as code
+use Rattle.covdata.specs.declared.trace_line.TotalKind.{TotalKind}
+use Rattle.covdata.specs.declared.trace_line.TotalKind.TheVariants.{FuncFound, FuncHit, BranchFound, BranchHit, LineFound, LineHit}
+use Rattle.covdata.specs.Points.{BranchPoint, branch_point, branch_points, line_point, is_hit}
+use Rattle.covdata.specs.Row.{ItemData, LineItem, FuncItem, BranchItem}
+use Rattle.covdata.specs.Records.{LineData, Total}
 use Rattle.covread.specs.declared.trace.tally.OwnTotals.{OwnTotals}
 use Rattle.covread.specs.declared.trace.tally.PointKind.{PointKind}
 use Rattle.covread.specs.declared.trace.tally.PointKind.TheVariants.{Branches, Lines}

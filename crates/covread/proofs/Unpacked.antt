@@ -2,10 +2,11 @@
 use Rattle.std.proofs.Common.{◌≡◌, ◌≢◌, ◌⊎◌, inl, inr, ℕ, ◌≤◌, true, List, [], ◌∷◌, ◌++◌, length, Result, Ok, Err, refl, sym, ap, subst, ◌∙◌, append_assoc, append-nil}
 use Rattle.std.specs.List.{flat_map, list_any}
 use Rattle.covline.specs.Lines.{lines_of}
-use Rattle.covline.specs.Row.{SectData, SubmissionData}
-use Rattle.covline.specs.Spells.{LineData, Path, Spells}
-use Rattle.covread.specs.declared.fault.ReadFault.{ReadFault}
-use Rattle.covread.specs.declared.fault.ReadFault.TheVariants as faults
+use Rattle.covdata.specs.Row.{SectData, SubmissionData}
+use Rattle.covdata.specs.Records.{LineData, Path}
+use Rattle.covline.specs.Spells.{Spells}
+use Rattle.covdata.specs.declared.fault.ReadFault.{ReadFault}
+use Rattle.covdata.specs.declared.fault.ReadFault.TheVariants as faults
 use Rattle.covread.specs.Gcov as gcov
 use Rattle.covread.specs.GcovItems.{begins_keeping, sects_from as gcov_sects_from}
 use Rattle.covread.specs.GcovOutcome as gcov_outcome

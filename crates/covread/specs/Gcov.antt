@@ -4,7 +4,7 @@
 use Rattle.std.specs.Prelude.{◌≡◌, ◌≢◌, ℕ, ◌<◌, ◌^◌, Bool, true, false, not, ◌&&◌, ◌||◌, ◌==◌, nat_lt, if◌then◌else◌, List, [], ◌∷◌, ◌++◌, length, Option, Some, None, Result, Ok, Err, codes}
 use Rattle.std.specs.List.{AllByRecursion, list_all}
 use Rattle.std.specs.Str.{bytes_eq}
-use Rattle.covline.specs.Lines.{carriage_return}
+use Rattle.covdata.specs.Delimiters.{carriage_return}
 use Rattle.covline.specs.Spells.{Begins, digits_value}
 use Rattle.covline.specs.Reading.{is_digit, after_key}
 use Rattle.covread.specs.declared.gcov.line.OwnFault.{OwnFault}

@@ -1,10 +1,10 @@
 -- What the reader of gcov's text holds between two lines, and what a line makes of it: for the contracts of its private
 -- steps. GcovItems and GcovOutcome say what a text is read as.
 use Rattle.std.specs.Prelude.{Bool, true, false, ◌||◌, is_some, is_ok, ◌⊎◌, ◌≡◌, ℕ, ◌+◌, List, [], ◌∷◌, ◌++◌, Option, Some, None, Result, Ok, Err, map, option_map, if◌then◌else◌}
-use Rattle.covline.specs.Row.{ItemData, BranchItem, SectData, SubmissionData}
+use Rattle.covdata.specs.Row.{ItemData, BranchItem, SectData, SubmissionData}
 use Rattle.covline.specs.Lines.{lines_of}
-use Rattle.covread.specs.declared.fault.ReadFault.{ReadFault}
-use Rattle.covread.specs.declared.fault.ReadFault.TheVariants as faults
+use Rattle.covdata.specs.declared.fault.ReadFault.{ReadFault}
+use Rattle.covdata.specs.declared.fault.ReadFault.TheVariants as faults
 use Rattle.covread.specs.declared.gcov.reader.Function.{Function}
 use Rattle.covread.specs.declared.gcov.reader.BranchAnchor.{BranchAnchor}
 use Rattle.covread.specs.declared.gcov.reader.OpenSection.{OpenSection}

@@ -1,7 +1,7 @@
+pub use Rattle.covdata.specs.Fault
 pub mod Reads
 pub mod Outcome
 pub mod TraceSteps
-pub mod Fault
 pub mod TracePoints
 pub mod TraceFunctions
 pub mod TraceTally

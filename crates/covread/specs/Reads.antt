@@ -3,11 +3,12 @@
 use Rattle.std.specs.Prelude.{◌≡◌, ℕ, ◌+◌, Bool, false, ◌==◌, ◌&&◌, nat_eq, not, is_none, List, [], ◌∷◌, ◌++◌, Option, Some, None, filter, count_by, if◌then◌else◌}
 use Rattle.std.specs.Str.{bytes_eq}
 use Rattle.std.specs.List.{flat_map, sum_by, list_any, AllByRecursion}
-use Rattle.covline.specs.declared.trace_line.TotalKind.{TotalKind}
-use Rattle.covline.specs.declared.trace_line.TotalKind.TheVariants.{FuncFound, FuncHit, BranchFound, BranchHit, LineFound, LineHit}
-use Rattle.covline.specs.Row.{ItemData, LineItem, FuncItem, BranchItem, SectData, SubmissionData}
-use Rattle.covline.specs.Points.{BranchPoint, line_points, func_points, branch_points, is_hit, least}
-use Rattle.covline.specs.Spells.{LineData, Test, Path, FuncStart, FuncCount, Branch, Line, Total, End, Skip, Spells}
+use Rattle.covdata.specs.declared.trace_line.TotalKind.{TotalKind}
+use Rattle.covdata.specs.declared.trace_line.TotalKind.TheVariants.{FuncFound, FuncHit, BranchFound, BranchHit, LineFound, LineHit}
+use Rattle.covdata.specs.Row.{ItemData, LineItem, FuncItem, BranchItem, SectData, SubmissionData}
+use Rattle.covdata.specs.Points.{BranchPoint, line_points, func_points, branch_points, is_hit, least}
+use Rattle.covdata.specs.Records.{LineData, Test, Path, FuncStart, FuncCount, Branch, Line, Total, End, Skip}
+use Rattle.covline.specs.Spells.{Spells}
 
 -- each line says the record that the second list has at its place; a blank line says `Skip`
 abbrev pub AllSpell : List (List ℕ) → List LineData → Type 0

@@ -6,8 +6,8 @@ use Rattle.std.specs.List.{list_any}
 use Rattle.std.specs.Ordering.{nat_cmp}
 use Rattle.std.specs.Str.{bytes_eq}
 use denote.Ref.{Bor}
-use Rattle.covline.specs.declared.trace_line.TotalKind.TheVariants.{FuncFound, FuncHit}
-use Rattle.covline.specs.Spells.{LineData}
+use Rattle.covdata.specs.declared.trace_line.TotalKind.TheVariants.{FuncFound, FuncHit}
+use Rattle.covdata.specs.Records.{LineData}
 use Rattle.covread.specs.declared.trace.functions.Found.{Found}
 use Rattle.covread.specs.declared.trace.functions.Function.{Function}
 use Rattle.covread.specs.declared.trace.tally.FunctionTotals.{FunctionTotals}

@@ -2,9 +2,9 @@
 use Rattle.std.specs.Prelude.{◌≡◌, ℕ, ◌+◌, nat_lt, Bool, List, [], ◌∷◌, length, map, filter}
 use Rattle.std.specs.List.{flat_map}
 use Rattle.std.specs.Ordering.{nat_cmp}
-use Rattle.covline.specs.Points.{line_point}
-use Rattle.covline.specs.Row.{ItemData, LineItem, FuncItem, BranchItem}
-use Rattle.covline.specs.Spells.{LineData, Test, Path, FuncStart, FuncCount, Branch, Line, Total, End, Skip}
+use Rattle.covdata.specs.Points.{line_point}
+use Rattle.covdata.specs.Row.{ItemData, LineItem, FuncItem, BranchItem}
+use Rattle.covdata.specs.Records.{LineData, Test, Path, FuncStart, FuncCount, Branch, Line, Total, End, Skip}
 use Rattle.covread.specs.declared.trace.section.SectionBuilder.{SectionBuilder}
 use Rattle.covread.specs.declared.trace.section.PendingCount.{PendingCount}
 use Rattle.covread.specs.Reads.{start_in}

@@ -2,8 +2,8 @@
 use Rattle.std.specs.Prelude.{◌≡◌, ℕ, ◌<◌, Bool, false, is_none, List, [], ◌∷◌, Option, None, Some}
 use Rattle.std.specs.List.{flat_map, AllByRecursion}
 use Rattle.std.specs.Str.{bytes_eq}
-use Rattle.covline.specs.Row.{ItemData}
-use Rattle.covline.specs.Spells.{LineData, FuncCount}
+use Rattle.covdata.specs.Row.{ItemData}
+use Rattle.covdata.specs.Records.{LineData, FuncCount}
 use Rattle.covpacked.specs.OpenItems.{start_set}
 use Rattle.covread.specs.Reads.{distinct, start_in}
 use Rattle.covread.specs.TraceFunctions.{named}

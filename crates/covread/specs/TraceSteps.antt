@@ -1,15 +1,16 @@
 -- What the reader of a tracefile holds between two lines, and what a line makes of it: for the contracts of its private
 -- steps. Reads and Outcome say what a text is read as.
 use Rattle.std.specs.Prelude.{◌≡◌, ℕ, ◌+◌, ◌<◌, ◌^◌, List, [], ◌∷◌, ◌++◌, length, Option, Some, None, Result, Ok, Err, count_by, option_map}
-use Rattle.covline.specs.Row.{ItemData, SectData, SubmissionData}
-use Rattle.covline.specs.Spells.{LineData, Test, Path, End, Skip, Spells, HasFault}
-use Rattle.covline.specs.Lawful.{IsLawful}
+use Rattle.covdata.specs.Row.{ItemData, SectData, SubmissionData}
+use Rattle.covdata.specs.Records.{LineData, Test, Path, End, Skip}
+use Rattle.covline.specs.Spells.{Spells, HasFault}
+use Rattle.covdata.specs.Lawful.{IsLawful}
 use Rattle.covread.specs.declared.trace.reader.OpenSection.{OpenSection}
 use Rattle.covread.specs.declared.trace.reader.Reader.{Reader}
 use Rattle.covread.specs.declared.trace.placement_fault.PlacementFault.{PlacementFault}
 use Rattle.covread.specs.declared.trace.placement_fault.PlacementFault.TheVariants as placement
-use Rattle.covread.specs.declared.fault.ReadFault.{ReadFault}
-use Rattle.covread.specs.declared.fault.ReadFault.TheVariants as faults
+use Rattle.covdata.specs.declared.fault.ReadFault.{ReadFault}
+use Rattle.covdata.specs.declared.fault.ReadFault.TheVariants as faults
 use Rattle.covread.specs.Outcome.{Answers, GrowsLate}
 use Rattle.covread.specs.Reads.{items_of, is_odd}
 use Rattle.covread.specs.TraceSection.{IsBuiltOf}

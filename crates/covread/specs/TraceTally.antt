@@ -3,12 +3,12 @@ use Rattle.std.specs.Prelude.{◌≡◌, ℕ, ◌==◌, ◌<◌, ◌^◌, not, B
 use Rattle.std.specs.List.{list_any}
 use Rattle.std.specs.Ordering.{nat_cmp, ordering_then}
 use Rattle.std.specs.declared.cmp.Ordering.{Ordering}
-use Rattle.covline.specs.declared.point.BranchPoint.{BranchPoint}
-use Rattle.covline.specs.declared.trace_line.TotalKind.{TotalKind}
-use Rattle.covline.specs.declared.trace_line.TotalKind.TheVariants.{FuncFound, FuncHit, BranchFound, BranchHit, LineFound, LineHit}
-use Rattle.covline.specs.Points.{line_point}
-use Rattle.covline.specs.Row.{ItemData}
-use Rattle.covline.specs.Spells.{LineData, Total}
+use Rattle.covdata.specs.declared.point.BranchPoint.{BranchPoint}
+use Rattle.covdata.specs.declared.trace_line.TotalKind.{TotalKind}
+use Rattle.covdata.specs.declared.trace_line.TotalKind.TheVariants.{FuncFound, FuncHit, BranchFound, BranchHit, LineFound, LineHit}
+use Rattle.covdata.specs.Points.{line_point}
+use Rattle.covdata.specs.Row.{ItemData}
+use Rattle.covdata.specs.Records.{LineData, Total}
 use Rattle.covread.specs.declared.trace.tally.SectionPoints.{SectionPoints}
 use Rattle.covread.specs.declared.trace.tally.OwnTotals.{OwnTotals}
 use Rattle.covread.specs.declared.trace.tally.PointKind.{PointKind}

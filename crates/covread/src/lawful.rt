@@ -1,8 +1,8 @@
 //! The law that readers return only lawful submissions.
 
 ghost use Rattle.std.specs.Prelude.{ℕ, List, Ok};
-ghost use Rattle.covline.specs.Row.{SubmissionData};
-ghost use Rattle.covline.specs.Lawful.{IsLawful};
+ghost use Rattle.covdata.specs.Row.{SubmissionData};
+ghost use Rattle.covdata.specs.Lawful.{IsLawful};
 ghost use Rattle.covread.specs.Outcome.{IsOutcome};
 ghost use Rattle.covread.specs.GcovOutcome as gcov;
 

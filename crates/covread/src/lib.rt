@@ -17,13 +17,12 @@
 //! ```
 #![tactic(auto)]
 
-mod fault;
 mod gcov;
 mod lawful;
 mod trace;
 mod wide;
 
-pub use fault::{MAX_BYTES, ReadFault};
+pub use covdata::{MAX_BYTES, ReadFault};
 pub use gcov::{
     an_early_fault_is_told, each_gcov_text_has_one_outcome, fits_no_shape, read_gcov,
     read_gcov_packed,

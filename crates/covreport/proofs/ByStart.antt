@@ -12,7 +12,7 @@ use Rattle.std.proofs.lemmas.List.Sorted.{IsPermutation-map, length_permutation,
 use Rattle.std.proofs.lemmas.Map.Lookups.{CmpEqualImpliesEq, exact_unsigned, exact_bytes}
 use Rattle.covreport.specs.Report.{by_start, function_cmp, functions_hit}
 use Rattle.covreport.proofs.Sorting.{moved_sorted, rises_sorted, sorted_from_rises, sorted_is}
-use Rattle.covstore.specs.Content.{FunctionValueData}
+use Rattle.covtable.specs.Content.{FunctionValueData}
 
 -- ---- the order distinguishes all functions
 

@@ -8,17 +8,16 @@ use Rattle.std.proofs.lemmas.Bool.{cond-true, cond-false, false≢true}
 use Rattle.std.proofs.lemmas.List.Kept.{IsStrictlySortedBy-filter}
 use Rattle.std.proofs.lemmas.List.Sums.{sum_by-cons}
 use Rattle.std.proofs.lemmas.Slice.Eq.{bytes_eq-Decides}
-use Rattle.covstore.specs.declared.totals.Totals.{Totals}
-use Rattle.covstore.specs.Content.{SectionData}
-use Rattle.covstore.specs.Files.{FileTotalsData, file_with_totals, files_with_totals}
-use Rattle.covstore.specs.Totals.{branches_found, files_in, functions_found, is_branch_hit, is_function_hit, is_line_hit, lines_found, over_files, own_sections, totals_of}
-use Rattle.covstore.specs.TotalsExchanged.{IsAmong, no_totals, together}
-use Rattle.covstore.proofs.Ascend.{In-ascending, In-to_ascending, ascending_sorted, one_sorted}
-use Rattle.covstore.proofs.ContentsLists.{In-filter, In-unfilter}
-use Rattle.covstore.proofs.Members.{In, In-map, In-unmap}
-use Rattle.covstore.proofs.Orders.{names_order}
-use Rattle.covstore.proofs.StateOrder.{sorted_one}
-use Rattle.covstore.proofs.TotalsKinds.{same_totals}
+use Rattle.covtable.specs.declared.totals.Totals.{Totals}
+use Rattle.covtable.specs.Content.{SectionData}
+use Rattle.covtable.specs.Files.{FileTotalsData, file_with_totals, files_with_totals}
+use Rattle.covtable.specs.Totals.{branches_found, files_in, functions_found, is_branch_hit, is_function_hit, is_line_hit, lines_found, over_files, own_sections, totals_of}
+use Rattle.covtable.specs.TotalsExchanged.{IsAmong, no_totals, together}
+use Rattle.covtable.proofs.Ascend.{In-ascending, In-to_ascending, ascending_sorted, one_sorted, sorted_one}
+use Rattle.covtable.proofs.ContentsLists.{In-filter, In-unfilter}
+use Rattle.covtable.proofs.Members.{In, In-map, In-unmap}
+use Rattle.covtable.proofs.Orders.{names_order}
+use Rattle.covtable.proofs.TotalsKinds.{same_totals}
 
 -- ---- lists
 

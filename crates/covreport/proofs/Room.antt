@@ -4,7 +4,7 @@ use Rattle.std.specs.List.{flat_map}
 use Rattle.covreport.specs.Choice.{ChoiceData, is_chosen}
 use Rattle.covreport.specs.Report.{report_text, section_text}
 use Rattle.covreport.specs.Room.{most_functions}
-use Rattle.covstore.specs.Content.{SectionData}
+use Rattle.covtable.specs.Content.{SectionData}
 
 module _ (choice : ChoiceData) where
   most_by : (takes : Bool) (s : SectionData) (sections : List SectionData) → is_chosen choice s.key.file ≡ takes → most_functions choice (s ∷ sections) ≡ cond takes (max (length s.functions) (most_functions choice sections)) (most_functions choice sections)

@@ -6,11 +6,11 @@ use Rattle.std.proofs.lemmas.List.Concat.{flat_map-append}
 use Rattle.std.proofs.lemmas.List.Elements.{filter-append}
 use Rattle.std.proofs.lemmas.List.Folds.{flat_map-map}
 use Rattle.std.proofs.lemmas.List.Sums.{sum_by-cons}
-use Rattle.covline.specs.Spells.{LineData, Test, Path, End}
-use Rattle.covline.specs.Printed.{printed}
+use Rattle.covdata.specs.Records.{LineData, Test, Path, End}
+use Rattle.covdata.specs.Printed.{printed}
 use Rattle.covreport.specs.Report.{function_records, branch_records, line_records, section_text, report_text}
 use Rattle.covreport.specs.Choice.{ChoiceData, is_chosen}
-use Rattle.covstore.specs.Content.{SectionData}
+use Rattle.covtable.specs.Content.{SectionData}
 
 -- ---- one more part
 

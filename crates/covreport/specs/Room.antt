@@ -1,6 +1,6 @@
 -- How much room printing takes: room for the functions of one section at a time.
 use Rattle.std.specs.Prelude.{ℕ, List, [], ◌∷◌, length, max, if◌then◌else◌}
-use Rattle.covstore.specs.Content.{SectionData}
+use Rattle.covtable.specs.Content.{SectionData}
 use Rattle.covreport.specs.Choice.{ChoiceData, is_chosen}
 
 -- the most functions that one section of the chosen files has

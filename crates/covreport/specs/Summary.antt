@@ -1,7 +1,7 @@
 -- The summary of totals, in lines like those of lcov(1), --summary.
 use Rattle.std.specs.Prelude.{ℕ, ◌+◌, ◌*◌, ◌/◌, ◌%◌, ◌==◌, min, max, nat_lt, List, [], ◌∷◌, ◌++◌, codes, decimal, if◌then◌else◌}
-use Rattle.covline.specs.Lines.{line_feed}
-use Rattle.covstore.specs.declared.totals.Totals.{Totals}
+use Rattle.covdata.specs.Delimiters.{line_feed}
+use Rattle.covtable.specs.declared.totals.Totals.{Totals}
 
 -- a rate in tenths of a percent, rounded to the nearest, halves up
 abbrev pub rounded : ℕ → ℕ → ℕ

@@ -2,7 +2,7 @@
 
 ghost use Rattle.std.specs.Prelude.{◌≡◌, ◌↔◌, ◌≢◌, ◌==◌, ℕ, true, false, ◌&&◌, List, [], ◌∷◌, ◌++◌, ◌+◌, ◌*◌, ◌<◌, ◌≤◌, not, All};
 ghost use Rattle.std.specs.List.Sorted.{IsPermutation, IsSorted};
-ghost use Rattle.covstore.specs.Content.{FunctionValueData};
+ghost use Rattle.covtable.specs.Content.{FunctionValueData};
 ghost use Rattle.covreport.specs.Pattern.{matches, in_body};
 ghost use Rattle.covreport.specs.Report.{by_start, function_cmp};
 ghost use Rattle.covreport.specs.Summary.{tenths_of};

@@ -1,7 +1,7 @@
 //! Lists of patterns.
 
 use crate::pattern::matches;
-use covline::{Bytes, Memory};
+use covdata::{Bytes, Memory};
 use std::alloc::{Allocator, Global};
 use std::marker::Model;
 use thiserror::Error;

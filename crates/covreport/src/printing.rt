@@ -3,7 +3,7 @@
 use crate::choice::Choice;
 use crate::printer::Printer;
 use crate::tracefile::Tracefile;
-use covline::{Bytes, Memory};
+use covdata::{Bytes, Memory};
 use covstore::Store;
 use std::alloc::{Allocator, Global};
 use std::marker::Model;

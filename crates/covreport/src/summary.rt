@@ -1,15 +1,16 @@
 //! Summaries of totals, as lcov(1) prints them with `--summary`.
 
 ghost use Rattle.std.specs.Prelude.{◌≡◌, ◌<◌, ◌≤◌, ◌++◌, ◌/◌, ◌%◌, IfOk, OnOk, codes, decimal, filter};
-ghost use Rattle.covstore.specs.Totals.{AreTotals, totals_of};
-ghost use Rattle.covstore.specs.TotalsExchanged.{IsAmong, together};
+ghost use Rattle.covtable.specs.Totals.{AreTotals, totals_of};
+ghost use Rattle.covtable.specs.TotalsExchanged.{IsAmong, together};
 ghost use Rattle.covreport.specs.Choice.{is_chosen};
 ghost use Rattle.covreport.specs.ChoiceView.{choice_data};
 ghost use Rattle.covreport.specs.Summary.{summary_of, summary_line, value_text, tenths_of, noun as noun_of, rounded as rounded_of};
 
 use crate::choice::Choice;
-use covline::{Bytes, Memory};
-use covstore::{Store, Totals};
+use covdata::{Bytes, Memory};
+use covstore::Store;
+use covtable::Totals;
 use itoa::Buffer;
 use std::alloc::Allocator;
 

@@ -22,7 +22,7 @@ use self::record::{put_end, put_path, put_test};
 use self::room::room_for_functions;
 use crate::choice::Choice;
 use crate::printer::Printer;
-use covline::{Bytes, Memory};
+use covdata::{Bytes, Memory};
 use covstore::{Section, Store};
 use std::alloc::Allocator;
 use std::marker::Model;

@@ -9,20 +9,20 @@ use Rattle.std.specs.List.{flat_map, list_any, zip}
 use Rattle.covcheck.specs.TextSummary.{Tells}
 use Rattle.covcheck.specs.Skipped.{IsSkippedGcov, IsSkippedLcov2, IsSkippedRecord}
 use Rattle.covcheck.specs.declared.text_summary.TextSummary.{TextSummary}
-use Rattle.covcommand.specs.declared.asked.LcovVersion.TheVariants as versions
+use Rattle.covdata.specs.declared.version.LcovVersion.TheVariants as versions
 use Rattle.covcommand.specs.declared.asked.Strictness.{Strictness}
 use Rattle.covcommand.specs.declared.asked.TextFormat.{TextFormat}
 use Rattle.covcommand.specs.declared.asked.TextFormat.TheVariants.{Tracefile, Gcov}
 use Rattle.covrun.specs.declared.work.CheckedFormat.{CheckedFormat}
 use Rattle.covrun.specs.declared.work.CheckedFormat.TheVariants.{Text}
-use Rattle.covline.specs.Row.{SubmissionData}
+use Rattle.covdata.specs.Row.{SubmissionData}
 use Rattle.covlist.specs.Shown.{shown_name}
 use Rattle.covlcov2.specs.Outcome as lcov2
 use Rattle.covread.specs.GcovOutcome as gcov
 use Rattle.covread.specs.Outcome as trace
 use Rattle.covread.specs.Outcome.{max_bytes}
-use Rattle.covread.specs.declared.fault.ReadFault.{ReadFault}
-use Rattle.covread.specs.declared.fault.ReadFault.TheVariants as reads
+use Rattle.covdata.specs.declared.fault.ReadFault.{ReadFault}
+use Rattle.covdata.specs.declared.fault.ReadFault.TheVariants as reads
 use Rattle.covsession.specs.Fault.{HasBegun}
 use Rattle.covsession.specs.Program.{fault_status, words_of_fault}
 use Rattle.covsession.specs.Session.{said}
@@ -34,7 +34,7 @@ use Rattle.covrun.specs.Files.{IsUnread}
 use Rattle.covrun.specs.Folder.{FolderData, IsTextOf}
 use Rattle.covrun.specs.declared.files.FileFault.{FileFault}
 use Rattle.covrun.specs.declared.files.FileFault.TheVariants as files
-use Rattle.covrun.specs.Streams.{SinksData}
+use Rattle.covrun.specs.Streams.{SinksData, Complains, IsSilent, Withholds}
 use Rattle.covrun.specs.declared.check_verdict.CheckVerdict.{CheckVerdict}
 use Rattle.covrun.specs.declared.check_verdict.CheckVerdict.TheVariants as verdicts
 use Rattle.covrun.specs.declared.file_report.FileReport.{FileReport}
@@ -250,6 +250,35 @@ says_next n m words more a b d (complained, grew, few) (complained', grew', few'
   omega (arith, grew, grew'),
   omega (arith, few, few'),
 )
+
+-- what was said stays said if nothing more is
+says_still : (most : ℕ) (words : List ℕ) (a b d : SinksData) → Says most words a b → IsSilent b d → Says most words a d
+says_still most words a b d (complained, grew, few) (same, unfailed) = (
+  λ good. subst (λ (f : Option (List ℕ)). Appends a.faults f words) (sym same) (complained (sym unfailed ∙ good)),
+  omega (arith, grew, unfailed),
+  omega (arith, few, unfailed),
+)
+
+-- a complaint went to the stream for faults, and then a line to the output
+pub reported : (line words : List ℕ) (verdict : CheckVerdict) (a b d : SinksData) → Says 1 words a b → Withholds a b
+    → Appends b.output d.output line → (b.held ≡ 0 → d.held ≡ 0) → d.failed_output ≡ b.failed_output → IsSilent b d → Reports line words verdict (Ok verdict) a d
+reported line words verdict a b d says (output, held, good) put sent unfailed silent = (
+  refl,
+  subst (λ (o : Option (List ℕ)). Appends o d.output line) output put,
+  unfailed ∙ good,
+  λ none. sent (held ∙ none),
+  says_still 1 words a b d says silent,
+)
+
+-- a complaint went to the stream for faults, and then the line couldn't be written
+pub report_broken : (line words put told : List ℕ) (verdict : CheckVerdict) (fault : SessionFault) (a b d : SinksData) → put ≡ line → told ≡ words → fault ≡ faults.Write → Says 1 told a b → Withholds a b
+    → d.failed_output ≡ suc b.failed_output → HasBegun b.output d.output put → IsSilent b d → Reports line words verdict (Err fault) a d
+report_broken line words put told verdict fault a b d same_line same_words is says (output, held, good) failed begun silent =
+    subst (λ (f : SessionFault). Reports line words verdict (Err f) a d) (sym is) (
+      subst (λ (o : Option (List ℕ)). HasBegun o d.output line) output (subst (λ (l : List ℕ). HasBegun b.output d.output l) same_line begun),
+      failed ∙ ap suc good,
+      says_still 1 words a b d (subst (λ (ws : List ℕ). Says 1 ws a b) same_words says) silent,
+    )
 
 -- if the output is unchanged, it still ends within the same line
 within_next : (files : List (List ℕ)) (outcomes : List OutcomeData) (a b d : SinksData) → d.output ≡ b.output → EndsWithin files outcomes a b → EndsWithin files outcomes a d
@@ -576,8 +605,7 @@ told_to_end folder name format strictness all (x ∷ left) before so_far a b non
 
 -- the line of a fault was written to the stream for faults, in two parts
 pub says_last : (words front spoken : List ℕ) (b d : SinksData) → front ++ spoken ≡ words
-    → (d.failed_faults ≡ b.failed_faults → Appends b.faults d.faults (front ++ spoken)) → b.failed_faults ≤ d.failed_faults
-    → d.failed_faults ≤ suc b.failed_faults → Says 1 words b d
+    → Complains (front ++ spoken) b d → b.failed_faults ≤ d.failed_faults → d.failed_faults ≤ suc b.failed_faults → Says 1 words b d
 says_last words front spoken b d is complained grew few =
     (λ good. subst (Appends b.faults d.faults) is (complained good), grew, omega (arith, few))
 

@@ -1,26 +1,30 @@
 -- How a call that collects files ends, from the results of its steps.
-use Rattle.std.proofs.Common.{◌≡◌, ◌⊎◌, inl, inr, ℕ, ◌-◌, Bool, true, false, if◌then◌else◌, List, [], ◌∷◌, ◌++◌, length, slice_get, Option, Some, None, Result, Ok, Err, IfOk, flat_map, refl, sym, subst, ap, ◌∙◌, append-nil, length-append, arith, ◌==◌}
+use Rattle.std.proofs.Common.{◌≡◌, ◌⊎◌, inl, inr, ℕ, ◌-◌, Bool, true, false, if◌then◌else◌, suc, List, [], ◌∷◌, ◌++◌, length, codes, slice_get, Option, Some, None, Result, Ok, Err, IfOk, flat_map, refl, sym, subst, ap, ◌∙◌, append-nil, length-append, arith, ◌==◌}
 use Rattle.std.proofs.lemmas.Bool.{eqb-true}
 use Rattle.std.proofs.lemmas.List.{flat_map_more, map-append}
 use Rattle.std.specs.Io.KnownBytes.{Appends}
+use Rattle.covsession.specs.Fault.{HasBegun}
+use Rattle.covsession.specs.Program.{fault_status, words_of_fault}
 use Rattle.covsession.specs.Session.{said, clash_text}
+use Rattle.covsession.specs.declared.session.fault.SessionFault.{SessionFault}
 use Rattle.covsession.specs.declared.session.fault.SessionFault.TheVariants as faults
 use Rattle.covbook.specs.Gather.{LogData}
 use Rattle.covbook.specs.Op.{OpData, SubmitOp, DropTestOp, RenameOp, ReportOp, ExtractOp, RemoveOp, SummaryOp, TextAnswer, EntryData}
-use Rattle.covstore.specs.Content.{SectionData, content_at}
-use Rattle.covstore.specs.Table.{Table}
+use Rattle.covtable.specs.Content.{SectionData, content_at}
+use Rattle.covtable.specs.Table.{Table}
 use Rattle.covlimit.specs.Limits.{LimitsData}
 use Rattle.covlist.specs.Chosen.{chosen_files, totals_of_chosen}
+use Rattle.covlist.specs.Shown.{shown_name}
 use Rattle.covreport.specs.Choice.{ChoiceData}
 use Rattle.covreport.specs.Report.{report_text}
 use Rattle.covbook.specs.Step.{answer_of, next_entry, ops_in, table_after, table_from, table_of}
 use Rattle.covbook.specs.Texts.{IsText}
-use Rattle.covjobs.specs.Collect.{IsCollectedWith, OutcomeData}
-use Rattle.covjobs.specs.Late.{MayCome}
+use Rattle.covworkers.specs.Collect.{IsCollectedWith, OutcomeData}
+use Rattle.covworkers.specs.Late.{MayCome}
 use Rattle.covjobs.specs.Start.{AreJobs}
-use Rattle.covjobs.specs.declared.collect_fault.CollectFault.{CollectFault}
-use Rattle.covjobs.specs.declared.collect_fault.CollectFault.TheVariants as collects
-use Rattle.covjobs.specs.declared.refused.RefusedInput.{RefusedInput}
+use Rattle.covworkers.specs.declared.collect_fault.CollectFault.{CollectFault}
+use Rattle.covworkers.specs.declared.collect_fault.CollectFault.TheVariants as collects
+use Rattle.covworkers.specs.declared.refused.RefusedInput.{RefusedInput}
 use Rattle.covcommand.specs.declared.asked.Strictness.{Strictness}
 use Rattle.covrun.specs.declared.text_fault.TextFault.{TextFault}
 use Rattle.covrun.specs.Strict.{asked_patterns, unmatched_line}
@@ -31,18 +35,18 @@ use Rattle.covcommand.specs.declared.asked.TotalsForm.TheVariants as forms
 use Rattle.covrun.specs.WorkFault.{IsRefusal, of_work}
 use Rattle.covrun.specs.declared.work.WorkFault.{WorkFault}
 use Rattle.covrun.specs.declared.work.WorkFault.TheVariants.{Words, Memory}
-use Rattle.covrun.specs.Call.{StopsEarly, AreTextsIn, IsUnreadable, most_submissions, WorkEnds, IsTaskDone, IsCutShort, IsEndingPrinted, IsEndingReported, IsEndingWritten, IsUnwritten, IsWritten}
+use Rattle.covrun.specs.Call.{StopsEarly, AreTextsIn, IsUnreadable, most_submissions, WorkEnds, IsServed, IsWorkDone, IsTaskDone, IsCutShort, IsEndingPrinted, IsEndingReported, IsEndingWritten, IsUnwritten, IsWritten}
 use Rattle.covrun.specs.Check.{IsCheck}
 use Rattle.covrun.specs.Folder.{FolderData}
 use Rattle.covrun.specs.Naming.{naming_of, told_lines, told_name}
 use Rattle.covrun.specs.declared.naming.Naming.{Naming}
 use Rattle.covrun.specs.declared.naming.Naming.TheVariants as namings
-use Rattle.covrun.specs.OutputFiles.{OutputFilesData}
-use Rattle.covrun.specs.Streams.{SourceData, SinksData, Complains, PutsOut, sinks}
+use Rattle.covrun.specs.Streams.{SinksData, Complains, Delivers, DeliversAndComplains, IsSilent, Withholds}
+use Rattle.covrun.specs.World.{WorldData, ChangesSinksAlone}
 use Rattle.covrun.specs.View.{failure_data}
 use Rattle.covrun.specs.declared.ending.Failure.{Failure}
 use Rattle.covrun.specs.declared.ending.Failure.TheVariants as failures
-use Rattle.covrun.specs.Ending.{EndingData, Prints, FallsShort, Unreadable, Stopped, Refuses, IsUnclean, strict_lines, of_collect, of_collected, complaint, complaints, refusal_line, ran_out, shortfall_status, status_of, text_in, text_at, last_text, asked_shortfalls, asked_text, list_text, unless_any, with_shortfalls}
+use Rattle.covrun.specs.Ending.{EndingData, Prints, FallsShort, Unreadable, Stopped, Refuses, IsUnclean, strict_lines, of_collect, of_collected, complaints, refusal_line, ran_out, shortfall_status, text_in, text_at, last_text, asked_shortfalls, asked_text, list_text, unless_any, with_shortfalls}
 use Rattle.covlimit.specs.Limits.{has_limit}
 use Rattle.covrun.specs.Work.{QuestionData, Answer, ChosenReport, ChosenSummary, LimitedTotals, ChosenList, last_of, choice_of, chosen_or_all, asked_of, limits_of, summary_asked, WorkData, TaskData, Serves, Collects, Checks, task_of}
 use Rattle.covcommand.specs.declared.asked.TextSize.{TextSize}
@@ -295,58 +299,69 @@ asks_text command strictness size work is = subst AsksText (sym is) (asks_text_o
 
 -- ---- how a call ends
 
--- if the ending of the work was reported, the task of collecting is done
-pub told_work : (folder : FolderData) (work : WorkData) (task : TaskData) (file named : Option (List ℕ)) (ending : EndingData) (status : ℕ) (before after : SourceData) (old new : SinksData) (files written : OutputFilesData)
-    → after ≡ before → Collects work ≡ task → named ≡ file → WorkEnds folder named work ending → IsEndingReported named ending status old new files written → IsTaskDone folder task file status before after old new files written
-told_work folder work task file named ending status before after old new files written unread is same ends told =
-    subst (λ (t : TaskData). IsTaskDone folder t file status before after old new files written) is (
-      unread,
-      ending,
-      subst (λ (f : Option (List ℕ)). WorkEnds folder f work ending) same ends,
-      subst (λ (f : Option (List ℕ)). IsEndingReported f ending status old new files written) same told,
-    )
+-- if a session was served, the task of a session is done
+pub told_session : (folder : FolderData) (task : TaskData) (file : Option (List ℕ)) (status : ℕ) (old new : WorldData) → Serves ≡ task → IsServed status old new → IsTaskDone folder task file status old new
+told_session folder task file status old new is served = subst (λ (t : TaskData). IsTaskDone folder t file status old new) is served
+
+-- if the work is done, the task of collecting is done
+pub told_work : (folder : FolderData) (work : WorkData) (task : TaskData) (file named : Option (List ℕ)) (status : ℕ) (old new : WorldData)
+    → Collects work ≡ task → named ≡ file → IsWorkDone folder work named status old new → IsTaskDone folder task file status old new
+told_work folder work task file named status old new is same done =
+    subst (λ (t : TaskData). IsTaskDone folder t file status old new) is
+    (subst (λ (f : Option (List ℕ)). IsWorkDone folder work f status old new) same done)
 
 -- if files were checked, the task of a check is done
-pub told_check : (folder : FolderData) (format : CheckedFormat) (strictness : Strictness) (jobs : ℕ) (names named : List (List ℕ)) (task : TaskData) (file : Option (List ℕ)) (status : ℕ) (before after : SourceData) (old new : SinksData) (files : OutputFilesData)
-    → after ≡ before → named ≡ names → Checks format strictness jobs names ≡ task → IsCheck folder format strictness named status old new → IsTaskDone folder task file status before after old new files files
-told_check folder format strictness jobs names named task file status before after old new files unread same is checked =
-    subst (λ (t : TaskData). IsTaskDone folder t file status before after old new files files) is
-    (unread, refl, subst (λ (ns : List (List ℕ)). IsCheck folder format strictness ns status old new) same checked)
+pub told_check : (folder : FolderData) (format : CheckedFormat) (strictness : Strictness) (jobs : ℕ) (names named : List (List ℕ)) (task : TaskData) (file : Option (List ℕ)) (status : ℕ) (old new : WorldData)
+    → named ≡ names → Checks format strictness jobs names ≡ task → ChangesSinksAlone old new → IsCheck folder format strictness named status old.sinks new.sinks → IsTaskDone folder task file status old new
+told_check folder format strictness jobs names named task file status old new same is alone checked =
+    subst (λ (t : TaskData). IsTaskDone folder t file status old new) is
+    (alone, subst (λ (ns : List (List ℕ)). IsCheck folder format strictness ns status old.sinks new.sinks) same checked)
 
 -- if the work doesn't begin, the call ends early
 pub stops_early : (command : Command) (fault : WorkFault) (ending : EndingData) → ending ≡ of_work fault → IsRefusal command fault → StopsEarly command ending
 stops_early command (Words fault) ending is refused = inr (fault, is, refused)
 stops_early command Memory ending is refused = inl is
 
--- a failure is reported by its status and its complaint alone
-pub failure_printed : (failure : Failure) (status : ℕ) → status ≡ status_of (failure_data failure)
-    → (output : Option (List ℕ)) (held failed : ℕ) (before after : Option (List ℕ)) (fails fails_after : ℕ)
-    → (fails_after ≡ fails → Appends before after (complaint (failure_data failure)))
-    → IsEndingPrinted (failure_data failure) status (sinks output held failed before fails) (sinks output held failed after fails_after)
-failure_printed (failures.Words fault) status is output held failed before after fails fails_after said = (is, (refl, refl, refl), said)
-failure_printed (failures.Unreadable name) status is output held failed before after fails fails_after said = (is, (refl, refl, refl), said)
-failure_printed (failures.Stopped fault) status is output held failed before after fails fails_after said = (is, (refl, refl, refl), said)
-failure_printed failures.Ungathered status is output held failed before after fails fails_after said = (is, (refl, refl, refl), said)
-failure_printed (failures.Refused lines) status is output held failed before after fails fails_after said = (is, (refl, refl, refl), said)
-failure_printed (failures.Unclean lines) status is output held failed before after fails fails_after said = (is, (refl, refl, refl), said)
-
 -- a failure writes no file
-pub failure_reported : (file : Option (List ℕ)) (failure : Failure) (status : ℕ) (old new : SinksData) (files : OutputFilesData)
-    → IsEndingPrinted (failure_data failure) status old new → IsEndingReported file (failure_data failure) status old new files files
-failure_reported None failure status old new files printed = (printed, refl)
-failure_reported (Some name) (failures.Words fault) status old new files printed = (printed, refl)
-failure_reported (Some name) (failures.Unreadable file) status old new files printed = (printed, refl)
-failure_reported (Some name) (failures.Stopped fault) status old new files printed = (printed, refl)
-failure_reported (Some name) failures.Ungathered status old new files printed = (printed, refl)
-failure_reported (Some name) (failures.Refused lines) status old new files printed = (printed, refl)
-failure_reported (Some name) (failures.Unclean lines) status old new files printed = (printed, refl)
+pub failure_reported : (file : Option (List ℕ)) (failure : Failure) (status : ℕ) (old new : WorldData) → ChangesSinksAlone old new
+    → IsEndingPrinted (failure_data failure) status old.sinks new.sinks → IsEndingReported file (failure_data failure) status old new
+failure_reported None failure status old new alone printed = (alone, printed)
+failure_reported (Some name) (failures.Words fault) status old new alone printed = (alone.0, (printed, alone.1))
+failure_reported (Some name) (failures.Unreadable file) status old new alone printed = (alone.0, (printed, alone.1))
+failure_reported (Some name) (failures.Stopped fault) status old new alone printed = (alone.0, (printed, alone.1))
+failure_reported (Some name) failures.Ungathered status old new alone printed = (alone.0, (printed, alone.1))
+failure_reported (Some name) (failures.Refused lines) status old new alone printed = (alone.0, (printed, alone.1))
+failure_reported (Some name) (failures.Unclean lines) status old new alone printed = (alone.0, (printed, alone.1))
+
+-- what is said after a text that went to the output is said beside the text
+said_after : (words text : List ℕ) (old between new : SinksData) → Delivers text old between → Withholds between new → Complains words between new
+    → DeliversAndComplains text words old new
+said_after words text old between new ((put, sent, good), (same, unfailed)) (output, held, failed) told = (
+  (subst (λ (o : Option (List ℕ)). Appends old.output o text) (sym output) put, held ∙ sent, failed ∙ good),
+  λ none. subst (λ (f : Option (List ℕ)). Appends f new.faults words) same (told (none ∙ sym unfailed)),
+)
 
 -- a text was printed, and what is said of its rates after it
-pub answer_printed : (lines text : List ℕ) (status : ℕ) → status ≡ shortfall_status lines → (old new : SinksData) → PutsOut text old new
-    → (lines ≡ [] → (new.faults ≡ old.faults) × (new.failed_faults ≡ old.failed_faults)) → Complains lines old new
-    → IsEndingPrinted (with_shortfalls lines text) status old new
-answer_printed [] text status is old new put none told = inl (is, (put, (none refl).0, (none refl).1))
-answer_printed (b ∷ lines) text status is old new put none told = inl (is, (put, told))
+printed_with : (lines text : List ℕ) (status : ℕ) (old between new : SinksData) → status ≡ shortfall_status lines → Delivers text old between
+    → (lines ≡ [] → new ≡ between) → Withholds between new → Complains lines between new → IsEndingPrinted (with_shortfalls lines text) status old new
+printed_with [] text status old between new is put none withheld told = inl (is, subst (λ (s : SinksData). Delivers text old s) (sym (none refl)) put)
+printed_with (b ∷ lines) text status old between new is put none withheld told = inl (is, said_after (b ∷ lines) text old between new put withheld told)
+
+pub answer_printed : (lines shown text : List ℕ) (status : ℕ) (old between new : SinksData) → shown ≡ lines → status ≡ shortfall_status shown → Delivers text old between
+    → (shown ≡ [] → new ≡ between) → Withholds between new → Complains shown between new → IsEndingPrinted (with_shortfalls lines text) status old new
+answer_printed lines shown text status old between new same is put none withheld told =
+    subst (λ (ls : List ℕ). IsEndingPrinted (with_shortfalls ls text) status old new) same (printed_with shown text status old between new is put none withheld told)
+
+-- a write of the text failed, and that was said after it
+pub cut_short : (text words : List ℕ) (fault : SessionFault) (status : ℕ) (old between new : SinksData) → fault ≡ faults.Write → status ≡ fault_status fault → words ≡ said (words_of_fault fault)
+    → between.failed_output ≡ suc old.failed_output → HasBegun old.output between.output text → IsSilent old between → Withholds between new → Complains words between new → IsCutShort text status old new
+cut_short text words fault status old between new failed is are more begun (same, unfailed) (output, held, stays) told = (
+  is ∙ ap fault_status failed,
+  stays ∙ more,
+  subst (λ (o : Option (List ℕ)). HasBegun old.output o text) (sym output) begun,
+  λ none. subst (λ (f : Option (List ℕ)). Appends f new.faults (said (words_of_fault faults.Write))) same
+      (subst (λ (ws : List ℕ). Appends between.faults new.faults ws) (are ∙ ap (λ (f : SessionFault). said (words_of_fault f)) failed) (told (none ∙ sym unfailed))),
+)
 
 -- a write of the text failed
 pub answer_cut_short : (lines text : List ℕ) (status : ℕ) (old new : SinksData) → IsCutShort text status old new → IsEndingPrinted (with_shortfalls lines text) status old new
@@ -354,50 +369,45 @@ answer_cut_short [] text status old new short = inr short
 answer_cut_short (b ∷ lines) text status old new short = inr short
 
 -- a text was written into a file, and what is said of its rates after that
-pub answer_written : (name lines text : List ℕ) (status : ℕ) → status ≡ shortfall_status lines → (files written : OutputFilesData) → IsWritten name text files written
-    → (output : Option (List ℕ)) (held failed : ℕ) (before after : Option (List ℕ)) (fails fails_after : ℕ)
-    → (lines ≡ [] → (after ≡ before) × (fails_after ≡ fails)) → (fails_after ≡ fails → Appends before after lines)
-    → IsEndingWritten name (with_shortfalls lines text) status (sinks output held failed before fails) (sinks output held failed after fails_after) files written
-answer_written name [] text status is files written done output held failed before after fails fails_after none told =
-    inl (is, (λ k. sinks output held failed ((none refl).0 k) ((none refl).1 k)), done)
-answer_written name (b ∷ lines) text status is files written done output held failed before after fails fails_after none told =
-    inl (is, (refl, refl, refl), told, done)
+written_with : (name lines text : List ℕ) (status : ℕ) (old new : WorldData) → status ≡ shortfall_status lines → IsWritten name text old.files new.files
+    → (lines ≡ [] → new.sinks ≡ old.sinks) → Withholds old.sinks new.sinks → Complains lines old.sinks new.sinks
+    → IsEndingWritten name (with_shortfalls lines text) status old new
+written_with name [] text status old new is written none withheld told = inl (is, none refl, written)
+written_with name (b ∷ lines) text status old new is written none withheld told = inl (is, withheld, told, written)
 
--- the file couldn't be written
-pub answer_unwritten : (name lines text : List ℕ) (status : ℕ) (old new : SinksData) (files written : OutputFilesData) → IsUnwritten name status old new files written
-    → IsEndingWritten name (with_shortfalls lines text) status old new files written
-answer_unwritten name [] text status old new files written unwritten = inr unwritten
-answer_unwritten name (b ∷ lines) text status old new files written unwritten = inr unwritten
+pub answer_written : (name lines shown text : List ℕ) (status : ℕ) (old new : WorldData) → shown ≡ lines → status ≡ shortfall_status shown → IsWritten name text old.files new.files
+    → (shown ≡ [] → new.sinks ≡ old.sinks) → Withholds old.sinks new.sinks → Complains shown old.sinks new.sinks
+    → IsEndingWritten name (with_shortfalls lines text) status old new
+answer_written name lines shown text status old new same is written none withheld told =
+    subst (λ (ls : List ℕ). IsEndingWritten name (with_shortfalls ls text) status old new) same (written_with name shown text status old new is written none withheld told)
+
+unwritten_with : (name lines text : List ℕ) (status : ℕ) (old new : WorldData) → IsUnwritten name status old new → IsEndingWritten name (with_shortfalls lines text) status old new
+unwritten_with name [] text status old new unwritten = inr unwritten
+unwritten_with name (b ∷ lines) text status old new unwritten = inr unwritten
+
+-- the file couldn't be written, and these words were said
+pub answer_unwritten : (name lines text words : List ℕ) (status : ℕ) (old new : WorldData) → words ≡ shown_name name ++ said (codes ": can't write") → status ≡ 1
+    → (new.files.finished ≡ old.files.finished) × (new.files.begun ≡ old.files.begun) × (new.files.failed ≡ suc old.files.failed)
+    → Withholds old.sinks new.sinks → Complains words old.sinks new.sinks → IsEndingWritten name (with_shortfalls lines text) status old new
+answer_unwritten name lines text words status old new are is (finished, begun, counted) withheld told =
+    unwritten_with name lines text status old new
+    (is, finished, begun, counted, withheld, subst (λ (ws : List ℕ). Complains ws old.sinks new.sinks) are told)
 
 -- a failure of the work is reported
-pub failure_told : (folder : FolderData) (work : WorkData) (file : Option (List ℕ)) (failure : Failure) (status : ℕ) → WorkEnds folder file work (failure_data failure)
-    → status ≡ status_of (failure_data failure)
-    → (output : Option (List ℕ)) (held failed : ℕ) (before after : Option (List ℕ)) (fails fails_after : ℕ)
-    → (fails_after ≡ fails → Appends before after (complaint (failure_data failure))) → (files : OutputFilesData)
-    → (ending : EndingData) × WorkEnds folder file work ending
-    × IsEndingReported file ending status (sinks output held failed before fails) (sinks output held failed after fails_after) files files
-failure_told folder work file failure status ends is output held failed before after fails fails_after said files = (
-  failure_data failure,
-  ends,
-  failure_reported file failure status _ _ files (failure_printed failure status is output held failed before after fails fails_after said),
-)
+pub failure_told : (folder : FolderData) (work : WorkData) (file : Option (List ℕ)) (failure : Failure) (status : ℕ) (old new : WorldData) → WorkEnds folder file work (failure_data failure)
+    → ((file : Option (List ℕ)) → IsEndingReported file (failure_data failure) status old new) → IsWorkDone folder work file status old new
+failure_told folder work file failure status old new ends told = (failure_data failure, ends, told file)
 
 -- an answer of the work is reported, unless memory runs out
-pub answer_told : (folder : FolderData) (work : WorkData) (file : Option (List ℕ)) (answer : EndingData) (status : ℕ) (old new : SinksData) (files written : OutputFilesData)
-    → WorkEnds folder file work answer
-    → (ending : EndingData) × ((ending ≡ Stopped faults.Memory) ⊎ (ending ≡ answer)) × IsEndingReported file ending status old new files written
-    → (ending : EndingData) × WorkEnds folder file work ending × IsEndingReported file ending status old new files written
-answer_told folder work file answer status old new files written ends (ending, inl ran_out, told) = (ending, inl ran_out, told)
-answer_told folder work file answer status old new files written ends (ending, inr is, told) =
+pub answer_told : (folder : FolderData) (work : WorkData) (file : Option (List ℕ)) (answer : EndingData) (status : ℕ) (old new : WorldData) → WorkEnds folder file work answer
+    → (ending : EndingData) × ((ending ≡ Stopped faults.Memory) ⊎ (ending ≡ answer)) × IsEndingReported file ending status old new
+    → IsWorkDone folder work file status old new
+answer_told folder work file answer status old new ends (ending, inl ran_out, told) = (ending, inl ran_out, told)
+answer_told folder work file answer status old new ends (ending, inr is, told) =
     (ending, subst (λ (e : EndingData). WorkEnds folder file work e) (sym is) ends, told)
 
 -- the answer of a call that names no file is printed
-pub answer_reported : (file : Option (List ℕ)) → file ≡ None → (lines shown text : List ℕ) → shown ≡ lines → (status : ℕ) (old new : SinksData) (files : OutputFilesData)
-    → IsEndingPrinted (with_shortfalls shown text) status old new
-    → (ending : EndingData) × ((ending ≡ Stopped faults.Memory) ⊎ (ending ≡ with_shortfalls lines text)) × IsEndingReported file ending status old new files files
-answer_reported file is lines shown text same status old new files printed = (
-  with_shortfalls lines text,
-  inr refl,
-  subst (λ (f : Option (List ℕ)). IsEndingReported f (with_shortfalls lines text) status old new files files) (sym is)
-      (subst (λ (ls : List ℕ). IsEndingPrinted (with_shortfalls ls text) status old new) same printed, refl),
-)
+pub answer_reported : (file : Option (List ℕ)) → file ≡ None → (answer : EndingData) (status : ℕ) (old new : WorldData) → ChangesSinksAlone old new → IsEndingPrinted answer status old.sinks new.sinks
+    → (ending : EndingData) × ((ending ≡ Stopped faults.Memory) ⊎ (ending ≡ answer)) × IsEndingReported file ending status old new
+answer_reported file is answer status old new alone printed =
+    (answer, inr refl, subst (λ (f : Option (List ℕ)). IsEndingReported f answer status old new) (sym is) (alone, printed))

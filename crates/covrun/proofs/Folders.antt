@@ -3,8 +3,8 @@ use Rattle.std.proofs.Common.{inl, inr, ℕ, ◌≡◌, ◌≤◌, List, ◌++�
 use Rattle.std.proofs.Math.Seq.{take-append_seam}
 use Rattle.std.proofs.lemmas.List.{take_all}
 use Rattle.std.specs.Io.KnownBytes.{Keeps}
-use Rattle.covlarge.specs.Blocks.{HasReadAtMost, HasReadOn}
 use Rattle.covrun.specs.Folder.{IsTextAtMost}
+use Rattle.covstream.specs.Blocks.{HasReadAtMost, HasReadOn}
 
 -- what was read of an open file is the text of the bytes that the folder holds
 pub text_at_most : (most : ℕ) (held left left_after : Option (List ℕ)) (text : List ℕ) → Keeps held left → HasReadAtMost most left left_after text

@@ -2,15 +2,15 @@
 use Rattle.std.specs.Io.KnownBytes.{Keeps}
 use Rattle.std.proofs.Common.{◌≡◌, inr, ℕ, ◌<◌, Bool, true, false, List, [], ◌∷◌, Option, Some, None, Result, Ok, Err, refl, sym, ap, ◌∙◌, subst, arith}
 use Rattle.covcheck.specs.declared.text_summary.TextSummary.{TextSummary}
-use Rattle.covcommand.specs.declared.asked.LcovVersion.{LcovVersion}
+use Rattle.covdata.specs.declared.version.LcovVersion.{LcovVersion}
 use Rattle.covcommand.specs.declared.asked.Strictness.{Strictness}
 use Rattle.covcommand.specs.declared.asked.Strictness.TheVariants.{Lenient, Strict}
-use Rattle.covjobs.specs.Collect.{OutcomeData}
-use Rattle.covjobs.specs.Late.{IsLateOutcome, IsNextPart}
-use Rattle.covjobs.specs.Work.{in_front}
-use Rattle.covjobs.specs.declared.late_fault.LateFault.{LateFault}
-use Rattle.covjobs.specs.declared.late_fault.LateFault.TheVariants as late
-use Rattle.covjobs.specs.declared.part.Part.{Part}
+use Rattle.covworkers.specs.Collect.{OutcomeData}
+use Rattle.covworkers.specs.Late.{IsLateOutcome, IsNextPart}
+use Rattle.covworkers.specs.Work.{in_front}
+use Rattle.covworkers.specs.declared.late_fault.LateFault.{LateFault}
+use Rattle.covworkers.specs.declared.late_fault.LateFault.TheVariants as late
+use Rattle.covworkers.specs.declared.part.Part.{Part}
 use Rattle.covlarge.specs.Large.{IsAll, IsReadAs, MayBeReadAs, max_pieces}
 use Rattle.covlarge.specs.State.{IsChecked, IsNextPiece, MayFailFrom, MayGive}
 use Rattle.covlarge.specs.StateData.{StateData}
@@ -19,11 +19,13 @@ use Rattle.covlarge.specs.declared.fault.PieceFault.{PieceFault}
 use Rattle.covlarge.specs.declared.fault.PieceFault.TheVariants as pieces
 use Rattle.covlarge.specs.declared.large_tracefile.NextPiece.{NextPiece}
 use Rattle.covlarge.specs.declared.large_tracefile.NextPiece.TheVariants as parts
-use Rattle.covline.specs.Row.{SubmissionData}
-use Rattle.covread.specs.declared.fault.ReadFault.{ReadFault}
+use Rattle.covdata.specs.Row.{SubmissionData}
+use Rattle.covdata.specs.declared.fault.ReadFault.{ReadFault}
 use Rattle.covrun.specs.Check.{IsAnswered}
 use Rattle.covrun.specs.Files.{EndsBy, IsOpenedFor, IsTakenFrom, IsToldFor, IsWholeFormat, MayFailAs, MayHaveOutcome, MayTake, TakesLast, most_parts}
 use Rattle.covrun.specs.Folder.{FolderData, folder_data}
+use Rattle.covrun.specs.declared.folder.Folder.{Ghosts as FolderOf}
+use Rattle.covstream.specs.declared.stream.Source.{Ghosts as SourceOf}
 use Rattle.covrun.specs.Large.{IsRefusedFor, IsTaken, IsTakenIf}
 use Rattle.covrun.specs.Strict.{is_clean}
 use Rattle.covrun.specs.declared.text_fault.TextFault.{TextFault}
@@ -39,10 +41,10 @@ all_kept (Some bytes) None text keeps all = absurd keeps
 all_kept (Some bytes) (Some rest) text keeps all = all ∙ keeps
 
 -- a file may fail to be read if a read of its source may fail
-pub source_fails : {File : Type 0} (holds : List ℕ → Option (List ℕ)) (may_refuse : List ℕ → Type 0) (may_open : List ℕ → File → Type 0) (left : File → Option (List ℕ)) (failed_reads : File → ℕ)
-    → (name : List ℕ) (source : File) → may_open name source → Keeps (holds name) (left source) → MayFailFrom left failed_reads source
-    → (folder_data holds may_refuse may_open left failed_reads).MayFail name
-source_fails holds may_refuse may_open left failed_reads name source may keeps (after, bytes, given, failed) =
+pub source_fails : {F File : Type 0} (of : FolderOf F File) (file : SourceOf File) (folder : F)
+    → (name : List ℕ) (source : File) → of.may_open folder name source → Keeps (of.holds folder name) (file.left source) → MayFailFrom file.left file.failed_reads source
+    → (folder_data of file folder).MayFail name
+source_fails of file folder name source may keeps (after, bytes, given, failed) =
     inr (record { opened = source; may_open = may; keeps = keeps; after = after; bytes = bytes; given = given; failed = failed })
 
 -- ---- a check
@@ -73,17 +75,17 @@ taken_told Strict read (Ok (Some held)) outcome told taken = taken
 taken_told Strict read (Err fault) outcome told taken = taken
 
 -- a file is opened, and nothing was read of it
-pub opened_now : {File : Type 0} (holds : List ℕ → Option (List ℕ)) (may_refuse : List ℕ → Type 0) (may_open : List ℕ → File → Type 0) (left : File → Option (List ℕ)) (failed_reads : File → ℕ)
-    → (name : List ℕ) (version : LcovVersion) (strictness : Strictness) (source : File) (large : StateData File) → may_open name source → Keeps (holds name) (left source)
-    → ((read : List SubmissionData) (end : Result (Option SummaryData) ReadFault) → MayGive left large read end → MayBeReadAs version (left source) read end)
-    → ((read : List SubmissionData) (end : Result (Option SummaryData) ReadFault) → MayGive left large read end → IsToldFor strictness end)
+pub opened_now : {F File : Type 0} (of : FolderOf F File) (file : SourceOf File) (folder : F)
+    → (name : List ℕ) (version : LcovVersion) (strictness : Strictness) (source : File) (large : StateData File) → of.may_open folder name source → Keeps (of.holds folder name) (file.left source)
+    → ((read : List SubmissionData) (end : Result (Option SummaryData) ReadFault) → MayGive file.left large read end → MayBeReadAs version (file.left source) read end)
+    → ((read : List SubmissionData) (end : Result (Option SummaryData) ReadFault) → MayGive file.left large read end → IsToldFor strictness end)
     → large.source ≡ source → large.left ≡ max_pieces
-    → IsOpenedFor left failed_reads (folder_data holds may_refuse may_open left failed_reads) name version strictness None large
-opened_now {File} holds may_refuse may_open left failed_reads name version strictness source large may keeps whole told same most = record {
+    → IsOpenedFor file.left file.failed_reads (folder_data of file folder) name version strictness None large
+opened_now {F} {File} of file folder name version strictness source large may keeps whole told same most = record {
   gives = λ outcome (read, end, gives, taken).
       let (text, all, is) = whole read end gives in
-      (text, all_kept (holds name) (left source) text keeps all, (read, end, is, taken_told strictness read end outcome (told read end gives) taken));
-  fails = λ may_fail. source_fails holds may_refuse may_open left failed_reads name source may keeps (subst (λ (s : File). MayFailFrom left failed_reads s) same may_fail);
+      (text, all_kept (of.holds folder name) (file.left source) text keeps all, (read, end, is, taken_told strictness read end outcome (told read end gives) taken));
+  fails = λ may_fail. source_fails of file folder name source may keeps (subst (λ (s : File). MayFailFrom file.left file.failed_reads s) same may_fail);
   most = most;
 }
 

@@ -7,11 +7,12 @@ use Rattle.covbook.specs.Gather.{LogData}
 use Rattle.covbook.specs.Op.{OpData, EntryData, SubmitOp}
 use Rattle.covcommand.specs.declared.asked.Strictness.{Strictness}
 use Rattle.covcommand.specs.declared.asked.Strictness.TheVariants.{Lenient, Strict}
-use Rattle.covjobs.specs.Collect.{AreOutcomes, EndsWith, InputData, IsCollectedWith, IsOutcomeOf, all_places, brought, last_of, ops_in, places_of_job, refusal, refusals_of, submitted, whole}
-use Rattle.covjobs.specs.declared.refused.RefusedInput.{RefusedInput}
-use Rattle.covline.specs.Row.{SubmissionData}
-use Rattle.covread.specs.declared.fault.ReadFault.{ReadFault}
-use Rattle.covread.specs.declared.fault.ReadFault.TheVariants as reads
+use Rattle.covworkers.specs.Collect.{AreOutcomes, EndsWith, IsCollectedWith, all_places, brought, last_of, ops_in, places_of_job, refusal, refusals_of, submitted, whole}
+use Rattle.covjobs.specs.Inputs.{InputData, IsOutcomeOf}
+use Rattle.covworkers.specs.declared.refused.RefusedInput.{RefusedInput}
+use Rattle.covdata.specs.Row.{SubmissionData}
+use Rattle.covdata.specs.declared.fault.ReadFault.{ReadFault}
+use Rattle.covdata.specs.declared.fault.ReadFault.TheVariants as reads
 use Rattle.covrun.specs.Strict.{AreCollected, IsLenientOutcome, IsOutcomeFor, for_fault}
 use Rattle.covrun.specs.declared.text_fault.TextFault.{TextFault}
 use Rattle.covrun.specs.declared.text_fault.TextFault.TheVariants.{Faulty, Unclean}

@@ -8,13 +8,13 @@ use Rattle.covread.specs.Outcome.{max_bytes}
 use Rattle.covcommand.specs.declared.asked.Strictness.{Strictness}
 use Rattle.covbook.specs.Gather.{LogData}
 use Rattle.covbook.specs.Op.{OpData, EntryData}
-use Rattle.covjobs.specs.declared.refused.RefusedInput.{RefusedInput}
-use Rattle.covjobs.proofs.ReadWhole.{collected_said}
-use Rattle.covjobs.specs.Collect.{AreOutcomes, IsCollectedWith, IsReadWhole, OutcomeData}
-use Rattle.covjobs.specs.Late.{IsFirstUnread, IsIntoBookFault, MayCome}
-use Rattle.covjobs.specs.declared.book_fault.IntoBookFault.{IntoBookFault}
-use Rattle.covjobs.specs.declared.book_fault.IntoBookFault.TheVariants as into_book
-use Rattle.covjobs.specs.declared.collect_fault.CollectFault.{CollectFault}
+use Rattle.covworkers.specs.declared.refused.RefusedInput.{RefusedInput}
+use Rattle.covworkers.proofs.ReadWhole.{collected_said}
+use Rattle.covworkers.specs.Collect.{AreOutcomes, IsCollectedWith, IsReadWhole, OutcomeData}
+use Rattle.covworkers.specs.Late.{IsFirstUnread, IsIntoBookFault, MayCome}
+use Rattle.covworkers.specs.declared.book_fault.IntoBookFault.{IntoBookFault}
+use Rattle.covworkers.specs.declared.book_fault.IntoBookFault.TheVariants as into_book
+use Rattle.covworkers.specs.declared.collect_fault.CollectFault.{CollectFault}
 use Rattle.covlarge.specs.Large.{IsAll}
 use Rattle.covlarge.specs.StateData.{StateData}
 use Rattle.covrun.proofs.Lenient.{are_collected}

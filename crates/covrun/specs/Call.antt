@@ -6,13 +6,13 @@ use Rattle.clap.specs.Words.{subcommand_of, takes, fault_of}
 use Rattle.covread.specs.Outcome.{max_bytes}
 use Rattle.covbook.specs.Op.{OpData, EntryData}
 use Rattle.covbook.specs.Gather.{LogData}
-use Rattle.covjobs.specs.Collect.{IsCollectedFrom}
-use Rattle.covjobs.specs.Late.{MayCome}
+use Rattle.covworkers.specs.Collect.{IsCollectedFrom}
+use Rattle.covworkers.specs.Late.{MayCome}
 use Rattle.covlarge.specs.Large.{max_pieces}
 use Rattle.covjobs.specs.Start.{AreJobs}
-use Rattle.covjobs.specs.declared.collect_fault.CollectFault.{CollectFault}
-use Rattle.covjobs.specs.declared.collect_fault.CollectFault.TheVariants as collects
-use Rattle.covjobs.specs.declared.refused.RefusedInput.{RefusedInput}
+use Rattle.covworkers.specs.declared.collect_fault.CollectFault.{CollectFault}
+use Rattle.covworkers.specs.declared.collect_fault.CollectFault.TheVariants as collects
+use Rattle.covworkers.specs.declared.refused.RefusedInput.{RefusedInput}
 use Rattle.covrun.specs.Large.{AreWholeTexts, IsLargeOutcome}
 use Rattle.covrun.specs.Strict.{AreCollected}
 use Rattle.covrun.specs.declared.work.FileFormat.{FileFormat}
@@ -39,7 +39,8 @@ use Rattle.covrun.specs.Check.{IsCheck}
 use Rattle.covlist.specs.Shown.{shown_name}
 use Rattle.covrun.specs.Folder.{FolderData, AreTextsOf}
 use Rattle.covrun.specs.OutputFiles.{OutputFilesData, Finishes, file_of}
-use Rattle.covrun.specs.Streams.{SourceData, SinksData, Complains, Withholds, Delivers, DeliversAndComplains}
+use Rattle.covrun.specs.Streams.{SinksData, Complains, Withholds, Delivers, DeliversAndComplains}
+use Rattle.covrun.specs.World.{WorldData, ChangesSinksAlone}
 
 -- there is one text for each file. A text has at most one byte more than the limit. If the folder knows a file's bytes, the
 -- file's text is those bytes, up to that length
@@ -132,27 +133,27 @@ IsWritten name text files after =
     Finishes name text files.finished after.finished × (after.begun ≡ files.begun) × (after.failed ≡ files.failed)
 
 -- the file of this name couldn't be written. No file was finished, and the failure is reported
-abbrev pub IsUnwritten : (name : List ℕ) → (status : ℕ) → SinksData → SinksData → OutputFilesData → OutputFilesData → Type 0
-IsUnwritten name status old new files after =
-    (status ≡ 1) × (after.finished ≡ files.finished) × (after.begun ≡ files.begun) × (after.failed ≡ suc files.failed)
-    × Withholds old new
-    × Complains (shown_name name ++ said (codes ": can't write")) old new
+abbrev pub IsUnwritten : (name : List ℕ) → (status : ℕ) → WorldData → WorldData → Type 0
+IsUnwritten name status old new =
+    (status ≡ 1) × (new.files.finished ≡ old.files.finished) × (new.files.begun ≡ old.files.begun) × (new.files.failed ≡ suc old.files.failed)
+    × Withholds old.sinks new.sinks
+    × Complains (shown_name name ++ said (codes ": can't write")) old.sinks new.sinks
 
 -- how an ending is reported if the call names a file for its text: the text goes into the file instead of to the output. For an
 -- ending without a text no file is written
-abbrev pub IsEndingWritten : (name : List ℕ) → EndingData → (status : ℕ) → SinksData → SinksData → OutputFilesData → OutputFilesData → Type 0
-IsEndingWritten name (Prints text) status old new files after =
-    ((status ≡ status_of (Prints text)) × (new ≡ old) × IsWritten name text files after)
-    ⊎ IsUnwritten name status old new files after
-IsEndingWritten name (FallsShort text lines) status old new files after =
-    ((status ≡ status_of (FallsShort text lines)) × Withholds old new × Complains lines old new × IsWritten name text files after)
-    ⊎ IsUnwritten name status old new files after
-IsEndingWritten name ending status old new files after = IsEndingPrinted ending status old new × (after ≡ files)
+abbrev pub IsEndingWritten : (name : List ℕ) → EndingData → (status : ℕ) → WorldData → WorldData → Type 0
+IsEndingWritten name (Prints text) status old new =
+    ((status ≡ status_of (Prints text)) × (new.sinks ≡ old.sinks) × IsWritten name text old.files new.files) ⊎ IsUnwritten name status old new
+IsEndingWritten name (FallsShort text lines) status old new =
+    ((status ≡ status_of (FallsShort text lines)) × Withholds old.sinks new.sinks × Complains lines old.sinks new.sinks
+    × IsWritten name text old.files new.files)
+    ⊎ IsUnwritten name status old new
+IsEndingWritten name ending status old new = IsEndingPrinted ending status old.sinks new.sinks × (new.files ≡ old.files)
 
--- how an ending is reported. `file`: the name of the file that the call names for its text
-abbrev pub IsEndingReported : (file : Option (List ℕ)) → EndingData → (status : ℕ) → SinksData → SinksData → OutputFilesData → OutputFilesData → Type 0
-IsEndingReported None ending status old new files after = IsEndingPrinted ending status old new × (after ≡ files)
-IsEndingReported (Some name) ending status old new files after = IsEndingWritten name ending status old new files after
+-- how an ending is reported. The input isn't read. `file`: the name of the file that the call names for its text
+abbrev pub IsEndingReported : (file : Option (List ℕ)) → EndingData → (status : ℕ) → WorldData → WorldData → Type 0
+IsEndingReported None ending status old new = ChangesSinksAlone old new × IsEndingPrinted ending status old.sinks new.sinks
+IsEndingReported (Some name) ending status old new = (new.input ≡ old.input) × IsEndingWritten name ending status old new
 
 -- what covcommand makes of the words: this command, its strictness, whether files are read in pieces, and the file for its text, or this fault
 pub record AreParsed (words : List (List ℕ)) (parsed : Result Asked CommandFault) : Type 0 where
@@ -165,35 +166,39 @@ pub record AreParsed (words : List (List ℕ)) (parsed : Result Asked CommandFau
   pub taken : takes covcollect words ≡ true → IfErr parsed (λ fault. fault ≡ line.Memory)
   pub told : IfErr parsed (IsFaultAmong (fault_of covcollect words))
 
--- what a call does for its task. A session reads the input; the other tasks don't. Collecting files has an ending, which is
--- reported. Checking files reports each file. Only collecting writes a file
-abbrev pub IsTaskDone : FolderData → TaskData → (file : Option (List ℕ)) → (status : ℕ) → (before after : SourceData) → SinksData → SinksData → OutputFilesData → OutputFilesData → Type 0
-IsTaskDone folder Serves file status before after old new files written =
-    (written ≡ files)
-    × TellsSession status before.left after.left old.output new.output old.faults new.faults
-    (calls before.reads before.failed_reads old.failed_output) (calls after.reads after.failed_reads new.failed_output)
-    old.failed_faults new.failed_faults
-IsTaskDone folder (Collects work) file status before after old new files written =
-    (after ≡ before) × (ending : EndingData) × WorkEnds folder file work ending × IsEndingReported file ending status old new files written
-IsTaskDone folder (Checks format strictness jobs names) file status before after old new files written =
-    (after ≡ before) × (written ≡ files) × IsCheck folder format strictness names status old new
+-- a session reads the input. No file is written
+abbrev pub IsServed : (status : ℕ) → WorldData → WorldData → Type 0
+IsServed status old new =
+    (new.files ≡ old.files)
+    × TellsSession status old.input.left new.input.left old.sinks.output new.sinks.output old.sinks.faults new.sinks.faults
+    (calls old.input.reads old.input.failed_reads old.sinks.failed_output) (calls new.input.reads new.input.failed_reads new.sinks.failed_output)
+    old.sinks.failed_faults new.sinks.failed_faults
+
+-- collecting files has an ending, which is reported
+abbrev pub IsWorkDone : FolderData → WorkData → (file : Option (List ℕ)) → (status : ℕ) → WorldData → WorldData → Type 0
+IsWorkDone folder work file status old new =
+    (ending : EndingData) × WorkEnds folder file work ending × IsEndingReported file ending status old new
+
+-- what a call does for its task. Only a session reads the input, and only collecting writes a file. Checking files reports each file
+abbrev pub IsTaskDone : FolderData → TaskData → (file : Option (List ℕ)) → (status : ℕ) → WorldData → WorldData → Type 0
+IsTaskDone folder Serves file status old new = IsServed status old new
+IsTaskDone folder (Collects work) file status old new = IsWorkDone folder work file status old new
+IsTaskDone folder (Checks format strictness jobs names) file status old new =
+    ChangesSinksAlone old new × IsCheck folder format strictness names status old.sinks new.sinks
 
 -- a command ends early, and the input isn't read; or its words are accepted, and its task is done
-abbrev pub IsCommandDone : FolderData → Command → Strictness → TextSize → (file : Option (List ℕ)) → (status : ℕ) → (before after : SourceData) → SinksData → SinksData → OutputFilesData → OutputFilesData → Type 0
-IsCommandDone folder command strictness size file status before after old new files written =
-    ((after ≡ before) × (written ≡ files) × (ending : EndingData) × StopsEarly command ending × IsEndingPrinted ending status old new)
-    ⊎ (AreTaken command × IsTaskDone folder (task_of command strictness size) file status before after old new files written)
+abbrev pub IsCommandDone : FolderData → Command → Strictness → TextSize → (file : Option (List ℕ)) → (status : ℕ) → WorldData → WorldData → Type 0
+IsCommandDone folder command strictness size file status old new =
+    ((ending : EndingData) × StopsEarly command ending × IsEndingReported None ending status old new)
+    ⊎ (AreTaken command × IsTaskDone folder (task_of command strictness size) file status old new)
 
 -- what a call does after its words are parsed. If they form a command, the command is done. If they form none, the fault is
 -- reported, and the input isn't read
-abbrev pub IsCallDone : FolderData → Result Asked CommandFault → (status : ℕ) → (before after : SourceData) → SinksData → SinksData → OutputFilesData → OutputFilesData → Type 0
-IsCallDone folder (Ok asked) status before after old new files written =
-    IsCommandDone folder asked.command asked.strictness asked.size (file_of (option_map string_bytes asked.output)) status before after old new files written
-IsCallDone folder (Err fault) status before after old new files written =
-    (after ≡ before) × (written ≡ files) × IsEndingPrinted (of_line fault) status old new
+abbrev pub IsCallDone : FolderData → Result Asked CommandFault → (status : ℕ) → WorldData → WorldData → Type 0
+IsCallDone folder (Ok asked) status old new =
+    IsCommandDone folder asked.command asked.strictness asked.size (file_of (option_map string_bytes asked.output)) status old new
+IsCallDone folder (Err fault) status old new = IsEndingReported None (of_line fault) status old new
 
--- one call of the program: the folder whose files it reads, its words, its exit status, its input before and after, its two output
--- streams before and after, and the files that it writes, before and after
-abbrev pub IsCall : FolderData → (words : List (List ℕ)) → (status : ℕ) → (before after : SourceData) → SinksData → SinksData → OutputFilesData → OutputFilesData → Type 0
-IsCall folder words status before after old new files written =
-    (parsed : Result Asked CommandFault) × AreParsed words parsed × IsCallDone folder parsed status before after old new files written
+-- one call of the program: the folder whose files it reads, its words, its exit status, and what it changes, before and after
+abbrev pub IsCall : FolderData → (words : List (List ℕ)) → (status : ℕ) → WorldData → WorldData → Type 0
+IsCall folder words status old new = (parsed : Result Asked CommandFault) × AreParsed words parsed × IsCallDone folder parsed status old new

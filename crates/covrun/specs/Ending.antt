@@ -1,10 +1,10 @@
 -- How a call with a subcommand ends: this decides its exit status and what it writes.
 use Rattle.std.specs.List.{flat_map}
 use Rattle.std.specs.Prelude.{ℕ, ◌-◌, length, List, [], ◌∷◌, ◌++◌, Bool, true, false, if◌then◌else◌, Option, Some, None, codes, slice_get}
-use Rattle.covread.specs.Fault.{is_memory}
-use Rattle.covstore.specs.Content.{content_at}
-use Rattle.covstore.specs.Files.{FileTotalsData}
-use Rattle.covstore.specs.declared.totals.Totals.{Totals}
+use Rattle.covdata.specs.Fault.{is_memory}
+use Rattle.covtable.specs.Content.{content_at}
+use Rattle.covtable.specs.Files.{FileTotalsData}
+use Rattle.covtable.specs.declared.totals.Totals.{Totals}
 use Rattle.covcommand.specs.declared.asked.TotalsForm.{TotalsForm}
 use Rattle.covcommand.specs.declared.asked.TotalsForm.TheVariants as forms
 use Rattle.covlimit.specs.Limits.{shortfalls}
@@ -15,9 +15,9 @@ use Rattle.covreport.specs.Report.{report_text}
 use Rattle.covreport.specs.Summary.{summary_of}
 use Rattle.covbook.specs.Step.{ops_in, table_of}
 use Rattle.covbook.specs.Op.{EntryData, AnswerData, AcceptedAnswer, ClashAnswer, DroppedAnswer, RenamedAnswer, NoSuchTestAnswer, TextAnswer}
-use Rattle.covjobs.specs.declared.collect_fault.CollectFault.{CollectFault}
-use Rattle.covjobs.specs.declared.collect_fault.CollectFault.TheVariants as collects
-use Rattle.covjobs.specs.declared.refused.RefusedInput.{RefusedInput}
+use Rattle.covworkers.specs.declared.collect_fault.CollectFault.{CollectFault}
+use Rattle.covworkers.specs.declared.collect_fault.CollectFault.TheVariants as collects
+use Rattle.covworkers.specs.declared.refused.RefusedInput.{RefusedInput}
 use Rattle.covcommand.specs.declared.asked.Strictness.{Strictness}
 use Rattle.covlist.specs.Shown.{shown_name}
 use Rattle.covsession.specs.Program.{fault_status, words_of_fault}

@@ -2,18 +2,17 @@
 use Rattle.std.specs.Prelude.{◌≡◌, ◌≤◌, ℕ, suc, false, List, [], ◌∷◌, length, Option, Some, None, Result, Ok, Err}
 use Rattle.covcheck.specs.SummaryLine.{summary_text}
 use Rattle.covcheck.specs.declared.text_summary.TextSummary.{TextSummary}
-use Rattle.covjobs.specs.Collect.{IsReadWhole, OutcomeData}
-use Rattle.covjobs.specs.declared.late_fault.LateFault.{LateFault}
-use Rattle.covjobs.specs.declared.late_fault.LateFault.TheVariants as late
-use Rattle.covlarge.specs.Blocks.{HasReadAtMost}
+use Rattle.covworkers.specs.Collect.{IsReadWhole, OutcomeData}
+use Rattle.covworkers.specs.declared.late_fault.LateFault.{LateFault}
+use Rattle.covworkers.specs.declared.late_fault.LateFault.TheVariants as late
 use Rattle.covlarge.specs.Large.{IsAll, max_pieces}
 use Rattle.covlarge.specs.State.{MayFailFrom, MayGive}
 use Rattle.covlarge.specs.StateData.{StateData}
 use Rattle.covlarge.specs.Summary.{SummaryData}
-use Rattle.covline.specs.Row.{SubmissionData}
-use Rattle.covread.specs.declared.fault.ReadFault.{ReadFault}
+use Rattle.covdata.specs.Row.{SubmissionData}
+use Rattle.covdata.specs.declared.fault.ReadFault.{ReadFault}
 use Rattle.covread.specs.Outcome.{max_bytes}
-use Rattle.covcommand.specs.declared.asked.LcovVersion.{LcovVersion}
+use Rattle.covdata.specs.declared.version.LcovVersion.{LcovVersion}
 use Rattle.covcommand.specs.declared.asked.Strictness.{Strictness}
 use Rattle.covcommand.specs.declared.asked.Strictness.TheVariants.{Lenient, Strict}
 use Rattle.covrun.specs.Folder.{FolderData, IsTextOf}
@@ -26,6 +25,7 @@ use Rattle.covrun.specs.declared.files.FileFault.{FileFault}
 use Rattle.covrun.specs.declared.work.FileFormat.{FileFormat}
 use Rattle.covrun.specs.declared.work.FileFormat.TheVariants.{Tracefile, LargeTracefile, GcovOutput}
 use Rattle.covrun.specs.declared.files.FileFault.TheVariants.{Unreadable, Memory}
+use Rattle.covstream.specs.Blocks.{HasReadAtMost}
 
 -- all bytes that were left were read, or exactly one byte more than a text may have
 abbrev pub HasRead : Option (List ℕ) → Option (List ℕ) → List ℕ → Type 0

@@ -3,6 +3,8 @@ use Rattle.std.specs.Io.KnownBytes.{Consumes, Keeps}
 use Rattle.std.specs.List.{AllByRecursion, zip}
 use Rattle.std.specs.Prelude.{◌≡◌, ◌⊎◌, ◌<◌, ℕ, suc, List, take, Option, None, Some}
 use Rattle.covread.specs.Outcome.{max_bytes}
+use Rattle.covstream.specs.declared.stream.Source.{Ghosts as SourceOf}
+use Rattle.covrun.specs.declared.folder.Folder.{Ghosts as FolderOf}
 
 -- the folder that a call reads files from. `holds`: the bytes of the file with this name, if the folder knows them. `MayFail`:
 -- this file may fail to be read
@@ -21,12 +23,12 @@ pub record HasFailed {File : Type 0} (held : Option (List ℕ)) (MayOpen : File 
   pub given : Consumes (left opened) (left after) bytes
   pub failed : failed_reads opened < failed_reads after
 
--- a file may fail to be read if the folder may refuse to open it, or if a read of it failed once it was open
-abbrev pub folder_data : {File : Type 0} → (holds : List ℕ → Option (List ℕ)) → (may_refuse : List ℕ → Type 0) → (may_open : List ℕ → File → Type 0)
-    → (left : File → Option (List ℕ)) → (failed_reads : File → ℕ) → FolderData
-folder_data holds may_refuse may_open left failed_reads = record {
-  holds = holds;
-  MayFail = λ name. may_refuse name ⊎ HasFailed (holds name) (may_open name) left failed_reads;
+-- the folder as data, from what its type and the type of its open files state. A file may fail to be read if the folder may refuse to
+-- open it, or if a read of it failed once it was open
+abbrev pub folder_data : {F File : Type 0} → FolderOf F File → SourceOf File → F → FolderData
+folder_data of file folder = record {
+  holds = of.holds folder;
+  MayFail = λ name. of.may_refuse folder name ⊎ HasFailed (of.holds folder name) (of.may_open folder name) file.left file.failed_reads;
 }
 
 -- if the bytes are known, the text is all of them, or the first `most` of them

@@ -3,14 +3,14 @@ use Rattle.std.specs.List.{AllByRecursion, zip}
 use Rattle.std.specs.Prelude.{◌≡◌, ℕ, Bool, true, false, List, [], ◌∷◌, ◌++◌, length, Option, Some, None, Result, Ok, Err}
 use Rattle.covcheck.specs.SummaryLine.{summary_text}
 use Rattle.covcheck.specs.declared.text_summary.TextSummary.{TextSummary}
-use Rattle.covcommand.specs.declared.asked.LcovVersion.{LcovVersion}
+use Rattle.covdata.specs.declared.version.LcovVersion.{LcovVersion}
 use Rattle.covcommand.specs.declared.asked.Strictness.{Strictness}
 use Rattle.covcommand.specs.declared.asked.Strictness.TheVariants.{Lenient, Strict}
-use Rattle.covjobs.specs.Collect.{OutcomeData}
+use Rattle.covworkers.specs.Collect.{OutcomeData}
 use Rattle.covlarge.specs.Large.{IsAll, IsReadAs}
 use Rattle.covlarge.specs.Summary.{SummaryData, summary_data}
-use Rattle.covline.specs.Row.{SubmissionData}
-use Rattle.covread.specs.declared.fault.ReadFault.{ReadFault}
+use Rattle.covdata.specs.Row.{SubmissionData}
+use Rattle.covdata.specs.declared.fault.ReadFault.{ReadFault}
 use Rattle.covrun.specs.Folder.{FolderData}
 use Rattle.covrun.specs.Strict.{is_clean}
 use Rattle.covrun.specs.declared.text_fault.TextFault.{TextFault}

@@ -1,6 +1,6 @@
 -- How names and checksums from outside stand in the messages of a call that collects files.
 use Rattle.std.specs.Prelude.{ℕ, List, Option, None, Some}
-use Rattle.covcommand.specs.declared.asked.LcovVersion.TheVariants as versions
+use Rattle.covdata.specs.declared.version.LcovVersion.TheVariants as versions
 use Rattle.covcommand.specs.declared.asked.Strictness.{Strictness}
 use Rattle.covcommand.specs.declared.asked.Strictness.TheVariants.{Lenient, Strict}
 use Rattle.covlist.specs.Shown.{shown_lines, shown_name}

@@ -1,6 +1,6 @@
 -- The streams that a call reads and writes, before and after it.
 use Rattle.std.specs.Io.KnownBytes.{Appends}
-use Rattle.std.specs.Prelude.{◌≡◌, ℕ, List, Option}
+use Rattle.std.specs.Prelude.{◌≡◌, ◌<◌, ◌^◌, ℕ, List, Option}
 
 -- the stream that a call reads: the bytes it has left, if these are known; how often it was read; and how many reads failed
 pub record SourceData : Type 0 where
@@ -20,18 +20,18 @@ pub record SinksData : Type 0 where
   pub faults : Option (List ℕ)
   pub failed_faults : ℕ
 
-abbrev pub sinks : Option (List ℕ) → (held failed_output : ℕ) → Option (List ℕ) → (failed_faults : ℕ) → SinksData
-sinks output held failed_output faults failed_faults = record {
-  output = output;
-  held = held;
-  failed_output = failed_output;
-  faults = faults;
-  failed_faults = failed_faults;
-}
+-- few enough writes have failed that no count of them can overflow
+pub record CanWrite (sinks : SinksData) : Type 0 where
+  pub output : sinks.failed_output < 2 ^ 62
+  pub faults : sinks.failed_faults < 2 ^ 62
 
 -- these words went to the stream for faults, unless a write to it failed: there is nowhere left to report that
 abbrev pub Complains : List ℕ → SinksData → SinksData → Type 0
 Complains words old new = new.failed_faults ≡ old.failed_faults → Appends old.faults new.faults words
+
+-- nothing was written to the stream for faults
+abbrev pub IsSilent : SinksData → SinksData → Type 0
+IsSilent old new = (new.faults ≡ old.faults) × (new.failed_faults ≡ old.failed_faults)
 
 -- nothing was written to the output
 abbrev pub Withholds : SinksData → SinksData → Type 0
@@ -44,7 +44,7 @@ PutsOut text old new =
 
 -- the whole text went to the output, and nothing to the stream for faults
 abbrev pub Delivers : List ℕ → SinksData → SinksData → Type 0
-Delivers text old new = PutsOut text old new × (new.faults ≡ old.faults) × (new.failed_faults ≡ old.failed_faults)
+Delivers text old new = PutsOut text old new × IsSilent old new
 
 -- the whole text went to the output, and these words to the stream for faults
 abbrev pub DeliversAndComplains : (text words : List ℕ) → SinksData → SinksData → Type 0

@@ -12,16 +12,17 @@ use Rattle.covbook.specs.Gather.{LogData}
 use Rattle.covbook.specs.Op.{OpData, EntryData, SubmitOp, DropTestOp, RenameOp, ReportOp, ExtractOp, RemoveOp, SummaryOp}
 use Rattle.covcommand.specs.declared.asked.Strictness.{Strictness}
 use Rattle.covcommand.specs.declared.asked.Strictness.TheVariants.{Lenient, Strict}
-use Rattle.covjobs.specs.Collect.{InputData, TraceInput, Lcov2Input, GcovInput, IsCollected, IsCollectedWhole, IsOutcomeOf}
-use Rattle.covjobs.specs.declared.refused.RefusedInput.{RefusedInput}
-use Rattle.covline.specs.Row.{SubmissionData}
+use Rattle.covworkers.specs.Collect.{IsCollectedWhole}
+use Rattle.covjobs.specs.Inputs.{InputData, TraceInput, Lcov2Input, GcovInput, IsCollected, IsOutcomeOf}
+use Rattle.covworkers.specs.declared.refused.RefusedInput.{RefusedInput}
+use Rattle.covdata.specs.Row.{SubmissionData}
 use Rattle.covlist.specs.Shown.{shown_name}
-use Rattle.covread.specs.declared.fault.ReadFault.{ReadFault}
+use Rattle.covdata.specs.declared.fault.ReadFault.{ReadFault}
 use Rattle.covreport.specs.Choice.{ChoiceData, AllFiles, Extracted, Removed, Filtered}
 use Rattle.covreport.specs.Pattern.{matches}
 use Rattle.covsession.specs.Session.{said}
-use Rattle.covstore.specs.Content.{SectionData}
-use Rattle.covstore.specs.Files.{files_with_totals}
+use Rattle.covtable.specs.Content.{SectionData}
+use Rattle.covtable.specs.Files.{files_with_totals}
 use Rattle.covrun.specs.Work.{QuestionData, Answer, ChosenReport, ChosenSummary, LimitedTotals, ChosenList}
 use Rattle.covrun.specs.declared.text_fault.TextFault.{TextFault}
 use Rattle.covrun.specs.declared.text_fault.TextFault.TheVariants.{Faulty, Unclean}

@@ -26,7 +26,7 @@ work_data work = record { files = work.files; format = work.format; strictness =
 abbrev pub task_data : Task → TaskData
 task_data tasks.Session = Serves
 task_data (tasks.Collect work) = Collects (work_data work)
-task_data (tasks.Check format strictness jobs files) = Checks format strictness jobs files
+task_data (tasks.Check options files) = Checks options.format options.strictness options.jobs files
 
 abbrev pub ready_data : ReadyAnswer → EndingData
 ready_data answer = with_shortfalls answer.shortfalls answer.text

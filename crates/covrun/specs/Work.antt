@@ -1,12 +1,12 @@
 -- What a subcommand has to do, and which of its words are refused before any file is read.
 use Rattle.std.specs.List.{AllByRecursion}
 use Rattle.std.specs.Prelude.{◌≡◌, ◌⊎◌, ◌<◌, ◌≤◌, ℕ, if◌then◌else◌, List, [], Option, None, Some, length, take, drop}
-use Rattle.covline.specs.Lawful.{IsGoodTest}
+use Rattle.covdata.specs.Lawful.{IsGoodTest}
 use Rattle.covlimit.specs.Limits.{LimitsData, has_limit}
 use Rattle.covlimit.specs.Rates.{IsRate}
 use Rattle.covreport.specs.Choice.{ChoiceData, AllFiles, Filtered, max_patterns, max_pattern_bytes}
 use Rattle.covbook.specs.Op.{OpData, ReportOp, SummaryOp, ExtractOp, RemoveOp}
-use Rattle.covjobs.specs.Collect.{InputData, TraceInput, Lcov2Input, GcovInput}
+use Rattle.covjobs.specs.Inputs.{InputData, TraceInput, Lcov2Input, GcovInput}
 use Rattle.covcommand.specs.declared.asked.Command.{Command}
 use Rattle.covcommand.specs.declared.asked.Command.TheVariants.{Session, Merge, Summary, List as ListFiles, Extract, Remove, Gcov, Check}
 use Rattle.covcommand.specs.declared.asked.Limits.{Limits}
@@ -14,8 +14,8 @@ use Rattle.covcommand.specs.declared.asked.TotalsForm.{TotalsForm}
 use Rattle.covcommand.specs.declared.asked.TotalsForm.TheVariants as forms
 use Rattle.covcommand.specs.declared.asked.SourceFilter.{SourceFilter}
 use Rattle.covcommand.specs.declared.asked.Strictness.{Strictness}
-use Rattle.covcommand.specs.declared.asked.LcovVersion.{LcovVersion}
-use Rattle.covcommand.specs.declared.asked.LcovVersion.TheVariants as versions
+use Rattle.covdata.specs.declared.version.LcovVersion.{LcovVersion}
+use Rattle.covdata.specs.declared.version.LcovVersion.TheVariants as versions
 use Rattle.covcommand.specs.declared.asked.TextFormat.{TextFormat}
 use Rattle.covcommand.specs.declared.asked.TextFormat.TheVariants as texts
 use Rattle.covcommand.specs.declared.asked.TextSize.{TextSize}
@@ -98,9 +98,9 @@ checked_as Large (texts.Tracefile version) = checked.LargeTracefile version
 checked_as Large texts.Gcov = checked.Text texts.Gcov
 
 -- the work of `extract` and `remove`: the first name is the tracefile's, and the other names are patterns
-abbrev pub filtering : LcovVersion → Strictness → TextSize → (List (List ℕ) → OpData) → List (List ℕ) → WorkData
-filtering version strictness size op names =
-    record { files = take 1 names; format = tracefiles size version; strictness = strictness; jobs = 1; asks = Answer (op (drop 1 names)) }
+abbrev pub filtering : FileFormat → Strictness → (List (List ℕ) → OpData) → List (List ℕ) → WorkData
+filtering format strictness op names =
+    record { files = take 1 names; format = format; strictness = strictness; jobs = 1; asks = Answer (op (drop 1 names)) }
 
 -- what a call has to do: a session; or to collect files and then answer what is asked; or to check files, each by itself
 pub data TaskData : Type 0 where
@@ -117,8 +117,8 @@ task_of (Summary version jobs filter form limits names) strictness size =
     Collects (record { files = names; format = tracefiles size version; strictness = strictness; jobs = jobs; asks = summary_asked form (limits_of limits) (choice_of filter) })
 task_of (ListFiles version jobs filter form names) strictness size =
     Collects (record { files = names; format = tracefiles size version; strictness = strictness; jobs = jobs; asks = ChosenList form (chosen_or_all (choice_of filter)) })
-task_of (Extract version names) strictness size = Collects (filtering version strictness size ExtractOp names)
-task_of (Remove version names) strictness size = Collects (filtering version strictness size RemoveOp names)
+task_of (Extract version names) strictness size = Collects (filtering (tracefiles size version) strictness ExtractOp names)
+task_of (Remove version names) strictness size = Collects (filtering (tracefiles size version) strictness RemoveOp names)
 task_of (Gcov test names) strictness size =
     Collects (record { files = names; format = GcovOutput test; strictness = strictness; jobs = 1; asks = Answer ReportOp })
 task_of (Check format jobs names) strictness size = Checks (checked_as size format) strictness jobs names

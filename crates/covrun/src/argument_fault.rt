@@ -18,7 +18,7 @@ pub enum ArgumentFault {
     /// A threshold isn't a rate: a decimal number of percent from 0 to 100, with at most six digits after the point.
     #[error("BadRate")]
     BadRate,
-    /// The number of jobs is 0 or more than 64. The command line admits no such number.
+    /// The number of jobs is 0 or more than 64, which the command line never admits.
     #[error("BadJobs")]
     BadJobs,
 }

@@ -8,11 +8,12 @@ ghost use Rattle.covrun.specs.Printed.{HasPrinted, WritesOn, sink_data};
 
 use crate::block::{BLOCK_BYTES, Block};
 use covreport::{Noted, Printer, Printing};
-use covsession::{SessionFault, Sink, put_bytes};
+use covsession::{SessionFault, put_bytes};
+use covstream::Sink;
 use std::marker::{Brand, Model, PhantomData};
 
 /// Names a printer's sink, and the sink's state before printing. The trait has no functions. The contract of a function that takes
-/// any `Printer` can't name a sink, so the printer's type names it.
+/// any `Printer` can't name a sink, so the printer's type names the sink.
 trait Place {
     ghost use Rattle.std.specs.Borrow.{GName};
     ghost use Rattle.covrun.specs.Printed.{SinkData};
@@ -82,8 +83,8 @@ impl<'s, O: Sink, L: Place> Printer for BlockPrinter<'s, O, L> {
 }
 
 impl<'s, O: Sink, L: Place> BlockPrinter<'s, O, L> {
-    /// Writes the block, and then the piece in blocks; the last one stays in the buffer. Not inlined, since few pieces exceed the
-    /// space that is left in a block.
+    /// Writes the block, and then `piece` in blocks, the last of which stays in the buffer. Not inlined, since few pieces exceed
+    /// the space that is left in a block.
     #[cold]
     fn put_further(&mut self, piece: &[u8])
         ensures { self.new.printed ++ self.new.waiting ≡ self.old.printed ++ self.old.waiting ++ piece.now }
@@ -124,7 +125,7 @@ impl<'s, O: Sink, L: Place> BlockPrinter<'s, O, L> {
     }
 }
 
-/// Writes the bytes, unless an earlier write failed. Returns whether any write has failed.
+/// Writes `bytes` to `sink`, unless `had_failed` says that an earlier write failed. Returns whether any write has failed.
 fn write_on<O: Sink>(had_failed: bool, bytes: &[u8], sink: &mut O) -> bool
     requires { O.failed_writes sink.old < 2 ^ 63 }
     ensures written { WritesOn had_failed result bytes.now (sink_data (O.written sink.old) (O.failed_writes sink.old)) (sink_data (O.written sink.new) (O.failed_writes sink.new)) }
@@ -145,7 +146,7 @@ struct Printout<'s, O> {
     has_failed: bool,
 }
 
-/// Prints a text to the sink that `L` names.
+/// Prints `text` to the sink that `L` names.
 fn printed_at<'s, O: Sink, L: Place>(
     text: Printing<'_>,
     block: Block,
@@ -170,7 +171,8 @@ fn printed_at<'s, O: Sink, L: Place>(
     printer.into_printout()
 }
 
-/// Prints a text in blocks, while it is made, and flushes the output. Never allocates: the caller provides the empty block.
+/// Prints `text` in blocks while the text is made, and flushes the output. Never allocates: the caller provides `block`, which is
+/// empty.
 pub(crate) fn print_text<O: Sink>(
     text: Printing<'_>,
     block: Block,

@@ -1,6 +1,6 @@
 //! Does a subcommand's work: collects its files, decides how the run ends, and reports that.
 
-ghost use Rattle.std.specs.Prelude.{◌≡◌, ◌⊎◌, ◌<◌, ◌^◌, ◌++◌, [], ◌∷◌, None, map, option_map, slice_get, IfOk, OnOk, IfErr};
+ghost use Rattle.std.specs.Prelude.{◌≡◌, ◌⊎◌, ◌++◌, [], ◌∷◌, map, option_map, slice_get, IfOk, OnOk, IfErr};
 ghost use Rattle.std.specs.List.{flat_map};
 ghost use Rattle.std.specs.String.{string_bytes};
 ghost use Rattle.covbook.specs.EntryView.{entry_data};
@@ -9,17 +9,16 @@ ghost use Rattle.covbook.specs.Texts.{IsText};
 ghost use Rattle.covbook.specs.View.{answer_data};
 ghost use Rattle.covsession.specs.Session.{clash_text};
 ghost use Rattle.covsession.specs.declared.session.fault.SessionFault.TheVariants as session_faults;
-ghost use Rattle.covrun.specs.Call.{IsEndingReported, WorkEnds};
+ghost use Rattle.covrun.specs.Call.{IsWorkDone};
 ghost use Rattle.covbook.specs.Step.{ops_in, table_of};
-ghost use Rattle.covstore.specs.Content.{content_at};
-ghost use Rattle.covrun.specs.Ending.{EndingData, Stopped, Unreadable, of_collected, asked_shortfalls, asked_text, complaints, faulty_line, refusal_line, ran_out, name_at, strict_line, strict_lines as strict_lines_of, unclean_line, with_shortfalls};
+ghost use Rattle.covtable.specs.Content.{content_at};
+ghost use Rattle.covrun.specs.Ending.{Stopped, Unreadable, of_collected, asked_shortfalls, asked_text, complaints, faulty_line, refusal_line, ran_out, name_at, strict_line, strict_lines as strict_lines_of, unclean_line, with_shortfalls};
 ghost use Rattle.covrun.specs.Strict.{asked_patterns, unmatched_line, unmatched_lines as unmatched_lines_of};
 ghost use Rattle.covrun.specs.Folder.{folder_data};
 ghost use Rattle.covrun.specs.Naming.{naming_of, told_lines, told_name};
-ghost use Rattle.covrun.specs.OutputFiles.{output_files};
-ghost use Rattle.covrun.specs.Streams.{sinks};
 ghost use Rattle.covrun.specs.View.{failure_data, question_data, ready_data, work_data};
 ghost use Rattle.covrun.specs.Work.{last_of};
+ghost use Rattle.covrun.specs.World.{CanCall};
 
 use crate::ending::{Failure, ReadyAnswer, failure_of_collect};
 use crate::file_input::file_inputs;
@@ -31,23 +30,26 @@ use crate::question::Question;
 use crate::ready_text::ReadyText;
 use crate::text_fault::TextFault;
 use crate::work::Work;
+use crate::world::World;
 use covbook::{Answer, Answered};
 use covcommand::Strictness;
-use covjobs::{CollectedBook, IntoBookFault, NoGate, RefusedInput, collect_into_book};
-use covline::{Bytes, Memory};
+use covdata::{Bytes, Memory};
 use covlist::put_shown_name;
-use covsession::{SessionFault, Sink, clash_line, refused_line};
+use covsession::{SessionFault, clash_line, refused_line};
+use covstream::{Sink, Source};
+use covworkers::{CollectedBook, IntoBookFault, NoGate, RefusedInput, collect_into_book};
 use std::alloc::Global;
 use std::sync::Wait;
 use std::thread::Threads;
 
-/// Does the work, reports how it ended, and returns the exit status. A job reads a file when its turn comes, and frees its content
-/// after parsing. A tracefile is printed while it is made from the book. `file` is the name of the output file, if the command line
-/// has one.
+/// Does `work`, reports how the work ended, and returns the exit status. A job reads a file when the file's turn comes, and frees
+/// the content after parsing. A tracefile is printed while it is made from the book. `file` is the name of the output file, if the
+/// command line has one.
 pub(crate) fn do_work<
     R: Threads + Wait + Sync,
     F: Folder<File: Send> + Sync,
     P: OutputFolder,
+    I: Source,
     O: Sink,
     E: Sink,
 >(
@@ -56,27 +58,16 @@ pub(crate) fn do_work<
     alloc: Global,
     work: &Work,
     file: Option<&str>,
-    files: &mut P,
-    output: &mut O,
-    faults: &mut E,
+    world: &mut World<P, I, O, E>,
 ) -> u8
     requires text { IsText (last_of (question_data work.now.asks)) }
-    requires begun { P.begun files.old ≡ None }
-    requires files { P.failed files.old < 2 ^ 62 }
-    requires output { O.failed_writes output.old < 2 ^ 62 }
-    requires faults { E.failed_writes faults.old < 2 ^ 62 }
-    ensures { (ending : EndingData)
-        × WorkEnds (folder_data (F.holds folder.now) (F.may_refuse folder.now) (F.may_open folder.now) F.File.left F.File.failed_reads) (option_map (λ name. name.now) file.entry) (work_data work.now) ending
-        × IsEndingReported (option_map (λ name. name.now) file.entry) ending result
-        (sinks (O.written output.old) (O.held output.old) (O.failed_writes output.old) (E.written faults.old) (E.failed_writes faults.old))
-        (sinks (O.written output.new) (O.held output.new) (O.failed_writes output.new) (E.written faults.new) (E.failed_writes faults.new))
-        (output_files (P.finished files.old) (P.begun files.old) (P.failed files.old))
-        (output_files (P.finished files.new) (P.begun files.new) (P.failed files.new)) }
+    requires can { CanCall world.old }
+    ensures { IsWorkDone (folder_data F.Folder F.File.Source folder.now) (work_data work.now) (option_map (λ name. name.now) file.entry) result world.old world.new }
 {
     let names = work.files.get();
     let naming = Naming::of(work, file);
     let Ok(inputs) = file_inputs(folder, alloc, &work.format, work.strictness, names) else {
-        return report_failure(Failure::Stopped(SessionFault::Memory), faults);
+        return report_failure(Failure::Stopped(SessionFault::Memory), world);
     };
     match collect_into_book(rt, alloc, inputs, work.jobs, &NoGate) {
         Ok(collected) => match answer_of(
@@ -87,17 +78,17 @@ pub(crate) fn do_work<
             &work.asks,
             &collected,
         ) {
-            Ok(answer) => report_answer(alloc, answer, file, files, output, faults),
-            Err(failure) => report_failure(failure, faults),
+            Ok(answer) => report_answer(alloc, answer, file, world),
+            Err(failure) => report_failure(failure, world),
         },
         Err(IntoBookFault::Unread { index }) => {
-            report_failure(unreadable(alloc, naming, file_name(names, index)), faults)
+            report_failure(unreadable(alloc, naming, file_name(names, index)), world)
         }
-        Err(IntoBookFault::Collect(fault)) => report_failure(failure_of_collect(fault), faults),
+        Err(IntoBookFault::Collect(fault)) => report_failure(failure_of_collect(fault), world),
     }
 }
 
-/// Returns why a run has no answer if the file of this name can't be read: `Stopped` if memory runs out.
+/// The failure of a run that can't read the file called `name`; `Stopped` if memory runs out.
 fn unreadable(alloc: Global, naming: Naming, name: &str) -> Failure
     ensures { (failure_data result ≡ Stopped session_faults.Memory) ⊎ (failure_data result ≡ Unreadable (told_name naming name.now)) }
 {
@@ -184,7 +175,7 @@ fn has_run_out(refused: &[RefusedInput<TextFault>]) -> bool
     false
 }
 
-/// Appends a line for each invalid file, with the file's name in front.
+/// Appends to `lines` a line for each invalid file, with the file's name in front.
 fn add_refusals(
     alloc: Global,
     naming: Naming,
@@ -207,7 +198,7 @@ fn add_refusals(
     Ok(())
 }
 
-/// The name of the file with this index; empty if the index is out of range.
+/// The name of the file at `index`; empty if the index is out of range.
 fn file_name(files: &[String], index: usize) -> &str
     ensures { result.now ≡ name_at (slice_get (map string_bytes files.now) index) }
 {
@@ -217,7 +208,7 @@ fn file_name(files: &[String], index: usize) -> &str
     }
 }
 
-/// Appends the line about the named file if it is invalid.
+/// Appends to `lines` the line about the file called `name` if its content is invalid.
 fn add_refusal(
     alloc: Global,
     naming: Naming,
@@ -238,7 +229,7 @@ fn add_refusal(
     Ok(())
 }
 
-/// Appends a line for each clash.
+/// Appends to `lines` a line for each clash among `answers`.
 fn add_clashes(
     alloc: Global,
     naming: Naming,
@@ -255,7 +246,7 @@ fn add_clashes(
     Ok(())
 }
 
-/// Appends the line about a clash. Appends nothing for any other answer.
+/// Appends to `lines` the line about `answer` if it is a clash, and nothing for any other answer.
 fn add_clash(
     alloc: Global,
     naming: Naming,
@@ -270,8 +261,8 @@ fn add_clash(
     Ok(())
 }
 
-/// The lines that fail a strict run: those about files that aren't clean, or if all are clean, those about patterns that match no
-/// file.
+/// The lines that fail a strict run: those about files that aren't clean, or those about patterns that match no file if all files
+/// are clean.
 fn strict_lines(
     alloc: Global,
     files: &[String],
@@ -324,7 +315,7 @@ fn unmatched_patterns(
     Ok(lines)
 }
 
-/// Appends a line for each file that isn't clean, with the file's name in front.
+/// Appends to `lines` a line for each file that isn't clean, with the file's name in front.
 fn add_unclean(
     files: &[String],
     refused: &[RefusedInput<TextFault>],
@@ -338,7 +329,7 @@ fn add_unclean(
     Ok(())
 }
 
-/// Appends the line about the named file if it isn't clean.
+/// Appends to `lines` the line about the file called `name` if the file isn't clean.
 fn add_if_unclean(name: &str, fault: &TextFault, lines: &mut Bytes) -> Result<(), Memory>
     ensures { OnOk result (lines.new ≡ lines.old ++ unclean_line name.now fault.now) }
 {

@@ -8,9 +8,9 @@ ghost use Rattle.covrun.specs.WorkFault.{of_work};
 use crate::argument_fault::ArgumentFault;
 use crate::ready_text::ReadyText;
 use crate::work::WorkFault;
-use covjobs::CollectFault;
-use covline::Bytes;
+use covdata::Bytes;
 use covsession::SessionFault;
+use covworkers::CollectFault;
 
 /// An answer that is ready to be printed.
 #[derive(Drop)]
@@ -21,20 +21,20 @@ pub(crate) struct ReadyAnswer<'a> {
     pub(crate) shortfalls: Bytes,
 }
 
-/// Why a run has no answer. Decides its exit status and what it writes.
+/// Why a run has no answer, which decides the exit status and what is written to the error stream.
 #[derive(Drop)]
 pub(crate) enum Failure {
     /// The patterns, the thresholds, the test's name or the number of jobs are invalid.
     Words(ArgumentFault),
-    /// A file can't be read. This is its name, as it is told.
+    /// The file can't be read that messages call by this name.
     Unreadable(Bytes),
     /// Memory ran out, or the history was full.
     Stopped(SessionFault),
     /// Collecting ended with `Gather` or `NotLast`, which never happens.
     Ungathered,
-    /// Files are invalid, or checksums clash. These lines report them.
+    /// Files are invalid, or checksums clash, as these lines report.
     Refused(Bytes),
-    /// A strict run found files that aren't clean, or patterns that match no file. These lines report them.
+    /// A strict run found files that aren't clean, or patterns that match no file, as these lines report.
     Unclean(Bytes),
 }
 

@@ -2,18 +2,19 @@
 
 use crate::files::{FileFault, file_text};
 use crate::folder::Folder;
-use crate::large_input::{open_large, take_last};
+use crate::large_input::{open_large, share, take_last};
 use crate::strict::read_strictly;
 use crate::text_fault::TextFault;
 use crate::work::FileFormat;
 use covbook::PackedRef;
 use covcommand::{LcovVersion, Strictness};
-use covjobs::{Given, Input, LateFault, LateInput, Part};
+use covdata::{Bytes, Memory};
+use covjobs::Input;
 use covlarge::{LargeTracefile, MAX_PIECES, NextPiece, PieceFault};
-use covline::{Bytes, Memory};
+use covworkers::{Given, LateFault, LateInput, Part};
 use std::alloc::Global;
 
-/// A file that is read when its turn comes. A large tracefile is read in chunks; after the first chunk, `opened` is the rest of it.
+/// A file that is read when its turn comes. A large tracefile is read in chunks, and `opened` is its rest after the first chunk.
 #[derive(Drop)]
 pub(crate) struct FileInput<'a, F: Folder> {
     folder: &'a F,
@@ -29,13 +30,13 @@ impl<'a, F: Folder> LateInput<Global> for FileInput<'a, F> {
 
     ghost may_give = { λ late. MayTake F.File.left (F.holds late.folder.now late.name.now) late.format.now late.strictness late.opened };
 
-    ghost may_fail = { λ late. MayFailAs (folder_data (F.holds late.folder.now) (F.may_refuse late.folder.now) (F.may_open late.folder.now) F.File.left F.File.failed_reads) F.File.left F.File.failed_reads late.name.now late.format.now late.opened };
+    ghost may_fail = { λ late. MayFailAs (folder_data F.Folder F.File.Source late.folder.now) F.File.left F.File.failed_reads late.name.now late.format.now late.opened };
 
     ghost most = { λ late. most_parts late.format.now late.opened };
 
     type Fault = TextFault;
 
-    /// Reads the file, or its next chunk, parses it, and frees its bytes.
+    /// Reads and parses the file, or its next chunk, and frees the bytes.
     fn read_part(self, alloc: Global) -> Result<Part<Self>, LateFault<TextFault>> {
         match self.format {
             FileFormat::LargeTracefile(version) => self.read_piece(alloc, *version),
@@ -56,7 +57,7 @@ impl<'a, F: Folder> LateInput<Global> for FileInput<'a, F> {
 
 impl<'a, F: Folder> FileInput<'a, F> {
     ghost use Rattle.std.specs.Prelude.{◌≡◌};
-    ghost use Rattle.covjobs.specs.Late.{IsLateOutcome, IsNextPart};
+    ghost use Rattle.covworkers.specs.Late.{IsLateOutcome, IsNextPart};
     ghost use Rattle.covrun.specs.Files.{IsWholeFormat, MayFailAs, MayHaveOutcome, MayTake, most_parts};
     ghost use Rattle.covrun.specs.Folder.{folder_data};
     ghost use Rattle.covrun.specs.declared.work.FileFormat.TheVariants as formats;
@@ -66,7 +67,7 @@ impl<'a, F: Folder> FileInput<'a, F> {
         requires { IsWholeFormat self.format.now }
         ensures { IsNextPart
             (λ late. MayTake F.File.left (F.holds late.folder.now late.name.now) late.format.now late.strictness late.opened)
-            (λ late. MayFailAs (folder_data (F.holds late.folder.now) (F.may_refuse late.folder.now) (F.may_open late.folder.now) F.File.left F.File.failed_reads) F.File.left F.File.failed_reads late.name.now late.format.now late.opened)
+            (λ late. MayFailAs (folder_data F.Folder F.File.Source late.folder.now) F.File.left F.File.failed_reads late.name.now late.format.now late.opened)
             (λ late. most_parts late.format.now late.opened) self.entry result }
     {
         Ok(Part::Last(Given::packed(self.read_whole(alloc)?)))
@@ -75,7 +76,7 @@ impl<'a, F: Folder> FileInput<'a, F> {
     /// Reads the whole file and parses it.
     fn read_whole(&self, alloc: Global) -> Result<PackedRef, LateFault<TextFault>>
         ensures { IsLateOutcome (MayHaveOutcome (F.holds self.now.folder.now self.now.name.now) self.now.format.now self.now.strictness)
-            ((folder_data (F.holds self.now.folder.now) (F.may_refuse self.now.folder.now) (F.may_open self.now.folder.now) F.File.left F.File.failed_reads).MayFail self.now.name.now) result }
+            ((folder_data F.Folder F.File.Source self.now.folder.now).MayFail self.now.name.now) result }
     {
         match file_text(self.folder, alloc, self.name) {
             Ok(text) => read_text(alloc, self.format, self.strictness, text),
@@ -93,7 +94,7 @@ impl<'a, F: Folder> FileInput<'a, F> {
         requires { self.format.now ≡ formats.LargeTracefile version }
         ensures { IsNextPart
             (λ late. MayTake F.File.left (F.holds late.folder.now late.name.now) late.format.now late.strictness late.opened)
-            (λ late. MayFailAs (folder_data (F.holds late.folder.now) (F.may_refuse late.folder.now) (F.may_open late.folder.now) F.File.left F.File.failed_reads) F.File.left F.File.failed_reads late.name.now late.format.now late.opened)
+            (λ late. MayFailAs (folder_data F.Folder F.File.Source late.folder.now) F.File.left F.File.failed_reads late.name.now late.format.now late.opened)
             (λ late. most_parts late.format.now late.opened) self.entry result }
     {
         let FileInput {
@@ -106,7 +107,7 @@ impl<'a, F: Folder> FileInput<'a, F> {
         let large = open_large(folder, alloc, name, version, strictness, opened)?;
         match large.next_piece(alloc) {
             Ok(NextPiece::More(submission, rest)) => Ok(Part::More(
-                Given::packed(submission),
+                share(alloc, submission)?,
                 FileInput {
                     folder,
                     name,
@@ -115,9 +116,9 @@ impl<'a, F: Folder> FileInput<'a, F> {
                     opened: Some(rest),
                 },
             )),
-            Ok(NextPiece::Last(submission, held)) => Ok(Part::Last(Given::packed(take_last(
+            Ok(NextPiece::Last(submission, held)) => Ok(Part::Last(take_last(
                 alloc, strictness, submission, held,
-            )?))),
+            )?)),
             Err(PieceFault::Refused(fault)) => Err(LateFault::Refused(TextFault::Faulty(fault))),
             Err(PieceFault::Unreadable) => Err(LateFault::Unreadable),
             Err(PieceFault::Memory) => Err(LateFault::Memory),
@@ -129,11 +130,11 @@ ghost use Rattle.std.specs.Prelude.{◌≡◌, None, map, IfOk};
 ghost use Rattle.std.specs.List.{AllByRecursion};
 ghost use Rattle.std.specs.String.{string_bytes};
 ghost use Rattle.covjobs.specs.InputView.{input_data};
-ghost use Rattle.covjobs.specs.Late.{IsLateOutcome};
+ghost use Rattle.covworkers.specs.Late.{IsLateOutcome};
 ghost use Rattle.covrun.specs.Strict.{IsLenientOutcome, IsOutcomeFor};
 ghost use Rattle.covrun.specs.Work.{input_of};
 
-/// Parses the content of a file and frees it.
+/// Parses `text`, the content of a file, and frees the text.
 fn read_text(
     alloc: Global,
     format: &FileFormat,
@@ -151,7 +152,7 @@ fn read_text(
     }
 }
 
-/// Parses an input for a run that isn't strict.
+/// Parses `input` for a run that isn't strict.
 fn read_leniently(alloc: Global, input: &Input) -> Result<PackedRef, LateFault<TextFault>>
     ensures { IsLateOutcome (IsLenientOutcome (input_data input.now)) ⊥ result }
 {
@@ -161,7 +162,7 @@ fn read_leniently(alloc: Global, input: &Input) -> Result<PackedRef, LateFault<T
     }
 }
 
-/// Makes an `Input` of this format from a file's content.
+/// Makes an `Input` of `text`, the content of a file in this `format`.
 fn input_for(alloc: Global, format: &FileFormat, text: Bytes) -> Result<Input, Memory>
     ensures { IfOk result (λ input. input_data input ≡ input_of format.now text) }
 {
@@ -177,7 +178,7 @@ fn input_for(alloc: Global, format: &FileFormat, text: Bytes) -> Result<Input, M
     }
 }
 
-/// Makes an input for each of these files, in order. Reads no file yet.
+/// Makes an input for each of `files`, in order. Reads no file yet.
 pub(crate) fn file_inputs<'a, F: Folder>(
     folder: &'a F,
     alloc: Global,

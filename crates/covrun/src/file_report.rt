@@ -1,14 +1,14 @@
 //! Reports about single checked files.
 
-ghost use Rattle.std.specs.Prelude.{◌≡◌, ◌<◌, ◌≤◌, ◌^◌, ◌++◌, [], codes, IfOk, IfErr, OnOk, OnErr, suc};
+ghost use Rattle.std.specs.Prelude.{◌≡◌, ◌<◌, ◌^◌, ◌++◌, [], codes, IfOk, IfErr, OnOk, OnErr, suc};
 ghost use Rattle.std.specs.Io.KnownBytes.{Appends};
 ghost use Rattle.covlist.specs.Shown.{shown_name as shown_name_of};
 ghost use Rattle.covrun.specs.Check.{Unread, Refused, Held, is_accepted as is_accepted_summary, outcome_line, unaccepted_text};
-ghost use Rattle.covrun.specs.Checked.{AnswersText, IsExamined, IsTextExamined, IsReportOf, Reports};
+ghost use Rattle.covrun.specs.Checked.{AnswersText, IsExamined, IsTextExamined, IsReportOf, Reports, Says};
 ghost use Rattle.covcheck.specs.declared.text_summary.TextSummary.{TextSummary as TextSummaryData};
 ghost use Rattle.covcommand.specs.declared.asked.Strictness.{Strictness as StrictnessData};
 ghost use Rattle.covrun.specs.Folder.{folder_data};
-ghost use Rattle.covrun.specs.Streams.{sinks};
+ghost use Rattle.covrun.specs.Streams.{IsSilent, Withholds};
 ghost use Rattle.covrun.specs.declared.work.CheckedFormat.TheVariants.{Text, LargeTracefile};
 ghost use Rattle.covsession.specs.Fault.{HasBegun};
 ghost use Rattle.covsession.specs.declared.session.fault.SessionFault.TheVariants as session_faults;
@@ -16,26 +16,26 @@ ghost use Rattle.covsession.specs.declared.session.fault.SessionFault.TheVariant
 use crate::check_verdict::CheckVerdict;
 use crate::files::{FileFault, file_text};
 use crate::folder::Folder;
-use crate::output::{put_out, say};
+use crate::sinks::Sinks;
 use crate::strict::is_clean;
 use crate::work::CheckedFormat;
 use covcheck::{TextSummary, check_gcov, check_lcov2, check_trace, summary_line};
 use covcommand::{LcovVersion, Strictness, TextFormat};
+use covdata::{Bytes, ReadFault};
 use covlarge::{PieceFault, check_large};
-use covline::Bytes;
 use covlist::put_shown_name;
-use covread::ReadFault;
-use covsession::{SessionFault, Sink, refused_line};
+use covsession::{SessionFault, refused_line};
+use covstream::Sink;
 use std::alloc::Global;
 
-/// The report about a checked file. Writing it never allocates.
+/// The report about a checked file, which is written without allocating.
 #[derive(Drop)]
 pub(crate) struct FileReport {
     /// The line for stdout; empty if the file can't be read.
     line: Vec<u8>,
     /// The line for stderr; empty if there is nothing to complain about.
     complaint: Vec<u8>,
-    /// The verdict.
+    /// The verdict on the file.
     verdict: CheckVerdict,
 }
 
@@ -43,52 +43,48 @@ impl FileReport {
     /// Writes the complaint and then the line, and returns the verdict.
     pub(crate) fn write<O: Sink, E: Sink>(
         &self,
-        output: &mut O,
-        faults: &mut E,
+        sinks: &mut Sinks<O, E>,
     ) -> Result<CheckVerdict, SessionFault>
-        requires output { O.failed_writes output.old < 2 ^ 62 }
-        requires faults { E.failed_writes faults.old < 2 ^ 63 }
-        ensures { Reports self.now.line.items self.now.complaint.items self.now.verdict result
-            (sinks (O.written output.old) (O.held output.old) (O.failed_writes output.old) (E.written faults.old) (E.failed_writes faults.old))
-            (sinks (O.written output.new) (O.held output.new) (O.failed_writes output.new) (E.written faults.new) (E.failed_writes faults.new)) }
+        requires output { sinks.old.failed_output < 2 ^ 62 }
+        requires faults { sinks.old.failed_faults < 2 ^ 63 }
+        ensures { Reports self.now.line.items self.now.complaint.items self.now.verdict result sinks.old sinks.new }
     {
-        complain(self.complaint.as_slice(), faults);
-        put_line(self.line.as_slice(), output)?;
+        complain(self.complaint.as_slice(), sinks);
+        put_line(self.line.as_slice(), sinks)?;
         Ok(self.verdict)
     }
 }
 
-/// Writes the complaint, unless it is empty.
-fn complain<E: Sink>(complaint: &[u8], faults: &mut E)
-    requires { E.failed_writes faults.old < 2 ^ 63 }
-    ensures said { E.failed_writes faults.new ≡ E.failed_writes faults.old
-        → Appends (E.written faults.old) (E.written faults.new) complaint.now }
-    ensures grows { E.failed_writes faults.old ≤ E.failed_writes faults.new }
-    ensures few { E.failed_writes faults.new ≤ suc (E.failed_writes faults.old) }
+/// Writes `complaint` to the error stream, unless it is empty.
+fn complain<O: Sink, E: Sink>(complaint: &[u8], sinks: &mut Sinks<O, E>)
+    requires { sinks.old.failed_faults < 2 ^ 63 }
+    ensures says { Says 1 complaint.now sinks.old sinks.new }
+    ensures withheld { Withholds sinks.old sinks.new }
 {
     if !complaint.is_empty() {
-        say(complaint, b"", faults);
+        sinks.say(complaint, b"");
     }
 }
 
-/// Writes the line to the output, unless it is empty.
-fn put_line<O: Sink>(line: &[u8], output: &mut O) -> Result<(), SessionFault>
-    requires { O.failed_writes output.old < 2 ^ 62 }
-    ensures written { OnOk result (Appends (O.written output.old) (O.written output.new) line.now) }
-    ensures sent { OnOk result (O.held output.old ≡ 0 → O.held output.new ≡ 0) }
-    ensures good { OnOk result (O.failed_writes output.new ≡ O.failed_writes output.old) }
-    ensures failed { OnErr result (O.failed_writes output.new ≡ suc (O.failed_writes output.old)) }
-    ensures begun { OnErr result (HasBegun (O.written output.old) (O.written output.new) line.now) }
+/// Writes `line` to the output, unless it is empty.
+fn put_line<O: Sink, E: Sink>(line: &[u8], sinks: &mut Sinks<O, E>) -> Result<(), SessionFault>
+    requires { sinks.old.failed_output < 2 ^ 62 }
+    ensures written { OnOk result (Appends sinks.old.output sinks.new.output line.now) }
+    ensures sent { OnOk result (sinks.old.held ≡ 0 → sinks.new.held ≡ 0) }
+    ensures good { OnOk result (sinks.new.failed_output ≡ sinks.old.failed_output) }
+    ensures failed { OnErr result (sinks.new.failed_output ≡ suc sinks.old.failed_output) }
+    ensures begun { OnErr result (HasBegun sinks.old.output sinks.new.output line.now) }
+    ensures silent { IsSilent sinks.old sinks.new }
     ensures fault { IfErr result (λ fault. fault ≡ session_faults.Write) }
 {
     if line.is_empty() {
         return Ok(());
     }
-    put_out(line, output)?;
+    sinks.put_out(line)?;
     Ok(())
 }
 
-/// Reads and checks a file, frees its content, and returns the report about it.
+/// Reads and checks the file called `name`, frees the content, and returns the report about the file.
 pub(crate) fn examine<F: Folder>(
     folder: &F,
     alloc: Global,
@@ -96,7 +92,7 @@ pub(crate) fn examine<F: Folder>(
     strictness: Strictness,
     name: &str,
 ) -> Result<FileReport, SessionFault>
-    ensures { IsExamined (folder_data (F.holds folder.now) (F.may_refuse folder.now) (F.may_open folder.now) F.File.left F.File.failed_reads) format strictness name.now result }
+    ensures { IsExamined (folder_data F.Folder F.File.Source folder.now) format strictness name.now result }
 {
     match format {
         CheckedFormat::Text(format) => examine_text(folder, alloc, format, strictness, name),
@@ -114,7 +110,7 @@ fn examine_text<F: Folder>(
     strictness: Strictness,
     name: &str,
 ) -> Result<FileReport, SessionFault>
-    ensures { IsExamined (folder_data (F.holds folder.now) (F.may_refuse folder.now) (F.may_open folder.now) F.File.left F.File.failed_reads) (Text format) strictness name.now result }
+    ensures { IsExamined (folder_data F.Folder F.File.Source folder.now) (Text format) strictness name.now result }
 {
     let shown = shown_name(alloc, name.as_bytes())?;
     match file_text(folder, alloc, name) {
@@ -132,7 +128,7 @@ fn examine_large<F: Folder>(
     strictness: Strictness,
     name: &str,
 ) -> Result<FileReport, SessionFault>
-    ensures { IsExamined (folder_data (F.holds folder.now) (F.may_refuse folder.now) (F.may_open folder.now) F.File.left F.File.failed_reads) (LargeTracefile version) strictness name.now result }
+    ensures { IsExamined (folder_data F.Folder F.File.Source folder.now) (LargeTracefile version) strictness name.now result }
 {
     let shown = shown_name(alloc, name.as_bytes())?;
     let Ok(opened) = folder.open(name) else {
@@ -146,7 +142,7 @@ fn examine_large<F: Folder>(
     }
 }
 
-/// The report on a file that can't be read. `shown` is its name as printed.
+/// The report on a file that can't be read. `shown` is the file's name as printed.
 fn report_on_unread(alloc: Global, shown: &Bytes) -> Result<FileReport, SessionFault>
     ensures report { (strictness : StrictnessData) → IfOk result (IsReportOf strictness shown.now Unread) }
     ensures fault { IfErr result (λ fault. fault ≡ session_faults.Memory) }
@@ -158,7 +154,7 @@ fn report_on_unread(alloc: Global, shown: &Bytes) -> Result<FileReport, SessionF
     })
 }
 
-/// The report on a file with this content. `shown` is its name as printed.
+/// The report on a file with the content `text`. `shown` is the file's name as printed.
 fn report_on_text(
     alloc: Global,
     format: TextFormat,
@@ -175,7 +171,7 @@ fn report_on_text(
     }
 }
 
-/// Returns the summary of the text in this format, or why it is invalid.
+/// Returns the summary of `text` in this `format`, or why the text is invalid.
 fn answer(alloc: Global, format: TextFormat, text: &[u8]) -> Result<TextSummary<'_>, ReadFault>
     ensures { AnswersText format text.now result }
 {
@@ -186,7 +182,7 @@ fn answer(alloc: Global, format: TextFormat, text: &[u8]) -> Result<TextSummary<
     }
 }
 
-/// The report on a file with this summary. `shown` is its name as printed.
+/// The report on a file with this `summary`. `shown` is the file's name as printed.
 fn report_on_summary(
     alloc: Global,
     strictness: Strictness,
@@ -213,7 +209,7 @@ fn report_on_summary(
     })
 }
 
-/// Whether a check accepts a file with this summary.
+/// Whether a check accepts a file with this `summary`.
 fn is_accepted(strictness: Strictness, summary: &TextSummary<'_>) -> bool
     ensures { result ≡ is_accepted_summary strictness summary.now }
 {
@@ -223,7 +219,7 @@ fn is_accepted(strictness: Strictness, summary: &TextSummary<'_>) -> bool
     }
 }
 
-/// The complaint about a file that isn't accepted. `shown` is its name as printed, `line` the line for stdout.
+/// The complaint about a file that isn't accepted. `shown` is the file's name as printed, `line` the line for stdout.
 fn unaccepted(
     alloc: Global,
     strictness: Strictness,
@@ -239,7 +235,7 @@ fn unaccepted(
     }
 }
 
-/// The report on a file with invalid content. `shown` is its name as printed.
+/// The report on a file with invalid content. `shown` is the file's name as printed.
 fn report_on_refusal(
     alloc: Global,
     shown: &Bytes,
@@ -257,7 +253,7 @@ fn report_on_refusal(
     })
 }
 
-/// The line `told`, with the printed name of its file and a colon in front.
+/// The line `told` about a file, with `shown`, the file's name as printed, and a colon in front.
 fn line_of_file(alloc: Global, shown: &[u8], told: &[u8]) -> Result<Vec<u8>, SessionFault>
     ensures line { IfOk result (λ line. line.items ≡ shown.now ++ codes ": " ++ told.now) }
     ensures fault { IfErr result (λ fault. fault ≡ session_faults.Memory) }
@@ -278,7 +274,7 @@ fn joined(alloc: Global, first: &[u8], then: &[u8]) -> Result<Vec<u8>, SessionFa
     Ok(text)
 }
 
-/// The name of a file as it is printed, with control bytes as hexadecimal digits.
+/// `name` as it is printed, with control bytes as hexadecimal digits.
 fn shown_name(alloc: Global, name: &[u8]) -> Result<Bytes, SessionFault>
     ensures name { IfOk result (λ shown. shown ≡ shown_name_of name.now) }
     ensures fault { IfErr result (λ fault. fault ≡ session_faults.Memory) }

@@ -2,15 +2,13 @@
 
 ghost use Rattle.std.specs.Prelude.{◌<◌, ◌≤◌, ◌^◌, suc, length, IfOk, IfErr};
 ghost use Rattle.covread.specs.Outcome.{max_bytes};
-ghost use Rattle.covlarge.specs.Blocks.{IsReadFault};
 ghost use Rattle.covrun.specs.Files.{HasRead, IsUnread};
 ghost use Rattle.covrun.specs.Folder.{IsTextOf, folder_data};
+ghost use Rattle.covstream.specs.Blocks.{IsReadFault};
 
 use crate::folder::Folder;
-use covlarge::{BLOCK_BYTES, read_at_most};
-use covline::{Bytes, Memory};
-use covread::MAX_BYTES;
-use covsession::{SessionFault, Source};
+use covdata::{Bytes, MAX_BYTES, Memory};
+use covstream::{BLOCK_BYTES, BlockFault, Source, read_at_most};
 use std::alloc::{AllocError, Global};
 
 /// The most bytes of a file that are read: one more than the size limit. The extra byte shows that the file is too long.
@@ -25,13 +23,13 @@ pub(crate) enum FileFault<'a> {
     Memory,
 }
 
-/// Reads the rest of the source, up to one byte more than the size limit. Reserves `awaited` bytes first, so the buffer grows only
-/// if more bytes come. Fails with `Read` if a read failed, and otherwise with `Memory`.
+/// Reads the rest of `source`, up to one byte more than the size limit. Reserves `awaited` bytes first, so the buffer grows only if
+/// more bytes come. Fails with `Unreadable` if a read failed, and otherwise with `Memory`.
 pub(crate) fn read_text<S: Source>(
     alloc: Global,
     awaited: usize,
     source: &mut S,
-) -> Result<Bytes, SessionFault>
+) -> Result<Bytes, BlockFault>
     requires reads { S.reads source.old < 2 ^ 62 }
     requires failed_reads { S.failed_reads source.old < 2 ^ 62 }
     ensures read { IfOk result (HasRead (S.left source.old) (S.left source.new)) }
@@ -44,7 +42,7 @@ pub(crate) fn read_text<S: Source>(
     Ok(text)
 }
 
-/// Reads the file with this name, up to one byte more than the size limit.
+/// Reads the file called `name`, up to one byte more than the size limit.
 pub(crate) fn file_text<'a, F: Folder>(
     folder: &F,
     alloc: Global,
@@ -52,7 +50,7 @@ pub(crate) fn file_text<'a, F: Folder>(
 ) -> Result<Bytes, FileFault<'a>>
     ensures text { IfOk result (IsTextOf (F.holds folder.now name.now)) }
     ensures few { IfOk result (λ text. length text ≤ suc max_bytes) }
-    ensures unread { IfErr result (IsUnread (folder_data (F.holds folder.now) (F.may_refuse folder.now) (F.may_open folder.now) F.File.left F.File.failed_reads) name.now) }
+    ensures unread { IfErr result (IsUnread (folder_data F.Folder F.File.Source folder.now) name.now) }
 {
     let Ok(opened) = folder.open(name) else {
         return Err(FileFault::Unreadable(name));
@@ -61,8 +59,8 @@ pub(crate) fn file_text<'a, F: Folder>(
     let mut source = opened.source;
     match read_text(alloc, awaited, &mut source) {
         Ok(text) => Ok(text),
-        Err(SessionFault::Memory) => Err(FileFault::Memory),
-        Err(_) => Err(FileFault::Unreadable(name)),
+        Err(BlockFault::Unreadable) => Err(FileFault::Unreadable(name)),
+        Err(BlockFault::Memory) => Err(FileFault::Memory),
     }
 }
 

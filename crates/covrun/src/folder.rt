@@ -3,7 +3,7 @@
 ghost use Rattle.std.specs.Prelude.{◌≡◌, ℕ, List, Option, None, IfOk, IfErr};
 ghost use Rattle.std.specs.Io.KnownBytes.{Keeps};
 
-use covsession::{Failed, FromRead, Source};
+use covstream::{Failed, FromRead, Source};
 use std::fs;
 use std::fs::OpenFile;
 use std::rt::Files;
@@ -13,14 +13,14 @@ use std::rt::Files;
 pub struct Opened<S> {
     /// Gives the file's bytes.
     pub source: S,
-    /// How many bytes the file claims to have. It is only a hint for reserving memory: more or fewer may come.
+    /// How many bytes the file claims to have: only a hint for reserving memory, since more or fewer may come.
     pub awaited: u64,
 }
 
 /// Opens files by their names.
 ///
-/// While a folder is borrowed, `holds` gives the same value for a file each time. So an implementation must give `None` for a file
-/// that may change between two opens or during a read. The file's source counts a failed read, which consumes no bytes.
+/// `holds` gives the same value for a file each time while the folder is borrowed. So an implementation must give `None` for a file
+/// that may change between two opens or during a read. A file's source counts a failed read, which consumes no bytes.
 pub trait Folder {
     // The bytes of the file with this name, if the folder knows them.
     ghost holds: { Self → List ℕ → Option (List ℕ) };
@@ -34,7 +34,7 @@ pub trait Folder {
     /// An open file, as a source of its bytes.
     type File: Source + Drop;
 
-    /// Opens the file with this name, at its first byte.
+    /// Opens the file called `name`, at its first byte.
     fn open(&self, name: &str) -> Result<Opened<Self::File>, Failed>
         ensures bytes { IfOk result (λ opened. Keeps (holds self.now name.now) (Self.File.left opened.source)) }
         ensures calls { IfOk result (λ opened. Self.File.reads opened.source ≡ 0) }
@@ -81,7 +81,7 @@ impl<'a, R: Files> Folder for FromFiles<'a, R> {
     }
 }
 
-/// The file's length in bytes; 0 if it is unknown, as for a pipe.
+/// The length of `file` in bytes; 0 if the length is unknown, as for a pipe.
 fn size_of<F: OpenFile>(file: &F) -> u64 {
     match file.metadata() {
         Ok(metadata) => metadata.len(),

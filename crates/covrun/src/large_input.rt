@@ -1,12 +1,12 @@
 //! Tracefiles of any length as inputs of collecting, chunk by chunk.
 
 ghost use Rattle.std.specs.Prelude.{◌≡◌, List, Option, None, Result, IfOk, IfErr};
-ghost use Rattle.covjobs.specs.declared.late_fault.LateFault.TheVariants.{Unreadable};
+ghost use Rattle.covworkers.specs.declared.late_fault.LateFault.TheVariants.{Memory, Unreadable};
 ghost use Rattle.covlarge.specs.Large.{MayBeReadAs, max_pieces};
 ghost use Rattle.covlarge.specs.State.{MayGive};
 ghost use Rattle.covlarge.specs.Summary.{SummaryData};
-ghost use Rattle.covline.specs.Row.{SubmissionData};
-ghost use Rattle.covread.specs.declared.fault.ReadFault.{ReadFault};
+ghost use Rattle.covdata.specs.Row.{SubmissionData};
+ghost use Rattle.covdata.specs.declared.fault.ReadFault.{ReadFault};
 ghost use Rattle.covrun.specs.Files.{IsOpenedFor, IsToldFor, MayFailLarge, TakesLast};
 ghost use Rattle.covrun.specs.Folder.{folder_data};
 
@@ -15,9 +15,10 @@ use crate::strict::refuse_unless_clean;
 use crate::text_fault::TextFault;
 use covbook::PackedRef;
 use covcommand::{LcovVersion, Strictness};
-use covjobs::LateFault;
 use covlarge::{Held, LargeTracefile};
-use covsession::Source;
+use covpacked::PackedSubmission;
+use covstream::Source;
+use covworkers::{Given, LateFault};
 use std::alloc::Global;
 
 /// Returns `opened`, the unread rest of the tracefile. Opens the file if `opened` is `None`.
@@ -29,9 +30,9 @@ pub(crate) fn open_large<F: Folder>(
     strictness: Strictness,
     opened: Option<LargeTracefile<F::File>>,
 ) -> Result<LargeTracefile<F::File>, LateFault<TextFault>>
-    ensures opened { IfOk result (IsOpenedFor F.File.left F.File.failed_reads (folder_data (F.holds folder.now) (F.may_refuse folder.now) (F.may_open folder.now) F.File.left F.File.failed_reads) name.now version strictness opened) }
+    ensures opened { IfOk result (IsOpenedFor F.File.left F.File.failed_reads (folder_data F.Folder F.File.Source folder.now) name.now version strictness opened) }
     ensures fault { IfErr result (λ fault. fault ≡ Unreadable) }
-    ensures fails { IfErr result (λ _. MayFailLarge F.File.left F.File.failed_reads (folder_data (F.holds folder.now) (F.may_refuse folder.now) (F.may_open folder.now) F.File.left F.File.failed_reads) name.now opened) }
+    ensures fails { IfErr result (λ _. MayFailLarge F.File.left F.File.failed_reads (folder_data F.Folder F.File.Source folder.now) name.now opened) }
 {
     match opened {
         Some(large) => Ok(large),
@@ -39,7 +40,7 @@ pub(crate) fn open_large<F: Folder>(
     }
 }
 
-/// Opens the tracefile with this name. Reads nothing yet.
+/// Opens the tracefile called `name`. Reads nothing yet.
 fn open_whole<F: Folder>(
     folder: &F,
     alloc: Global,
@@ -47,9 +48,9 @@ fn open_whole<F: Folder>(
     version: LcovVersion,
     strictness: Strictness,
 ) -> Result<LargeTracefile<F::File>, LateFault<TextFault>>
-    ensures opened { IfOk result (IsOpenedFor F.File.left F.File.failed_reads (folder_data (F.holds folder.now) (F.may_refuse folder.now) (F.may_open folder.now) F.File.left F.File.failed_reads) name.now version strictness None) }
+    ensures opened { IfOk result (IsOpenedFor F.File.left F.File.failed_reads (folder_data F.Folder F.File.Source folder.now) name.now version strictness None) }
     ensures fault { IfErr result (λ fault. fault ≡ Unreadable) }
-    ensures fails { IfErr result (λ _. (folder_data (F.holds folder.now) (F.may_refuse folder.now) (F.may_open folder.now) F.File.left F.File.failed_reads).MayFail name.now) }
+    ensures fails { IfErr result (λ _. (folder_data F.Folder F.File.Source folder.now).MayFail name.now) }
 {
     match folder.open(name) {
         Ok(file) => Ok(begin_large(alloc, version, strictness, file.source)),
@@ -57,7 +58,7 @@ fn open_whole<F: Folder>(
     }
 }
 
-/// Opens a tracefile for reading in chunks. Collects its summary only for a strict run.
+/// Opens `source` as a tracefile to be read in chunks. Only a strict run collects a summary.
 fn begin_large<S: Source + Drop>(
     alloc: Global,
     version: LcovVersion,
@@ -77,20 +78,36 @@ fn begin_large<S: Source + Drop>(
     }
 }
 
-/// Returns the submission of a tracefile's last chunk. A strict run rejects a tracefile whose summary isn't clean.
+/// Makes `submission`, which a tracefile's last chunk was read as, shareable. A strict run rejects a tracefile whose summary isn't
+/// clean.
 pub(crate) fn take_last(
     alloc: Global,
     strictness: Strictness,
-    submission: PackedRef,
+    submission: PackedSubmission,
     held: Option<Held>,
-) -> Result<PackedRef, LateFault<TextFault>>
+) -> Result<Given, LateFault<TextFault>>
     ensures { TakesLast strictness held submission result }
 {
+    let given = share(alloc, submission)?;
     match (strictness, held) {
         (Strictness::Strict, Some(held)) => {
             refuse_unless_clean(alloc, &held.summary())?;
-            Ok(submission)
+            Ok(given)
         }
-        (Strictness::Lenient, _) | (Strictness::Strict, None) => Ok(submission),
+        (Strictness::Lenient, _) | (Strictness::Strict, None) => Ok(given),
+    }
+}
+
+/// Makes a chunk's submission shareable, as collecting takes submissions.
+pub(crate) fn share(
+    alloc: Global,
+    submission: PackedSubmission,
+) -> Result<Given, LateFault<TextFault>>
+    ensures given { IfOk result (λ given. given ≡ submission) }
+    ensures fault { IfErr result (λ fault. fault ≡ Memory) }
+{
+    match PackedRef::of(alloc, submission) {
+        Ok(shared) => Ok(Given::packed(shared)),
+        Err(_) => Err(LateFault::Memory),
     }
 }

@@ -7,7 +7,7 @@ ghost use Rattle.covrun.specs.View.{question_data, work_data};
 use crate::question::Question;
 use crate::work::{FileFormat, Work};
 use covcommand::{LcovVersion, Strictness};
-use covline::{Bytes, Memory};
+use covdata::{Bytes, Memory};
 use covlist::{put_shown_lines, put_shown_name};
 
 /// How names and checksums from outside stand in the messages of a call.
@@ -20,8 +20,8 @@ pub(crate) enum Naming {
 }
 
 impl Naming {
-    /// How names stand in the messages of a call that does this work. They are as they are if the call has no option but `--jobs`
-    /// and `--test`, and isn't a list. `file`: the name of the file that the call names for its text.
+    /// How names stand in the messages of a call that does `work`: as they are, if the call has no option but `--jobs` and
+    /// `--test`, and isn't a list. `file` is the name of the file that the call names for its text.
     pub(crate) fn of(work: &Work, file: Option<&str>) -> Naming
         ensures { result ≡ naming_of (option_map (λ name. name.now) file.entry) (work_data work.now) }
     {
@@ -31,7 +31,7 @@ impl Naming {
         }
     }
 
-    /// Appends a name.
+    /// Appends `name` to `text`.
     pub(crate) fn put_name(self, name: &[u8], text: &mut Bytes) -> Result<(), Memory>
         ensures { OnOk result (text.new ≡ text.old ++ told_name self name.now) }
     {
@@ -41,7 +41,7 @@ impl Naming {
         }
     }
 
-    /// Appends whole lines that names stand in.
+    /// Appends `lines`, which names stand in, to `text`.
     pub(crate) fn put_lines(self, lines: &[u8], text: &mut Bytes) -> Result<(), Memory>
         ensures { OnOk result (text.new ≡ text.old ++ told_lines self lines.now) }
     {
@@ -62,7 +62,7 @@ fn naming_for(strictness: Strictness, format: &FileFormat, asks: &Question) -> N
     }
 }
 
-/// How names stand if the call isn't strict either.
+/// How names stand if the text goes to the output and the call isn't strict.
 fn naming_read(format: &FileFormat, asks: &Question) -> Naming
     ensures { result ≡ naming_read_of format.now (question_data asks.now) }
 {
@@ -72,7 +72,7 @@ fn naming_read(format: &FileFormat, asks: &Question) -> Naming
     }
 }
 
-/// How names stand if no option says how files are read.
+/// How names stand if the text goes to the output and no option says how files are read.
 fn naming_asked(asks: &Question) -> Naming
     ensures { result ≡ naming_asked_of (question_data asks.now) }
 {

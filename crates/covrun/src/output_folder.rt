@@ -5,7 +5,7 @@ ghost use Rattle.covrun.specs.OutputFiles.{CountsFault, Finishes, IsEmptyIfKnown
 
 use crate::unfinished_file::{UnfinishedFile, abandon_file, begin_file, finish_file};
 use covreport::Noted;
-use covsession::Sink;
+use covstream::Sink;
 use std::alloc::AllocGlobal;
 use std::random::RandomSource;
 use std::rt::Files;
@@ -21,8 +21,9 @@ pub enum OutputFault {
 
 /// Writes files, each of them whole or not at all.
 ///
-/// A file is begun, its bytes are written, and then it is finished. Only then it gets its name; until then, an older file of this
-/// name stays unchanged. Bytes for devices and streams are written to them at once. Only one file can be begun at a time.
+/// A file is begun, its bytes are written, and then it is finished. A file gets its name when it is finished, and an older file of
+/// this name stays unchanged until then. Bytes for a device or a stream are written to it at once. Only one file can be begun at a
+/// time.
 pub trait OutputFolder {
     // The finished files in order, each with its name and content, if they are known.
     ghost finished: { Self → Option (List (List ℕ × List ℕ)) };
@@ -36,7 +37,7 @@ pub trait OutputFolder {
     /// An unfinished file, as a sink of its bytes.
     type File: Sink + Drop;
 
-    /// Begins a file that will get this name.
+    /// Begins a file that will be called `name`.
     fn begin(&mut self, name: &str) -> Result<Self::File, OutputFault>
         requires free { begun self.old ≡ None }
         requires few { failed self.old < 2 ^ 63 }
@@ -48,7 +49,7 @@ pub trait OutputFolder {
         ensures good { OnOk result (failed self.new ≡ failed self.old) }
         ensures counted { IfErr result (λ fault. CountsFault fault (failed self.old) (failed self.new)) };
 
-    /// Gives the begun file its name. All its bytes must be written and flushed. On an error, the file is dropped.
+    /// Gives the begun file its name, once all bytes of the file are written and flushed. Drops the file on an error.
     fn finish(&mut self, file: Self::File) -> Result<(), OutputFault>
         requires good { Self.File.failed_writes file ≡ 0 }
         requires sent { Self.File.held file ≡ 0 }

@@ -2,7 +2,7 @@
 
 ghost use Rattle.std.specs.Prelude.{◌≡◌, ◌++◌, [], ◌∷◌, IfOk};
 ghost use Rattle.covreport.specs.ChoiceView.{choice_data};
-ghost use Rattle.covstore.specs.Totals.{AreTotals};
+ghost use Rattle.covtable.specs.Totals.{AreTotals};
 ghost use Rattle.covlimit.specs.LimitsView.{limits_data};
 ghost use Rattle.covbook.specs.Op.{SummaryOp};
 ghost use Rattle.covbook.specs.Step.{next_entry};
@@ -13,12 +13,13 @@ use crate::strict::{add_unmatched_of_choice, add_unmatched_of_op};
 use crate::text_fault::TextFault;
 use covbook::Op;
 use covcommand::TotalsForm;
-use covjobs::CollectedBook;
+use covdata::{Bytes, Memory};
 use covlimit::{Limits, shortfall_lines};
-use covline::{Bytes, Memory};
 use covlist::{list_json, list_table, summary_json};
 use covreport::{Choice, Printing, chosen_totals, summary_text};
-use covstore::{Store, Totals};
+use covstore::Store;
+use covtable::Totals;
+use covworkers::CollectedBook;
 use std::alloc::Global;
 
 /// The question that a run answers after its files are collected.
@@ -79,7 +80,7 @@ impl Question {
         }
     }
 
-    /// Asks for the summary of the chosen source files. With a threshold, asks for their totals, to compare these with it.
+    /// Asks for the summary of the chosen source files, or for their totals if there is a threshold to compare these with.
     fn words(limits: Limits, choice: Option<Choice>) -> Question
         ensures { question_data result ≡ words_asked (limits_data limits) (option_map choice_data choice) }
     {
@@ -156,7 +157,7 @@ impl Question {
         }
     }
 
-    /// Appends a line about each pattern of the question that matches no file of the store.
+    /// Appends to `lines` a line about each pattern of the question that matches no file of `store`.
     pub(crate) fn add_unmatched(&self, store: &Store, lines: &mut Bytes) -> Result<(), Memory>
         ensures { OnOk result (lines.new ≡ lines.old ++ flat_map (unmatched_line store.now.sections) (asked_patterns (question_data self.now))) }
     {
@@ -170,7 +171,7 @@ impl Question {
     }
 }
 
-/// Prints the totals in this form.
+/// Prints `totals` in this `form`.
 fn totals_text(alloc: Global, form: TotalsForm, totals: &Totals) -> Result<Bytes, Memory>
     requires { AreTotals totals.now }
     ensures { IfOk result (λ text. text ≡ totals_text_of form totals.now) }
@@ -181,7 +182,7 @@ fn totals_text(alloc: Global, form: TotalsForm, totals: &Totals) -> Result<Bytes
     }
 }
 
-/// Prints the list of the chosen source files in this form.
+/// Prints the list of the chosen source files in this `form`.
 fn list_text(
     alloc: Global,
     form: TotalsForm,
@@ -198,7 +199,7 @@ fn list_text(
     }
 }
 
-/// Copies a choice.
+/// Copies `choice`.
 fn copy_of(alloc: Global, choice: &Choice) -> Result<Choice, Memory>
     ensures { IfOk result (λ copy. choice_data copy ≡ choice_data choice.now) }
 {

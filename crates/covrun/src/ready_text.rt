@@ -3,7 +3,8 @@
 use crate::block::Block;
 use crate::block_printer::print_text;
 use covreport::Printing;
-use covsession::{SessionFault, Sink};
+use covsession::SessionFault;
+use covstream::Sink;
 use std::alloc::{AllocError, Global};
 use std::marker::Model;
 
@@ -31,7 +32,7 @@ impl<'s> ReadyText<'s> {
     ghost use Rattle.covsession.specs.Fault.{HasBegun};
     ghost use Rattle.covsession.specs.declared.session.fault.SessionFault.TheVariants as session_faults;
 
-    /// Reserves all memory for printing the text.
+    /// Reserves all memory for printing `text`.
     pub(crate) fn of(alloc: Global, text: Printing<'s>) -> Result<ReadyText<'s>, AllocError>
         ensures { IfOk result (λ ready. ready ≡ text.entry) }
     {

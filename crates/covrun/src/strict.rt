@@ -4,7 +4,7 @@ ghost use Rattle.std.specs.Prelude.{◌≡◌, ◌++◌, IfOk, IfErr, OnOk, IsTr
 ghost use Rattle.std.specs.List.{flat_map};
 ghost use Rattle.covcheck.specs.SummaryLine.{summary_text};
 ghost use Rattle.covjobs.specs.InputView.{input_data};
-ghost use Rattle.covjobs.specs.Late.{IsLateOutcome};
+ghost use Rattle.covworkers.specs.Late.{IsLateOutcome};
 ghost use Rattle.covreport.specs.ChoiceView.{choice_data};
 ghost use Rattle.covbook.specs.View.{op_data};
 ghost use Rattle.covrun.specs.Files.{IsUncleanFault};
@@ -13,15 +13,16 @@ ghost use Rattle.covrun.specs.Strict.{HoldsIn, IsStrictOutcome, is_clean as is_c
 use crate::text_fault::TextFault;
 use covbook::{Op, PackedRef};
 use covcheck::{Format, TextSummary, summary_line, summary_of};
-use covjobs::{Input, LateFault};
-use covline::{Bytes, Memory};
+use covdata::{Bytes, Memory};
+use covjobs::Input;
 use covlist::put_shown_name;
 use covpacked::PackedSubmission;
 use covreport::{Choice, Patterns, matches};
 use covstore::Store;
+use covworkers::LateFault;
 use std::alloc::Global;
 
-/// Parses an input for a strict run. Rejects an input that isn't clean, with its summary line.
+/// Parses `input` for a strict run. Rejects an input that isn't clean, with its summary line.
 pub(crate) fn read_strictly(alloc: Global, input: &Input) -> Result<PackedRef, LateFault<TextFault>>
     ensures { IsLateOutcome (IsStrictOutcome (input_data input.now)) ⊥ result }
 {
@@ -34,7 +35,7 @@ pub(crate) fn read_strictly(alloc: Global, input: &Input) -> Result<PackedRef, L
     Ok(submission)
 }
 
-/// Rejects an input that isn't clean, with its summary line.
+/// Rejects an input whose `summary` isn't clean, with the summary line.
 pub(crate) fn refuse_unless_clean(
     alloc: Global,
     summary: &TextSummary<'_>,
@@ -51,7 +52,7 @@ pub(crate) fn refuse_unless_clean(
     }
 }
 
-/// The summary of an input that was read as this submission.
+/// The summary of `input`, which was read as `submission`.
 fn summary_of_input<'a>(input: &'a Input, submission: &PackedSubmission) -> TextSummary<'a>
     ensures { HoldsIn (input_data input.now) submission.now result }
 {
@@ -62,14 +63,14 @@ fn summary_of_input<'a>(input: &'a Input, submission: &PackedSubmission) -> Text
     }
 }
 
-/// Whether the input is clean: has an item, no inconsistent line and no skipped line.
+/// Whether the input with this `summary` is clean: it has an item, no inconsistent line and no skipped line.
 pub(crate) fn is_clean(summary: &TextSummary<'_>) -> bool
     ensures { result ≡ is_clean_summary summary.now }
 {
     summary.items > 0 && summary.odd == 0 && summary.skipped == 0
 }
 
-/// Appends a line about each pattern of the operation that matches no file of the store.
+/// Appends to `lines` a line about each pattern of `op` that matches no file of `store`.
 pub(crate) fn add_unmatched_of_op(op: &Op, store: &Store, lines: &mut Bytes) -> Result<(), Memory>
     ensures { OnOk result (lines.new ≡ lines.old ++ flat_map (unmatched_line store.now.sections) (patterns_of_op (op_data op.now))) }
 {
@@ -79,7 +80,7 @@ pub(crate) fn add_unmatched_of_op(op: &Op, store: &Store, lines: &mut Bytes) -> 
     }
 }
 
-/// Appends a line about each pattern of the choice that matches no file of the store.
+/// Appends to `lines` a line about each pattern of `choice` that matches no file of `store`.
 pub(crate) fn add_unmatched_of_choice(
     choice: &Choice,
     store: &Store,
@@ -99,7 +100,7 @@ pub(crate) fn add_unmatched_of_choice(
     }
 }
 
-/// Appends a line about each of these patterns that matches no file of the store.
+/// Appends to `lines` a line about each of `patterns` that matches no file of `store`.
 fn add_unmatched(patterns: &Patterns, store: &Store, lines: &mut Bytes) -> Result<(), Memory>
     ensures { OnOk result (lines.new ≡ lines.old ++ flat_map (unmatched_line store.now.sections) patterns.now) }
 {
@@ -109,7 +110,7 @@ fn add_unmatched(patterns: &Patterns, store: &Store, lines: &mut Bytes) -> Resul
     Ok(())
 }
 
-/// Appends a line about the pattern if it matches no file of the store.
+/// Appends to `lines` a line about `pattern` if it matches no file of `store`.
 fn add_if_unmatched(pattern: &[u8], store: &Store, lines: &mut Bytes) -> Result<(), Memory>
     ensures { OnOk result (lines.new ≡ lines.old ++ unmatched_line store.now.sections pattern.now) }
 {
@@ -121,7 +122,7 @@ fn add_if_unmatched(pattern: &[u8], store: &Store, lines: &mut Bytes) -> Result<
     Ok(())
 }
 
-/// Whether the pattern matches the path of a file of the store.
+/// Whether `pattern` matches the path of a file of `store`.
 fn matches_a_file(pattern: &[u8], store: &Store) -> bool
     ensures { result ≡ is_matched store.now.sections pattern.now }
 {

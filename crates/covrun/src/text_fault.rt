@@ -1,6 +1,6 @@
 //! Why the content of a file is rejected.
 
-use covread::ReadFault;
+use covdata::ReadFault;
 
 /// Why the content of a file is rejected.
 #[derive(Drop)]

@@ -3,7 +3,7 @@
 ghost use Rattle.std.specs.Prelude.{◌≡◌, IfOk};
 
 use crate::output_folder::OutputFault;
-use covsession::{Failed, FromWrite, Sink};
+use covstream::{Failed, FromWrite, Sink};
 use std::alloc::{AllocError, AllocGlobal};
 use std::fs::{Metadata, OpenFile, OpenOptions, Permissions};
 use std::io;
@@ -43,7 +43,7 @@ impl<F: io::Write> Sink for UnfinishedFile<F> {
     }
 }
 
-/// Begins a file that will get this name. A file that already has the name gives the new one its rights. A symbolic link stays, and
+/// Begins a file that will be called `name`. An older file of this name gives the new one its rights. A symbolic link stays, and
 /// the file that it leads to is replaced. A device, a pipe or an open stream of the program is written to directly.
 pub(crate) fn begin_file<R: Files + RandomSource + AllocGlobal>(
     rt: &R,
@@ -66,7 +66,7 @@ pub(crate) fn begin_file<R: Files + RandomSource + AllocGlobal>(
     }
 }
 
-/// Whether this is the name of an open stream. Even a regular file behind such a name isn't replaced.
+/// Whether `name` is that of an open stream. Not even a regular file behind the name of a stream is replaced.
 fn is_stream(name: &str) -> bool {
     name == "/dev/stderr" || name.starts_with("/dev/fd/") || name.starts_with("/proc/self/fd/")
 }
@@ -90,7 +90,7 @@ fn begin_instead<R: Files + RandomSource + AllocGlobal>(
     }
 }
 
-/// The name of the file that a symbolic link leads to. Returns any other name unchanged.
+/// The name of the file that `name` leads to if it is a symbolic link, or else `name`.
 fn name_behind<R: Files + AllocGlobal>(rt: &R, name: &str) -> Result<String, OutputFault> {
     if rt.symlink_metadata(name)?.is_symlink() {
         Ok(rt.canonicalize(rt.alloc(), name)?.into_string())
@@ -99,8 +99,8 @@ fn name_behind<R: Files + AllocGlobal>(rt: &R, name: &str) -> Result<String, Out
     }
 }
 
-/// Gives the new file the mode of the old one, and its owner and group as far as the user may set them. If the group can't be kept,
-/// the new file gives its group no rights.
+/// Gives `file`, the new file, the mode of the `old` one, and its owner and group as far as the user may set them. The new file
+/// gives its group no rights if it can't have the old group.
 fn keep_rights<R: Files>(
     rt: &R,
     rename: &Rename,
@@ -123,7 +123,7 @@ fn keep_rights<R: Files>(
     file.set_permissions(Permissions::from_mode(mode))
 }
 
-/// Begins a file with a name that no file has. Fails for a symbolic link that leads nowhere.
+/// Begins a file with a `name` that no file has. Fails for a symbolic link that leads nowhere.
 fn begin_new<R: Files + RandomSource + AllocGlobal>(
     rt: &R,
     name: &str,
@@ -144,7 +144,7 @@ fn rename_to<R: RandomSource + AllocGlobal>(rt: &R, to: String) -> Result<Rename
     Ok(Rename { from, to })
 }
 
-/// Creates the file with this mode, less the umask.
+/// Creates the temporary file with this `mode`, less the umask.
 fn create<R: Files>(rt: &R, rename: &Rename, mode: u32) -> io::Result<R::File> {
     OpenOptions::new()
         .write(true)
@@ -183,7 +183,7 @@ fn begin_in_place<R: Files>(rt: &R, name: &str) -> Result<UnfinishedFile<R::File
     Ok(unfinished(file, None))
 }
 
-/// Gives the file its name after all its bytes are on the disk. Removes the file if that fails.
+/// Gives `file` its name after all its bytes are on the disk, or removes the file if it can't get the name.
 pub(crate) fn finish_file<R: Files>(
     rt: &R,
     file: UnfinishedFile<R::File>,
@@ -202,12 +202,12 @@ pub(crate) fn finish_file<R: Files>(
     }
 }
 
-/// Waits until all bytes of the file are on the disk, and closes it. Some errors, such as a full disk, show only then.
+/// Waits until all bytes of `file` are on the disk, and closes the file. Some errors, such as a full disk, show no earlier.
 fn sync_and_close<F: OpenFile + Drop>(file: F) -> io::Result<()> {
     file.sync_all()
 }
 
-/// Removes the unfinished file.
+/// Removes `file`, which isn't finished.
 pub(crate) fn abandon_file<R: Files>(rt: &R, file: UnfinishedFile<R::File>) {
     let UnfinishedFile { sink, rename } = file;
     drop(sink);

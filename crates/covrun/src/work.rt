@@ -7,8 +7,8 @@ use covcommand::{
     Command, LcovVersion, Limits as LimitWords, Names, SourceFilter, Strictness, TextFormat,
     TextSize,
 };
+use covdata::{Bytes, Memory, good_test};
 use covlimit::{Limits, Rate};
-use covline::{Bytes, Memory, good_test};
 use covreport::{Choice, PatternFault, Patterns};
 use std::alloc::{AllocError, Global};
 
@@ -17,9 +17,9 @@ use std::alloc::{AllocError, Global};
 pub(crate) enum FileFormat {
     /// Tracefiles of this version of lcov.
     Tracefile(LcovVersion),
-    /// Tracefiles of this version, of any length. They are read in chunks, each a submission of its own.
+    /// Tracefiles of this version, of any length, which are read in chunks. Each chunk is a submission of its own.
     LargeTracefile(LcovVersion),
-    /// gcov's output; its counts get this test name.
+    /// gcov's output, whose counts get this test name.
     GcovOutput(Bytes),
 }
 
@@ -43,6 +43,15 @@ pub(crate) struct Work {
     pub(crate) asks: Question,
 }
 
+/// The options of `check`. `format` says how each file is read, `strictness` which files aren't accepted, and `jobs` how many files
+/// are checked at once.
+#[derive(Drop)]
+pub(crate) struct CheckOptions {
+    pub(crate) format: CheckedFormat,
+    pub(crate) strictness: Strictness,
+    pub(crate) jobs: u32,
+}
+
 /// The task of a run.
 #[derive(Drop)]
 pub(crate) enum Task {
@@ -51,16 +60,7 @@ pub(crate) enum Task {
     /// Collects files and prints an answer.
     Collect(Work),
     /// Checks files, each by itself.
-    Check {
-        /// How the files are read.
-        format: CheckedFormat,
-        /// Which files aren't accepted.
-        strictness: Strictness,
-        /// The number of jobs.
-        jobs: u32,
-        /// The files' paths.
-        files: Names,
-    },
+    Check { options: CheckOptions, files: Names },
 }
 
 /// Why a subcommand's work can't begin.
@@ -111,16 +111,18 @@ impl From<PatternFault> for WorkFault {
 
 ghost use Rattle.std.specs.Prelude.{◌≡◌, map, option_map, take, drop, IfOk, IfErr};
 ghost use Rattle.std.specs.String.{string_bytes};
-ghost use Rattle.covline.specs.Lawful.{IsGoodTest};
+ghost use Rattle.covdata.specs.Lawful.{IsGoodTest};
 ghost use Rattle.covreport.specs.ChoiceView.{choice_data};
 ghost use Rattle.covrun.specs.View.{question_data, task_data};
 ghost use Rattle.covlimit.specs.LimitsView.{limits_data};
-ghost use Rattle.covrun.specs.Work.{choice_of, limits_of, checked_as as checked_as_of, task_of, tracefiles as tracefiles_of, ArePatterns, AreRates, AreTaken, Checks, Collects, IsFilter, IsRateIfAny};
+ghost use Rattle.covbook.specs.Op.{ExtractOp, RemoveOp, ReportOp};
+ghost use Rattle.covrun.specs.declared.work.FileFormat.TheVariants.{GcovOutput};
+ghost use Rattle.covrun.specs.Work.{Answer, filtering, choice_of, limits_of, checked_as as checked_as_of, task_of, tracefiles as tracefiles_of, ArePatterns, AreRates, AreTaken, Checks, Collects, IsFilter, IsRateIfAny};
 ghost use Rattle.covrun.specs.WorkFault.{IsRefusal, IsFilterRefusal, IsLimitRefusal, IsPatternRefusal, IsTestRefusal};
 ghost use Rattle.covrun.specs.declared.argument_fault.ArgumentFault.TheVariants as arguments;
 ghost use Rattle.covrun.specs.declared.work.WorkFault.TheVariants as faults;
 
-/// Checks the command's patterns, thresholds and test name, and makes its task.
+/// Checks the patterns, the thresholds and the test's name of `command`, and makes the task of the command.
 pub(crate) fn task_for(
     alloc: Global,
     command: Command,
@@ -165,25 +167,12 @@ pub(crate) fn task_for(
             Ok(over_tracefiles(names, tracefiles(size, version), strictness, jobs, list))
         }
         Command::Extract { version, names } => {
-            let (files, patterns) = split(alloc, &names)?;
-            let extract = Question::Answer(Op::Extract(patterns));
-            Ok(over_tracefiles(files, tracefiles(size, version), strictness, 1, extract))
+            extraction(alloc, tracefiles(size, version), strictness, &names)
         }
         Command::Remove { version, names } => {
-            let (files, patterns) = split(alloc, &names)?;
-            let remove = Question::Answer(Op::Remove(patterns));
-            Ok(over_tracefiles(files, tracefiles(size, version), strictness, 1, remove))
+            removal(alloc, tracefiles(size, version), strictness, &names)
         }
-        Command::Gcov { test, names } => {
-            test_name(&test)?;
-            Ok(Task::Collect(Work {
-                files: names,
-                format: FileFormat::GcovOutput(test),
-                strictness,
-                jobs: 1,
-                asks: Question::Answer(Op::Report),
-            }))
-        }
+        Command::Gcov { test, names } => over_gcov_output(test, strictness, names),
         Command::Check {
             format,
             jobs,
@@ -192,7 +181,7 @@ pub(crate) fn task_for(
     }
 }
 
-/// The format of tracefiles of this version, with or without `--large`.
+/// The format of tracefiles of this `version`, with or without `--large`.
 fn tracefiles(size: TextSize, version: LcovVersion) -> FileFormat
     ensures { result ≡ tracefiles_of size version }
 {
@@ -202,7 +191,7 @@ fn tracefiles(size: TextSize, version: LcovVersion) -> FileFormat
     }
 }
 
-/// Chooses how `check` reads files of this size and format.
+/// Chooses how `check` reads files of this `size` and `format`.
 fn checked_as(size: TextSize, format: TextFormat) -> CheckedFormat
     ensures { result ≡ checked_as_of size format }
 {
@@ -231,19 +220,69 @@ fn over_tracefiles(
     })
 }
 
+/// The task of `extract` for these arguments: the name of a tracefile, and then patterns.
+fn extraction(
+    alloc: Global,
+    format: FileFormat,
+    strictness: Strictness,
+    names: &Names,
+) -> Result<Task, WorkFault>
+    ensures task { IfOk result (λ task. task_data task ≡ Collects (filtering format strictness ExtractOp names.now)) }
+    ensures taken { IfOk result (λ _. ArePatterns (drop 1 names.now)) }
+    ensures refused { IfErr result (IsPatternRefusal (drop 1 names.now)) }
+{
+    let (files, patterns) = split(alloc, names)?;
+    let extract = Question::Answer(Op::Extract(patterns));
+    Ok(over_tracefiles(files, format, strictness, 1, extract))
+}
+
+/// The task of `remove` for these arguments: the name of a tracefile, and then patterns.
+fn removal(
+    alloc: Global,
+    format: FileFormat,
+    strictness: Strictness,
+    names: &Names,
+) -> Result<Task, WorkFault>
+    ensures task { IfOk result (λ task. task_data task ≡ Collects (filtering format strictness RemoveOp names.now)) }
+    ensures taken { IfOk result (λ _. ArePatterns (drop 1 names.now)) }
+    ensures refused { IfErr result (IsPatternRefusal (drop 1 names.now)) }
+{
+    let (files, patterns) = split(alloc, names)?;
+    let remove = Question::Answer(Op::Remove(patterns));
+    Ok(over_tracefiles(files, format, strictness, 1, remove))
+}
+
+/// The task of collecting gcov's output under this test name.
+fn over_gcov_output(test: Bytes, strictness: Strictness, files: Names) -> Result<Task, WorkFault>
+    ensures task { IfOk result (λ task. task_data task ≡ Collects (record { files = files; format = GcovOutput test; strictness = strictness; jobs = 1; asks = Answer ReportOp })) }
+    ensures taken { IfOk result (λ _. IsGoodTest test) }
+    ensures refused { IfErr result (IsTestRefusal test) }
+{
+    test_name(&test)?;
+    Ok(Task::Collect(Work {
+        files,
+        format: FileFormat::GcovOutput(test),
+        strictness,
+        jobs: 1,
+        asks: Question::Answer(Op::Report),
+    }))
+}
+
 /// The task of checking these files.
 fn check_of(format: CheckedFormat, strictness: Strictness, jobs: u32, files: Names) -> Task
     ensures { task_data result ≡ Checks format strictness jobs files }
 {
     Task::Check {
-        format,
-        strictness,
-        jobs,
+        options: CheckOptions {
+            format,
+            strictness,
+            jobs,
+        },
         files,
     }
 }
 
-/// The source files that a filter chooses. Returns `None` if it has no patterns.
+/// The source files that `filter` chooses; `None` if the filter has no patterns.
 fn chosen_files(alloc: Global, filter: &SourceFilter) -> Result<Option<Choice>, WorkFault>
     ensures choice { IfOk result (λ choice. option_map choice_data choice ≡ choice_of filter.now) }
     ensures taken { IfOk result (λ _. IsFilter filter.now) }
@@ -270,7 +309,7 @@ fn rates(words: LimitWords) -> Result<Limits, WorkFault>
     })
 }
 
-/// Parses a threshold. Returns `None` if it isn't given.
+/// Parses `word` as a threshold. Returns `None` if there is no word.
 fn rate(word: Option<Bytes>) -> Result<Option<Rate>, WorkFault>
     ensures rate { IfOk result (λ rate. rate ≡ word) }
     ensures taken { IfOk result (λ _. IsRateIfAny word) }
@@ -286,7 +325,7 @@ fn rate(word: Option<Bytes>) -> Result<Option<Rate>, WorkFault>
     }
 }
 
-/// Checks the name of a test.
+/// Checks that a test may have the name `test`.
 fn test_name(test: &Bytes) -> Result<(), WorkFault>
     ensures good { IfOk result (λ _. IsGoodTest test.now) }
     ensures bad { IfErr result (IsTestRefusal test.now) }
@@ -298,7 +337,7 @@ fn test_name(test: &Bytes) -> Result<(), WorkFault>
     }
 }
 
-/// Splits the arguments: the first is a file's name, the others are patterns.
+/// Splits `names` into the first, which is a file's name, and the others, which are patterns.
 fn split(alloc: Global, names: &Names) -> Result<(Names, Patterns), WorkFault>
     ensures file { IfOk result (λ r. r.0 ≡ take 1 names.now) }
     ensures patterns { IfOk result (λ r. r.1 ≡ drop 1 names.now) }
@@ -314,7 +353,7 @@ fn split(alloc: Global, names: &Names) -> Result<(Names, Patterns), WorkFault>
     Ok((files, patterns))
 }
 
-/// Makes a list of these patterns. Fails with the error of the first pattern that can't be added.
+/// Makes a list of `words` as patterns. Fails with the error of the first pattern that can't be added.
 fn patterns_of(alloc: Global, words: &[String]) -> Result<Patterns, WorkFault>
     ensures patterns { IfOk result (λ patterns. patterns ≡ map string_bytes words.now) }
     ensures taken { IfOk result (λ _. ArePatterns (map string_bytes words.now)) }

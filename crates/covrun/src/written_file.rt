@@ -6,7 +6,7 @@ ghost use Rattle.covrun.specs.OutputFiles.{CountsFault, Finishes};
 use crate::output_folder::{OutputFault, OutputFolder};
 use crate::ready_text::ReadyText;
 
-/// Writes the text into the named file. If that fails, an older file of this name stays unchanged.
+/// Writes `text` into the file called `name`. An older file of this name stays unchanged if the write fails.
 pub(crate) fn write_file<P: OutputFolder>(
     name: &str,
     text: ReadyText<'_>,

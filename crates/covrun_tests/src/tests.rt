@@ -1,10 +1,11 @@
 //! Runs the program with streams and folders that no real program has, and once for each subcommand with ample memory. All other
 //! runs are text files in e2e/calls, which scripts/e2e plays with the built program. Expected values were worked out by hand.
 
-ghost use Rattle.std.specs.Prelude.{◌<◌, ◌^◌};
+ghost use Rattle.covrun.specs.Streams.{CanWrite};
+ghost use Rattle.covrun.specs.World.{CanCall};
 
-use covrun::{FromFiles, IntoFiles, run};
-use covsession::{FromRead, FromWrite, Sink, Source};
+use covrun::{FromFiles, IntoFiles, OutputFolder, Sinks, World, run};
+use covstream::{FromRead, FromWrite, Sink, Source};
 use std::alloc::Global;
 use std::process::Abort;
 use std::random::RandomSource;
@@ -23,24 +24,14 @@ mod printing;
 /// faster this way.
 fn called<
     R: Files<File: Send, Dir: Send> + RandomSource + AllocGlobal + Threads + Wait + Sync,
+    P: OutputFolder,
     I: Source,
     O: Sink,
     E: Sink,
->(rt: &R, words: &[String], input: &mut I, output: &mut O, faults: &mut E) -> u8
-    requires reads { I.reads input.old < 2 ^ 62 }
-    requires failed_reads { I.failed_reads input.old < 2 ^ 62 }
-    requires failed_writes { O.failed_writes output.old < 2 ^ 62 }
-    requires failed_words { E.failed_writes faults.old < 2 ^ 62 }
+>(rt: &R, words: &[String], world: &mut World<P, I, O, E>) -> u8
+    requires { CanCall world.old }
 {
-    run(
-        rt,
-        &FromFiles::new(rt),
-        words,
-        &mut IntoFiles::new(rt),
-        input,
-        output,
-        faults,
-    )
+    run(rt, &FromFiles::new(rt), words, world)
 }
 
 /// The exit status of a run, its output, and its error stream.
@@ -51,24 +42,43 @@ struct Told {
     faults: Vec<u8>,
 }
 
+impl Told {
+    /// The result of a run that ended with the exit status `status` and wrote to `sinks`.
+    fn of(status: u8, sinks: KeptSinks) -> Told {
+        let Sinks { output, faults } = sinks;
+        Told {
+            status,
+            output: output.into_inner(),
+            faults: faults.into_inner(),
+        }
+    }
+}
+
 /// Runs the program with the arguments `words` and the standard input `input`.
 fn call<R: Files<File: Send, Dir: Send> + RandomSource + AllocGlobal + Threads + Wait + Sync>(
     rt: &R,
     words: &[String],
     input: &[u8],
 ) -> Told {
-    let mut output: Vec<u8> = Vec::new(rt.alloc());
-    let mut faults: Vec<u8> = Vec::new(rt.alloc());
-    let status = {
-        let mut source = FromRead::new(input);
-        let mut sink = FromWrite::new(&mut output);
-        let mut complaints = FromWrite::new(&mut faults);
-        called(rt, words, &mut source, &mut sink, &mut complaints)
+    let mut world = World {
+        files: IntoFiles::new(rt),
+        input: FromRead::new(input),
+        sinks: kept_sinks(rt.alloc()),
     };
-    Told {
-        status,
-        output,
-        faults,
+    let status = called(rt, words, &mut world);
+    Told::of(status, world.sinks)
+}
+
+/// Two streams that keep what they take.
+type KeptSinks = Sinks<FromWrite<Vec<u8>>, FromWrite<Vec<u8>>>;
+
+/// Two streams that have taken nothing yet.
+fn kept_sinks(alloc: Global) -> KeptSinks
+    ensures { CanWrite result }
+{
+    Sinks {
+        output: FromWrite::new(Vec::new(alloc)),
+        faults: FromWrite::new(Vec::new(alloc)),
     }
 }
 

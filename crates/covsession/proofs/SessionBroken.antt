@@ -3,9 +3,10 @@ use Rattle.std.proofs.Common.{◌≡◌, ◌≢◌, ◌⊎◌, ℕ, ◌+◌, ◌
 use Rattle.std.proofs.lemmas.Bool.{leb-true}
 use Rattle.std.proofs.lemmas.List.Concat.{flat_map-append}
 use Rattle.std.specs.Io.KnownBytes.{Consumes, IsAtEnd}
-use Rattle.covline.specs.Lines.{before_feed, line_feed, strip, line_of, pieces_of}
+use Rattle.covdata.specs.Delimiters.{line_feed}
+use Rattle.covline.specs.Lines.{before_feed, strip, line_of, pieces_of}
 use Rattle.covbook.specs.Op.{OpData, RenameOp, SubmitOp}
-use Rattle.covline.specs.Row.{SubmissionData}
+use Rattle.covdata.specs.Row.{SubmissionData}
 use Rattle.covreport.specs.Choice.{max_pattern_bytes}
 use Rattle.covbook.specs.Step.{answer_of, max_entries, table_of}
 use Rattle.covsession.specs.Broken.{Breaks, Fails, FailsAnswering, FailsAfter, FailsGiven, FailsSaying, FailsTaking, IsBroken, IsCausedBy, IsIdle, IsLinePart, IsOpen, IsPart, StopsAs}
@@ -13,7 +14,7 @@ use Rattle.covsession.specs.Command.{Command, Format, Announces, IsBody, Ask, Re
 use Rattle.covsession.specs.Run.{IsDone, IsRun, IsSoFar}
 use Rattle.covsession.specs.Session.{answer_text, said, text_after}
 use Rattle.covsession.specs.Streams.{InputData, OutputData, EndsAs, Moment, Says, TakesLine, TakesPieces, line_pieces, moment, unread}
-use Rattle.covread.specs.declared.fault.ReadFault.{ReadFault}
+use Rattle.covdata.specs.declared.fault.ReadFault.{ReadFault}
 use Rattle.covsession.specs.Text.{IsAnsweredAs, IsTaken, IsReported, asked_for}
 use Rattle.covsession.specs.declared.session.command.word.Word.{Word}
 use Rattle.covsession.specs.declared.session.fault.SessionFault.{SessionFault}

@@ -4,7 +4,8 @@ use Rattle.std.proofs.Math.Seq.{take-add}
 use Rattle.std.proofs.lemmas.List.{take_rest, take-append-drop, take_all, length-take}
 use Rattle.memchr.specs.Find.{IsFirstByte, is_byte}
 use Rattle.std.specs.Io.KnownBytes.{Consumes, Appends, prepend_known}
-use Rattle.covline.specs.Lines.{line_feed, before_feed}
+use Rattle.covdata.specs.Delimiters.{line_feed}
+use Rattle.covline.specs.Lines.{before_feed}
 use Rattle.covsession.specs.Text.{line_after, line_with, IsCollected}
 use Rattle.covsession.specs.declared.session.text.LineSoFar.{LineSoFar}
 use Rattle.covsession.specs.declared.session.text.LineSoFar.TheVariants.{Nothing, Other}

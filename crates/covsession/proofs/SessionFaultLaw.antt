@@ -4,11 +4,12 @@ use Rattle.std.proofs.Common.{◌≡◌, ◌≢◌, ℕ, ◌+◌, Bool, true, fa
 use Rattle.std.specs.Prelude.{codes, if◌then◌else◌}
 use Rattle.std.specs.List.{AllByRecursion}
 use Rattle.std.proofs.lemmas.List.Elements.{recursion_from_All, All-nil}
-use Rattle.covline.specs.Lines.{line_feed, carriage_return, line_of, pieces_of}
-use Rattle.covline.specs.Lawful.{IsGoodTest}
+use Rattle.covdata.specs.Delimiters.{line_feed, carriage_return}
+use Rattle.covline.specs.Lines.{line_of, pieces_of}
+use Rattle.covdata.specs.Lawful.{IsGoodTest}
 use Rattle.covline.specs.LineLaws.{GoodLines, GoodRest}
-use Rattle.covread.specs.declared.fault.ReadFault.{ReadFault}
-use Rattle.covread.specs.declared.fault.ReadFault.TheVariants as faults
+use Rattle.covdata.specs.declared.fault.ReadFault.{ReadFault}
+use Rattle.covdata.specs.declared.fault.ReadFault.TheVariants as faults
 use Rattle.covread.specs.declared.gcov.line.OwnFault.{OwnFault}
 use Rattle.covread.specs.declared.gcov.line.OwnFault.TheVariants as own
 use Rattle.covread.specs.Gcov.{GcovLine, Path, SourceLine, FuncCount, BranchCount, BlockNumber, Nothing}

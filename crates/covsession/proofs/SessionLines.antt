@@ -3,7 +3,8 @@ use Rattle.std.proofs.Common.{◌≡◌, None, Some, ℕ, zero, suc, ◌+◌, �
 use Rattle.std.proofs.lemmas.Bool.{eqb-true}
 use Rattle.memchr.specs.Find.{FindsNeedle, IsLastByte, Nowhere, OccursAt, is_byte}
 use Rattle.std.specs.List.{concat}
-use Rattle.covline.specs.Lines.{line_feed, before_feed}
+use Rattle.covdata.specs.Delimiters.{line_feed}
+use Rattle.covline.specs.Lines.{before_feed}
 use Rattle.covsession.specs.Command.{IsBody}
 use Rattle.covread.specs.Outcome.{max_bytes}
 use Rattle.covsession.specs.Streams.{InputData, Moment, Moves, AreCut, moment, turns}

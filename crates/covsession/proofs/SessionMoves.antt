@@ -3,7 +3,8 @@ use Rattle.std.proofs.Common.{◌≡◌, ℕ, ◌+◌, ◌≤◌, List, [], ◌�
 use Rattle.std.specs.Io.KnownBytes.{Consumes, Appends, IsAtEnd, append_known}
 use Rattle.std.proofs.lemmas.Bool.{eqb-true}
 use Rattle.std.specs.Prelude.{◌==◌}
-use Rattle.covline.specs.Lines.{line_feed, before_feed}
+use Rattle.covdata.specs.Delimiters.{line_feed}
+use Rattle.covline.specs.Lines.{before_feed}
 use Rattle.covsession.specs.Streams.{InputData, OutputData, Moment, Grows, Takes, Says, Moves, TakesLine, unread, turns, said_so_far, TakesPart}
 use Rattle.covsession.specs.Text.{HasCollected}
 use Rattle.covsession.specs.declared.session.text.LineEnd.TheVariants.{Feed, Input}

@@ -2,7 +2,8 @@
 use Rattle.std.proofs.Common.{◌≡◌, ◌≢◌, ℕ, ◌<◌, ◌≤◌, Bool, true, false, eqb, List, [], ◌∷◌, ◌++◌, refl, sym, ◌∙◌, ap, subst, arith, append_assoc, append-nil, codes}
 use Rattle.std.proofs.lemmas.Bool.{eqb-true}
 use Rattle.std.specs.List.{concat}
-use Rattle.covline.specs.Lines.{line_feed, carriage_return, before_feed, before_stripped, strip, pieces_of, onto_first, line_of}
+use Rattle.covdata.specs.Delimiters.{line_feed, carriage_return}
+use Rattle.covline.specs.Lines.{before_feed, before_stripped, strip, pieces_of, onto_first, line_of}
 use Rattle.covsession.specs.Command.{IsBody}
 use Rattle.covsession.specs.Streams.{InputData, Moment, Moves, TakesLine, TakesPieces, AreCut, EndsAs, turns, line_bytes, line_pieces}
 use Rattle.covsession.specs.Text.{line_after, line_with, IsTaken, IsTextOf, HasCollected}

@@ -2,17 +2,17 @@
 use Rattle.std.proofs.Common.{◌≡◌, ◌≢◌, ℕ, ◌<◌, length, List, [], ◌∷◌, ◌++◌, Result, Ok, Err, refl, sym, ◌∙◌, ap, ap₂, subst, arith, append_assoc, append-nil, codes, inl, inr}
 use Rattle.std.specs.List.{concat}
 use Rattle.std.proofs.lemmas.Bool.{false≢true}
-use Rattle.covline.specs.Row.{SubmissionData}
+use Rattle.covdata.specs.Row.{SubmissionData}
 use Rattle.covline.specs.Lines.{line_of}
 use Rattle.covbook.specs.Op.{OpData, SubmitOp, DropTestOp, RenameOp, ReportOp, ExtractOp, RemoveOp, SummaryOp}
-use Rattle.covstore.specs.Table.{Table}
+use Rattle.covtable.specs.Table.{Table}
 use Rattle.covbook.specs.Step.{answer_of, table_after, table_from}
-use Rattle.covread.specs.declared.fault.ReadFault.{ReadFault}
+use Rattle.covdata.specs.declared.fault.ReadFault.{ReadFault}
 use Rattle.covsession.specs.declared.session.text.LineEnd.{LineEnd}
 use Rattle.covsession.specs.declared.session.text.LineEnd.TheVariants.{Feed, Input}
-use Rattle.covread.specs.Fault.{is_memory}
+use Rattle.covdata.specs.Fault.{is_memory}
 use Rattle.covread.specs.Outcome.{IsOrMemory}
-use Rattle.covread.specs.declared.fault.ReadFault.TheVariants as faults
+use Rattle.covdata.specs.declared.fault.ReadFault.TheVariants as faults
 use Rattle.covsession.specs.Command.{Command, Format, Announces, IsReadAs, Blank, Ask, RefusePattern, Submit, Refuse, Unknown, Unfinished, AsksFor, IsAskingLine, IsTooLong, IsUnknown, IsBody, IsCommand, EndsInput, AreCommands, ops_of}
 use Rattle.covsession.specs.Session.{answer_text, refused_text, refused_pattern_text, said, text_after}
 use Rattle.covsession.specs.Text.{asked_for, AnswersAs, IsNotMemory, IsReported}

@@ -5,14 +5,15 @@ use Rattle.std.proofs.lemmas.Bool.{leb-true, leb-false, le-leb}
 use Rattle.std.proofs.lemmas.List.Concat.{flat_map-append}
 use Rattle.std.specs.Option.{IfSome}
 use Rattle.std.specs.Io.KnownBytes.{Consumes, Appends, IsAtEnd, prepend_known, append_known}
-use Rattle.covline.specs.Row.{SubmissionData}
-use Rattle.covline.specs.Lines.{line_feed, before_feed, strip, line_of, pieces_of}
+use Rattle.covdata.specs.Row.{SubmissionData}
+use Rattle.covdata.specs.Delimiters.{line_feed}
+use Rattle.covline.specs.Lines.{before_feed, strip, line_of, pieces_of}
 use Rattle.covbook.specs.Op.{OpData, SubmitOp, DropTestOp, RenameOp, ReportOp, ExtractOp, RemoveOp, SummaryOp}
 use Rattle.covreport.specs.Choice.{max_pattern_bytes}
-use Rattle.covstore.specs.Table.{Table}
+use Rattle.covtable.specs.Table.{Table}
 use Rattle.covbook.specs.Step.{table_of}
-use Rattle.covread.specs.declared.fault.ReadFault.{ReadFault}
-use Rattle.covread.specs.declared.fault.ReadFault.TheVariants as faults
+use Rattle.covdata.specs.declared.fault.ReadFault.{ReadFault}
+use Rattle.covdata.specs.declared.fault.ReadFault.TheVariants as faults
 use Rattle.covsession.specs.declared.session.text.LineEnd.{LineEnd}
 use Rattle.covsession.specs.declared.session.text.LineEnd.TheVariants.{Feed, Input}
 use Rattle.covsession.specs.declared.session.text.CollectedText.{CollectedText}

@@ -3,10 +3,10 @@ use Rattle.std.specs.List.{concat, flat_map, AllByRecursion}
 use Rattle.std.specs.Prelude.{◌≡◌, ◌≢◌, ◌⊎◌, ◌<◌, ◌≤◌, ℕ, length, List, [], ◌∷◌, ◌++◌, codes, Ok, Err, ◌==◌, if◌then◌else◌, Result, Option, Some, None, option_map, nat_le}
 use Rattle.covbook.specs.Op.{OpData, SubmitOp, DropTestOp, RenameOp, ReportOp, ExtractOp, RemoveOp, SummaryOp}
 use Rattle.covline.specs.Lines.{line_of}
-use Rattle.covline.specs.Row.{SubmissionData}
+use Rattle.covdata.specs.Row.{SubmissionData}
 use Rattle.covread.specs.Outcome.{IsOutcome}
 use Rattle.covread.specs.GcovOutcome as gcov
-use Rattle.covread.specs.declared.fault.ReadFault.{ReadFault}
+use Rattle.covdata.specs.declared.fault.ReadFault.{ReadFault}
 use Rattle.covreport.specs.Choice.{max_pattern_bytes}
 use Rattle.covsession.specs.declared.session.command.word.Format.{Format as TextFormat}
 use Rattle.covsession.specs.declared.session.command.word.Format.TheVariants as formats

@@ -3,12 +3,13 @@ use Rattle.std.specs.Io.KnownBytes.{Consumes, Appends, IsAtEnd}
 use Rattle.std.specs.Prelude.{◌≡◌, ℕ, List, [], ◌∷◌, ◌++◌, codes, decimal, Option}
 use Rattle.covbook.specs.Op.{OpData, AnswerData, AcceptedAnswer, ClashAnswer, DroppedAnswer, RenamedAnswer, NoSuchTestAnswer, TextAnswer}
 use Rattle.covbook.specs.Step.{answers_to, answers_from}
-use Rattle.covline.specs.Lines.{line_feed, pieces_of}
-use Rattle.covline.specs.declared.trace_line.LineFault.{LineFault}
-use Rattle.covline.specs.declared.trace_line.LineFault.TheVariants.{BadLine, NumberTooLarge, EmptyPath}
-use Rattle.covread.specs.declared.fault.ReadFault.{ReadFault}
-use Rattle.covread.specs.declared.fault.ReadFault.TheVariants as faults
-use Rattle.covstore.specs.Table.{Table}
+use Rattle.covdata.specs.Delimiters.{line_feed}
+use Rattle.covline.specs.Lines.{pieces_of}
+use Rattle.covdata.specs.declared.trace_line.LineFault.{LineFault}
+use Rattle.covdata.specs.declared.trace_line.LineFault.TheVariants.{BadLine, NumberTooLarge, EmptyPath}
+use Rattle.covdata.specs.declared.fault.ReadFault.{ReadFault}
+use Rattle.covdata.specs.declared.fault.ReadFault.TheVariants as faults
+use Rattle.covtable.specs.Table.{Table}
 use Rattle.covsession.specs.Command.{Command, AreCommands, ops_of, Blank, Ask, RefusePattern, Submit, Refuse, Unknown, Unfinished}
 
 -- this line with its line feed

@@ -1,12 +1,13 @@
 -- A text after a line `trace` or `gcov`: how it is collected, taken, read and answered.
 use Rattle.std.specs.List.{concat}
 use Rattle.std.specs.Prelude.{◌≡◌, ◌⊎◌, ◌<◌, ◌≤◌, ℕ, Bool, false, length, List, [], ◌∷◌, ◌++◌, codes, Ok, Err, ◌-◌, ◌^◌, ◌==◌, min, if◌then◌else◌, take, Result}
-use Rattle.covline.specs.Lines.{line_of, carriage_return}
-use Rattle.covline.specs.Row.{SubmissionData}
-use Rattle.covread.specs.Fault.{is_memory}
+use Rattle.covdata.specs.Delimiters.{carriage_return}
+use Rattle.covline.specs.Lines.{line_of}
+use Rattle.covdata.specs.Row.{SubmissionData}
+use Rattle.covdata.specs.Fault.{is_memory}
 use Rattle.covread.specs.Outcome.{max_bytes}
-use Rattle.covread.specs.declared.fault.ReadFault.{ReadFault}
-use Rattle.covread.specs.declared.fault.ReadFault.TheVariants as faults
+use Rattle.covdata.specs.declared.fault.ReadFault.{ReadFault}
+use Rattle.covdata.specs.declared.fault.ReadFault.TheVariants as faults
 use Rattle.covsession.specs.Command.{Command, Format, IsBody, IsReadAs, Submit, Refuse, Unfinished}
 use Rattle.covsession.specs.Streams.{AreCut}
 use Rattle.covsession.specs.declared.session.text.LineEnd.{LineEnd}

@@ -3,7 +3,7 @@
 ghost use Rattle.std.specs.Prelude.{◌≡◌, ◌≢◌, ℕ, List};
 ghost use Rattle.std.specs.List.{AllByRecursion};
 ghost use Rattle.covline.specs.Lines.{pieces_of};
-ghost use Rattle.covread.specs.declared.fault.ReadFault.TheVariants as read_faults;
+ghost use Rattle.covdata.specs.declared.fault.ReadFault.TheVariants as read_faults;
 ghost use Rattle.covsession.specs.Command.{Command, Refuse, AreCommands};
 ghost use Rattle.covsession.specs.Session.{IsSession};
 
@@ -28,8 +28,8 @@ pub fn each_input_has_one_session_text()
     each_gcov_text_has_one_outcome();
 }
 
-/// A session never rejects a text for the name of its test: the name is a part of one line, and so always good. Nor does it answer
-/// that memory ran out: this ends the session instead.
+/// A session never rejects a text for the name of its test: the name is a part of one line, and so always good. No answer says that
+/// memory ran out: the session ends instead.
 pub fn no_session_refuses_a_test()
     ensures { (input : List ℕ) (commands : List Command) → AreCommands (pieces_of input) commands
         → AllByRecursion (λ command. (command ≢ Refuse read_faults.BadTest) × (command ≢ Refuse read_faults.Memory)) commands }

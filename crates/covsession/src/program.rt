@@ -7,7 +7,7 @@ ghost use Rattle.covsession.specs.Session.{said};
 
 use crate::session::output::put_bytes;
 use crate::session::{SessionFault, session};
-use crate::stream::{Sink, Source};
+use covstream::{Sink, Source};
 use std::alloc::Allocator;
 
 /// The exit status of a program that ended with this error: 1 if a stream failed, 3 if memory ran out or the history was full.
@@ -32,9 +32,9 @@ pub fn line_of(fault: SessionFault) -> &'static [u8]
     }
 }
 
-/// Runs a session from a source to a sink, and returns the exit status: 0 if the session ended well, 1 if a stream failed, 3 if
-/// memory ran out or the history was full. Writes the line about an error to `faults`. If that write fails, only the status reports
-/// the error.
+/// Runs a session from `source` to `sink`, and returns the exit status: 0 if the session ended well, 1 if a stream failed, 3 if
+/// memory ran out or the history was full. Writes the line about an error to `faults`. Only the status reports an error whose line
+/// can't be written.
 pub fn run_session<I: Source, O: Sink, E: Sink, A: Allocator + Copy>(
     alloc: A,
     source: &mut I,

@@ -27,19 +27,19 @@ use crate::session::output::Output;
 use crate::session::rename::answer_rename;
 use crate::session::submit::{Given, answer_given, take_text};
 use crate::session::text::{LineEnd, Text};
-use crate::stream::{Sink, Source};
 pub use answers::{clash_line, refused_line};
 use covbook::{Book, Entry};
+use covstream::{Sink, Source};
 pub use fault::SessionFault;
 pub use output::put_bytes;
 use std::alloc::Allocator;
 use std::mem;
 use std::snapshot::Snapshot;
 
-// The book of a session. A session never returns its history, so the book stores nothing of its entries: they exist only in proofs.
+// The book of a session. No session returns its history, so the book stores no entries: entries exist only in proofs.
 pub(crate) type SessionBook<A> = Book<A, Snapshot<Entry<A>>>;
 
-// The format of the text that follows a line with this word and this ending. Returns `None` if no text follows it.
+// Returns the format of the text after the command line `word`, or `None` if no text follows. `ending` tells how the line ended.
 fn text_following(word: Word<'_>, ending: LineEnd) -> Option<Format<'_>>
     ensures text { IfSome result (λ format. (word.entry ≡ Word.Text format) × (ending ≡ LineEnd.Feed)) }
     ensures no_text { IfNone result ((format : TextFormat) → word.entry ≡ Word.Text format → ending ≡ LineEnd.Input) }
@@ -59,7 +59,7 @@ fn text_following(word: Word<'_>, ending: LineEnd) -> Option<Format<'_>>
     }
 }
 
-// Whether the word is `rename`, and its line ends with a line feed, so that the names come next.
+// Whether two names come next: `word` is `rename`, and the line ended with a line feed.
 fn names_after(word: Word<'_>, ending: LineEnd) -> bool
     ensures { IsTrue result ↔ ((word.entry ≡ Word.Rename) × (ending ≡ LineEnd.Feed)) }
 {
@@ -111,7 +111,7 @@ fn answer_command<I: Source, O: Sink, A: Allocator + Copy>(
     Ok(ending)
 }
 
-// Answers the commands of the input, up to its end, with a new book.
+// Answers all commands of `input` with a new book.
 fn answer_all<I: Source, O: Sink, A: Allocator + Copy>(
     alloc: A,
     input: &mut SessionInput<'_, I, A>,
@@ -131,7 +131,7 @@ fn answer_all<I: Source, O: Sink, A: Allocator + Copy>(
     }
 }
 
-// Answers all commands, and flushes the answers. After an error, also flushes the answers before it, unless a write failed.
+// Answers all commands, and flushes the answers. An error also flushes the answers before it, unless a write failed.
 fn answer_to_the_end<I: Source, O: Sink, A: Allocator + Copy>(
     alloc: A,
     input: &mut SessionInput<'_, I, A>,
@@ -149,17 +149,17 @@ fn answer_to_the_end<I: Source, O: Sink, A: Allocator + Copy>(
     }
 }
 
-/// Answers the commands of the source with a new book, as job 0, and writes the answers to the sink. Rejects a text of more than
-/// 67,108,864 bytes, and doesn't store its further bytes. Buffers at most 65,536 bytes of output. Before each read and at the end,
-/// writes the buffer and flushes the sink, unless the sink has taken no byte since the session last flushed it.
+/// Answers the commands of `source` with a new book, as job 0, and writes the answers to `sink`. Rejects a text of more than
+/// 67,108,864 bytes, and stores no further byte of the text. Buffers at most 65,536 bytes of output. Before each read and at the
+/// end, writes the buffer and flushes the sink, unless the sink has taken no byte since the session last flushed it.
 ///
 /// # Errors
 ///
 /// `Read` if a read failed, or if more than 4,294,967,296 reads were needed. `Write` if a write or flush failed. `Memory` if an
-/// allocation failed. `Full` if the commands ask for more operations than a history can have. The sink has then taken a prefix of
-/// two session texts: that of the bytes that were read, and that of the whole input. Unless the error is `Write`, this prefix
-/// consists of the whole answers to the commands before the error, and it was flushed. A failed write after another error replaces
-/// that error by `Write`.
+/// allocation failed. `Full` if the commands ask for more operations than a history can have. After an error, the bytes that the
+/// sink has taken begin two session texts: the text of the bytes that were read, and the text of the whole input. These bytes are
+/// the whole answers to the commands before the error, and were flushed, unless the error is `Write`. The session returns `Write`
+/// if a write fails after another error.
 pub fn session<I: Source, O: Sink, A: Allocator + Copy>(
     alloc: A,
     source: &mut I,
@@ -168,7 +168,7 @@ pub fn session<I: Source, O: Sink, A: Allocator + Copy>(
     requires reads { I.reads source.old < 2 ^ 62 }
     requires failed_reads { I.failed_reads source.old < 2 ^ 62 }
     requires failed_writes { O.failed_writes sink.old < 2 ^ 62 }
-    // The whole input was read. Its session text was written, and nothing else.
+    // The whole input was read, and exactly its session text was written.
     ensures whole { OnOk result (IsWholeSession (I.left source.old) (I.left source.new) (O.written sink.old) (O.written sink.new)) }
     // Any session text of the input is the one that was written.
     ensures only { OnOk result (IfSome (I.left source.old) (λ input. (output : List ℕ) → IsSession input output
@@ -184,7 +184,7 @@ pub fn session<I: Source, O: Sink, A: Allocator + Copy>(
     ensures short { IfErr result (λ f. IsCutShort f (I.left source.old) (I.left source.new) (O.written sink.old) (O.written sink.new)) }
     ensures cause { IfErr result (λ f. HasCause f (calls (I.reads source.old) (I.failed_reads source.old) (O.failed_writes sink.old))
         (calls (I.reads source.new) (I.failed_reads source.new) (O.failed_writes sink.new))) }
-    // Unless a write failed, the answers before the error were written, and the sink holds back none of them.
+    // The answers before the error were written, and the sink holds back none of them, unless a write failed.
     ensures kept { IfErr result (λ f. f ≢ faults.Write
         → HasAnswered f (I.left source.old) (I.left source.new) (O.written sink.old) (O.written sink.new)) }
     ensures kept_sent { IfErr result (λ f. f ≢ faults.Write → O.held sink.new ≤ O.held sink.old) }

@@ -5,7 +5,7 @@
 ghost use Rattle.std.specs.Prelude.{◌<◌, ◌^◌};
 
 use covsession::session::{SessionFault, session};
-use covsession::{FromRead, FromWrite, Sink, Source};
+use covstream::{FromRead, FromWrite, Sink, Source};
 use std::alloc::Global;
 use std::process::Abort;
 use std::test::*;

@@ -7,7 +7,7 @@ use Rattle.std.specs.Map.{keys_of, lookup, set_value}
 use Rattle.std.specs.Option.{is_some}
 use Rattle.std.specs.Ordering.{nat_cmp}
 use Rattle.std.proofs.lemmas.Bool.{false≢true}
-use Rattle.covline.specs.Row.{ItemData, Row}
+use Rattle.covdata.specs.Row.{ItemData, Row}
 use Rattle.covstore.specs.declared.stage.fault.StageFault.{StageFault}
 use Rattle.covstore.specs.declared.stage.fault.StageFault.TheVariants.{Clash, Memory}
 use Rattle.covstore.specs.Section.{Adds, Clashes, HasRoomFor, IsIn}
@@ -18,7 +18,7 @@ use Rattle.covstore.specs.State.{FileData, file_with}
 use Rattle.covstore.specs.Sums.{TestData}
 use Rattle.covstore.proofs.AddsLists.{put_there}
 use Rattle.covstore.proofs.MapKeys.{seen, seen_ascend, seen_set, seen_value}
-use Rattle.covstore.proofs.Orders.{names_order}
+use Rattle.covtable.proofs.Orders.{names_order}
 
 -- ---- a test of a file
 

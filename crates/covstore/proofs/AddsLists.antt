@@ -7,10 +7,10 @@ use Rattle.std.specs.Ordering.{is_eq, match_ordering}
 use Rattle.std.proofs.lemmas.Cmp.{tied_itself}
 use Rattle.std.proofs.lemmas.List.{append-nil}
 use Rattle.std.proofs.lemmas.Option.{none-some, same_Some}
-use Rattle.covstore.specs.Clash.{Checksum, ClashData, clash_with, differs, first_clash, or_later}
+use Rattle.covtable.specs.Clash.{Checksum, ClashData, clash_with, differs, first_clash, or_later}
 use Rattle.covstore.specs.PointIndexCounts.{is_new, one_if}
 use Rattle.covmap.specs.Puts.{ArePairs, put, value_of}
-use Rattle.covstore.proofs.Ascend.{IsExactOrder, All-weaker, flips}
+use Rattle.covtable.proofs.Ascend.{IsExactOrder, All-weaker, flips}
 use Rattle.covstore.proofs.Puts.{length-put, same_pair, value_of_before}
 
 -- ---- the position of a key

@@ -19,7 +19,7 @@ use Rattle.covstore.specs.State.{FileData}
 use Rattle.covstore.specs.Sums.{TestData}
 use Rattle.covstore.proofs.AddsSettled.{file_settled, touched_among}
 use Rattle.covstore.proofs.MapKeys.{seen, seen_ascend, seen_set, seen_value}
-use Rattle.covstore.proofs.Orders.{names_order}
+use Rattle.covtable.proofs.Orders.{names_order}
 use Rattle.covstore.proofs.Settled.{file_name, files_with_more}
 use Rattle.covstore.proofs.StoreKept.{All-inserted}
 

@@ -8,9 +8,9 @@ use Rattle.std.proofs.lemmas.Bool.{eq-eqb}
 use Rattle.std.proofs.lemmas.List.{append-nil, map-append}
 use Rattle.std.proofs.lemmas.List.Concat.{flat_map-append}
 use Rattle.std.proofs.lemmas.Slice.Eq.{bytes_eq-Decides}
-use Rattle.covline.specs.Row.{ItemData, LineItem, FuncItem, BranchItem, Row, rows_of_sect}
+use Rattle.covdata.specs.Row.{ItemData, LineItem, FuncItem, BranchItem, Row, rows_of_sect}
 use Rattle.covstore.specs.Section.{Adds, ClashesAt, IsIn, clash_in_file, files_with, section_of_items}
-use Rattle.covstore.specs.Clash.{Agree, Checksum, checksum_of_row, checksums_in, clash_of, differs, first_clash}
+use Rattle.covtable.specs.Clash.{Agree, Checksum, checksum_of_row, checksums_in, clash_of, differs, first_clash}
 use Rattle.covstore.specs.FileIndex.{FileIndexData}
 use Rattle.covmap.specs.Puts.{put}
 use Rattle.covstore.specs.State.{FileData, file_with}
@@ -18,9 +18,9 @@ use Rattle.covstore.specs.Items.{IsClashAt, IsOtherText}
 use Rattle.covstore.specs.Sums.{TestData}
 use Rattle.covstore.proofs.AddsLists.{clash_before, clash_after, put_there, put_twice}
 use Rattle.covstore.proofs.AddsPlace.{held_text, its_whole}
-use Rattle.covstore.proofs.Clashes.{told_first}
-use Rattle.covstore.proofs.Members.{Contains-from}
-use Rattle.covstore.proofs.Orders.{names_order}
+use Rattle.covtable.proofs.Clashes.{told_first}
+use Rattle.covtable.proofs.Members.{Contains-from}
+use Rattle.covtable.proofs.Orders.{names_order}
 
 -- ---- no items
 

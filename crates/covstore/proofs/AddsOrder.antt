@@ -11,9 +11,9 @@ use Rattle.std.proofs.lemmas.List.Concat.{flat_map-append, length-flat_map}
 use Rattle.std.proofs.lemmas.List.Sorted.{IsPermutation-sym, sum_by-IsPermutation}
 use Rattle.std.proofs.lemmas.List.Sums.{sum_by-append}
 use Rattle.std.specs.List.{All}
-use Rattle.covline.specs.Row.{ItemData, Row, rows_of_sect}
+use Rattle.covdata.specs.Row.{ItemData, Row, rows_of_sect}
 use Rattle.covstore.specs.declared.stage.by_line.Spot.{Spot}
-use Rattle.covstore.specs.Clash.{Agree, checksum_of_row, checksums_in}
+use Rattle.covtable.specs.Clash.{Agree, checksum_of_row, checksums_in}
 use Rattle.covstore.specs.FileIndex.{FileIndexData}
 use Rattle.covstore.specs.Kinds.{Each}
 use Rattle.covstore.specs.Order.{AreSpotsOf, HasNoChecksum, at_spots}
@@ -22,11 +22,11 @@ use Rattle.covstore.specs.Section.{Adds, HasRoomFor, files_with, section_of_item
 use Rattle.covstore.specs.Sums.{TestData}
 use Rattle.covstore.proofs.RunsAdds.{all_plain}
 use Rattle.covstore.proofs.RunsSums.{runs_more}
-use Rattle.covstore.proofs.Alike.{AreAlike, alike_mapped, alike_permuted, alike_said}
-use Rattle.covstore.proofs.AlikeContents.{agree_alike}
-use Rattle.covstore.proofs.Clashes.{agree_none}
-use Rattle.covstore.proofs.Members.{In, In-from, In-joined, In-parts}
-use Rattle.covstore.proofs.ContentsLists.{In-unflat}
+use Rattle.covtable.proofs.Alike.{AreAlike, alike_mapped, alike_permuted, alike_said}
+use Rattle.covtable.proofs.AlikeContents.{agree_alike}
+use Rattle.covtable.proofs.Clashes.{agree_none}
+use Rattle.covtable.proofs.Members.{In, In-from, In-joined, In-parts}
+use Rattle.covtable.proofs.ContentsLists.{In-unflat}
 use Rattle.covstore.proofs.RenamedTablesState.{state_alike}
 
 -- ---- alike items

@@ -11,24 +11,24 @@ use Rattle.std.proofs.lemmas.Bool.{eqb-true, false≢true}
 use Rattle.std.proofs.lemmas.List.{length-map, map-append}
 use Rattle.std.proofs.lemmas.Option.{none-some, same_Some}
 use Rattle.std.proofs.lemmas.Slice.Eq.{bytes_eq-Decides}
-use Rattle.covline.specs.Points.{line_point, line_points}
-use Rattle.covline.specs.Row.{ItemData, LineItem, FuncItem, BranchItem, Row}
+use Rattle.covdata.specs.Points.{line_point, line_points}
+use Rattle.covdata.specs.Row.{ItemData, LineItem, FuncItem, BranchItem, Row}
 use Rattle.covstore.specs.declared.sums.LineSum.{LineSum}
 use Rattle.covstore.specs.Section.{IsIn}
-use Rattle.covstore.specs.Clash.{Agree, Checksum, checksum_of_row, checksums_in}
+use Rattle.covtable.specs.Clash.{Agree, Checksum, checksum_of_row, checksums_in}
 use Rattle.covstore.specs.PointIndexCounts.{is_above_at}
 use Rattle.covstore.specs.FileIndex.{FileIndexData}
 use Rattle.covmap.specs.Puts.{put, value_of}
 use Rattle.covstore.specs.State.{FileData, IsIndexOf, IsStateOf, IsConsistentFile, file_with, has_checksum, holders_at, holding, points_in, tests_in, text_in}
 use Rattle.covstore.specs.Items.{KeepsCounts}
 use Rattle.covstore.specs.Sums.{TestData, line_sum, test_of}
-use Rattle.covstore.specs.Value.{Key, checksum_said, first_of, items_at, key_of_row, has_key, line_checksum}
+use Rattle.covtable.specs.Value.{Key, checksum_said, first_of, items_at, key_of_row, has_key, line_checksum}
 use Rattle.covstore.proofs.AddsLists.{IsPlaceOf, place_of}
-use Rattle.covstore.proofs.ContentsChecksums.{line_checksum_held, line_of_said, own_row}
-use Rattle.covstore.proofs.ContentsLists.{In-filter, In-flat, In-unflat, any_from_in, in_from_any}
+use Rattle.covtable.proofs.ContentsChecksums.{line_checksum_held, line_of_said, own_row}
+use Rattle.covtable.proofs.ContentsLists.{In-filter, In-flat, In-unflat, any_from_in, in_from_any}
 use Rattle.covstore.proofs.CountsFound.{any_counted, some_value}
-use Rattle.covstore.proofs.Members.{In, Contains-from, All-in, In-map, In-unmap}
-use Rattle.covstore.proofs.Orders.{names_order}
+use Rattle.covtable.proofs.Members.{In, Contains-from, All-in, In-map, In-unmap}
+use Rattle.covtable.proofs.Orders.{names_order}
 use Rattle.covstore.proofs.Puts.{ArePairs-put, pair_in, value_of_pair}
 use Rattle.covstore.proofs.StateSections.{points_none, points_there}
 use Rattle.covstore.proofs.SumsMembers.{line_has_checksum, line_known}

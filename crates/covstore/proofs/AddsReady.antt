@@ -5,16 +5,17 @@ use Rattle.std.specs.Cmp.Lexicographic.{slice_cmp}
 use Rattle.std.specs.Ordering.{nat_cmp}
 use Rattle.std.specs.Prelude.{◌==◌}
 use Rattle.std.proofs.lemmas.Bool.{eqb-true}
-use Rattle.covline.specs.Row.{ItemData, Row}
-use Rattle.covstore.specs.declared.totals.Totals.{Totals}
-use Rattle.covstore.specs.TotalsExchanged.{FitTogether, IsAmong, IsExchange, exchanged}
+use Rattle.covdata.specs.Row.{ItemData, Row}
+use Rattle.covtable.specs.declared.totals.Totals.{Totals}
+use Rattle.covtable.specs.TotalsExchanged.{FitTogether, IsAmong, IsExchange, exchanged}
 use Rattle.covstore.specs.FileSection.{AddsItems, HasRoomIn}
-use Rattle.covstore.specs.Store.{AddsRows, AddsTo, ClashesAmong, HasRoomForRows, KeepsState, SameCommitted, StoreData, RefuseData, ClashRefuse, MemoryRefuse}
+use Rattle.covstore.specs.Store.{AddsRows, AddsTo, ClashesAmong, HasRoomForRows, KeepsState, SameCommitted, StoreData}
+use Rattle.covtable.specs.Refuse.{RefuseData, ClashRefuse, MemoryRefuse}
 use Rattle.covstore.specs.StoreView.{IsStore}
 use Rattle.covmap.specs.Puts.{put, value_of}
 use Rattle.covstore.specs.StoreSection.{HasRoomAmong, RefusedIn, rows_of_items}
 use Rattle.covstore.specs.State.{FileData, file_totals, totals_in}
-use Rattle.covstore.specs.Table.{all_rows}
+use Rattle.covtable.specs.Table.{all_rows}
 use Rattle.covstore.proofs.AddsSection.{room_in, section_adds, section_fits, section_totals}
 use Rattle.covstore.proofs.AddsStore.{no_rows_added}
 use Rattle.covstore.proofs.ExchangedFiles.{file_among}

@@ -3,7 +3,7 @@ use Rattle.std.proofs.Common.{List, ◌++◌, arith}
 use Rattle.std.specs.Cmp.Lexicographic.{slice_cmp}
 use Rattle.std.specs.Ordering.{nat_cmp}
 use Rattle.std.proofs.lemmas.List.{length-append, length-map}
-use Rattle.covline.specs.Row.{ItemData, Row, rows_of_sect}
+use Rattle.covdata.specs.Row.{ItemData, Row, rows_of_sect}
 use Rattle.covstore.specs.State.{file_with}
 use Rattle.covstore.specs.Section.{Adds, HasRoomFor, files_with, section_of_items}
 use Rattle.covstore.specs.FileIndex.{FileIndexData}
@@ -13,7 +13,7 @@ use Rattle.covstore.specs.Sums.{TestData}
 use Rattle.covstore.proofs.AddsFew.{kept_few}
 use Rattle.covstore.proofs.AddsLists.{length-put_there}
 use Rattle.covstore.proofs.AddsPlace.{as_many, its_back, its_front, its_kept, its_whole}
-use Rattle.covstore.proofs.Orders.{names_order}
+use Rattle.covtable.proofs.Orders.{names_order}
 
 pub has_room : (items : List ItemData) (test : TestData) (index : FileIndexData) → HasRoomFor items test index → HasRoom test index
 has_room items test index room =

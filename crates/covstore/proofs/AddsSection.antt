@@ -3,11 +3,11 @@ use Rattle.std.proofs.Common.{◌≡◌, ℕ, ◌≤◌, ◌^◌, ◌+◌, Some,
 use Rattle.std.specs.Cmp.Lexicographic.{slice_cmp}
 use Rattle.std.specs.Ordering.{nat_cmp}
 use Rattle.std.proofs.lemmas.List.{length-append, length-map}
-use Rattle.covline.specs.Row.{ItemData, Row, rows_of_sect}
-use Rattle.covstore.specs.declared.totals.Totals.{Totals}
+use Rattle.covdata.specs.Row.{ItemData, Row, rows_of_sect}
+use Rattle.covtable.specs.declared.totals.Totals.{Totals}
 use Rattle.covstore.specs.Section.{section_of_items}
-use Rattle.covstore.specs.Clash.{Agree, checksums_in}
-use Rattle.covstore.specs.TotalsExchanged.{FitTogether, exchanged}
+use Rattle.covtable.specs.Clash.{Agree, checksums_in}
+use Rattle.covtable.specs.TotalsExchanged.{FitTogether, exchanged}
 use Rattle.covstore.specs.FileSection.{AddsItems, HasFile, HasRoomIn}
 use Rattle.covstore.specs.Store.{AddsTo}
 use Rattle.covmap.specs.Puts.{put, value_of}

@@ -17,7 +17,7 @@ use Rattle.covstore.specs.declared.test.Test.{Test}
 use Rattle.covstore.specs.StoreView.{AreSettledBut, IsSettledBut, tests_of}
 use Rattle.covstore.specs.FileIndexView.{index_staged, index_committed}
 use Rattle.covstore.specs.TestView.{test_staged, test_committed}
-use Rattle.covstore.proofs.Orders.{names_order}
+use Rattle.covtable.proofs.Orders.{names_order}
 use Rattle.covstore.proofs.StoreKept.{All-inserted}
 
 -- if all entries satisfy `P`, they still do after a value is replaced by one that satisfies it

@@ -5,7 +5,7 @@ use Rattle.std.specs.Prelude.{◌==◌}
 use Rattle.std.proofs.lemmas.Bool.{both_ways}
 use Rattle.std.proofs.lemmas.List.{length-append, length-map, nil_from_length}
 use Rattle.std.proofs.lemmas.List.Concat.{flat_map-append}
-use Rattle.covline.specs.Row.{ItemData, Row, SectData, rows_of_sect}
+use Rattle.covdata.specs.Row.{ItemData, Row, SectData, rows_of_sect}
 
 -- a section has a row if its list of items isn't empty
 pub some_rows : {X : Type 0} (f : X → ItemData) (items : List X) (sect : SectData) (none : Bool) → map f items ≡ sect.items → none ≡ (length items == 0) → none ≡ false → rows_of_sect sect ≢ []

@@ -3,9 +3,10 @@ use Rattle.std.proofs.Common.{◌≡◌, None, List, [], ◌∷◌, ◌++◌, re
 use Rattle.std.specs.List.{flat_map}
 use Rattle.std.proofs.lemmas.List.{append-nil, length-append}
 use Rattle.std.proofs.lemmas.List.Concat.{flat_map-append}
-use Rattle.covline.specs.Row.{Row, SectData, rows_of_sect}
-use Rattle.covstore.specs.Clash.{Agree, Checksum, checksum_of_row, checksums_in, clash_of, first_clash}
-use Rattle.covstore.specs.Store.{AddsRows, ClashesWith, HasRoomForRows, SameCommitted, StoreData, RefuseData, ClashRefuse, MemoryRefuse}
+use Rattle.covdata.specs.Row.{Row, SectData, rows_of_sect}
+use Rattle.covtable.specs.Clash.{Agree, Checksum, checksum_of_row, checksums_in, clash_of, first_clash}
+use Rattle.covstore.specs.Store.{AddsRows, ClashesWith, HasRoomForRows, SameCommitted, StoreData}
+use Rattle.covtable.specs.Refuse.{RefuseData, ClashRefuse, MemoryRefuse}
 use Rattle.covstore.specs.State.{IsStateOf}
 use Rattle.covstore.proofs.AddsLists.{clash_before, clash_after}
 

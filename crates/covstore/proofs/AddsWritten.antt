@@ -6,13 +6,14 @@ use Rattle.std.specs.Cmp.Lexicographic.{slice_cmp}
 use Rattle.std.specs.List.Sorted.{IsStrictlySortedBy}
 use Rattle.std.specs.Map.{keys_of, lookup, set_value}
 use Rattle.std.specs.Ordering.{nat_cmp}
-use Rattle.covline.specs.Row.{ItemData}
+use Rattle.covdata.specs.Row.{ItemData}
 use Rattle.covstore.specs.declared.file.File.{File}
-use Rattle.covstore.specs.declared.totals.Totals.{Totals}
-use Rattle.covstore.specs.TotalsExchanged.{IsExchange}
+use Rattle.covtable.specs.declared.totals.Totals.{Totals}
+use Rattle.covtable.specs.TotalsExchanged.{IsExchange}
 use Rattle.covstore.specs.FileSection.{AddsItems, HasRoomIn, KeepsIn}
 use Rattle.covstore.specs.FileView.{file_staged, file_committed, no_file}
-use Rattle.covstore.specs.Store.{AddsTo, ClashesAmong, KeepsState, RefuseData}
+use Rattle.covstore.specs.Store.{AddsTo, ClashesAmong, KeepsState}
+use Rattle.covtable.specs.Refuse.{RefuseData}
 use Rattle.covstore.specs.StoreView.{files_staged, files_committed}
 use Rattle.covmap.specs.Puts.{ArePairs, put, value_of}
 use Rattle.covstore.specs.StoreSection.{HasRoomAmong, RefusedIn, rows_of_items}
@@ -23,7 +24,7 @@ use Rattle.covstore.proofs.AddsReady.{file_room, refused, rows_added, totals_exc
 use Rattle.covstore.proofs.Keeps.{no_file_keeps}
 use Rattle.covstore.proofs.KeepsMore.{keeps_then}
 use Rattle.covstore.proofs.MapKeys.{seen, seen_ascend, seen_insert, seen_value}
-use Rattle.covstore.proofs.Orders.{names_order}
+use Rattle.covtable.proofs.Orders.{names_order}
 use Rattle.covstore.proofs.Puts.{ArePairs-put, value_of-put}
 use Rattle.covstore.proofs.Settled.{file_name}
 

@@ -4,19 +4,19 @@ use Rattle.std.specs.Prelude.{Contains}
 use Rattle.std.specs.Cmp.Lexicographic.{slice_cmp}
 use Rattle.std.specs.Ordering.{nat_cmp}
 use Rattle.std.proofs.lemmas.List.Concat.{flat_map-append}
-use Rattle.covline.specs.Row.{ItemData, Row}
+use Rattle.covdata.specs.Row.{ItemData, Row}
 use Rattle.covstore.specs.State.{file_with}
 use Rattle.covstore.specs.Section.{Adds, HasRoomFor}
-use Rattle.covstore.specs.Clash.{Agree, Checksum, checksum_of_row, checksums_in}
+use Rattle.covtable.specs.Clash.{Agree, Checksum, checksum_of_row, checksums_in}
 use Rattle.covstore.specs.FileSection.{HasFile}
 use Rattle.covstore.specs.FileIndex.{FileIndexData}
 use Rattle.covmap.specs.Puts.{put, value_of}
 use Rattle.covstore.specs.Renaming.{CopiesIn, HasHolders, HasRoomToCopyIn, copied_rows, items_of_test, key_of}
 use Rattle.covstore.specs.StoreSection.{rows_of_items}
 use Rattle.covstore.specs.Sums.{TestData}
-use Rattle.covstore.specs.Value.{items_at}
+use Rattle.covtable.specs.Value.{items_at}
 use Rattle.covstore.proofs.AddsFile.{adds_in, room_for}
-use Rattle.covstore.proofs.Members.{Contains-from, In, In-from, In-parts}
+use Rattle.covtable.proofs.Members.{Contains-from, In, In-from, In-parts}
 use Rattle.covstore.proofs.RenamedValues.{few_values, values_of}
 use Rattle.covstore.proofs.RenamedValuesState.{checksums_copied, copied_state, holders_are, values_are}
 

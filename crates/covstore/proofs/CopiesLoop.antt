@@ -5,7 +5,7 @@ use Rattle.std.specs.Option.{is_some}
 use Rattle.std.specs.Ordering.{nat_cmp}
 use Rattle.std.proofs.lemmas.Bool.{false≢true}
 use Rattle.std.proofs.lemmas.List.{append-nil, length-append, length-map, map-append}
-use Rattle.covline.specs.Row.{ItemData, LineItem, Row, rows_of_sect}
+use Rattle.covdata.specs.Row.{ItemData, LineItem, Row, rows_of_sect}
 use Rattle.covstore.specs.declared.index.FileIndex.{FileIndex}
 use Rattle.covstore.specs.declared.sums.LineSum.{LineSum}
 use Rattle.covstore.specs.declared.test.Test.{Test}
@@ -23,7 +23,7 @@ use Rattle.covstore.proofs.AddsLists.{length-put_there}
 use Rattle.covstore.proofs.AddsLoop.{HasTaken, next_has_room, none_taken, one_taken}
 use Rattle.covstore.proofs.AddsPlace.{its_whole}
 use Rattle.covstore.proofs.Assigned.{any_key}
-use Rattle.covstore.proofs.Orders.{lines_order, names_order}
+use Rattle.covtable.proofs.Orders.{lines_order, names_order}
 use Rattle.covstore.proofs.Puts.{value_of_before, value_of_first, value_of_later}
 
 -- ---- room for items, and then for others

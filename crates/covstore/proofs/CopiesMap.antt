@@ -10,7 +10,7 @@ use Rattle.covstore.specs.Sums.{TestData}
 use Rattle.covstore.proofs.AddsFile.{no_test, test_value, test_written}
 use Rattle.covstore.proofs.AddsLists.{put_there, put_twice}
 use Rattle.covstore.proofs.MapKeys.{seen, seen_ascend}
-use Rattle.covstore.proofs.Orders.{names_order}
+use Rattle.covtable.proofs.Orders.{names_order}
 use Rattle.covstore.proofs.Puts.{value_of-put, value_of-put_other}
 
 module _ {K V : Type 0} (name : K → List ℕ) (f : V → TestData) (new : List ℕ) (pairs mid : List (K × V)) (target empty : V)

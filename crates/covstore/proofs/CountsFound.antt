@@ -12,15 +12,15 @@ use Rattle.std.proofs.lemmas.List.{length-map}
 use Rattle.std.proofs.lemmas.List.Sums.{sum_by-cons}
 use Rattle.std.proofs.lemmas.Option.{cond_some}
 use Rattle.covstore.specs.declared.sums.TestCounts.{TestCounts}
-use Rattle.covstore.specs.Ascending.{ascending}
+use Rattle.covtable.specs.Ascending.{ascending}
 use Rattle.covstore.specs.PointIndexCounts.{AreCounts, count_above, count_with, found_of, hit_of, is_above_at}
 use Rattle.covmap.specs.Puts.{ArePairs, value_of}
-use Rattle.covstore.proofs.Ascend.{IsExactOrder, In-ascending, In-to_ascending, ascending_sorted, one_sorted}
+use Rattle.covtable.proofs.Ascend.{IsExactOrder, In-ascending, In-to_ascending, ascending_sorted, one_sorted}
 use Rattle.covstore.proofs.CountsMapped.{count_by-map}
-use Rattle.covstore.proofs.Members.{In, In-map, In-unmap}
+use Rattle.covtable.proofs.Members.{In, In-map, In-unmap}
 use Rattle.covstore.proofs.Puts.{pair_in, some_in, value_of_before, value_of_pair}
-use Rattle.covstore.proofs.ContentsLists.{In-flat, In-unflat, any_from_in, in_from_any}
-use Rattle.covstore.proofs.TotalsRows.{any_agree, sum_above}
+use Rattle.covtable.proofs.ContentsLists.{In-flat, In-unflat, any_from_in, in_from_any}
+use Rattle.covtable.proofs.TotalsRows.{any_agree, sum_above}
 
 -- ---- a count is above 0 exactly if the condition is true of some element
 

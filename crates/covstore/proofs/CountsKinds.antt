@@ -11,21 +11,21 @@ use Rattle.std.proofs.lemmas.Bool.{eqb-true, eq-eqb}
 use Rattle.std.proofs.lemmas.Cmp.{tied_itself}
 use Rattle.std.proofs.lemmas.Map.Views.{tells_apart}
 use Rattle.std.proofs.lemmas.Slice.Eq.{bytes_eq-Decides}
-use Rattle.covline.specs.Points.{branch_points, func_points, line_points}
-use Rattle.covline.specs.Row.{ItemData, Row}
-use Rattle.covstore.specs.Ascending.{ascending}
-use Rattle.covstore.specs.Content.{BranchValueData, FunctionValueData, LineValueData, SectionData, branch_at, content_of, function_at, line_at, section_of, section_with}
+use Rattle.covdata.specs.Points.{branch_points, func_points, line_points}
+use Rattle.covdata.specs.Row.{ItemData, Row}
+use Rattle.covtable.specs.Ascending.{ascending}
+use Rattle.covtable.specs.Content.{BranchValueData, FunctionValueData, LineValueData, SectionData, branch_at, content_of, function_at, line_at, section_of, section_with}
 use Rattle.covstore.specs.PointIndexCounts.{AreCounts, found_of, hit_of}
 use Rattle.covmap.specs.Puts.{ArePairs}
-use Rattle.covstore.specs.Totals.{own_sections}
-use Rattle.covstore.specs.Value.{Key, branch_cmp, branches_in, is_branch, is_taken, items_at, keys_of, lines_in, names_in}
+use Rattle.covtable.specs.Totals.{own_sections}
+use Rattle.covtable.specs.Value.{Key, branch_cmp, branches_in, is_branch, is_taken, items_at, keys_of, lines_in, names_in}
 use Rattle.covstore.specs.Kinds.{Branch, CountsOf, Function, KeyOf, Kind, Line, cmp_of}
-use Rattle.covstore.proofs.Ascend.{IsExactOrder, ascending_sorted}
+use Rattle.covtable.proofs.Ascend.{IsExactOrder, ascending_sorted}
 use Rattle.covstore.proofs.CountsFound.{section_points_found, section_points_hit}
-use Rattle.covstore.proofs.Orders.{branches_order, lines_order, names_order}
-use Rattle.covstore.proofs.TotalsKinds.{itself, same_branch}
+use Rattle.covtable.proofs.Orders.{branches_order, lines_order, names_order}
+use Rattle.covtable.proofs.TotalsKinds.{itself, same_branch}
 use Rattle.covstore.proofs.EachKind.{order_of}
-use Rattle.covstore.proofs.ContentsLists.{same_truth}
+use Rattle.covtable.proofs.ContentsLists.{same_truth}
 
 -- ---- what sections show of a kind
 

@@ -11,7 +11,7 @@ use Rattle.covstore.specs.StoreView.{AreSettledBut, IsSettledBut, files_committe
 use Rattle.covstore.specs.FileIndexView.{index_staged, index_committed}
 use Rattle.covstore.specs.TestView.{test_staged, test_committed}
 use Rattle.covstore.proofs.DropsRetain.{AreWritten}
-use Rattle.covstore.proofs.Members.{All-in, In-joined}
+use Rattle.covtable.proofs.Members.{All-in, In-joined}
 
 -- what is committed of the second file is that of the first one without the test. Where nothing was staged in the first file,
 -- nothing is staged in the second

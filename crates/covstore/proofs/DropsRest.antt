@@ -18,9 +18,9 @@ use Rattle.covstore.specs.FileIndex.{FileIndexData}
 use Rattle.covmap.specs.Puts.{ArePairs, value_of}
 use Rattle.covstore.specs.State.{FileData, IsIndexOf, IsConsistentFile, file_with, has_checksum, holders_at, holding}
 use Rattle.covstore.specs.Sums.{TestData}
-use Rattle.covstore.proofs.Ascend.{IsExactOrder}
+use Rattle.covtable.proofs.Ascend.{IsExactOrder}
 use Rattle.covstore.proofs.DropsKept.{index_first, points_of_all, without_found, without_unfound}
-use Rattle.covstore.proofs.Orders.{lines_order}
+use Rattle.covtable.proofs.Orders.{lines_order}
 use Rattle.covstore.proofs.Puts.{value_of_first, value_of_later}
 use Rattle.covstore.proofs.EachKind.{of_all, order_of}
 

@@ -2,8 +2,8 @@
 use Rattle.std.proofs.Common.{◌≡◌, ℕ, ◌+◌, ◌<◌, ◌^◌, Bool, cond, List, [], ◌∷◌, length, sym, ◌∙◌, arith}
 use Rattle.std.specs.List.{count_by}
 use Rattle.std.proofs.lemmas.List.Sums.{count_by-le-length, sum_by-cons}
-use Rattle.covstore.specs.declared.totals.Totals.{Totals}
-use Rattle.covstore.specs.TotalsExchanged.{FitTogether, FitTotals, no_totals, together}
+use Rattle.covtable.specs.declared.totals.Totals.{Totals}
+use Rattle.covtable.specs.TotalsExchanged.{FitTogether, FitTotals, no_totals, together}
 use Rattle.covstore.specs.State.{FileData, file_totals, has_points_of, totals_in}
 use Rattle.covstore.proofs.DropsLoop.{no_totals_after, no_totals_more, part_fits, totals_taken}
 

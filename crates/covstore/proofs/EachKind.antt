@@ -10,8 +10,8 @@ use Rattle.covstore.specs.Sums.{TestData}
 use Rattle.covstore.specs.declared.point_index.KindTally.{KindTally}
 use Rattle.covstore.specs.PointIndex.{IsTallyOf}
 use Rattle.covstore.specs.PointIndexDrops.{totals_by}
-use Rattle.covstore.proofs.Ascend.{IsExactOrder}
-use Rattle.covstore.proofs.Orders.{branches_order, lines_order, names_order}
+use Rattle.covtable.proofs.Ascend.{IsExactOrder}
+use Rattle.covtable.proofs.Orders.{branches_order, lines_order, names_order}
 use Rattle.std.specs.List.{sum_by}
 
 -- ---- by cases, for each kind. Other files state and prove things of any kind at once

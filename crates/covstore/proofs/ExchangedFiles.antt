@@ -6,24 +6,24 @@ use Rattle.std.specs.Ordering.{nat_cmp}
 use Rattle.std.proofs.lemmas.List.{length-map}
 use Rattle.std.proofs.lemmas.List.Sums.{sum_by-cons}
 use Rattle.std.proofs.lemmas.Map.Made.{distinct_count-le}
-use Rattle.covline.specs.Row.{ItemData, Row}
-use Rattle.covstore.specs.declared.totals.Totals.{Totals}
-use Rattle.covstore.specs.Content.{content_of}
-use Rattle.covstore.specs.Counted.{Kind, branches, found, functions, in_file, is_same, lines, points_of}
-use Rattle.covstore.specs.TotalsExchanged.{FitTogether, IsAmong, exchanged}
+use Rattle.covdata.specs.Row.{ItemData, Row}
+use Rattle.covtable.specs.declared.totals.Totals.{Totals}
+use Rattle.covtable.specs.Content.{content_of}
+use Rattle.covtable.specs.Counted.{Kind, branches, found, functions, in_file, is_same, lines, points_of}
+use Rattle.covtable.specs.TotalsExchanged.{FitTogether, IsAmong, exchanged}
 use Rattle.covmap.specs.Puts.{ArePairs, put, value_of}
 use Rattle.covstore.specs.State.{FileData, IsStateOf, file_totals, found_at, hit_at, totals_in}
-use Rattle.covstore.specs.Totals.{totals_of}
+use Rattle.covtable.specs.Totals.{totals_of}
 use Rattle.covstore.specs.Kinds.{Branch, Function, Line}
 use Rattle.covstore.proofs.AddsPlace.{state_agrees}
-use Rattle.covstore.proofs.Few.{few_parts, one_branch, one_function, one_line}
-use Rattle.covstore.proofs.Members.{In}
-use Rattle.covstore.proofs.Orders.{names_order}
+use Rattle.covtable.proofs.Few.{few_parts, one_branch, one_function, one_line}
+use Rattle.covtable.proofs.Members.{In}
+use Rattle.covtable.proofs.Orders.{names_order}
 use Rattle.covstore.proofs.Puts.{at_before, pair_in, sum_by-put}
 use Rattle.covstore.proofs.StateSections.{sections_are}
 use Rattle.covstore.proofs.StateTotals.{totals_are}
-use Rattle.covstore.proofs.TotalsDifferent.{are_totals, branches_counted, functions_counted, lines_counted}
-use Rattle.covstore.proofs.TotalsKinds.{same_totals}
+use Rattle.covtable.proofs.TotalsDifferent.{are_totals, branches_counted, functions_counted, lines_counted}
+use Rattle.covtable.proofs.TotalsKinds.{same_totals}
 
 -- ---- a file's totals are part of all totals
 

@@ -7,7 +7,7 @@ use Rattle.covstore.specs.declared.sums.TestCounts.{TestCounts}
 use Rattle.covstore.specs.PointIndexCounts.{AreCounts, count_above, count_with, one_if, tests_at}
 use Rattle.covstore.specs.PointIndexDrops.{CanLose, counts_without, fewer_of, fewer_tests}
 use Rattle.covmap.specs.Puts.{ArePairs, value_of}
-use Rattle.covstore.proofs.Ascend.{IsExactOrder}
+use Rattle.covtable.proofs.Ascend.{IsExactOrder}
 use Rattle.covstore.proofs.Assigned.{ArePairs-assigned, any_key, apart_assigned, own_assigned}
 use Rattle.covstore.proofs.Counts.{above_le_with, same_tests, tests_among, tests_at-between, test_counts_of}
 use Rattle.covstore.proofs.Puts.{same_pairs, value_of_before, value_of_first, value_of_later}

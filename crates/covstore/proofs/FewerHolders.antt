@@ -12,7 +12,7 @@ use Rattle.covstore.specs.State.{has_checksum, holders_at, holding}
 use Rattle.covstore.specs.Sums.{TestData}
 use Rattle.covstore.proofs.Assigned.{any_key, apart_assigned, own_assigned}
 use Rattle.covstore.proofs.Counts.{count_by-between}
-use Rattle.covstore.proofs.Orders.{lines_order}
+use Rattle.covtable.proofs.Orders.{lines_order}
 use Rattle.covstore.proofs.Puts.{value_of_before, value_of_first, value_of_later}
 use Rattle.covstore.proofs.StepsKept.{is_holding}
 

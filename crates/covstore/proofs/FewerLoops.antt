@@ -8,7 +8,7 @@ use Rattle.covstore.specs.PointIndex.{IsTallyOf}
 use Rattle.covstore.specs.PointIndexCounts.{AreCounts}
 use Rattle.covstore.specs.PointIndexDrops.{AreWith, CanLose, IsTallyAt, IsTallyWithout, LosesTest, counts_without}
 use Rattle.covmap.specs.Puts.{ArePairs, value_of}
-use Rattle.covstore.proofs.Ascend.{IsExactOrder}
+use Rattle.covtable.proofs.Ascend.{IsExactOrder}
 use Rattle.covstore.proofs.Assigned.{any_key}
 use Rattle.covstore.proofs.Counts.{counts_unempty}
 use Rattle.covstore.proofs.Fewer.{can_lose, counts_fewer, one_rest, same_numbers}

@@ -10,7 +10,7 @@ use Rattle.covstore.specs.PointIndex.{IsTallyOf}
 use Rattle.covstore.specs.PointIndexCounts.{found_of, hit_of, one_if}
 use Rattle.covstore.specs.PointIndexDrops.{CanBeLess, IsLess, IsTallyAt, counts_without, fewer_of, fewer_tests, is_hit}
 use Rattle.covmap.specs.Puts.{ArePairs, value_of}
-use Rattle.covstore.proofs.Ascend.{IsExactOrder}
+use Rattle.covtable.proofs.Ascend.{IsExactOrder}
 use Rattle.covstore.proofs.Assigned.{sum_assigned}
 use Rattle.covstore.proofs.Puts.{at_before, counted_one}
 use Rattle.covstore.proofs.TotalsCounts.{one_each}

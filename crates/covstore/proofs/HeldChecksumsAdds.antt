@@ -8,11 +8,11 @@ use Rattle.std.specs.Ordering.{is_eq, nat_cmp}
 use Rattle.std.proofs.lemmas.Bool.{false≢true}
 use Rattle.std.proofs.lemmas.Cmp.{tied_itself}
 use Rattle.std.proofs.lemmas.List.Concat.{flat_map-append}
-use Rattle.covline.specs.Row.{ItemData, LineItem, FuncItem, BranchItem, Row, rows_of_sect}
+use Rattle.covdata.specs.Row.{ItemData, LineItem, FuncItem, BranchItem, Row, rows_of_sect}
 use Rattle.covmap.specs.Puts.{put, value_of}
 use Rattle.covstore.specs.declared.stage.fault.StageFault.{StageFault}
 use Rattle.covstore.specs.declared.stage.fault.StageFault.TheVariants.{Clash, Memory}
-use Rattle.covstore.specs.Clash.{Agree, Checksum, checksum_of_row, checksums_in, clash_of}
+use Rattle.covtable.specs.Clash.{Agree, Checksum, checksum_of_row, checksums_in, clash_of}
 use Rattle.covstore.specs.FileIndex.{FileIndexData}
 use Rattle.covstore.specs.Items.{HasRoomForRun, IsClashAt, IsClashOf, IsOtherText, KeepsCounts}
 use Rattle.covstore.specs.PointIndexCounts.{AreCounts}
@@ -30,11 +30,11 @@ use Rattle.covstore.proofs.AddsItem.{items_add, texts_after}
 use Rattle.covstore.proofs.AddsMore.{checksums_joined, two_checksums}
 use Rattle.covstore.proofs.AddsPlace.{agree_by_text, held_text}
 use Rattle.covstore.proofs.Assigned.{any_key}
-use Rattle.covstore.proofs.Clashes.{told_first}
-use Rattle.covstore.proofs.ContentsChecksums.{line_of_said}
-use Rattle.covstore.proofs.ContentsLists.{In-unflat}
-use Rattle.covstore.proofs.Members.{Contains-from, In, In-from, In-joined, In-parts, In-unmap}
-use Rattle.covstore.proofs.Orders.{names_order}
+use Rattle.covtable.proofs.Clashes.{told_first}
+use Rattle.covtable.proofs.ContentsChecksums.{line_of_said}
+use Rattle.covtable.proofs.ContentsLists.{In-unflat}
+use Rattle.covtable.proofs.Members.{Contains-from, In, In-from, In-joined, In-parts, In-unmap}
+use Rattle.covtable.proofs.Orders.{names_order}
 use Rattle.covstore.proofs.Puts.{value_of-put, value_of-put_apart}
 use Rattle.covstore.proofs.RunsAdds.{room_of_runs, texts_kept}
 use Rattle.covstore.proofs.RunsKept.{counts_between}

@@ -8,7 +8,7 @@ use Rattle.covstore.specs.Store.{KeepsState}
 use Rattle.covmap.specs.Puts.{ArePairs, put, value_of}
 use Rattle.covstore.specs.Kinds.{Kind}
 use Rattle.covstore.specs.State.{FileData, found_at, hit_at}
-use Rattle.covstore.proofs.Orders.{names_order}
+use Rattle.covtable.proofs.Orders.{names_order}
 use Rattle.covstore.proofs.Puts.{at_before, sum_by-put}
 use Rattle.covstore.proofs.StateMore.{file_more}
 use Rattle.covstore.proofs.EachKind.{each_kind, totals_same}

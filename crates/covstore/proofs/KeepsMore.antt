@@ -7,10 +7,10 @@ use Rattle.std.specs.List.{sum_by}
 use Rattle.std.specs.Option.{is_some}
 use Rattle.std.specs.Ordering.{nat_cmp}
 use Rattle.std.proofs.lemmas.Bool.{cases_Bool, cond-false, cond-true, false≢true}
-use Rattle.covline.specs.Row.{Row}
+use Rattle.covdata.specs.Row.{Row}
 use Rattle.covstore.specs.Kinds.{CountsOf, Each, Kind, above_of, at, cmp_of}
 use Rattle.covstore.specs.Section.{IsIn}
-use Rattle.covstore.specs.Clash.{checksums_in}
+use Rattle.covtable.specs.Clash.{checksums_in}
 use Rattle.covstore.specs.PointIndexCounts.{AreCounts, found_of, hit_of}
 use Rattle.covstore.specs.FileSection.{KeepsIn}
 use Rattle.covstore.specs.FileView.{KeepsFile, tests_with, with_test}
@@ -20,8 +20,8 @@ use Rattle.covstore.specs.State.{FileData, IsIndexOf, IsStateOf, IsConsistentFil
 use Rattle.covstore.specs.Sums.{TestData, test_of}
 use Rattle.covstore.proofs.AddsLists.{put_there, put_twice}
 use Rattle.covstore.proofs.AddsPlace.{checksum_held, state_agrees, text_kept}
-use Rattle.covstore.proofs.Members.{In-from}
-use Rattle.covstore.proofs.Orders.{names_order}
+use Rattle.covtable.proofs.Members.{In-from}
+use Rattle.covtable.proofs.Orders.{names_order}
 use Rattle.covstore.proofs.Puts.{ArePairs-put, at_before, sum_by-put, value_of-put}
 use Rattle.covstore.proofs.StateMore.{test_more}
 use Rattle.covstore.proofs.StateRows.{file_whole, state_changed}

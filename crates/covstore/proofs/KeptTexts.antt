@@ -13,9 +13,9 @@ use Rattle.std.proofs.lemmas.Map.Views.{tells_apart}
 use Rattle.covmap.specs.MapData.{MapData}
 use Rattle.covmap.specs.Puts.{ArePairs, put, value_of}
 use Rattle.covstore.specs.KeptTexts.{AreApart, AreBelow, AreCommitted, ArePlaced, StayAt, StillHave, kept_texts, texts_at}
-use Rattle.covstore.proofs.Ascend.{All-weaker}
-use Rattle.covstore.proofs.Members.{All-in}
-use Rattle.covstore.proofs.Orders.{lines_order}
+use Rattle.covtable.proofs.Ascend.{All-weaker}
+use Rattle.covtable.proofs.Members.{All-in}
+use Rattle.covtable.proofs.Orders.{lines_order}
 use Rattle.covstore.proofs.Puts.{All-put, ArePairs-put, pair_in, same_pairs, value_of-put_any, value_of-put_other}
 
 -- the text at an index

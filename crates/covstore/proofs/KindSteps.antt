@@ -12,7 +12,7 @@ use Rattle.covstore.specs.KindData.{KindData}
 use Rattle.covstore.specs.KindIndex.{kind_data}
 use Rattle.covstore.specs.PointIndexDrops.{IsTallyWithout, LosesTest}
 use Rattle.covstore.specs.SoleTest.{counts_of}
-use Rattle.covstore.proofs.Ascend.{IsExactOrder}
+use Rattle.covtable.proofs.Ascend.{IsExactOrder}
 use Rattle.covstore.proofs.SoleCounts.{sole_loses, sole_tally}
 
 -- the index follows the test with these points

@@ -1,16 +1,6 @@
 pub mod Nothing
 pub mod Parted
-pub mod Members
-pub mod Ascend
-pub mod Orders
-pub mod Bounds
-pub mod Few
-pub mod TotalsFiles
 pub mod TotalsCounts
-pub mod TotalsRows
-pub mod TotalsKinds
-pub mod TotalsDifferent
-pub mod Clashes
 pub mod Puts
 pub mod KeptTexts
 pub mod Counts
@@ -22,12 +12,6 @@ pub mod KindSteps
 pub mod CountsMapped
 pub mod CountsFound
 pub mod CountsKinds
-pub mod ContentsLists
-pub mod ContentsKinds
-pub mod ContentsPoints
-pub mod ContentsSections
-pub mod ContentsChecksums
-pub mod Contents
 pub mod SumsKinds
 pub mod SumsLast
 pub mod SumsLines
@@ -96,14 +80,11 @@ pub mod Settled
 pub mod FollowsSettled
 pub mod HasTest
 pub mod PathOrder
-pub mod Alike
-pub mod AlikeContents
 pub mod DropsRetain
 pub mod DropsMaps
 pub mod DropsTests
 mod DropsTotals
 pub mod DropsKept
-pub mod WithoutContent
 pub mod WithoutState
 pub mod DropsRest
 pub mod WithoutSections
@@ -114,7 +95,6 @@ pub mod RenamedAlike
 pub mod RenamedValuesLists
 pub mod RenamedValues
 pub mod RenamedValuesState
-pub mod RenamedTables
 pub mod RenamedTablesState
 pub mod RenamedTablesCopies
 pub mod RenamedTablesFew

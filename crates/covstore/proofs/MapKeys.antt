@@ -10,7 +10,7 @@ use Rattle.std.specs.Option.{is_some}
 use Rattle.std.specs.Ordering.{is_eq, match_ordering, ordering_reverse}
 use Rattle.std.proofs.lemmas.Bool.{false≢true}
 use Rattle.covmap.specs.Puts.{value_of, put, ArePairs}
-use Rattle.covstore.proofs.Ascend.{IsExactOrder, All-weaker}
+use Rattle.covtable.proofs.Ascend.{IsExactOrder, All-weaker}
 use Rattle.covstore.proofs.Puts.{value_of_before}
 
 reverse_eq : (order : Ordering) → is_eq (ordering_reverse order) ≡ is_eq order

@@ -15,7 +15,7 @@ use Rattle.std.proofs.lemmas.Map.Views.{tells_apart}
 use Rattle.std.proofs.lemmas.Option.{same_Some}
 use Rattle.std.proofs.lemmas.Slice.Eq.{bytes_eq-Decides}
 use Rattle.covmap.specs.Puts.{value_of}
-use Rattle.covstore.proofs.Orders.{names_order}
+use Rattle.covtable.proofs.Orders.{names_order}
 
 -- `bytes_eq` is false of different names
 pub bytes_apart : (a b : List ℕ) → (a ≡ b → ⊥) → bytes_eq a b ≡ false

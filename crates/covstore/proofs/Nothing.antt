@@ -2,12 +2,12 @@
 use Rattle.std.proofs.Common.{◌≡◌, ◌≢◌, ℕ, ◌==◌, Bool, true, false, List, [], ◌∷◌, ◌++◌, length, Result, Ok, Err, ap, sym, subst, ◌∙◌, arith}
 use Rattle.std.specs.Prelude.{IfOk, None}
 use Rattle.std.proofs.lemmas.List.{nil_from_length}
-use Rattle.covline.specs.Lawful.{IsLawful}
-use Rattle.covline.specs.Row.{Row, SubmissionData, items_in, rows_of}
-use Rattle.covstore.specs.Clash.{clash_of}
+use Rattle.covdata.specs.Lawful.{IsLawful}
+use Rattle.covdata.specs.Row.{Row, SubmissionData, items_in, rows_of}
+use Rattle.covtable.specs.Clash.{clash_of}
 use Rattle.covstore.specs.Store.{AddsTo, IsPlanOf, StoreData}
-use Rattle.covstore.specs.Table.{Table, all_rows}
-use Rattle.covstore.proofs.Bounds.{length-rows_of_sects}
+use Rattle.covtable.specs.Table.{Table, all_rows}
+use Rattle.covtable.proofs.Bounds.{length-rows_of_sects}
 
 -- without items there are no rows
 pub no_rows : (s : SubmissionData) → items_in s.sects ≡ 0 → [] ≡ rows_of s

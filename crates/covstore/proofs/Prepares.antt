@@ -2,23 +2,25 @@
 use Rattle.std.proofs.Common.{◌≡◌, ◌+◌, ◌*◌, ◌<◌, ◌≤◌, ◌^◌, None, [], ◌∷◌, ◌++◌, length, sym, ap, ◌∙◌, subst, arith}
 use Rattle.std.specs.List.{AllByRecursion}
 use Rattle.std.proofs.lemmas.List.{length-append}
-use Rattle.covline.specs.Row.{SubmissionData, rows_of}
-use Rattle.covline.specs.Lawful.{IsLawful, max_items}
-use Rattle.covstore.specs.declared.totals.Totals.{Totals}
-use Rattle.covstore.specs.Clash.{Agree, checksums_in, clash_of}
-use Rattle.covstore.specs.Content.{content_at, content_of}
-use Rattle.covstore.specs.Store.{AddsRows, ClashesWith, HasRoomForRows, IsPlanOf, PlanData, SameCommitted, StandsFor, StoreData, IsRefusedAt, RefuseData, ClashRefuse, MemoryRefuse, max_members}
+use Rattle.covdata.specs.Row.{SubmissionData, rows_of}
+use Rattle.covdata.specs.Lawful.{IsLawful, max_items}
+use Rattle.covtable.specs.declared.totals.Totals.{Totals}
+use Rattle.covtable.specs.Clash.{Agree, checksums_in, clash_of}
+use Rattle.covtable.specs.Content.{content_at, content_of}
+use Rattle.covstore.specs.Store.{AddsRows, ClashesWith, HasRoomForRows, IsPlanOf, PlanData, SameCommitted, StandsFor, StoreData, max_members}
+use Rattle.covtable.specs.Refuse.{IsRefusedAt, RefuseData, ClashRefuse, MemoryRefuse}
 use Rattle.covstore.specs.State.{IsStateOf, sections_of, totals_in}
 use Rattle.covstore.specs.StoreKept.{IsKept}
-use Rattle.covstore.specs.Table.{Table, all_rows, clash_at}
-use Rattle.covstore.specs.Totals.{AreTotals, totals_of}
-use Rattle.covstore.proofs.Contents.{clash_by_content, content-append}
+use Rattle.covtable.specs.Table.{Table, all_rows, clash_at}
+use Rattle.covtable.specs.Totals.{AreTotals, totals_of}
+use Rattle.covtable.proofs.Contents.{clash_by_content, content-append}
 use Rattle.covstore.proofs.StateSame.{same_clash, same_state}
 use Rattle.covstore.proofs.AddsPlace.{state_agrees}
 use Rattle.covstore.proofs.StateSections.{sections_are}
 use Rattle.covstore.proofs.StateTotals.{totals_are}
-use Rattle.covstore.proofs.Stores.{few_rows, rows_accepted}
-use Rattle.covstore.proofs.TotalsDifferent.{are_totals}
+use Rattle.covstore.proofs.Stores.{few_rows}
+use Rattle.covtable.proofs.Clashes.{rows_accepted}
+use Rattle.covtable.proofs.TotalsDifferent.{are_totals}
 
 -- ---- how many rows there are
 

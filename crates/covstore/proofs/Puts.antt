@@ -14,8 +14,8 @@ use Rattle.std.proofs.lemmas.Map.Views.{tells_apart}
 use Rattle.std.proofs.lemmas.Option.{none-some, same_Some}
 use Rattle.covstore.specs.PointIndexCounts.{is_above_at, is_new, one_if}
 use Rattle.covmap.specs.Puts.{value_of, put, ArePairs}
-use Rattle.covstore.proofs.Ascend.{IsExactOrder, All-match, All-weaker, flips, one_sorted}
-use Rattle.covstore.proofs.Members.{In, All-in}
+use Rattle.covtable.proofs.Ascend.{IsExactOrder, All-match, All-weaker, flips, one_sorted}
+use Rattle.covtable.proofs.Members.{In, All-in}
 use Rattle.covstore.proofs.TotalsCounts.{one_each}
 
 -- what a key with this value, if any, adds to a sum over pairs; 0 if it has no value

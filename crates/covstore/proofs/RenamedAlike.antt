@@ -1,19 +1,15 @@
 -- Alike items add up to the same.
-use Rattle.std.proofs.Common.{◌≡◌, ℕ, Option, unwrap_or, List, [], ◌∷◌, map, refl, ap, ◌∙◌, inl}
+use Rattle.std.proofs.Common.{◌≡◌, ℕ, Option, unwrap_or, List, [], ◌∷◌, map, refl, ap, inl}
 use Rattle.std.specs.Cmp.Lexicographic.{slice_cmp}
 use Rattle.std.specs.List.{flat_map}
 use Rattle.std.specs.Option.{is_some}
 use Rattle.std.specs.Ordering.{nat_cmp}
-use Rattle.std.specs.declared.cmp.Ordering.{Ordering}
-use Rattle.covline.specs.Points.{BranchPoint, line_point, func_point, branch_point, line_points, func_points, branch_points}
-use Rattle.covline.specs.Row.{ItemData}
-use Rattle.covstore.specs.Ascending.{ascending}
+use Rattle.covdata.specs.Points.{BranchPoint, line_point, func_point, branch_point, line_points, func_points, branch_points}
+use Rattle.covdata.specs.Row.{ItemData}
 use Rattle.covstore.specs.Sums.{branch_sum, function_sum, line_sum, test_of}
-use Rattle.covstore.specs.Value.{lines_in, names_in, branches_in, bounded, branch_cmp, line_added, line_value, checksum_said, line_checksum, first_of, start_said, function_start, function_added, function_count, taken_said, branch_value}
-use Rattle.covstore.proofs.Alike.{AreAlike, alike_said, sum_alike, least_alike}
-use Rattle.covstore.proofs.Ascend.{IsExactOrder}
-use Rattle.covstore.proofs.ContentsKinds.{same_ascending, map_same}
-use Rattle.covstore.proofs.Orders.{lines_order, names_order, branches_order}
+use Rattle.covtable.specs.Value.{lines_in, names_in, branches_in, bounded, branch_cmp, line_added, line_value, checksum_said, line_checksum, first_of, start_said, function_start, function_added, function_count, taken_said, branch_value}
+use Rattle.covtable.proofs.Alike.{AreAlike, alike_said, sum_alike, least_alike, same_mapped}
+use Rattle.covtable.proofs.Orders.{lines_order, names_order, branches_order}
 use Rattle.covstore.proofs.EachKind.{same_test}
 
 -- two lists of items add up to the same if they do for each kind
@@ -30,12 +26,6 @@ same_function_sum name xs ys line count = λ i. (name, record { line = line i; c
 
 pub same_branch_sum : (point : BranchPoint) (xs ys : List ItemData) → branch_value point xs ≡ branch_value point ys → branch_sum xs point ≡ branch_sum ys point
 same_branch_sum point xs ys times = λ i. (point, record { times = times i })
-
--- alike lists of points, ascending, give the same list of values if each point has the same value
-pub same_mapped : {P V : Type 0} (cmp : P → P → Ordering) → IsExactOrder cmp → (some others : List P) (f g : P → V) → AreAlike some others → ((p : P) → f p ≡ g p)
-    → map f (ascending cmp some) ≡ map g (ascending cmp others)
-same_mapped cmp order some others f g alike same =
-    map_same f g (ascending cmp some) same ∙ ap (map g) (same_ascending cmp order some others alike.there alike.back)
 
 -- of two alike lists, both have a first element, or neither has
 first_or_none : {X : Type 0} (xs ys : List X) → AreAlike xs ys → is_some (first_of xs) ≡ is_some (first_of ys)

@@ -10,24 +10,24 @@ use Rattle.std.proofs.lemmas.List.{append-nil}
 use Rattle.std.proofs.lemmas.List.Concat.{flat_map-append}
 use Rattle.std.proofs.lemmas.Map.Text.{is_eq-slice_cmp}
 use Rattle.std.proofs.lemmas.Slice.Eq.{bytes_eq-Decides}
-use Rattle.covline.specs.Row.{ItemData, Row}
-use Rattle.covstore.specs.Clash.{Checksum, checksum_of_row, checksums_in}
+use Rattle.covdata.specs.Row.{ItemData, Row}
+use Rattle.covtable.specs.Clash.{Checksum, checksum_of_row, checksums_in}
 use Rattle.covmap.specs.Puts.{ArePairs, value_of}
-use Rattle.covstore.specs.Renamed.{moved_rows, renamed_row}
+use Rattle.covtable.specs.Renamed.{moved_rows, renamed_row}
 use Rattle.covstore.specs.Renaming.{Copies, copied_rows, key_of, names_with}
 use Rattle.covstore.specs.StoreSection.{rows_of_items}
 use Rattle.covstore.specs.State.{FileData, IsStateOf, has_no_points, is_empty_list, has_points_of, points_at, points_in}
 use Rattle.covstore.specs.Sums.{TestData, test_of}
-use Rattle.covstore.specs.Value.{Key, has_key, items_at}
-use Rattle.covstore.specs.Without.{is_of_test}
-use Rattle.covstore.proofs.ContentsLists.{In-flat, In-unflat, In-unfilter}
-use Rattle.covstore.proofs.ContentsSections.{both, items_at-append}
-use Rattle.covstore.proofs.Members.{Contains-from, In, In-from, In-joined, In-parts}
-use Rattle.covstore.proofs.Orders.{names_order}
+use Rattle.covtable.specs.Value.{Key, has_key, items_at}
+use Rattle.covtable.specs.Without.{is_of_test}
+use Rattle.covtable.proofs.ContentsLists.{In-flat, In-unflat, In-unfilter}
+use Rattle.covtable.proofs.ContentsSections.{both, items_at-append}
+use Rattle.covtable.proofs.Members.{Contains-from, In, In-from, In-joined, In-parts}
+use Rattle.covtable.proofs.Orders.{names_order}
 use Rattle.covstore.proofs.Puts.{value_of_before}
-use Rattle.covstore.proofs.RenamedTables.{agree_renamed, items_picked}
+use Rattle.covtable.proofs.RenamedTables.{agree_renamed, items_picked}
 use Rattle.covstore.proofs.StateSeen.{HasNone, some_points_of}
-use Rattle.covstore.proofs.WithoutContent.{passed_over, picked}
+use Rattle.covtable.proofs.WithoutContent.{passed_over, picked}
 
 -- ---- lists and conditions
 

@@ -9,13 +9,13 @@ use Rattle.std.proofs.lemmas.Cmp.{tied_itself}
 use Rattle.std.proofs.lemmas.List.{length-append, length-map}
 use Rattle.std.proofs.lemmas.List.Concat.{flat_map-append}
 use Rattle.std.proofs.lemmas.Slice.Eq.{bytes_eq-Decides}
-use Rattle.covline.specs.Row.{ItemData, Row}
+use Rattle.covdata.specs.Row.{ItemData, Row}
 use Rattle.covmap.specs.Puts.{ArePairs}
 use Rattle.covstore.specs.Renaming.{copied_rows, key_of, names_with}
 use Rattle.covstore.specs.StoreSection.{rows_of_items}
 use Rattle.covstore.specs.State.{FileData, has_points_of}
-use Rattle.covstore.specs.Value.{has_key, items_at}
-use Rattle.covstore.proofs.Orders.{names_order}
+use Rattle.covtable.specs.Value.{has_key, items_at}
+use Rattle.covtable.proofs.Orders.{names_order}
 use Rattle.covstore.proofs.RenamedTablesCopies.{copies_of, picked_both, same_picked}
 
 -- ---- different names

@@ -5,25 +5,25 @@ use Rattle.std.specs.Ordering.{nat_cmp}
 use Rattle.std.specs.Str.{bytes_eq}
 use Rattle.std.proofs.lemmas.List.{append-nil}
 use Rattle.std.proofs.lemmas.List.Concat.{flat_map-append}
-use Rattle.covline.specs.Row.{ItemData, Row}
-use Rattle.covstore.specs.declared.totals.Totals.{Totals}
-use Rattle.covstore.specs.Clash.{checksum_of_row, checksums_in}
+use Rattle.covdata.specs.Row.{ItemData, Row}
+use Rattle.covtable.specs.declared.totals.Totals.{Totals}
+use Rattle.covtable.specs.Clash.{checksum_of_row, checksums_in}
 use Rattle.covmap.specs.Puts.{ArePairs, value_of}
-use Rattle.covstore.specs.Renamed.{moved_rows}
+use Rattle.covtable.specs.Renamed.{moved_rows}
 use Rattle.covstore.specs.Renaming.{Copies, HasRoomToCopy, IsMoving, key_of, names_with}
 use Rattle.covstore.specs.State.{FileData, IsStateOf, has_no_points, has_points_of, points_at, points_in}
 use Rattle.covstore.specs.Store.{SameCommitted, StoreData}
 use Rattle.covstore.specs.StoreKept.{IsKept}
 use Rattle.covstore.specs.Sums.{test_of}
-use Rattle.covstore.specs.Table.{all_rows}
-use Rattle.covstore.specs.Value.{items_at}
+use Rattle.covtable.specs.Table.{all_rows}
+use Rattle.covtable.specs.Value.{items_at}
 use Rattle.covstore.proofs.AddsPlace.{state_agrees}
 use Rattle.covstore.proofs.AddsStore.{held_by_both, same_committed}
-use Rattle.covstore.proofs.ContentsChecksums.{checksums_there}
-use Rattle.covstore.proofs.ContentsLists.{In-unfilter}
-use Rattle.covstore.proofs.ContentsSections.{items_at-append}
-use Rattle.covstore.proofs.Members.{Contains-from, In, In-from, In-joined, In-unmap}
-use Rattle.covstore.proofs.Orders.{names_order}
+use Rattle.covtable.proofs.ContentsChecksums.{checksums_there}
+use Rattle.covtable.proofs.ContentsLists.{In-unfilter}
+use Rattle.covtable.proofs.ContentsSections.{items_at-append}
+use Rattle.covtable.proofs.Members.{Contains-from, In, In-from, In-joined, In-unmap}
+use Rattle.covtable.proofs.Orders.{names_order}
 use Rattle.covstore.proofs.Prepares.{rows_in_table}
 use Rattle.covstore.proofs.Puts.{value_of_pair}
 use Rattle.covstore.proofs.RenamedValues.{tests_swapped}

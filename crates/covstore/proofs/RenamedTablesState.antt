@@ -8,37 +8,37 @@ use Rattle.std.proofs.lemmas.List.{length-map, map-append}
 use Rattle.std.proofs.lemmas.List.Elements.{filter-append}
 use Rattle.std.proofs.lemmas.List.Sorted.{IsPermutation-filter_both, IsPermutation-sym}
 use Rattle.std.proofs.lemmas.Slice.Eq.{bytes_eq-Decides}
-use Rattle.covline.specs.Points.{BranchPoint}
-use Rattle.covline.specs.Row.{ItemData, Row}
+use Rattle.covdata.specs.Points.{BranchPoint}
+use Rattle.covdata.specs.Row.{ItemData, Row}
 use Rattle.covstore.specs.declared.sums.FunctionSum.{FunctionSum}
 use Rattle.covstore.specs.declared.sums.LineSum.{LineSum}
 use Rattle.covstore.specs.declared.sums.BranchSum.{BranchSum}
-use Rattle.covstore.specs.declared.totals.Totals.{Totals}
-use Rattle.covstore.specs.Clash.{Agree, checksum_of_row, checksums_in}
-use Rattle.covstore.specs.Content.{BranchValueData, FunctionValueData, LineValueData, SectionData, branch_at, content_of, function_at, line_at, section_with}
+use Rattle.covtable.specs.declared.totals.Totals.{Totals}
+use Rattle.covtable.specs.Clash.{Agree, checksum_of_row, checksums_in}
+use Rattle.covtable.specs.Content.{BranchValueData, FunctionValueData, LineValueData, SectionData, branch_at, content_of, function_at, line_at, section_with}
 use Rattle.covstore.specs.FileDrops.{AreWithoutTest}
 use Rattle.covstore.specs.StoreView.{IsStore}
-use Rattle.covstore.specs.Renamed.{moved_rows, renamed, renamed_row}
+use Rattle.covtable.specs.Renamed.{moved_rows, renamed, renamed_row}
 use Rattle.covstore.specs.Renaming.{IsMoving}
 use Rattle.covstore.specs.State.{FileData, IsStateOf, totals_in}
 use Rattle.covstore.specs.Store.{StandsFor}
 use Rattle.covstore.specs.Sums.{branch_sum, function_sum, line_sum, test_of}
-use Rattle.covstore.specs.Table.{Table, all_rows}
-use Rattle.covstore.specs.Totals.{totals_of}
-use Rattle.covstore.specs.Value.{Key, branches_in, has_key, items_at, lines_in, names_in}
-use Rattle.covstore.specs.Without.{is_of_test}
+use Rattle.covtable.specs.Table.{Table, all_rows}
+use Rattle.covtable.specs.Totals.{totals_of}
+use Rattle.covtable.specs.Value.{Key, branches_in, has_key, items_at, lines_in, names_in}
+use Rattle.covtable.specs.Without.{is_of_test}
 use Rattle.covstore.proofs.AddsPlace.{state_agrees}
-use Rattle.covstore.proofs.Alike.{AreAlike, alike_mapped, alike_permuted, alike_picked, alike_said}
-use Rattle.covstore.proofs.ContentsChecksums.{checksums_there}
-use Rattle.covstore.proofs.ContentsSections.{sections_same}
-use Rattle.covstore.proofs.Members.{Contains-from, In-from}
+use Rattle.covtable.proofs.Alike.{AreAlike, alike_mapped, alike_permuted, alike_picked, alike_said}
+use Rattle.covtable.proofs.ContentsChecksums.{checksums_there}
+use Rattle.covtable.proofs.ContentsSections.{sections_same}
+use Rattle.covtable.proofs.Members.{Contains-from, In-from}
 use Rattle.covstore.proofs.RenamedAlike.{same_sums, test_alike}
-use Rattle.covstore.proofs.RenamedTables.{agree_in_renamed, content_totals_renamed, row_stays, rows_renamed, small_renamed}
+use Rattle.covtable.proofs.RenamedTables.{agree_in_renamed, content_totals_renamed, row_stays, rows_renamed, small_renamed}
 use Rattle.covstore.proofs.StateSections.{sections_are}
-use Rattle.covstore.proofs.StateSeen.{map_of_map}
+use Rattle.covtable.proofs.ContentsKinds.{map_of_map}
 use Rattle.covstore.proofs.StateTotals.{totals_are}
 use Rattle.covstore.proofs.Stores.{store_of, store_sections, store_totals}
-use Rattle.covstore.proofs.WithoutContent.{passed_over, picked, rows_without}
+use Rattle.covtable.proofs.WithoutContent.{passed_over, picked, rows_without}
 use Rattle.covstore.proofs.WithoutState.{state_without}
 
 -- ---- states of other rows

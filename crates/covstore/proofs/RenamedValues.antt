@@ -11,20 +11,20 @@ use Rattle.std.proofs.lemmas.List.Concat.{flat_map-append}
 use Rattle.std.proofs.lemmas.List.Folds.{flat_map-map}
 use Rattle.std.proofs.lemmas.List.Sorted.{IsPermutation-append_comm}
 use Rattle.std.proofs.lemmas.List.Sums.{sum_by-append, sum_by-cons}
-use Rattle.covline.specs.Points.{BranchPoint, line_point, func_point, branch_point, line_points, func_points, branch_points, least}
-use Rattle.covline.specs.Row.{ItemData, LineItem, FuncItem, BranchItem}
-use Rattle.covstore.specs.Ascending.{ascending}
+use Rattle.covdata.specs.Points.{BranchPoint, line_point, func_point, branch_point, line_points, func_points, branch_points, least}
+use Rattle.covdata.specs.Row.{ItemData, LineItem, FuncItem, BranchItem}
+use Rattle.covtable.specs.Ascending.{ascending}
 use Rattle.covstore.specs.Sums.{line_sum, function_sum, branch_sum, test_of}
-use Rattle.covstore.specs.Value.{bounded, branch_cmp, lines_in, names_in, branches_in, line_added, line_value, checksum_said, line_checksum, first_of, start_said, function_start, function_added, function_count, is_branch, taken_said, sum_if_any, branch_value}
-use Rattle.covstore.proofs.Alike.{alike_permuted, sum_by-map}
-use Rattle.covstore.proofs.Ascend.{ascending_sorted, length-ascending}
-use Rattle.covstore.proofs.ContentsPoints.{line_unadded, checksum_unsaid, count_unadded, start_unsaid, taken_unsaid}
-use Rattle.covstore.proofs.Members.{In}
-use Rattle.covstore.proofs.Orders.{lines_order, names_order, branches_order}
+use Rattle.covtable.specs.Value.{bounded, branch_cmp, lines_in, names_in, branches_in, line_added, line_value, checksum_said, line_checksum, first_of, start_said, function_start, function_added, function_count, is_branch, taken_said, sum_if_any, branch_value}
+use Rattle.covtable.proofs.Alike.{alike_permuted, sum_by-map}
+use Rattle.covtable.proofs.Ascend.{ascending_sorted, length-ascending}
+use Rattle.covtable.proofs.ContentsPoints.{line_unadded, checksum_unsaid, count_unadded, start_unsaid, taken_unsaid}
+use Rattle.covtable.proofs.Members.{In}
+use Rattle.covtable.proofs.Orders.{lines_order, names_order, branches_order}
 use Rattle.covstore.proofs.RenamedAlike.{same_sums, same_line_sum, same_function_sum, same_branch_sum, test_alike}
 use Rattle.covstore.proofs.RenamedValuesLists.{flat_nothing, sum_nothing, flat_one, sum_one, flat_self, map_same_in, ascending_again}
 use Rattle.covstore.proofs.StateSame.{tests_with_more}
-use Rattle.covstore.proofs.TotalsKinds.{itself}
+use Rattle.covtable.proofs.TotalsKinds.{itself}
 use Rattle.covstore.proofs.SumsFunctions.{own_count as own_calls, own_start}
 use Rattle.covstore.proofs.SumsLines.{own_count}
 

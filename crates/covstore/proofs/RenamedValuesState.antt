@@ -6,24 +6,25 @@ use Rattle.std.specs.Ordering.{nat_cmp}
 use Rattle.std.specs.Str.{bytes_eq}
 use Rattle.std.proofs.lemmas.Bool.{cond-false, cond-true}
 use Rattle.std.proofs.lemmas.List.Concat.{flat_map-append}
-use Rattle.covline.specs.Row.{ItemData, LineItem, Row}
-use Rattle.covstore.specs.Clash.{Checksum, checksum_of, checksum_of_row, checksums_in}
+use Rattle.covdata.specs.Row.{ItemData, LineItem, Row}
+use Rattle.covtable.specs.Clash.{Checksum, checksum_of, checksum_of_row, checksums_in}
 use Rattle.covstore.specs.PointIndexCounts.{is_above_at}
 use Rattle.covmap.specs.Puts.{value_of}
 use Rattle.covstore.specs.Renaming.{key_of, copied_rows, line_item, function_item, branch_item, items_of_test}
 use Rattle.covstore.specs.StoreSection.{rows_of_items}
 use Rattle.covstore.specs.State.{FileData, IsStateOf, IsConsistentFile, has_checksum, points_in, tests_in}
 use Rattle.covstore.specs.Sums.{TestData, test_of, line_sum, function_sum, branch_sum}
-use Rattle.covstore.specs.Value.{Key, has_key, items_at, lines_in, names_in, branches_in, line_value, line_checksum}
+use Rattle.covtable.specs.Value.{Key, has_key, items_at, lines_in, names_in, branches_in, line_value, line_checksum}
 use Rattle.covstore.proofs.AddsPlace.{HasSum, above_sum, held_of}
-use Rattle.covstore.proofs.ContentsLists.{In-flat, In-unflat, In-unfilter}
-use Rattle.covstore.proofs.ContentsSections.{items_at-append, own_key}
-use Rattle.covstore.proofs.Members.{In, In-from, Contains-from, All-in, In-map, In-unmap, In-joined, In-parts}
-use Rattle.covstore.proofs.Orders.{names_order}
+use Rattle.covtable.proofs.ContentsLists.{In-flat, In-unflat, In-unfilter}
+use Rattle.covtable.proofs.ContentsSections.{items_at-append, own_key}
+use Rattle.covtable.proofs.Members.{In, In-from, Contains-from, All-in, In-map, In-unmap, In-joined, In-parts}
+use Rattle.covtable.proofs.Orders.{names_order}
 use Rattle.covstore.proofs.Puts.{pair_in}
 use Rattle.covstore.proofs.RenamedValues.{values_of, values_stand, line_value_item, function_value_item, branch_value_item}
 use Rattle.covstore.proofs.StateSections.{file_has_checksums, points_there}
-use Rattle.covstore.proofs.StateSeen.{HasChecksums, map_of_map, text_as_said}
+use Rattle.covstore.proofs.StateSeen.{HasChecksums, text_as_said}
+use Rattle.covtable.proofs.ContentsKinds.{map_of_map}
 
 -- ---- the items of a test
 

@@ -5,7 +5,7 @@ use Rattle.std.specs.List.{All}
 use Rattle.std.specs.Option.{is_some}
 use Rattle.std.specs.Ordering.{nat_cmp}
 use Rattle.std.proofs.lemmas.List.Elements.{All-contains}
-use Rattle.covline.specs.Row.{ItemData, LineItem, FuncItem, BranchItem}
+use Rattle.covdata.specs.Row.{ItemData, LineItem, FuncItem, BranchItem}
 use Rattle.covmap.specs.Puts.{value_of}
 use Rattle.covstore.specs.FileIndex.{FileIndexData}
 use Rattle.covstore.specs.Items.{IsTextOf, KeepsTextsOf}
@@ -16,7 +16,7 @@ use Rattle.covstore.specs.Section.{Adds, Clashes, ClashesAt, HasRoomFor}
 use Rattle.covstore.specs.Sums.{TestData}
 use Rattle.covstore.proofs.AddsItem.{items_add}
 use Rattle.covstore.proofs.AddsMore.{clash_front, clash_later}
-use Rattle.covstore.proofs.Members.{Contains-from, In, In-joined, In-unmap}
+use Rattle.covtable.proofs.Members.{Contains-from, In, In-joined, In-unmap}
 use Rattle.covstore.proofs.AddsLoop.{HasTaken, none_taken, some_have_room, some_taken}
 use Rattle.covstore.specs.FileIndexView.{KeepsCommitted, index_staged}
 use Rattle.covstore.specs.TestView.{test_staged, test_committed}

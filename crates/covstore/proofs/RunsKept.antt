@@ -4,7 +4,7 @@ use Rattle.std.specs.declared.cmp.Ordering.{Ordering}
 use Rattle.covstore.specs.declared.sums.TestCounts.{TestCounts}
 use Rattle.std.specs.Ordering.{nat_cmp}
 use Rattle.std.specs.List.{flat_map}
-use Rattle.covline.specs.Row.{ItemData, LineItem, FuncItem, BranchItem}
+use Rattle.covdata.specs.Row.{ItemData, LineItem, FuncItem, BranchItem}
 use Rattle.covmap.specs.Puts.{value_of}
 use Rattle.covstore.specs.FileIndex.{FileIndexData}
 use Rattle.covstore.specs.Items.{HasRoomForRun, KeepsCounts}
@@ -20,8 +20,8 @@ use Rattle.covstore.proofs.AddsFew.{kept_few}
 use Rattle.covstore.proofs.AddsPlace.{as_many, its_back, its_front, its_kept}
 use Rattle.covstore.proofs.Assigned.{any_key}
 use Rattle.covstore.proofs.EachKind.{map_between}
-use Rattle.covstore.proofs.Members.{In}
-use Rattle.covstore.proofs.Orders.{lines_order}
+use Rattle.covtable.proofs.Members.{In}
+use Rattle.covtable.proofs.Orders.{lines_order}
 use Rattle.covstore.proofs.Puts.{value_of-put, value_of-put_apart}
 use Rattle.covstore.proofs.RunsSums.{run_few}
 use Rattle.covstore.proofs.StepsCounts.{line_bare}

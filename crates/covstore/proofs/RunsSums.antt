@@ -6,11 +6,11 @@ use Rattle.std.specs.Ordering.{nat_cmp}
 use Rattle.std.specs.declared.cmp.Ordering.{Ordering}
 use Rattle.std.proofs.lemmas.List.{append-nil, append_assoc, length-append}
 use Rattle.std.proofs.lemmas.List.Concat.{flat_map-append}
-use Rattle.covline.specs.Row.{ItemData, LineItem, FuncItem, BranchItem}
+use Rattle.covdata.specs.Row.{ItemData, LineItem, FuncItem, BranchItem}
 use Rattle.covmap.specs.Run.{summed}
 use Rattle.covstore.specs.Kinds.{Branch, Function, Kind, Line, at}
 use Rattle.covstore.specs.Runs.{RunOf, points_with, run_of, runs_of, runs_with, sum_of, with_items, with_runs}
-use Rattle.covstore.specs.Value.{branch_cmp}
+use Rattle.covtable.specs.Value.{branch_cmp}
 use Rattle.covstore.specs.Sums.{TestData, test_of, with_item}
 use Rattle.covstore.proofs.EachKind.{same_each}
 use Rattle.covstore.proofs.SumsMore.{sums_more}

@@ -2,16 +2,16 @@
 use Rattle.std.proofs.Common.{ℕ, ◌*◌, ◌^◌, ◌<◌, ◌≤◌, List, [], ◌∷◌, length, map, sym, subst, arith}
 use Rattle.std.specs.List.{AllByRecursion}
 use Rattle.std.proofs.lemmas.List.{length-append}
-use Rattle.covline.specs.Lawful.{max_items}
-use Rattle.covline.specs.Row.{Row}
-use Rattle.covstore.specs.declared.totals.Totals.{Totals}
-use Rattle.covstore.specs.Content.{section_of}
+use Rattle.covdata.specs.Lawful.{max_items}
+use Rattle.covdata.specs.Row.{Row}
+use Rattle.covtable.specs.declared.totals.Totals.{Totals}
+use Rattle.covtable.specs.Content.{section_of}
 use Rattle.covstore.specs.StoreView.{IsStore}
 use Rattle.covstore.specs.ContentView.{IsFewOf}
 use Rattle.covstore.specs.State.{FileData, sections_of}
-use Rattle.covstore.specs.Table.{Table, all_rows}
-use Rattle.covstore.specs.Value.{Key, keys_of}
-use Rattle.covstore.proofs.Contents.{points_few}
+use Rattle.covtable.specs.Table.{Table, all_rows}
+use Rattle.covtable.specs.Value.{Key, keys_of}
+use Rattle.covtable.proofs.Contents.{points_few}
 use Rattle.covstore.proofs.StateSections.{sections_are}
 
 -- ---- each section has at most as many points of a kind as the store has rows

@@ -20,7 +20,7 @@ use Rattle.covstore.specs.FileView.{file_staged, file_committed}
 use Rattle.covstore.specs.StoreView.{AreSettledBut, IsSettledBut, files_staged, files_committed, tests_of, touched_data}
 use Rattle.covstore.specs.FileIndexView.{index_staged, index_committed}
 use Rattle.covstore.specs.TestView.{test_staged, test_committed}
-use Rattle.covstore.proofs.Ascend.{All-weaker}
+use Rattle.covtable.proofs.Ascend.{All-weaker}
 use Rattle.covstore.proofs.MapNames.{All-unfound, All-written, bytes_apart, map_written, names_with}
 
 -- ---- the tests of a file

@@ -13,7 +13,7 @@ use Rattle.covstore.specs.PointIndex.{IsTallyOf}
 use Rattle.covstore.specs.PointIndexCounts.{AreCounts, count_above, count_with, one_if}
 use Rattle.covstore.specs.PointIndexDrops.{IsTallyWithout, LosesTest}
 use Rattle.covstore.specs.SoleTest.{count_of_one, counts_of}
-use Rattle.covstore.proofs.Ascend.{IsExactOrder}
+use Rattle.covtable.proofs.Ascend.{IsExactOrder}
 use Rattle.covstore.proofs.Counts.{above_le_with, same_tests, tests_among, tests_at-between}
 use Rattle.covstore.proofs.Fewer.{one_rest}
 

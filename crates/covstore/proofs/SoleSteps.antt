@@ -11,7 +11,7 @@ use Rattle.covstore.specs.declared.sums.TestsAddend.{TestsAddend}
 use Rattle.covstore.specs.Items.{KeepsCountsOfKind}
 use Rattle.covstore.specs.PointIndexCounts.{change_by, change_of, found_of, hit_of, is_above_at, is_new, is_newly_hit, one_if}
 use Rattle.covstore.specs.SoleTest.{count_of_one, counts_of, found_by, hit_by}
-use Rattle.covstore.proofs.Ascend.{IsExactOrder}
+use Rattle.covtable.proofs.Ascend.{IsExactOrder}
 use Rattle.covstore.proofs.CountsMapped.{count_by-map}
 use Rattle.covstore.proofs.Puts.{ArePairs-put, count_by-put, length-put}
 use Rattle.covstore.proofs.SoleCounts.{points_ascend, still_alone}

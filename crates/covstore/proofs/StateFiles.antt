@@ -11,16 +11,16 @@ use Rattle.std.proofs.lemmas.List.{append-nil}
 use Rattle.std.proofs.lemmas.List.Elements.{filter-append}
 use Rattle.std.proofs.lemmas.List.Sums.{sum_by-cons, sum_by-append}
 use Rattle.std.proofs.lemmas.Slice.Eq.{bytes_eq-Decides}
-use Rattle.covstore.specs.Content.{SectionData}
+use Rattle.covtable.specs.Content.{SectionData}
 use Rattle.covmap.specs.Puts.{ArePairs}
 use Rattle.covstore.specs.State.{FileData, sections_of, sections_of_file}
-use Rattle.covstore.specs.Totals.{files_in, over_files, own_sections}
-use Rattle.covstore.proofs.Ascend.{In-ascending, In-to_ascending, ascending_sorted, one_sorted}
-use Rattle.covstore.proofs.ContentsLists.{In-flat, In-unflat}
-use Rattle.covstore.proofs.Members.{All-in, In, In-map, In-unmap}
-use Rattle.covstore.proofs.Orders.{names_order}
-use Rattle.covstore.proofs.StateOrder.{key_of_section, sorted_none, sorted_one, sorted_parts}
-use Rattle.covstore.proofs.TotalsDifferent.{not_less}
+use Rattle.covtable.specs.Totals.{files_in, over_files, own_sections}
+use Rattle.covtable.proofs.Ascend.{In-ascending, In-to_ascending, ascending_sorted, one_sorted, sorted_none, sorted_one}
+use Rattle.covtable.proofs.ContentsLists.{In-flat, In-unflat}
+use Rattle.covtable.proofs.Members.{All-in, In, In-map, In-unmap}
+use Rattle.covtable.proofs.Orders.{names_order}
+use Rattle.covstore.proofs.StateOrder.{key_of_section, sorted_parts}
+use Rattle.covtable.proofs.TotalsDifferent.{not_less}
 
 -- ---- the sections of one file
 

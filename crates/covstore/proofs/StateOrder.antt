@@ -7,15 +7,15 @@ use Rattle.std.specs.List.{AllByRecursion, flat_map}
 use Rattle.std.specs.List.Sorted.{IsStrictlySortedBy}
 use Rattle.std.specs.Ordering.{nat_cmp, ordering_then}
 use Rattle.std.proofs.lemmas.Cmp.{tied_itself}
-use Rattle.covstore.specs.Content.{SectionData}
+use Rattle.covtable.specs.Content.{SectionData}
 use Rattle.covmap.specs.Puts.{ArePairs}
 use Rattle.covstore.specs.State.{FileData, IsConsistentFile, section_seen, section_with_points, sections_of, sections_of_file}
 use Rattle.covstore.specs.Sums.{TestData}
-use Rattle.covstore.specs.Value.{Key, key_cmp}
-use Rattle.covstore.proofs.ContentsLists.{In-unflat}
-use Rattle.covstore.proofs.Members.{In, All-in}
-use Rattle.covstore.proofs.Orders.{names_order}
-use Rattle.covstore.proofs.TotalsDifferent.{All-from, All-joined}
+use Rattle.covtable.specs.Value.{Key, key_cmp}
+use Rattle.covtable.proofs.Ascend.{sorted_none, sorted_one}
+use Rattle.covtable.proofs.ContentsLists.{In-unflat}
+use Rattle.covtable.proofs.Members.{In, All-in, All-from, All-joined}
+use Rattle.covtable.proofs.Orders.{names_order}
 use Rattle.covstore.proofs.StateSeen.{seen_or_not, seen_key}
 
 -- ---- lists joined
@@ -27,14 +27,6 @@ sorted_joined {X} cmp (x ∷ xs) ys left right before = (
   All-joined (λ z. cmp x z ≡ Less) xs ys left.0 (All-from (λ z. cmp x z ≡ Less) ys (λ y i. before x y (inl refl) i)),
   sorted_joined cmp xs ys left.1 right (λ z y i j. before z y (inr i) j),
 )
-
-pub sorted_none : {X : Type 0} (cmp : X → X → Ordering) → IsStrictlySortedBy cmp []
-unfolding IsStrictlySortedBy
-sorted_none cmp = tt
-
-pub sorted_one : {X : Type 0} (cmp : X → X → Ordering) (x : X) → IsStrictlySortedBy cmp (x ∷ [])
-unfolding IsStrictlySortedBy
-sorted_one cmp x = (tt, tt)
 
 -- parts made from ascending pairs and joined are ascending, if each part is ascending and all of it comes before the later parts
 pub sorted_parts : {K V X : Type 0} (order : K → K → Ordering) (cmp : X → X → Ordering) (part : K × V → List X) (pairs : List (K × V)) → ArePairs order pairs

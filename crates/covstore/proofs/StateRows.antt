@@ -8,19 +8,19 @@ use Rattle.std.proofs.lemmas.Bool.{cond-true, cond-false, false_from_ne_true}
 use Rattle.std.proofs.lemmas.List.{append-nil}
 use Rattle.std.proofs.lemmas.List.Concat.{flat_map-append}
 use Rattle.std.proofs.lemmas.Slice.Eq.{bytes_eq-Decides}
-use Rattle.covline.specs.Row.{ItemData, Row, rows_of_sect}
-use Rattle.covstore.specs.Clash.{Checksum, checksum_of_row, checksums_in}
+use Rattle.covdata.specs.Row.{ItemData, Row, rows_of_sect}
+use Rattle.covtable.specs.Clash.{Checksum, checksum_of_row, checksums_in}
 use Rattle.covmap.specs.Puts.{put, value_of}
 use Rattle.covstore.specs.Runs.{with_items}
 use Rattle.covstore.specs.Section.{section_of_items}
 use Rattle.covstore.specs.State.{FileData, IsStateOf, IsConsistentFile, points_at, points_in, text_in}
 use Rattle.covstore.specs.Sums.{TestData, test_of}
-use Rattle.covstore.specs.Value.{Key, has_key, items_at}
-use Rattle.covstore.proofs.ContentsChecksums.{line_of_said, own_row}
-use Rattle.covstore.proofs.ContentsLists.{same_or_not, In-unflat}
-use Rattle.covstore.proofs.ContentsSections.{both, items_at-append}
-use Rattle.covstore.proofs.Members.{All-in, In, In-from, In-unmap, Contains-from, In-parts}
-use Rattle.covstore.proofs.Orders.{names_order}
+use Rattle.covtable.specs.Value.{Key, has_key, items_at}
+use Rattle.covtable.proofs.ContentsChecksums.{line_of_said, own_row}
+use Rattle.covtable.proofs.ContentsLists.{same_or_not, In-unflat}
+use Rattle.covtable.proofs.ContentsSections.{both, items_at-append}
+use Rattle.covtable.proofs.Members.{All-in, In, In-from, In-unmap, Contains-from, In-parts}
+use Rattle.covtable.proofs.Orders.{names_order}
 use Rattle.covstore.proofs.Puts.{All-put, ArePairs-put, pair_in, value_of-put, value_of-put_other}
 use Rattle.covstore.proofs.RunsSums.{sums_more_items}
 use Rattle.covstore.proofs.StateSections.{points_same, points_there}

@@ -3,19 +3,19 @@
 use Rattle.std.proofs.Common.{◌≡◌, ℕ, List, [], ◌∷◌, ◌++◌, sym, ap, ◌∙◌, subst, append_assoc, inl, inr, ⊎_elim}
 use Rattle.std.proofs.lemmas.List.{append-nil}
 use Rattle.std.proofs.lemmas.List.Concat.{flat_map-append}
-use Rattle.covline.specs.Row.{ItemData, Row}
-use Rattle.covstore.specs.Clash.{checksum_of_row, checksums_in, clash_of}
-use Rattle.covstore.specs.Content.{content_of}
+use Rattle.covdata.specs.Row.{ItemData, Row}
+use Rattle.covtable.specs.Clash.{checksum_of_row, checksums_in, clash_of}
+use Rattle.covtable.specs.Content.{content_of}
 use Rattle.covstore.specs.State.{FileData, IsStateOf}
 use Rattle.covstore.specs.Sums.{test_of, with_item}
-use Rattle.covstore.specs.Value.{items_at}
+use Rattle.covtable.specs.Value.{items_at}
 use Rattle.covstore.proofs.AddsPlace.{state_agrees}
-use Rattle.covstore.proofs.Contents.{clash_by_content}
-use Rattle.covstore.proofs.ContentsChecksums.{checksums_there}
-use Rattle.covstore.proofs.Members.{Contains-from, In, In-from, In-joined, In-parts}
+use Rattle.covtable.proofs.Contents.{clash_by_content}
+use Rattle.covtable.proofs.ContentsChecksums.{checksums_there}
+use Rattle.covtable.proofs.Members.{Contains-from, In, In-from, In-joined, In-parts}
 use Rattle.covstore.proofs.StateSections.{sections_are}
 use Rattle.covstore.proofs.SumsMore.{sums_more}
-use Rattle.covstore.proofs.ContentsSections.{items_at-append}
+use Rattle.covtable.proofs.ContentsSections.{items_at-append}
 
 -- two lists of items that add up to the same still do after the same items are added to both
 pub tests_with_more : (xs ys more : List ItemData) → test_of xs ≡ test_of ys → test_of (xs ++ more) ≡ test_of (ys ++ more)

@@ -4,19 +4,20 @@ use Rattle.std.proofs.Common.{◌≡◌, ℕ, Option, Some, None, List, [], ◌�
 use Rattle.std.specs.Prelude.{◌⊎◌}
 use Rattle.std.specs.Option.{is_some}
 use Rattle.std.specs.Ordering.{nat_cmp}
-use Rattle.covline.specs.Points.{BranchPoint, line_points, func_points, branch_points}
-use Rattle.covline.specs.Row.{ItemData, LineItem, FuncItem, BranchItem}
+use Rattle.covdata.specs.Points.{BranchPoint, line_points, func_points, branch_points}
+use Rattle.covdata.specs.Row.{ItemData, LineItem, FuncItem, BranchItem}
 use Rattle.covstore.specs.declared.sums.FunctionSum.{FunctionSum}
 use Rattle.covstore.specs.declared.sums.LineSum.{LineSum}
 use Rattle.covstore.specs.declared.sums.BranchSum.{BranchSum}
-use Rattle.covstore.specs.Content.{LineValueData, SectionData, branch_at, function_at, line_at, section_with}
+use Rattle.covtable.specs.Content.{LineValueData, SectionData, branch_at, function_at, line_at, section_with}
 use Rattle.covmap.specs.Puts.{value_of}
 use Rattle.covstore.specs.State.{text_at, line_seen, function_seen, branch_seen, section_with_points, section_seen}
 use Rattle.covstore.specs.Sums.{TestData, test_of, line_sum, function_sum, branch_sum}
-use Rattle.covstore.specs.Value.{Key, lines_in, line_checksum, names_in, branches_in}
-use Rattle.covstore.proofs.Ascend.{In-to_ascending}
-use Rattle.covstore.proofs.Members.{In, In-map}
-use Rattle.covstore.proofs.Orders.{lines_order, names_order, branches_order}
+use Rattle.covtable.specs.Value.{Key, lines_in, line_checksum, names_in, branches_in}
+use Rattle.covtable.proofs.Ascend.{In-to_ascending}
+use Rattle.covtable.proofs.ContentsKinds.{map_of_map}
+use Rattle.covtable.proofs.Members.{In, In-map}
+use Rattle.covtable.proofs.Orders.{lines_order, names_order, branches_order}
 
 -- ---- a test with points
 
@@ -89,10 +90,6 @@ some_points_of (first ∷ others) item i none = some_points (first ∷ others) f
 pub text_as_said : (texts : List (ℕ × List ℕ)) (line : ℕ) (said : Option (List ℕ)) → ((text : List ℕ) → said ≡ Some text → value_of nat_cmp line texts ≡ Some text) → text_at texts line (is_some said) ≡ said
 text_as_said texts line None has = refl
 text_as_said texts line (Some text) has = has text refl
-
-pub map_of_map : {X Y Z : Type 0} (f : X → Y) (g : Y → Z) (h : X → Z) (xs : List X) → ((x : X) → g (f x) ≡ h x) → map g (map f xs) ≡ map h xs
-map_of_map f g h [] same = refl
-map_of_map {X} {Y} {Z} f g h (x ∷ xs) same = ap (λ (z : Z). z ∷ map g (map f xs)) (same x) ∙ ap (λ (zs : List Z). h x ∷ zs) (map_of_map f g h xs same)
 
 line_from : ℕ → ℕ → Option (List ℕ) → LineValueData
 line_from line count checksum = record { line = line; count = count; checksum = checksum }

@@ -15,10 +15,10 @@ use Rattle.covmap.specs.Puts.{put, value_of}
 use Rattle.covstore.specs.State.{has_checksum, holders_at, holding}
 use Rattle.covstore.specs.Items.{HasRoomOfKind, KeepsCounts, KeepsCountsOfKind}
 use Rattle.covstore.specs.Sums.{TestData}
-use Rattle.covstore.proofs.Ascend.{IsExactOrder}
+use Rattle.covtable.proofs.Ascend.{IsExactOrder}
 use Rattle.covstore.proofs.Counts.{IsWithin, count_by-between, counts_within}
 use Rattle.covstore.proofs.CountsPut.{counts_put}
-use Rattle.covstore.proofs.Orders.{lines_order}
+use Rattle.covtable.proofs.Orders.{lines_order}
 use Rattle.covstore.proofs.Puts.{value_of-put, value_of-put_apart}
 use Rattle.covstore.proofs.Assigned.{any_key}
 use Rattle.covstore.proofs.EachKind.{keeps_added}

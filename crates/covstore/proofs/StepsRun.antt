@@ -11,7 +11,7 @@ use Rattle.covstore.specs.declared.sums.TestsAddend.{TestsAddend}
 use Rattle.covstore.specs.Items.{HasRoomForRun, KeepsCountsOfKind}
 use Rattle.covstore.specs.PointIndex.{changed}
 use Rattle.covstore.specs.PointIndexCounts.{AreCounts, change_of, is_above_at, is_new, one_if, tests_fit, test_counts_with}
-use Rattle.covstore.proofs.Ascend.{IsExactOrder}
+use Rattle.covtable.proofs.Ascend.{IsExactOrder}
 use Rattle.covstore.proofs.Puts.{length-put}
 use Rattle.covstore.proofs.StepsCounts.{changed_is}
 use Rattle.covstore.proofs.StepsKept.{numbers_few, put_keeps}

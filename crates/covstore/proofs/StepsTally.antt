@@ -12,7 +12,7 @@ use Rattle.covstore.specs.PointIndexCounts.{change_by, change_of, found_of, hit_
 use Rattle.covmap.specs.MapData.{MapData}
 use Rattle.covmap.specs.Puts.{ArePairs, put, value_of}
 use Rattle.covmap.specs.Run.{sum_put, summed, reports_one, reports_run}
-use Rattle.covstore.proofs.Ascend.{IsExactOrder}
+use Rattle.covtable.proofs.Ascend.{IsExactOrder}
 use Rattle.covstore.proofs.Puts.{ArePairs-put, count_by-put, length-put}
 
 module _ {K : Type 0} {cmp : K → K → Ordering} (o : IsExactOrder cmp) (key : K) (after : TestCounts) (counts : List (K × TestCounts)) (sorted : ArePairs cmp counts) where

@@ -9,7 +9,7 @@ use Rattle.std.specs.Ordering.{is_eq, nat_cmp}
 use Rattle.std.proofs.lemmas.Bool.{false≢true}
 use Rattle.covstore.specs.Checksums.{AreAmong, HaveTexts, KeepsTexts, StayTexts}
 use Rattle.covmap.specs.Puts.{put, value_of}
-use Rattle.covstore.proofs.Orders.{lines_order}
+use Rattle.covtable.proofs.Orders.{lines_order}
 use Rattle.covstore.proofs.Puts.{value_of-put, value_of-put_any, value_of-put_other}
 
 -- ---- what is there

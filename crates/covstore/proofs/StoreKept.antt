@@ -5,11 +5,11 @@ use Rattle.std.specs.declared.cmp.Ordering.{Ordering}
 use Rattle.std.specs.declared.cmp.Ordering.TheVariants.{Less, Equal, Greater}
 use Rattle.std.specs.List.{AllByRecursion}
 use Rattle.std.specs.Ordering.{match_ordering}
-use Rattle.covstore.specs.declared.totals.Totals.{Totals}
+use Rattle.covtable.specs.declared.totals.Totals.{Totals}
 use Rattle.covstore.specs.Store.{KeepsState}
 use Rattle.covstore.specs.StoreView.{IsStore}
 use Rattle.covstore.specs.State.{FileData}
-use Rattle.covstore.specs.Table.{all_rows}
+use Rattle.covtable.specs.Table.{all_rows}
 
 pub store_kept : (members : ℕ) (committed : Totals) (before after : List (List ℕ × FileData)) → KeepsState before after → IsStore members committed before → IsStore members committed after
 store_kept members committed before after keeps is = record {

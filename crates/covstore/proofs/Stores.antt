@@ -1,37 +1,29 @@
 -- A store over maps: what it represents, also after one more submission.
 use Rattle.std.proofs.Common.{◌≡◌, ℕ, ◌+◌, ◌≤◌, List, [], ◌∷◌, ◌++◌, length, refl, sym, ap, ◌∙◌, subst, arith}
 use Rattle.std.specs.Prelude.{None}
-use Rattle.std.specs.List.{AllByRecursion}
-use Rattle.std.proofs.lemmas.List.{append-nil, length_push}
-use Rattle.std.proofs.lemmas.List.Concat.{flat_map-append}
-use Rattle.covline.specs.Row.{Row, SubmissionData, rows_of}
-use Rattle.covline.specs.Lawful.{IsLawful, max_items}
-use Rattle.covstore.specs.declared.totals.Totals.{Totals}
-use Rattle.covstore.specs.Clash.{Agree, checksums_in, clash_of}
-use Rattle.covstore.specs.Content.{content_of}
+use Rattle.std.proofs.lemmas.List.{length_push}
+use Rattle.covdata.specs.Row.{Row, SubmissionData, rows_of}
+use Rattle.covdata.specs.Lawful.{IsLawful, max_items}
+use Rattle.covtable.specs.declared.totals.Totals.{Totals}
+use Rattle.covtable.specs.Clash.{Agree, checksums_in, clash_of}
+use Rattle.covtable.specs.Content.{content_of}
 use Rattle.covstore.specs.Store.{IsPlanOf, PlanData, StandsFor, StoreData}
 use Rattle.covstore.specs.StoreView.{IsStore}
 use Rattle.covstore.specs.State.{FileData, IsStateOf, sections_of}
-use Rattle.covstore.specs.Table.{Table, all_rows, clash_at}
-use Rattle.covstore.specs.Totals.{AreTotals, totals_of}
-use Rattle.covstore.proofs.Bounds.{length-rows_of_sects}
-use Rattle.covstore.proofs.Clashes.{agree_empty, agree_submitted}
-use Rattle.covstore.proofs.Contents.{clash_by_content, content-append}
+use Rattle.covtable.specs.Table.{Table, all_rows, clash_at}
+use Rattle.covtable.specs.Totals.{AreTotals, totals_of}
+use Rattle.covtable.proofs.Bounds.{length-rows_of_sects}
+use Rattle.covtable.proofs.Clashes.{agree_empty, agree_submitted, rows_accepted}
+use Rattle.covtable.proofs.Contents.{clash_by_content, content-append}
 use Rattle.covstore.proofs.StateSections.{no_rows, sections_are}
 use Rattle.covstore.proofs.StateTotals.{totals_are}
-use Rattle.covstore.proofs.TotalsDifferent.{are_totals}
+use Rattle.covtable.proofs.TotalsDifferent.{are_totals}
+use Rattle.covtable.proofs.Members.{All-joined}
 
 -- ---- rows of a submission
 
-pub rows_accepted : (table : Table) (rows : List Row) → all_rows (table ++ rows ∷ []) ≡ all_rows table ++ rows
-rows_accepted table rows = flat_map-append (λ (xs : List Row). xs) table (rows ∷ []) ∙ ap (λ (xs : List Row). all_rows table ++ xs) (append-nil rows)
-
 pub few_rows : (s : SubmissionData) → IsLawful s → length (rows_of s) ≤ max_items
 few_rows s lawful = omega (arith, length-rows_of_sects s.sects, lawful.few)
-
-pub All-joined : {X : Type 0} (P : X → Type 0) (xs ys : List X) → AllByRecursion P xs → AllByRecursion P ys → AllByRecursion P (xs ++ ys)
-All-joined P [] ys all more = more
-All-joined P (x ∷ xs) ys all more = (all.0, All-joined P xs ys all.1 more)
 
 -- ---- the committed files
 

@@ -4,16 +4,16 @@ use Rattle.std.specs.List.{flat_map, sum_by}
 use Rattle.std.proofs.lemmas.Bool.{cond-true, eq-eqb}
 use Rattle.std.proofs.lemmas.List.{append-nil}
 use Rattle.std.proofs.lemmas.List.Sums.{sum_by-append, sum_by-cons}
-use Rattle.covline.specs.Points.{BranchPoint, branch_point, branch_points}
-use Rattle.covline.specs.Row.{ItemData, BranchItem}
+use Rattle.covdata.specs.Points.{BranchPoint, branch_point, branch_points}
+use Rattle.covdata.specs.Row.{ItemData, BranchItem}
 use Rattle.covstore.specs.declared.sums.BranchSum.{BranchSum}
 use Rattle.covmap.specs.Puts.{put, value_of}
 use Rattle.covstore.specs.Sums.{branch_sum, branch_with, sum_taken}
-use Rattle.covstore.specs.Value.{bounded, branch_cmp, branch_value, is_branch, sum_if_any, taken_said}
-use Rattle.covstore.proofs.Bounds.{bounded_sum}
-use Rattle.covstore.proofs.ContentsPoints.{nothing_said, taken_unsaid}
-use Rattle.covstore.proofs.Members.{In}
-use Rattle.covstore.proofs.Orders.{branches_order}
+use Rattle.covtable.specs.Value.{bounded, branch_cmp, branch_value, is_branch, sum_if_any, taken_said}
+use Rattle.covtable.proofs.Bounds.{bounded_sum}
+use Rattle.covtable.proofs.ContentsPoints.{nothing_said, taken_unsaid}
+use Rattle.covtable.proofs.Members.{In}
+use Rattle.covtable.proofs.Orders.{branches_order}
 use Rattle.covstore.proofs.SumsKinds.{sums, sums_put, sums_same}
 use Rattle.covstore.proofs.SumsLast.{last_said, none_said}
 

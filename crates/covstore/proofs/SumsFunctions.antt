@@ -8,15 +8,15 @@ use Rattle.std.specs.Str.{bytes_eq}
 use Rattle.std.proofs.lemmas.Bool.{cond-true, false≢true}
 use Rattle.std.proofs.lemmas.List.Sums.{fold-append}
 use Rattle.std.proofs.lemmas.Slice.Eq.{bytes_eq-Decides}
-use Rattle.covline.specs.Points.{func_point, func_points, least}
-use Rattle.covline.specs.Row.{ItemData, FuncItem}
+use Rattle.covdata.specs.Points.{func_point, func_points, least}
+use Rattle.covdata.specs.Row.{ItemData, FuncItem}
 use Rattle.covstore.specs.declared.sums.FunctionSum.{FunctionSum}
 use Rattle.covmap.specs.Puts.{put, value_of}
 use Rattle.covstore.specs.Sums.{function_sum, function_with}
-use Rattle.covstore.specs.Value.{bounded, function_added, function_start, start_said}
-use Rattle.covstore.proofs.ContentsPoints.{count_unadded, has_start, nothing_added, nothing_said, start_unsaid}
-use Rattle.covstore.proofs.Members.{In}
-use Rattle.covstore.proofs.Orders.{names_order}
+use Rattle.covtable.specs.Value.{bounded, function_added, function_start, start_said}
+use Rattle.covtable.proofs.ContentsPoints.{count_unadded, has_start, nothing_added, nothing_said, start_unsaid}
+use Rattle.covtable.proofs.Members.{In}
+use Rattle.covtable.proofs.Orders.{names_order}
 use Rattle.covstore.proofs.SumsKinds.{sums, sums_put, sums_same}
 use Rattle.covstore.proofs.SumsLast.{last_said, none_added, none_said, sum_first, sum_last}
 

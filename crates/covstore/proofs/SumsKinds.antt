@@ -9,12 +9,12 @@ use Rattle.std.specs.Ordering.{is_eq}
 use Rattle.std.proofs.lemmas.Cmp.{tied_itself}
 use Rattle.std.proofs.lemmas.List.Concat.{flat_map-append}
 use Rattle.std.proofs.lemmas.Option.{same_Some, none-some}
-use Rattle.covline.specs.Row.{ItemData}
-use Rattle.covstore.specs.Ascending.{ascending}
+use Rattle.covdata.specs.Row.{ItemData}
+use Rattle.covtable.specs.Ascending.{ascending}
 use Rattle.covmap.specs.Puts.{ArePairs, put, value_of}
-use Rattle.covstore.proofs.Ascend.{IsExactOrder, ascending_sorted, In-ascending, In-to_ascending}
-use Rattle.covstore.proofs.ContentsLists.{In-or_not}
-use Rattle.covstore.proofs.Members.{In, In-from, In-joined, In-parts}
+use Rattle.covtable.proofs.Ascend.{IsExactOrder, ascending_sorted, In-ascending, In-to_ascending}
+use Rattle.covtable.proofs.ContentsLists.{In-or_not}
+use Rattle.covtable.proofs.Members.{In, In-from, In-joined, In-parts}
 use Rattle.covstore.proofs.Puts.{ArePairs-put, same_pairs, value_of-put, value_of-put_other}
 
 -- ---- points with their values

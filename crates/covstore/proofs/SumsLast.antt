@@ -4,9 +4,9 @@ use Rattle.std.specs.List.{flat_map, sum_by}
 use Rattle.std.proofs.lemmas.List.{append-nil}
 use Rattle.std.proofs.lemmas.List.Concat.{flat_map-append}
 use Rattle.std.proofs.lemmas.List.Sums.{sum_by-cons, sum_by-append}
-use Rattle.covline.specs.Row.{ItemData}
-use Rattle.covstore.specs.Value.{bounded}
-use Rattle.covstore.proofs.Bounds.{bounded_sum}
+use Rattle.covdata.specs.Row.{ItemData}
+use Rattle.covtable.specs.Value.{bounded}
+use Rattle.covtable.proofs.Bounds.{bounded_sum}
 
 last_added : (added : ItemData → ℕ) (items : List ItemData) (item : ItemData) → sum_by added (items ++ item ∷ []) ≡ sum_by added items + added item
 last_added added items item =

@@ -4,13 +4,13 @@ use Rattle.std.proofs.Common.{◌≡◌, ℕ, Some, List, sym, ap}
 use Rattle.std.specs.Prelude.{Contains}
 use Rattle.std.specs.Option.{is_some}
 use Rattle.std.specs.Ordering.{nat_cmp}
-use Rattle.covline.specs.Points.{line_point, line_points}
-use Rattle.covline.specs.Row.{ItemData}
+use Rattle.covdata.specs.Points.{line_point, line_points}
+use Rattle.covdata.specs.Row.{ItemData}
 use Rattle.covstore.specs.declared.sums.LineSum.{LineSum}
 use Rattle.covmap.specs.Puts.{value_of}
 use Rattle.covstore.specs.Sums.{test_of, line_sum}
-use Rattle.covstore.specs.Value.{line_checksum}
-use Rattle.covstore.proofs.Orders.{lines_order}
+use Rattle.covtable.specs.Value.{line_checksum}
+use Rattle.covtable.proofs.Orders.{lines_order}
 use Rattle.covstore.proofs.SumsKinds.{sums_held, sums_known}
 use Rattle.covstore.proofs.SumsLines.{line_held}
 

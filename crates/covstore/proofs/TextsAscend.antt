@@ -4,9 +4,9 @@ use Rattle.std.specs.declared.cmp.Ordering.TheVariants.{Less}
 use Rattle.std.specs.List.Sorted.{IsStrictlySortedBy}
 use Rattle.std.specs.Ordering.{nat_cmp}
 use Rattle.std.proofs.lemmas.Bool.{cond-true, lt-ltb}
-use Rattle.covline.specs.Row.{ItemData}
+use Rattle.covdata.specs.Row.{ItemData}
 use Rattle.covstore.specs.HeldChecksums.{AscendFrom, checked_line, checked_lines}
-use Rattle.covstore.proofs.Ascend.{All-weaker}
+use Rattle.covtable.proofs.Ascend.{All-weaker}
 
 less_of : (x y : ℕ) → x < y → nat_cmp x y ≡ Less
 less_of x y lt = cond-true _ Less _ (lt-ltb x y lt)

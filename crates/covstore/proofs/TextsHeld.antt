@@ -7,7 +7,7 @@ use Rattle.std.specs.List.Sorted.{IsStrictlySortedBy}
 use Rattle.std.specs.Option.{IfSome, is_some}
 use Rattle.std.specs.Ordering.{is_eq, nat_cmp}
 use Rattle.std.proofs.lemmas.List.Concat.{flat_map-append}
-use Rattle.covline.specs.Row.{ItemData, LineItem, FuncItem, BranchItem}
+use Rattle.covdata.specs.Row.{ItemData, LineItem, FuncItem, BranchItem}
 use Rattle.covmap.specs.Puts.{value_of}
 use Rattle.covstore.specs.Checksums.{held_more, one_more}
 use Rattle.covstore.specs.FileIndex.{FileIndexData}
@@ -22,8 +22,8 @@ use Rattle.covstore.specs.FileIndexView.{KeepsCommitted, index_staged}
 use Rattle.covstore.specs.declared.index.FileIndex.{FileIndex}
 use Rattle.covstore.specs.declared.sums.LineSum.{LineSum}
 use Rattle.covstore.specs.declared.test.Test.{Test}
-use Rattle.covstore.proofs.Members.{Contains-from, In, In-from, In-joined, In-parts}
-use Rattle.covstore.proofs.Orders.{lines_order}
+use Rattle.covtable.proofs.Members.{Contains-from, In, In-from, In-joined, In-parts}
+use Rattle.covtable.proofs.Orders.{lines_order}
 use Rattle.covstore.proofs.Puts.{value_of-put, value_of-put_apart}
 use Rattle.covstore.proofs.RunsKept.{plain_holds}
 use Rattle.covstore.proofs.StepsCounts.{line_checked}

@@ -11,7 +11,7 @@ use Rattle.covmap.specs.Puts.{put, value_of}
 use Rattle.covstore.specs.State.{FileData, file_with}
 use Rattle.covstore.specs.Sums.{TestData, test_of}
 use Rattle.covstore.proofs.MapKeys.{seen, seen_insert, seen_there}
-use Rattle.covstore.proofs.Orders.{names_order}
+use Rattle.covtable.proofs.Orders.{names_order}
 
 module _ {K V : Type 0} (name : K → List ℕ) (f : V → TestData) (file : FileData) (pairs : List (K × V)) (is : seen names_order name f pairs ≡ file.tests) (test : List ℕ) where
   found : (b : Bool) → b ≡ is_some (lookup (is_at (λ other. slice_cmp nat_cmp test (name other))) pairs) → is_some (value_of (slice_cmp nat_cmp) test file.tests) ≡ b

@@ -1,6 +1,5 @@
 -- The state of rows without those of a test: each file is without the test.
 use Rattle.std.proofs.Common.{◌≡◌, ℕ, ◌≤◌, Bool, true, false, not, Option, Some, None, List, [], ◌∷◌, length, filter, refl, sym, ap, ◌∙◌, subst, cond, arith}
-use Rattle.std.specs.Prelude.{Contains}
 use Rattle.std.specs.Cmp.Lexicographic.{slice_cmp}
 use Rattle.std.specs.declared.cmp.Ordering.TheVariants.{Less}
 use Rattle.std.specs.List.{AllByRecursion}
@@ -10,23 +9,20 @@ use Rattle.std.proofs.lemmas.Bool.{false≢true}
 use Rattle.std.proofs.lemmas.List.{length-map}
 use Rattle.std.proofs.lemmas.List.Sums.{count_by-le-length, length-filter}
 use Rattle.std.proofs.lemmas.Slice.Eq.{bytes_eq-Decides}
-use Rattle.covline.specs.Lawful.{max_items}
-use Rattle.covline.specs.Row.{Row}
-use Rattle.covstore.specs.declared.totals.Totals.{Totals}
-use Rattle.covstore.specs.Clash.{Agree, Checksum, checksum_of_row, checksums_in}
+use Rattle.covdata.specs.Lawful.{max_items}
+use Rattle.covdata.specs.Row.{Row}
+use Rattle.covtable.specs.declared.totals.Totals.{Totals}
 use Rattle.covstore.specs.FileDrops.{AreWithoutTest, IsWithoutTest}
 use Rattle.covstore.specs.StoreView.{IsStore}
 use Rattle.covmap.specs.Puts.{ArePairs, value_of}
 use Rattle.covstore.specs.State.{FileData, IsStateOf, IsConsistentFile, points_at, points_in, points_or_none, text_in, totals_in}
 use Rattle.covstore.specs.Sums.{TestData, test_of}
-use Rattle.covstore.specs.Table.{Table, all_rows}
-use Rattle.covstore.specs.Value.{Key, items_at}
-use Rattle.covstore.specs.Without.{is_of_test, without_test}
+use Rattle.covtable.specs.Table.{Table, all_rows}
+use Rattle.covtable.specs.Value.{Key, items_at}
+use Rattle.covtable.specs.Without.{is_of_test, without_test}
 use Rattle.covstore.proofs.AddsPlace.{state_agrees}
-use Rattle.covstore.proofs.ContentsLists.{In-flat, In-unfilter, In-unflat}
 use Rattle.covstore.proofs.DropsTests.{none_of_others, value_of_others}
-use Rattle.covstore.proofs.Members.{Contains-from, In-from}
-use Rattle.covstore.proofs.WithoutContent.{items_of_others, items_of_test, rows_left, rows_without}
+use Rattle.covtable.proofs.WithoutContent.{items_of_others, items_of_test, rows_left, rows_without, held_before}
 
 module _ (test : List ℕ) where
   -- ---- what is found at a name
@@ -95,14 +91,6 @@ module _ (test : List ℕ) where
   all_whole (pair ∷ pairs) [] are = absurd are
   all_whole (pair ∷ pairs) (later ∷ laters) are = (are.1.whole, all_whole pairs laters are.2)
 
-  -- ---- the checksums that are left were there before
-
-  pub held_before : (rows : List Row) (checksum : Checksum) → Contains (checksums_in (rows_without test rows)) checksum → Contains (checksums_in rows) checksum
-  held_before rows checksum i =
-      let row = In-unflat checksum_of_row (rows_without test rows) checksum (In-from (checksums_in (rows_without test rows)) checksum i) in
-      let own = In-unfilter (λ r. not (is_of_test test r)) rows row.0 row.1 in
-      Contains-from (checksums_in rows) checksum (In-flat checksum_of_row rows row.0 checksum own.0 row.2)
-
   -- ---- the state
 
   module _ (rows : List Row) (files after : List (List ℕ × FileData)) (state : IsStateOf rows files) (are : AreWithoutTest test files after) where
@@ -125,7 +113,7 @@ module _ (test : List ℕ) where
       points = λ key. points_by key (bytes_eq key.test test) refl;
       texts = λ checksum i.
           text_stays checksum.line (value_of (slice_cmp nat_cmp) checksum.file files) (value_of (slice_cmp nat_cmp) checksum.file after) (found_without checksum.file files after are)
-          ∙ state.texts checksum (held_before rows checksum i);
+          ∙ state.texts checksum (held_before test rows checksum i);
       whole = all_whole files after are;
     }
 
@@ -149,10 +137,3 @@ module _ (test : List ℕ) where
         small = fewer is.own is.small;
         totals = same;
       }
-
--- if checksums agree, they still do after a test is dropped
-pub agree_left : (table : Table) (test : List ℕ) → Agree (checksums_in (all_rows table)) → Agree (checksums_in (all_rows (without_test test table)))
-agree_left table test agree a b i j =
-    let before : (sum : Checksum) → Contains (checksums_in (all_rows (without_test test table))) sum → Contains (checksums_in (all_rows table)) sum =
-    λ sum among. held_before test (all_rows table) sum (subst (λ (rows : List Row). Contains (checksums_in rows) sum) (rows_left test table) among) in
-    agree a b (before a i) (before b j)

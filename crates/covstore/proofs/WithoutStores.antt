@@ -5,27 +5,27 @@ use Rattle.std.specs.Str.{bytes_eq}
 use Rattle.std.proofs.lemmas.List.{length-map}
 use Rattle.std.proofs.lemmas.List.Sums.{length-filter}
 use Rattle.covstore.specs.declared.file.File.{File}
-use Rattle.covstore.specs.declared.totals.Totals.{Totals}
-use Rattle.covstore.specs.Content.{SectionData, content_at}
+use Rattle.covtable.specs.declared.totals.Totals.{Totals}
+use Rattle.covtable.specs.Content.{SectionData, content_at}
 use Rattle.covstore.specs.FileDrops.{AreWithoutTest}
-use Rattle.covstore.specs.TotalsExchanged.{FitTotals}
+use Rattle.covtable.specs.TotalsExchanged.{FitTotals}
 use Rattle.covstore.specs.FileView.{file_committed}
 use Rattle.covstore.specs.Renaming.{names_with}
 use Rattle.covstore.specs.StoreView.{IsStore, files_committed}
 use Rattle.covstore.specs.State.{FileData, IsConsistentFile, has_points_of, sections_of, totals_in}
 use Rattle.covstore.specs.Store.{StandsFor, StoreData}
-use Rattle.covstore.specs.Table.{Table, all_rows}
-use Rattle.covstore.specs.Totals.{AreTotals, totals_of}
-use Rattle.covstore.specs.Without.{is_of_test, sections_of_test, without_test}
+use Rattle.covtable.specs.Table.{Table, all_rows}
+use Rattle.covtable.specs.Totals.{AreTotals, totals_of}
+use Rattle.covtable.specs.Without.{is_of_test, sections_of_test, without_test}
 use Rattle.covstore.proofs.AddsPlace.{state_agrees}
 use Rattle.covstore.proofs.DropsRest.{files_without}
 use Rattle.covstore.proofs.ExchangedFiles.{totals_few}
 use Rattle.covstore.proofs.Prepares.{rows_in_table}
 use Rattle.covstore.proofs.StateSections.{sections_are}
 use Rattle.covstore.proofs.Stores.{store_bounds, store_of, store_sections, store_totals}
-use Rattle.covstore.proofs.WithoutContent.{content_left, content_without, rows_without, sections_counted}
+use Rattle.covtable.proofs.WithoutContent.{content_left, content_without, rows_without, sections_counted, agree_left}
 use Rattle.covstore.proofs.WithoutSections.{count_in_files}
-use Rattle.covstore.proofs.WithoutState.{agree_left, fewer, state_without, store_without}
+use Rattle.covstore.proofs.WithoutState.{fewer, state_without, store_without}
 
 module _ (test : List ℕ) (members : ℕ) (committed : Totals) (files : List (List ℕ × FileData)) (is : IsStore members committed files) where
   -- the sections of other tests

@@ -2,7 +2,7 @@
 use Rattle.std.specs.Prelude.{ℕ, ◌<◌, ◌^◌, Option, Some, None, List, [], ◌++◌, length}
 use Rattle.std.specs.List.{flat_map}
 use Rattle.covstore.specs.declared.test.Test.{Test}
-use Rattle.covstore.specs.Content.{SectionData}
+use Rattle.covtable.specs.Content.{SectionData}
 use Rattle.covstore.specs.declared.file.File.{File}
 use Rattle.covstore.specs.StoreView.{files_committed}
 use Rattle.covstore.specs.State.{section_seen, sections_of}

@@ -2,7 +2,7 @@
 use Rattle.std.specs.Prelude.{◌≡◌, ℕ, true, List}
 use Rattle.std.specs.Option.{is_some}
 use Rattle.std.specs.Ordering.{nat_cmp}
-use Rattle.covstore.specs.declared.totals.Totals.{Totals}
+use Rattle.covtable.specs.declared.totals.Totals.{Totals}
 use Rattle.covmap.specs.Puts.{value_of}
 use Rattle.covstore.specs.PointIndexCounts.{found_of, hit_of}
 use Rattle.covstore.specs.Kinds.{CountsOf, Each}

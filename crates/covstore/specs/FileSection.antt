@@ -2,11 +2,11 @@
 use Rattle.std.specs.Prelude.{◌≡◌, ℕ, ◌+◌, ◌≤◌, ◌^◌, Some, None, List, ◌++◌, length}
 use Rattle.std.specs.Cmp.Lexicographic.{slice_cmp}
 use Rattle.std.specs.Ordering.{nat_cmp}
-use Rattle.covline.specs.Row.{ItemData, Row, rows_of_sect}
+use Rattle.covdata.specs.Row.{ItemData, Row, rows_of_sect}
 use Rattle.covstore.specs.declared.stage.fault.StageFault.{StageFault}
 use Rattle.covstore.specs.declared.stage.fault.StageFault.TheVariants.{Clash, Memory}
 use Rattle.covstore.specs.Section.{clash_in_file, section_of_items}
-use Rattle.covstore.specs.Clash.{Agree, checksums_in, clash_of}
+use Rattle.covtable.specs.Clash.{Agree, checksums_in, clash_of}
 use Rattle.covmap.specs.Puts.{ArePairs, put, value_of}
 use Rattle.covstore.specs.State.{FileData, IsStateOf}
 use Rattle.covstore.specs.Store.{KeepsState}

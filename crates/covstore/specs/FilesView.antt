@@ -1,18 +1,9 @@
 -- The files that an iterator over the files of a store has left.
-use Rattle.std.specs.Prelude.{ℕ, Bool, ◌==◌, ◌&&◌, if◌then◌else◌, List, [], ◌∷◌}
+use Rattle.std.specs.Prelude.{ℕ, if◌then◌else◌, List, [], ◌∷◌}
 use Rattle.std.specs.List.{flat_map}
-use Rattle.covstore.specs.declared.files.FileTotals.{FileTotals}
-use Rattle.covstore.specs.declared.totals.Totals.{Totals}
-use Rattle.covstore.specs.Files.{FileTotalsData}
+use Rattle.covtable.specs.Files.{FileTotalsData}
+use Rattle.covtable.specs.TotalsExchanged.{finds_nothing}
 use Rattle.covstore.specs.State.{FileData, file_totals}
-
--- a `FileTotals`, seen as plain data
-abbrev pub file_totals_data : FileTotals → FileTotalsData
-file_totals_data file = record { path = file.path.now; totals = file.totals }
-
--- no point of any kind is found
-abbrev pub finds_nothing : Totals → Bool
-finds_nothing totals = totals.lf == 0 && totals.ff == 0 && totals.bf == 0
 
 -- the file with the totals that are kept for it
 abbrev pub file_seen : List ℕ × FileData → FileTotalsData

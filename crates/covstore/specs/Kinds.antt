@@ -3,13 +3,13 @@ use Rattle.std.specs.Prelude.{ℕ, Bool, nat_lt, List}
 use Rattle.std.specs.Cmp.Lexicographic.{slice_cmp}
 use Rattle.std.specs.declared.cmp.Ordering.{Ordering}
 use Rattle.std.specs.Ordering.{nat_cmp}
-use Rattle.covline.specs.Points.{BranchPoint, branch_point, func_point, line_point}
-use Rattle.covline.specs.Row.{ItemData}
+use Rattle.covdata.specs.Points.{BranchPoint, branch_point, func_point, line_point}
+use Rattle.covdata.specs.Row.{ItemData}
 use Rattle.covstore.specs.declared.sums.LineSum.{LineSum}
 use Rattle.covstore.specs.declared.sums.FunctionSum.{FunctionSum}
 use Rattle.covstore.specs.declared.sums.BranchSum.{BranchSum}
 use Rattle.covstore.specs.declared.sums.TestCounts.{TestCounts}
-use Rattle.covstore.specs.Value.{branch_cmp, is_taken}
+use Rattle.covtable.specs.Value.{branch_cmp, is_taken}
 
 pub data Kind : Type 0 where
   Line : Kind

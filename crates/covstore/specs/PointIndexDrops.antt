@@ -6,7 +6,7 @@ use Rattle.std.specs.Option.{is_some}
 use Rattle.covstore.specs.declared.point_index.KindTally.{KindTally}
 use Rattle.covstore.specs.declared.sums.LineSum.{LineSum}
 use Rattle.covstore.specs.declared.sums.TestCounts.{TestCounts}
-use Rattle.covstore.specs.declared.totals.Totals.{Totals}
+use Rattle.covtable.specs.declared.totals.Totals.{Totals}
 use Rattle.covmap.specs.Assigned.{assigned}
 use Rattle.covstore.specs.PointIndex.{IsTallyOf}
 use Rattle.covstore.specs.PointIndexCounts.{AreCounts, is_above_at, one_if}

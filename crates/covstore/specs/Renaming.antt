@@ -3,21 +3,21 @@ use Rattle.std.specs.Prelude.{◌≡◌, ◌≢◌, ℕ, ◌+◌, ◌≤◌, ◌
 use Rattle.std.specs.Cmp.Lexicographic.{slice_cmp}
 use Rattle.std.specs.Option.{is_some}
 use Rattle.std.specs.Ordering.{nat_cmp}
-use Rattle.covline.specs.Row.{ItemData, LineItem, FuncItem, BranchItem, Row}
-use Rattle.covline.specs.Points.{BranchPoint}
+use Rattle.covdata.specs.Row.{ItemData, LineItem, FuncItem, BranchItem, Row}
+use Rattle.covdata.specs.Points.{BranchPoint}
 use Rattle.covstore.specs.declared.sums.LineSum.{LineSum}
 use Rattle.covstore.specs.declared.sums.FunctionSum.{FunctionSum}
 use Rattle.covstore.specs.declared.sums.BranchSum.{BranchSum}
 use Rattle.covstore.specs.FileSection.{HasFile}
 use Rattle.covstore.specs.FileIndex.{FileIndexData}
 use Rattle.covmap.specs.Puts.{put, value_of}
-use Rattle.covstore.specs.Renamed.{moved_rows, renamed}
+use Rattle.covtable.specs.Renamed.{moved_rows, renamed}
 use Rattle.covstore.specs.StoreSection.{rows_of_items}
 use Rattle.covstore.specs.State.{FileData, IsStateOf, has_checksum, has_no_points, has_points_of, points_at, text_at}
 use Rattle.covstore.specs.Store.{StandsFor, StoreData}
 use Rattle.covstore.specs.Sums.{TestData}
-use Rattle.covstore.specs.Table.{Table}
-use Rattle.covstore.specs.Value.{Key, items_at}
+use Rattle.covtable.specs.Table.{Table}
+use Rattle.covtable.specs.Value.{Key, items_at}
 use Rattle.covstore.specs.PointIndexCounts.{is_above_at}
 
 -- a rename: in how many sections the old test is, and the test that the commit drops, if it drops one

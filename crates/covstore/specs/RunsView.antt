@@ -1,6 +1,6 @@
 -- `Runs`, seen as plain data.
 use Rattle.std.specs.Prelude.{map}
-use Rattle.covline.specs.PointView.{branch_point_data}
+use Rattle.covdata.specs.PointView.{branch_point_data}
 use Rattle.covstore.specs.declared.runs.Runs.{Runs}
 use Rattle.covstore.specs.Kinds.{Each}
 use Rattle.covstore.specs.Runs.{RunOf}

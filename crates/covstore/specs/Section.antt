@@ -2,10 +2,10 @@
 use Rattle.std.specs.Prelude.{◌≡◌, ℕ, ◌+◌, ◌≤◌, ◌^◌, Some, None, List, ◌++◌, length}
 use Rattle.std.specs.Cmp.Lexicographic.{slice_cmp}
 use Rattle.std.specs.Ordering.{nat_cmp}
-use Rattle.covline.specs.Row.{ItemData, Row, SectData, rows_of_sect}
+use Rattle.covdata.specs.Row.{ItemData, Row, SectData, rows_of_sect}
 use Rattle.covstore.specs.declared.stage.fault.StageFault.{StageFault}
 use Rattle.covstore.specs.declared.stage.fault.StageFault.TheVariants.{Clash, Memory}
-use Rattle.covstore.specs.Clash.{ClashData, Agree, checksums_in, clash_of}
+use Rattle.covtable.specs.Clash.{ClashData, Agree, checksums_in, clash_of}
 use Rattle.covstore.specs.FileIndex.{FileIndexData}
 use Rattle.covmap.specs.Puts.{put, value_of}
 use Rattle.covstore.specs.State.{FileData, IsStateOf, file_with}

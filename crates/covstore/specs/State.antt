@@ -4,20 +4,20 @@ use Rattle.std.specs.Prelude.{◌≡◌, ℕ, Bool, true, false, nat_lt, ◌&&�
 use Rattle.std.specs.Cmp.Lexicographic.{slice_cmp}
 use Rattle.std.specs.List.{flat_map, sum_by, AllByRecursion}
 use Rattle.std.specs.Ordering.{nat_cmp}
-use Rattle.covline.specs.Points.{BranchPoint}
-use Rattle.covline.specs.Row.{Row}
+use Rattle.covdata.specs.Points.{BranchPoint}
+use Rattle.covdata.specs.Row.{Row}
 use Rattle.covstore.specs.declared.sums.LineSum.{LineSum}
 use Rattle.covstore.specs.declared.sums.FunctionSum.{FunctionSum}
 use Rattle.covstore.specs.declared.sums.BranchSum.{BranchSum}
-use Rattle.covstore.specs.declared.totals.Totals.{Totals}
-use Rattle.covstore.specs.Clash.{Checksum, checksums_in}
-use Rattle.covstore.specs.Content.{FunctionValueData, BranchValueData, LineValueData, SectionData}
+use Rattle.covtable.specs.declared.totals.Totals.{Totals}
+use Rattle.covtable.specs.Clash.{Checksum, checksums_in}
+use Rattle.covtable.specs.Content.{FunctionValueData, BranchValueData, LineValueData, SectionData}
 use Rattle.covstore.specs.FileIndex.{FileIndexData, index_totals}
 use Rattle.covstore.specs.PointIndexCounts.{AreCounts, found_of, hit_of, is_above_at}
 use Rattle.covstore.specs.Kinds.{Branch, Function, Kind, Line, above_of, at, cmp_of}
 use Rattle.covmap.specs.Puts.{ArePairs, value_of}
 use Rattle.covstore.specs.Sums.{TestData, test_of}
-use Rattle.covstore.specs.Value.{Key, items_at}
+use Rattle.covtable.specs.Value.{Key, items_at}
 
 -- ---- one file
 

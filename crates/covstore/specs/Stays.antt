@@ -11,7 +11,7 @@ use Rattle.covstore.specs.declared.sums.LineSum.{LineSum}
 use Rattle.covstore.specs.PointIndexCounts.{is_above_at}
 use Rattle.covstore.specs.Kinds.{branch_above, function_above, line_above}
 use Rattle.covstore.specs.Sums.{branch_with, function_with, line_with, sum_taken}
-use Rattle.covstore.specs.Value.{bounded, is_taken}
+use Rattle.covtable.specs.Value.{bounded, is_taken}
 
 more_above : (before count : ℕ) → nat_lt 0 before ≡ true → nat_lt 0 (bounded (before + count)) ≡ true
 more_above before count e = lt-ltb 0 (bounded (before + count)) (omega (arith, ltb-true 0 before e))

@@ -1,13 +1,14 @@
 -- What a store is to its callers: its content, the tables that it represents, and what is staged.
 use Rattle.std.specs.Prelude.{◌≡◌, ℕ, ◌+◌, ◌<◌, ◌≤◌, ◌^◌, List, ◌++◌, Some, None, length}
 use Rattle.std.specs.List.{AllByRecursion}
-use Rattle.covline.specs.Row.{Row, SubmissionData, rows_of}
-use Rattle.covline.specs.Lawful.{IsLawful, max_items}
-use Rattle.covstore.specs.declared.totals.Totals.{Totals}
-use Rattle.covstore.specs.Clash.{ClashData, Agree, checksums_in, clash_of}
-use Rattle.covstore.specs.Content.{SectionData, content_at}
+use Rattle.covdata.specs.Row.{Row, SubmissionData, rows_of}
+use Rattle.covdata.specs.Lawful.{IsLawful, max_items}
+use Rattle.covtable.specs.declared.totals.Totals.{Totals}
+use Rattle.covtable.specs.Clash.{Agree, checksums_in, clash_of}
+use Rattle.covtable.specs.Content.{SectionData, content_at}
+use Rattle.covtable.specs.Refuse.{RefuseData, ClashRefuse, MemoryRefuse}
 use Rattle.covstore.specs.State.{FileData, IsStateOf, totals_in}
-use Rattle.covstore.specs.Table.{Table, all_rows, clash_at}
+use Rattle.covtable.specs.Table.{Table, all_rows}
 
 -- the largest number of submissions in a store
 abbrev pub max_members : ℕ
@@ -68,16 +69,6 @@ pub record IsPlanOf (store : StoreData) (submission : SubmissionData) (plan : Pl
   pub planned : plan.after ≡ store.after
   pub totals : store.after ≡ totals_in store.staged
   pub few : store.members < max_members
-
--- why no plan is made
-pub data RefuseData : Type 0 where
-  ClashRefuse : (clash : ClashData) → RefuseData
-  MemoryRefuse : RefuseData
-
--- if the refusal is a clash, it is the first clash of the submission with the table
-abbrev pub IsRefusedAt : Table → SubmissionData → RefuseData → Type 0
-IsRefusedAt table submission (ClashRefuse clash) = clash_at table submission ≡ Some clash
-IsRefusedAt table submission MemoryRefuse = Unit {0}
 
 -- ---- staging rows
 

@@ -1,6 +1,6 @@
 -- A store whose sections are those of its committed files.
 use Rattle.std.specs.Prelude.{◌≡◌}
-use Rattle.covstore.specs.declared.totals.Totals.{Totals}
+use Rattle.covtable.specs.declared.totals.Totals.{Totals}
 use Rattle.covstore.specs.Store.{StoreData}
 use Rattle.covstore.specs.StoreView.{IsStore}
 use Rattle.covstore.specs.State.{sections_of}

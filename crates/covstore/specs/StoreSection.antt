@@ -1,11 +1,11 @@
 -- When a store's files have room for a section's items, and when the items are refused.
 use Rattle.std.specs.Prelude.{◌≡◌, ℕ, ◌+◌, ◌≤◌, ◌^◌, Some, List, length}
-use Rattle.covline.specs.Row.{ItemData, Row, rows_of_sect}
+use Rattle.covdata.specs.Row.{ItemData, Row, rows_of_sect}
 use Rattle.covstore.specs.Section.{section_of_items}
-use Rattle.covstore.specs.Clash.{Agree, checksums_in, clash_of}
+use Rattle.covtable.specs.Clash.{Agree, checksums_in, clash_of}
 use Rattle.covstore.specs.FileSection.{HasFile}
 use Rattle.covstore.specs.State.{FileData, IsStateOf}
-use Rattle.covstore.specs.Store.{RefuseData, ClashRefuse, MemoryRefuse}
+use Rattle.covtable.specs.Refuse.{RefuseData, ClashRefuse, MemoryRefuse}
 
 -- these items of a test of a file, as rows
 abbrev pub rows_of_items : List ℕ → List ℕ → List ItemData → List Row

@@ -2,16 +2,16 @@
 use Rattle.std.specs.Prelude.{◌≡◌, ℕ, ◌≤◌, false, List, [], length, map, filter}
 use Rattle.std.specs.List.{AllByRecursion, list_any}
 use Rattle.std.specs.Str.{bytes_eq}
-use Rattle.covline.specs.Lawful.{max_items}
+use Rattle.covdata.specs.Lawful.{max_items}
 use Rattle.covstore.specs.declared.file.File.{File}
 use Rattle.covstore.specs.declared.store.Touched.{Touched}
-use Rattle.covstore.specs.declared.totals.Totals.{Totals}
-use Rattle.covstore.specs.Clash.{Agree, checksums_in}
+use Rattle.covtable.specs.declared.totals.Totals.{Totals}
+use Rattle.covtable.specs.Clash.{Agree, checksums_in}
 use Rattle.covstore.specs.FileView.{file_staged, file_committed}
 use Rattle.covstore.specs.FileIndexView.{index_staged, index_committed}
 use Rattle.covstore.specs.State.{FileData, IsStateOf, totals_in}
 use Rattle.covstore.specs.Store.{max_members}
-use Rattle.covstore.specs.Table.{Table, all_rows}
+use Rattle.covtable.specs.Table.{Table, all_rows}
 use Rattle.covstore.specs.TestView.{test_staged, test_committed}
 
 -- the files by their names. `name` gives the name for a key of the map

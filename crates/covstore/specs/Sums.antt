@@ -3,14 +3,14 @@ use Rattle.std.specs.Prelude.{ℕ, ◌+◌, min, Bool, ◌||◌, Option, Some, N
 use Rattle.std.specs.Option.{is_some}
 use Rattle.std.specs.Cmp.Lexicographic.{slice_cmp}
 use Rattle.std.specs.Ordering.{nat_cmp}
-use Rattle.covline.specs.Points.{BranchPoint}
-use Rattle.covline.specs.Row.{ItemData, LineItem, FuncItem, BranchItem}
+use Rattle.covdata.specs.Points.{BranchPoint}
+use Rattle.covdata.specs.Row.{ItemData, LineItem, FuncItem, BranchItem}
 use Rattle.covstore.specs.declared.sums.LineSum.{LineSum}
 use Rattle.covstore.specs.declared.sums.FunctionSum.{FunctionSum}
 use Rattle.covstore.specs.declared.sums.BranchSum.{BranchSum}
 use Rattle.covstore.specs.Kinds.{Branch, Each, Function, KeyOf, Kind, Line, PointsOf, SumOf, with_at}
 use Rattle.covmap.specs.Puts.{put, value_of}
-use Rattle.covstore.specs.Value.{bounded, branch_cmp, branch_value, branches_in, function_count, function_start, line_checksum, line_value, lines_in, names_in}
+use Rattle.covtable.specs.Value.{bounded, branch_cmp, branch_value, branches_in, function_count, function_start, line_checksum, line_value, lines_in, names_in}
 
 -- the lines, functions and branches of a test. Each point has what the test's items add up to there
 abbrev pub TestData : Type 0

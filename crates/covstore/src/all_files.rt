@@ -3,7 +3,7 @@
 ghost use Rattle.std.specs.Prelude.{◌≡◌, ◌≢◌, ℕ, List, [], true, count_by, map, IfOk, OnErr};
 ghost use Rattle.std.specs.List.{AllByRecursion};
 ghost use Rattle.covstore.specs.FileDrops.{AreWithoutTest, IsWithoutTest};
-ghost use Rattle.covstore.specs.TotalsExchanged.{FitTotals};
+ghost use Rattle.covtable.specs.TotalsExchanged.{FitTotals};
 ghost use Rattle.covstore.specs.FileView.{file_committed};
 ghost use Rattle.covstore.specs.StoreView.{AreSettledBut, IsSettledBut, files_committed};
 ghost use Rattle.covstore.specs.Renaming.{names_with};
@@ -12,8 +12,8 @@ ghost use Rattle.covstore.specs.State.{FileData, IsConsistentFile, has_points_of
 use crate::boxed::Boxed;
 use crate::file::File;
 use crate::path::Path;
-use crate::totals::Totals;
-use covline::Memory;
+use covdata::Memory;
+use covtable::Totals;
 use std::alloc::Allocator;
 use std::collections::BTreeMap;
 

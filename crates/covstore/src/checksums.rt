@@ -11,7 +11,7 @@ use crate::kept_texts::KeptTexts;
 use crate::packed_u64::PackedU64;
 use crate::short_text::ShortText;
 use crate::stage::fault::StageFault;
-use covline::Bytes;
+use covdata::Bytes;
 use covmap::{SlotIndex, StagedMap};
 use std::alloc::Allocator;
 use std::marker::Model;

@@ -27,7 +27,7 @@ pub(crate) struct FileSections<'a, A: Allocator> {
 impl<'a, A: Allocator> Model for FileSections<'a, A> {
     ghost use Rattle.std.specs.Prelude.{List};
     ghost use Rattle.std.specs.List.{AllByRecursion};
-    ghost use Rattle.covstore.specs.Content.{SectionData};
+    ghost use Rattle.covtable.specs.Content.{SectionData};
     ghost use Rattle.covstore.specs.ContentView.{IsFewOf, tests_seen};
 
     ghost Value = { List SectionData };
@@ -72,7 +72,7 @@ pub struct Section<'a, A: Allocator = Global> {
 }
 
 impl<'a, A: Allocator> Model for Section<'a, A> {
-    ghost use Rattle.covstore.specs.Content.{SectionData};
+    ghost use Rattle.covtable.specs.Content.{SectionData};
     ghost use Rattle.covstore.specs.ContentView.{IsFewOf};
     ghost use Rattle.covstore.specs.State.{section_with_points};
     ghost use Rattle.covstore.specs.TestView.{test_committed};
@@ -154,7 +154,7 @@ pub struct Sections<'a, A: Allocator = Global> {
 impl<'a, A: Allocator> Model for Sections<'a, A> {
     ghost use Rattle.std.specs.Prelude.{List};
     ghost use Rattle.std.specs.List.{AllByRecursion};
-    ghost use Rattle.covstore.specs.Content.{SectionData};
+    ghost use Rattle.covtable.specs.Content.{SectionData};
     ghost use Rattle.covstore.specs.ContentView.{IsFewOf, sections_left};
 
     ghost Value = { List SectionData };

@@ -5,15 +5,14 @@ ghost use Rattle.std.specs.Prelude.{◌≡◌, ℕ, List, [], ◌∷◌, ◌++�
 use crate::boxed::Boxed;
 use crate::content::FileSections;
 use crate::index::FileIndex;
-use crate::refuse::Refuse;
 use crate::stage::copied::stage_values;
 use crate::stage::fault::StageFault;
 use crate::stage::section::stage_items;
 use crate::test::Test;
 use crate::tests::Tests;
-use crate::totals::Totals;
-use covline::{Bytes, Memory};
+use covdata::{Bytes, Memory};
 use covpacked::PackedItems;
+use covtable::{Refuse, Totals};
 use std::alloc::Allocator;
 use std::marker::Model;
 use std::mem;
@@ -68,7 +67,7 @@ impl<A: Allocator + Copy> File<A> {
     ghost use Rattle.covstore.specs.FileView.{KeepsFile, file_staged, file_committed, no_file, with_test};
     ghost use Rattle.covstore.specs.StoreView.{IsSettledBut};
     ghost use Rattle.covmap.specs.Puts.{value_of};
-    ghost use Rattle.covstore.specs.RefuseView.{refuse_data};
+    ghost use Rattle.covtable.specs.RefuseView.{refuse_data};
     ghost use Rattle.covstore.specs.Renaming.{CopiesIn, HasRoomToCopyIn};
     ghost use Rattle.covstore.specs.StoreSection.{RefusedIn};
     ghost use Rattle.covstore.specs.State.{FileData, IsConsistentFile, file_totals, has_points_of};

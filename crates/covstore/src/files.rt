@@ -3,19 +3,10 @@
 use crate::boxed::Boxed;
 use crate::file::File;
 use crate::path::Path;
-use crate::totals::Totals;
+use covtable::FileTotals;
 use std::alloc::{Allocator, Global};
 use std::collections::btree_map::Iter;
 use std::marker::Model;
-
-/// A source file with its totals over all tests.
-#[derive(Clone, Copy)]
-pub struct FileTotals<'a> {
-    /// The source file's path.
-    pub path: &'a [u8],
-    /// The totals of the file.
-    pub totals: Totals,
-}
 
 /// An iterator over the files that have points, ascending by path, each with its totals. Contracts see the files that are left.
 #[derive(Drop)]
@@ -25,7 +16,7 @@ pub struct Files<'a, A: Allocator = Global> {
 
 impl<'a, A: Allocator> Model for Files<'a, A> {
     ghost use Rattle.std.specs.Prelude.{List};
-    ghost use Rattle.covstore.specs.Files.{FileTotalsData};
+    ghost use Rattle.covtable.specs.Files.{FileTotalsData};
     ghost use Rattle.covstore.specs.FilesView.{files_with_points};
     ghost use Rattle.covstore.specs.StoreView.{files_committed};
 
@@ -49,7 +40,7 @@ impl<'a, A: Allocator> Files<'a, A> {
 
 impl<'a, A: Allocator + Copy> Iterator for Files<'a, A> {
     ghost use Rattle.std.specs.Iterator.{YieldsFirstBy, item_count};
-    ghost use Rattle.covstore.specs.FilesView.{file_totals_data};
+    ghost use Rattle.covtable.specs.ValuesView.{file_totals_data};
 
     type Item = FileTotals<'a>;
 

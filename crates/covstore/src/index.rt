@@ -15,7 +15,7 @@ use crate::kind_index::KindIndex;
 use crate::point_index::KindTally;
 use crate::sums::{BranchSum, FunctionSum, LineSum};
 use crate::test::Test;
-use crate::totals::Totals;
+use covtable::Totals;
 use std::alloc::{AllocError, Allocator};
 
 /// The index of a file. Counts for each point how many tests have the point, and how many tests hit the point (value above 0). Also

@@ -5,12 +5,12 @@ ghost use Rattle.std.specs.Cmp.Lexicographic.{slice_cmp};
 ghost use Rattle.std.specs.Ordering.{nat_cmp};
 ghost use Rattle.std.proofs.lemmas.Cmp.{nat_list_cmp_total};
 ghost use Rattle.std.proofs.lemmas.Map.Lookups.{exact_bytes};
-ghost use Rattle.covstore.specs.Keys.{branch_key_exact, branch_key_total};
-ghost use Rattle.covstore.specs.Value.{branch_cmp};
-ghost use Rattle.covline.specs.PointView.{branch_point_data};
+ghost use Rattle.covtable.specs.Keys.{branch_key_exact, branch_key_total};
+ghost use Rattle.covtable.specs.Value.{branch_cmp};
+ghost use Rattle.covdata.specs.PointView.{branch_point_data};
 
 use crate::path::order_bytes;
-use covline::{BranchPoint, Bytes};
+use covdata::{BranchPoint, Bytes};
 use covmap::{CopyKey, Key, Query};
 use std::alloc::{AllocError, Allocator};
 use std::cmp::Ordering;
@@ -101,8 +101,8 @@ pub(crate) struct Branch {
 }
 
 impl Model for Branch {
-    ghost use Rattle.covline.specs.PointView.{branch_point_data};
-    ghost use Rattle.covline.specs.Points.{BranchPoint};
+    ghost use Rattle.covdata.specs.PointView.{branch_point_data};
+    ghost use Rattle.covdata.specs.Points.{BranchPoint};
 
     ghost Value = { BranchPoint };
 

@@ -3,6 +3,8 @@
 //! `prepare` rejects a submission if one of its checksums differs from the checksum that the store, or an earlier record of the
 //! submission, has for the same line of the same file. Lines without a checksum are never compared.
 //!
+//! The contracts say which table of counts a store represents. covtable defines the table, its content, its totals and its clashes.
+//!
 //! A submission is added in two steps. `prepare` compares checksums, allocates all memory and returns a plan. `commit` adds the
 //! submission and never allocates. Between the two steps, the caller can make allocations of its own, and can drop the plan if one
 //! of them fails. Renaming a test also takes two steps, `prepare_rename` and `commit_rename`. Dropping a test takes one step,
@@ -41,7 +43,6 @@ mod index;
 mod kept_texts;
 mod keys;
 mod kind_index;
-pub mod laws;
 mod named_tests;
 mod only_test;
 mod packed_taken;
@@ -50,7 +51,6 @@ mod packed_u64;
 mod path;
 mod plan;
 mod point_index;
-mod refuse;
 mod renaming;
 mod runs;
 mod short_text;
@@ -60,14 +60,10 @@ mod store;
 mod sums;
 mod test;
 mod tests;
-mod totals;
-mod values;
 
 pub use content::{Branches, Functions, Lines, Section, Sections};
-pub use files::{FileTotals, Files};
+pub use covtable::{Refuse, Totals};
+pub use files::Files;
 pub use plan::Plan;
-pub use refuse::Refuse;
 pub use renaming::Renaming;
 pub use store::Store;
-pub use totals::Totals;
-pub use values::{BranchValue, FunctionValue, LineValue};

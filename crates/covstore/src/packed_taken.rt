@@ -2,7 +2,7 @@
 
 ghost use Rattle.std.specs.Prelude.{◌≡◌, None};
 ghost use Rattle.covstore.specs.Sums.{sum_taken};
-ghost use Rattle.covstore.specs.Value.{is_taken};
+ghost use Rattle.covtable.specs.Value.{is_taken};
 
 use crate::packed_u128::PackedU128;
 use std::marker::Model;

@@ -1,7 +1,7 @@
 //! A number of 128 bits in sixteen bytes, without padding. A struct with a `u128` would be padded to a multiple of sixteen bytes.
 
 ghost use Rattle.std.specs.Prelude.{◌≡◌, ◌+◌, nat_lt};
-ghost use Rattle.covstore.specs.Value.{bounded};
+ghost use Rattle.covtable.specs.Value.{bounded};
 
 use crate::packed_u64::PackedU64;
 use covmap::Value;

@@ -1,6 +1,6 @@
 //! A submission that a store is prepared to add.
 
-use crate::totals::Totals;
+use covtable::Totals;
 use std::marker::Model;
 
 /// A submission that a store is prepared to add. The plan has the totals after the commit. The values to commit are staged in the
@@ -12,7 +12,7 @@ pub struct Plan {
 
 impl Model for Plan {
     ghost use Rattle.covstore.specs.Store.{PlanData};
-    ghost use Rattle.covstore.specs.Totals.{AreTotals};
+    ghost use Rattle.covtable.specs.Totals.{AreTotals};
 
     ghost Value = { PlanData };
 
@@ -23,7 +23,7 @@ impl Model for Plan {
 
 impl Plan {
     ghost use Rattle.std.specs.Prelude.{◌≡◌};
-    ghost use Rattle.covstore.specs.Totals.{AreTotals};
+    ghost use Rattle.covtable.specs.Totals.{AreTotals};
 
     /// A plan whose commit gives the store the totals `after`.
     pub(crate) fn new(after: Totals) -> Plan

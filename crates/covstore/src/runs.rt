@@ -16,7 +16,7 @@ use crate::index::FileIndex;
 use crate::stage::point_run::{stage_one_by_one, stage_whole_run};
 use crate::sums::{BranchAddend, FunctionAddend, LineAddend};
 use crate::test::Test;
-use covline::BranchPoint;
+use covdata::BranchPoint;
 use covpacked::{ItemRef, PackedItems};
 use std::alloc::{AllocError, Allocator};
 

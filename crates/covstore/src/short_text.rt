@@ -2,7 +2,7 @@
 
 ghost use Rattle.std.specs.Prelude.{◌≡◌, ◌≤◌, IfOk, length};
 
-use covline::{Bytes, Memory};
+use covdata::{Bytes, Memory};
 use std::alloc::Allocator;
 use std::marker::Model;
 

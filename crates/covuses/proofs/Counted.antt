@@ -2,9 +2,10 @@
 use Rattle.std.proofs.Common.{◌≡◌, ◌≢◌, ℕ, Option, Bor, refl, List, [], ◌∷◌, ◌++◌, ◌∙◌, ap, sym, subst, append_assoc}
 use Rattle.std.proofs.lemmas.List.{append-nil}
 use Rattle.std.specs.List.{flat_map}
-use Rattle.covline.specs.declared.trace_line.TraceLine.{TraceLine}
-use Rattle.covline.specs.declared.trace_line.TraceLine.TheVariants as lines
-use Rattle.covline.specs.Spells.{LineData, Spells, line_data}
+use Rattle.covdata.specs.declared.trace_line.TraceLine.{TraceLine}
+use Rattle.covdata.specs.declared.trace_line.TraceLine.TheVariants as lines
+use Rattle.covdata.specs.Records.{LineData, line_data}
+use Rattle.covline.specs.Spells.{Spells}
 use Rattle.covread.specs.Reads.{AllSpell}
 use Rattle.covuses.specs.Counted.{if_counted, AreCounted}
 

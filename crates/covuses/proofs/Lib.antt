@@ -1,2 +1,3 @@
 mod StandsStill
 mod Counted
+mod FirstBytes

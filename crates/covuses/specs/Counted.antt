@@ -1,8 +1,8 @@
 -- The counted lines of a tracefile.
 use Rattle.std.specs.Prelude.{◌≡◌, ℕ, List, []}
 use Rattle.std.specs.List.{flat_map}
-use Rattle.covline.specs.Spells.{LineData, Test, Path, FuncStart, FuncCount, Branch, Line, Total, End, Skip}
-use Rattle.covline.specs.Printed.{printed}
+use Rattle.covdata.specs.Records.{LineData, Test, Path, FuncStart, FuncCount, Branch, Line, Total, End, Skip}
+use Rattle.covdata.specs.Printed.{printed}
 use Rattle.covread.specs.Reads.{AllSpell}
 
 -- what is printed for a record: its line if it counts a line (`DA:`), and else nothing

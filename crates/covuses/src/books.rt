@@ -6,7 +6,7 @@ ghost use Rattle.covbook.specs.Step.{answer_of, table_of};
 ghost use Rattle.covbook.specs.View.{answer_data};
 
 use covbook::{Answer, Book, BookFault, Op, SubRef};
-use covline::Submission;
+use covdata::Submission;
 use std::alloc::Global;
 
 /// Returns a new book's answers to a submission, and then to a report.

@@ -9,5 +9,6 @@ pub mod records;
 pub mod reports;
 pub mod sessions;
 pub mod stores;
+pub mod streams;
 #[cfg(test)]
 mod tests;

@@ -4,16 +4,16 @@ ghost use Rattle.std.specs.Prelude.{◌⊎◌, ◌≡◌, IfOk, Ok};
 ghost use Rattle.covread.specs.Outcome as trace;
 ghost use Rattle.covread.specs.GcovOutcome as gcov;
 ghost use Rattle.covlcov2.specs.Outcome as lcov2;
-ghost use Rattle.covline.specs.Row.{SubmissionData, items_in};
+ghost use Rattle.covdata.specs.Row.{SubmissionData, items_in};
 ghost use Rattle.covcheck.specs.declared.text_summary.TextSummary.{TextSummary as SummaryData};
 ghost use Rattle.covcheck.specs.TextSummary.{Holds};
 ghost use Rattle.covcheck.specs.Skipped.{IsSkippedRecord};
 ghost use Rattle.covcheck.specs.SummaryLine.{summary_text};
 
 use covcheck::{check_trace, summary_line};
+use covdata::{ReadFault, Submission};
 use covlcov2::read_lcov2;
-use covline::Submission;
-use covread::{ReadFault, read_gcov, read_trace};
+use covread::{read_gcov, read_trace};
 use std::alloc::Global;
 
 /// Reads the text as a tracefile, or as gcov's annotated source if the tracefile has no items. The source's counts belong to the

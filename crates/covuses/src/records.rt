@@ -4,7 +4,8 @@ ghost use Rattle.std.specs.Prelude.{IfOk};
 ghost use Rattle.covline.specs.Lines.{lines_of};
 ghost use Rattle.covuses.specs.Counted.{AreCounted};
 
-use covline::{Bytes, LineFault, Memory, TraceLine, lines, put_line, read_line};
+use covdata::{Bytes, LineFault, Memory, TraceLine};
+use covline::{lines, put_line, read_line};
 use std::alloc::Global;
 use thiserror::Error;
 

@@ -1,12 +1,12 @@
 //! A use of covreport.
 
 ghost use Rattle.std.specs.Prelude.{◌≡◌, [], ◌∷◌, IfOk};
-ghost use Rattle.covstore.specs.Totals.{totals_of};
+ghost use Rattle.covtable.specs.Totals.{totals_of};
 ghost use Rattle.covreport.specs.Choice.{Extracted};
 ghost use Rattle.covreport.specs.Report.{report_text};
 ghost use Rattle.covreport.specs.Summary.{summary_of};
 
-use covline::Bytes;
+use covdata::Bytes;
 use covreport::{Choice, PatternFault, Patterns, summary_text, trace_text};
 use covstore::Store;
 use std::alloc::Global;

@@ -3,8 +3,9 @@
 ghost use Rattle.std.specs.Prelude.{IfOk, Some};
 ghost use Rattle.covsession.specs.Session.{IsSession};
 
+use covsession::SessionFault;
 use covsession::session::session;
-use covsession::{Failed, FromRead, SessionFault, Sink};
+use covstream::{Failed, FromRead, Sink};
 use std::alloc::Global;
 
 /// A sink that stores all bytes.

@@ -1,10 +1,10 @@
 //! A use of covstore.
 
 ghost use Rattle.std.specs.Prelude.{[], ◌∷◌, IfOk};
-ghost use Rattle.covline.specs.Row.{rows_of};
+ghost use Rattle.covdata.specs.Row.{rows_of};
 ghost use Rattle.covstore.specs.Store.{StandsFor};
 
-use covline::Submission;
+use covdata::Submission;
 use covstore::{Refuse, Store};
 use std::alloc::Global;
 

@@ -9,9 +9,10 @@ use crate::records::{PrintFault, counted_lines};
 use crate::reports::reports;
 use crate::sessions::answers_to;
 use crate::stores::merged;
+use crate::streams::first_bytes;
 use covbook::Answer;
 use covcommand::Names;
-use covline::{LineFault, Submission};
+use covdata::{LineFault, Submission};
 use covmap::StagedMap;
 use covread::read_trace;
 use covstore::Store;
@@ -140,6 +141,15 @@ fn answers_of_a_book(rt: HostRuntime) -> Result<(), Fail> {
         text_of(&second),
         b"TN:unit\nSF:/src/a.c\nDA:1,2\nDA:3,0\nLF:2\nLH:1\nend_of_record\n",
     );
+    Ok(())
+}
+
+#[test]
+fn first_bytes_of_texts(rt: HostRuntime) -> Result<(), Fail> {
+    let first = first_bytes(rt.alloc(), b"TN:unit\nSF:/src/a.c\n")?;
+    check_bytes(&rt, first.get(), b"TN:unit\nSF:/src/");
+    let whole = first_bytes(rt.alloc(), b"TN:unit\n")?;
+    check_bytes(&rt, whole.get(), b"TN:unit\n");
     Ok(())
 }
 

@@ -1,10 +1,10 @@
 //! Copies texts, pattern lists, submissions, operations and answers. A copy equals its original. A failed allocation leaves the
 //! original unchanged, and the original can then be copied with more capacity.
 
-use super::heap::{check_none, check_rising, narrow, widen};
-use super::said::check_answer;
+use super::heap::{Call, check_none, check_rising, narrow, widen};
+use super::said::{Wanted, check_answer};
 use super::texts::{CHECKED, SMALL};
-use super::wrappers::{bytes, copied_answer, copied_op, list_of, op_of, read, shared_text};
+use super::wrappers::{Asked, bytes, copied_answer, copied_op, list_of, op_of, read, shared_text};
 use super::{check_bytes, made};
 use bumpalo::Bump;
 use covbook::Answer;
@@ -25,7 +25,7 @@ fn copies_text(rt: &impl Abort, heap: &Bump, room: usize) -> bool {
 }
 
 fn copies_patterns(rt: &impl Abort, heap: &Bump, room: usize) -> bool {
-    let list = list_of(rt, heap, b"*.c|/src/?|[a-z]");
+    let list = list_of(rt, heap, &[b"*.c", b"/src/?", b"[a-z]"]);
     narrow(rt, heap, room);
     let first = list.copy(heap);
     widen(heap);
@@ -53,16 +53,9 @@ fn copies_submission(rt: &impl Abort, heap: &Bump, room: usize) -> bool {
     is_refused
 }
 
-#[test]
-fn texts_and_lists(rt: HostRuntime) {
-    check_rising(&rt, |heap, room| copies_text(&rt, heap, room));
-    check_rising(&rt, |heap, room| copies_patterns(&rt, heap, room));
-    check_rising(&rt, |heap, room| copies_submission(&rt, heap, room));
-}
-
-/// Copies the operation `op_of(words)`.
-fn copies_op(rt: &impl Abort, heap: &Bump, room: usize, words: &[u8]) -> bool {
-    let op = op_of(rt, heap, words);
+/// Copies the operation `op_of(asked)`.
+fn copies_op(rt: &impl Abort, heap: &Bump, room: usize, asked: Asked<'_>) -> bool {
+    let op = op_of(rt, heap, asked);
     narrow(rt, heap, room);
     let first = copied_op(heap, &op);
     widen(heap);
@@ -74,26 +67,8 @@ fn copies_op(rt: &impl Abort, heap: &Bump, room: usize, words: &[u8]) -> bool {
     is_refused
 }
 
-#[test]
-fn operations(rt: HostRuntime) {
-    check_rising(&rt, |heap, room| copies_op(&rt, heap, room, b"drop t"));
-    check_rising(&rt, |heap, room| copies_op(&rt, heap, room, b"rename t v"));
-    check_rising(
-        &rt,
-        |heap, room| copies_op(&rt, heap, room, b"extract *.c|*.h"),
-    );
-    check_rising(
-        &rt,
-        |heap, room| copies_op(&rt, heap, room, b"remove *.c|*.h"),
-    );
-    check_none(&rt, |heap, room| copies_op(&rt, heap, room, b"submit"));
-    check_none(&rt, |heap, room| copies_op(&rt, heap, room, b"packed"));
-    check_none(&rt, |heap, room| copies_op(&rt, heap, room, b"report"));
-    check_none(&rt, |heap, room| copies_op(&rt, heap, room, b"summary"));
-}
-
 /// Copies the answer of a clash. The copy allocates its own path and checksums.
-fn copies_clash(rt: &(impl Abort + AllocGlobal), heap: &Bump, room: usize) -> bool {
+fn copies_clash(rt: &impl Abort, heap: &Bump, room: usize) -> bool {
     let answer = Answer::Clash {
         file: made(rt, bytes(heap, b"/a.c")),
         line: 1,
@@ -107,12 +82,12 @@ fn copies_clash(rt: &(impl Abort + AllocGlobal), heap: &Bump, room: usize) -> bo
         Ok(copy) => (copy, false),
         Err(_refused) => (made(rt, copied_answer(heap, &answer)), true),
     };
-    check_answer(rt, &copy, b" clash /a.c 1 abc abd");
+    check_answer(rt, &copy, Wanted::Clash);
     is_refused
 }
 
 /// Copies a shared text, and an answer with this text. Both copies share the text's bytes, so they allocate nothing.
-fn copies_shared(rt: &(impl Abort + AllocGlobal), heap: &Bump, room: usize) -> bool {
+fn copies_shared(rt: &impl Abort, heap: &Bump, room: usize) -> bool {
     let text = made(rt, bytes(heap, b"two\nlines\n"));
     let text = made(rt, shared_text(heap, text));
     narrow(rt, heap, room);
@@ -123,12 +98,60 @@ fn copies_shared(rt: &(impl Abort + AllocGlobal), heap: &Bump, room: usize) -> b
     let Ok(copy) = copied_answer(heap, &answer) else {
         return true;
     };
-    check_answer(rt, &copy, b" two;lines;");
+    check_answer(rt, &copy, Wanted::Text(b"two\nlines\n"));
     false
 }
 
+/// A value that is copied.
+#[derive(Clone, Copy)]
+pub(super) enum Copied<'a> {
+    Text,
+    Patterns,
+    Submission,
+    Op(Asked<'a>),
+    Clash,
+    SharedText,
+}
+
+/// Copies the value with a capacity of `room`, and returns whether an allocation failed.
+pub(super) fn is_refused(rt: &impl Abort, heap: &Bump, room: usize, copied: Copied<'_>) -> bool {
+    match copied {
+        Copied::Text => copies_text(rt, heap, room),
+        Copied::Patterns => copies_patterns(rt, heap, room),
+        Copied::Submission => copies_submission(rt, heap, room),
+        Copied::Op(asked) => copies_op(rt, heap, room, asked),
+        Copied::Clash => copies_clash(rt, heap, room),
+        Copied::SharedText => copies_shared(rt, heap, room),
+    }
+}
+
 #[test]
-fn answers(rt: HostRuntime) {
-    check_rising(&rt, |heap, room| copies_clash(&rt, heap, room));
-    check_none(&rt, |heap, room| copies_shared(&rt, heap, room));
+fn copies_that_allocate(rt: HostRuntime) {
+    check_rising(
+        &rt,
+        &[
+            Call::Copy(Copied::Text),
+            Call::Copy(Copied::Patterns),
+            Call::Copy(Copied::Submission),
+            Call::Copy(Copied::Op(Asked::Drop(b"t"))),
+            Call::Copy(Copied::Op(Asked::Rename(b"t", b"v"))),
+            Call::Copy(Copied::Op(Asked::Extract(&[b"*.c", b"*.h"]))),
+            Call::Copy(Copied::Op(Asked::Remove(&[b"*.c", b"*.h"]))),
+            Call::Copy(Copied::Clash),
+        ],
+    );
+}
+
+#[test]
+fn copies_that_share(rt: HostRuntime) {
+    check_none(
+        &rt,
+        &[
+            Call::Copy(Copied::Op(Asked::Submit(SMALL))),
+            Call::Copy(Copied::Op(Asked::SubmitPacked(SMALL))),
+            Call::Copy(Copied::Op(Asked::Report)),
+            Call::Copy(Copied::Op(Asked::Summary)),
+            Call::Copy(Copied::SharedText),
+        ],
+    );
 }

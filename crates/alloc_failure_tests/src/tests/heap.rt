@@ -1,10 +1,20 @@
-//! Heaps whose capacity is known to the byte.
+//! Heaps whose capacity is known to the byte, and the calls that are tried in them.
 
-ghost use Rattle.std.specs.Prelude.{◌≡◌};
-
+use super::copies::Copied;
+use super::lists::Listed;
+use super::maps::Mapped;
+use super::prints::Printed;
+use super::readers::Input;
+use super::said::Step;
+use super::sessions::Session;
+use super::shared::InBook;
+use super::stores::Change;
+use super::values::Made;
+use super::{copies, lists, maps, prints, readers, sessions, shared, steps, stores, values};
 use bumpalo::Bump;
 use std::alloc::AllocError;
 use std::process::Abort;
+use std::sync::Wait;
 use std::test::*;
 
 /// How many bytes of capacity a heap has beyond the first limit that is tried, and how many heaps are tried at most.
@@ -42,34 +52,82 @@ pub(super) fn widen(heap: &Bump) {
     heap.set_allocation_limit(None);
 }
 
-/// Tries a call in heaps with a capacity of 0, 1, 2 and so on, until the call succeeds. `is_refused` makes the call, and returns
-/// whether an allocation failed. In the first heap, an allocation must fail.
-pub(super) fn check_rising<R: Abort + AllocGlobal, F: Fn(&Bump, usize) -> bool>(
-    rt: &R,
-    is_refused: F,
-)
-    requires { F.IsAlwaysCallable is_refused }
-{
-    check_rising_by(rt, 1, 1, is_refused);
+/// A call that is tried, by the module that makes it.
+#[derive(Clone, Copy)]
+pub(super) enum Call<'a> {
+    Copy(Copied<'a>),
+    List(Listed),
+    Map(Mapped),
+    Print(Printed<'a>),
+    /// Reads an input, into a packed submission or not.
+    Read(Input<'a>, bool),
+    Session(Session<'a>),
+    Shared(InBook<'a>),
+    /// Takes a step, in two halves or not.
+    Step(Step<'a>, bool),
+    Store(Change<'a>),
+    Value(Made),
 }
 
-/// Like `check_rising`, for a call that allocates much: the capacities are 0, then `first`, and then rise by `more` bytes.
-/// Capacities between 0 and `first` aren't tried, since the call's first allocation is known to fail with less than `first`.
-pub(super) fn check_rising_by<R: Abort + AllocGlobal, F: Fn(&Bump, usize) -> bool>(
+/// Makes the call with a capacity of `room` bytes, and returns whether an allocation failed. A failed call is repeated with ample
+/// capacity.
+fn is_refused<R: Wait + Abort + AllocGlobal>(
+    rt: &R,
+    heap: &Bump,
+    room: usize,
+    call: Call<'_>,
+) -> bool {
+    match call {
+        Call::Copy(copied) => copies::is_refused(rt, heap, room, copied),
+        Call::List(listed) => lists::is_refused(rt, heap, room, listed),
+        Call::Map(mapped) => maps::is_refused(rt, heap, room, mapped),
+        Call::Print(printed) => prints::is_refused(rt, heap, room, printed),
+        Call::Read(input, is_packed) => readers::is_refused(rt, heap, room, input, is_packed),
+        Call::Session(session) => sessions::is_refused(rt, heap, room, session),
+        Call::Shared(in_book) => shared::is_refused(rt, heap, room, in_book),
+        Call::Step(step, in_halves) => steps::is_refused(rt, heap, room, step, in_halves),
+        Call::Store(change) => stores::is_refused(rt, heap, room, change),
+        Call::Value(value) => values::is_refused(rt, heap, room, value),
+    }
+}
+
+/// Makes the call in a new heap of at least `most` bytes, with a capacity of `room` bytes.
+fn is_refused_anew<R: Wait + Abort + AllocGlobal>(
+    rt: &R,
+    most: usize,
+    room: usize,
+    call: Call<'_>,
+) -> bool {
+    let heap = new_heap(rt, most);
+    is_refused(rt, &heap, room, call)
+}
+
+/// Tries each call in heaps with a capacity of 0, 1, 2 and so on, until the call succeeds. In the first heap, an allocation must
+/// fail.
+pub(super) fn check_rising<R: Wait + Abort + AllocGlobal>(rt: &R, calls: &[Call<'_>]) {
+    check_rising_by(rt, 1, 1, calls);
+}
+
+/// Like `check_rising`, for calls that allocate much: the capacities are 0, then `first`, and then rise by `more` bytes.
+/// Capacities between 0 and `first` aren't tried, since each call's first allocation is known to fail with less than `first`.
+pub(super) fn check_rising_by<R: Wait + Abort + AllocGlobal>(
     rt: &R,
     first: usize,
     more: usize,
-    is_refused: F,
-)
-    requires { F.IsAlwaysCallable is_refused }
-{
+    calls: &[Call<'_>],
+) {
+    for call in calls {
+        check_call(rt, first, more, *call);
+    }
+}
+
+/// Tries one call as `check_rising_by` says.
+fn check_call<R: Wait + Abort + AllocGlobal>(rt: &R, first: usize, more: usize, call: Call<'_>) {
     let most = first.wrapping_add(AMPLE);
-    let heap = new_heap(rt, most);
-    assert!(rt; is_refused(&heap, 0), "no growth is met");
+    assert!(rt; is_refused_anew(rt, most, 0, call), "no growth is met");
     let mut room = first;
     for _heap in 0..AMPLE {
-        let heap = new_heap(rt, most);
-        if !is_refused(&heap, room) {
+        if !is_refused_anew(rt, most, room, call) {
             return;
         }
         room = room.wrapping_add(more);
@@ -77,10 +135,12 @@ pub(super) fn check_rising_by<R: Abort + AllocGlobal, F: Fn(&Bump, usize) -> boo
     panic!(rt; "refused in each heap");
 }
 
-/// Checks that the call of `is_refused` succeeds in a heap without capacity, and so never allocates.
-pub(super) fn check_none<R: Abort + AllocGlobal, F: Fn(&Bump, usize) -> bool>(rt: &R, is_refused: F)
-    requires { F.IsAlwaysCallable is_refused }
-{
-    let heap = new_heap(rt, AMPLE);
-    assert!(rt; !is_refused(&heap, 0), "refused without a growth");
+/// Checks that each call succeeds in a heap without capacity, and so never allocates.
+pub(super) fn check_none<R: Wait + Abort + AllocGlobal>(rt: &R, calls: &[Call<'_>]) {
+    for call in calls {
+        assert!(rt;
+            !is_refused_anew(rt, AMPLE, 0, *call),
+            "refused without a growth"
+        );
+    }
 }

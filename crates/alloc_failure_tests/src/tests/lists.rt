@@ -1,37 +1,26 @@
 //! Appends elements to lists. A failed allocation drops the element, and leaves the list unchanged.
 
-use super::heap::{check_rising, narrow, widen};
+use super::heap::{Call, check_rising, narrow, widen};
 use super::made;
 use bumpalo::Bump;
 use covbook::{Answer, Entries, Entry, JobLog, Logs, Op, Reading, Readings, Receipt, Receipts};
-use covjobs::{Refused, RefusedInput};
-use covline::{Bytes, Item, Items, Memory, Sect, Sects};
-use covread::ReadFault;
-use covstore::Totals;
+use covdata::{Bytes, Item, Items, Memory, ReadFault, Sect, Sects};
+use covtable::Totals;
+use covworkers::{Refused, RefusedInput};
 use std::alloc::Allocator;
 use std::process::Abort;
 use std::test::*;
 
 /// A list whose elements each have a number. An element needs no memory of its own.
 trait List<A: Allocator + Copy>: Drop {
-    /// The empty list.
-    fn none(alloc: A) -> Self;
-
     /// Appends an element with the number `number`.
     fn put(&mut self, alloc: A, number: u32) -> Result<(), Memory>;
-
-    /// How many elements the list has.
-    fn count(&self) -> usize;
 
     /// The number of the element at index `at`.
     fn number_at(&self, at: usize) -> Option<u64>;
 }
 
 impl<A: Allocator + Copy> List<A> for Items<A> {
-    fn none(alloc: A) -> Items<A> {
-        Items::new(alloc)
-    }
-
     fn put(&mut self, _alloc: A, number: u32) -> Result<(), Memory> {
         self.push(Item::Branch {
             line: u64::from(number),
@@ -41,34 +30,22 @@ impl<A: Allocator + Copy> List<A> for Items<A> {
         })
     }
 
-    fn count(&self) -> usize {
-        self.get().len()
-    }
-
     fn number_at(&self, at: usize) -> Option<u64> {
         match self.get().get(at)? {
             Item::Branch { line, .. } => Some(*line),
-            Item::Line { .. } | Item::Func { .. } => None,
+            Item::Line { .. } | Item::Func { .. } => Some(u64::MAX),
         }
     }
 }
 
 /// A section stores no number, so its number is its index.
 impl<A: Allocator + Copy> List<A> for Sects<A> {
-    fn none(alloc: A) -> Sects<A> {
-        Sects::new(alloc)
-    }
-
     fn put(&mut self, alloc: A, _number: u32) -> Result<(), Memory> {
         self.push(Sect {
             test: Bytes::new(alloc),
             file: Bytes::new(alloc),
             items: Items::new(alloc),
         })
-    }
-
-    fn count(&self) -> usize {
-        self.get().len()
     }
 
     fn number_at(&self, at: usize) -> Option<u64> {
@@ -78,10 +55,6 @@ impl<A: Allocator + Copy> List<A> for Sects<A> {
 }
 
 impl<A: Allocator + Copy> List<A> for Entries<A> {
-    fn none(alloc: A) -> Entries<A> {
-        Entries::new(alloc)
-    }
-
     fn put(&mut self, _alloc: A, number: u32) -> Result<(), Memory> {
         self.push(Entry {
             job: number,
@@ -91,20 +64,12 @@ impl<A: Allocator + Copy> List<A> for Entries<A> {
         })
     }
 
-    fn count(&self) -> usize {
-        self.get().len()
-    }
-
     fn number_at(&self, at: usize) -> Option<u64> {
         Some(u64::from(self.get().get(at)?.job))
     }
 }
 
 impl<A: Allocator + Copy> List<A> for Receipts<A> {
-    fn none(alloc: A) -> Receipts<A> {
-        Receipts::new(alloc)
-    }
-
     fn put(&mut self, _alloc: A, number: u32) -> Result<(), Memory> {
         self.push(Receipt {
             place: u64::from(number),
@@ -113,29 +78,17 @@ impl<A: Allocator + Copy> List<A> for Receipts<A> {
         })
     }
 
-    fn count(&self) -> usize {
-        self.get().len()
-    }
-
     fn number_at(&self, at: usize) -> Option<u64> {
         Some(self.get().get(at)?.place)
     }
 }
 
 impl<A: Allocator + Copy> List<A> for Readings<A> {
-    fn none(alloc: A) -> Readings<A> {
-        Readings::new(alloc)
-    }
-
     fn put(&mut self, _alloc: A, number: u32) -> Result<(), Memory> {
         self.push(Reading {
             upto: u64::from(number),
             totals: Totals::default(),
         })
-    }
-
-    fn count(&self) -> usize {
-        self.get().len()
     }
 
     fn number_at(&self, at: usize) -> Option<u64> {
@@ -144,10 +97,6 @@ impl<A: Allocator + Copy> List<A> for Readings<A> {
 }
 
 impl<A: Allocator + Copy> List<A> for Logs<A> {
-    fn none(alloc: A) -> Logs<A> {
-        Logs::new(alloc)
-    }
-
     fn put(&mut self, alloc: A, number: u32) -> Result<(), Memory> {
         self.push(JobLog {
             job: number,
@@ -156,20 +105,12 @@ impl<A: Allocator + Copy> List<A> for Logs<A> {
         })
     }
 
-    fn count(&self) -> usize {
-        self.get().len()
-    }
-
     fn number_at(&self, at: usize) -> Option<u64> {
         Some(u64::from(self.get().get(at)?.job))
     }
 }
 
 impl<A: Allocator + Copy> List<A> for Refused<A> {
-    fn none(alloc: A) -> Refused<A> {
-        Refused::new(alloc)
-    }
-
     fn put(&mut self, _alloc: A, number: u32) -> Result<(), Memory> {
         self.push(RefusedInput {
             index: number as usize,
@@ -177,27 +118,28 @@ impl<A: Allocator + Copy> List<A> for Refused<A> {
         })
     }
 
-    fn count(&self) -> usize {
-        self.get().len()
-    }
-
     fn number_at(&self, at: usize) -> Option<u64> {
         Some(self.get().get(at)?.index as u64)
     }
 }
 
-/// Checks that the list has all numbers below `numbers`, in ascending order.
+/// Checks that the list has all numbers below `numbers` in ascending order, and no other element.
 fn check_list<A: Allocator + Copy, T: List<A>>(rt: &impl Abort, list: &T, numbers: u32) {
-    assert_eq!(rt; list.count(), numbers as usize);
     for number in 0..numbers {
-        assert_eq!(rt; list.number_at(number as usize), Some(u64::from(number)));
+        assert!(rt;
+            list.number_at(number as usize) == Some(u64::from(number)),
+            "at {number}"
+        );
     }
+    assert!(rt;
+        list.number_at(numbers as usize).is_none(),
+        "more than {numbers}"
+    );
 }
 
-/// Appends nine elements to a list, and returns whether an allocation failed. An element that can't be allocated is appended again,
-/// with ample capacity.
-fn puts<'h, T: List<&'h Bump>>(rt: &impl Abort, heap: &'h Bump, room: usize) -> bool {
-    let mut list = T::none(heap);
+/// Appends nine elements to an empty list, and returns whether an allocation failed. An element that can't be allocated is appended
+/// again, with ample capacity.
+fn puts<'h, T: List<&'h Bump>>(rt: &impl Abort, heap: &'h Bump, room: usize, mut list: T) -> bool {
     let mut is_refused = false;
     narrow(rt, heap, room);
     for number in 0..9 {
@@ -212,17 +154,43 @@ fn puts<'h, T: List<&'h Bump>>(rt: &impl Abort, heap: &'h Bump, room: usize) -> 
     is_refused
 }
 
-#[test]
-fn items_and_sections(rt: HostRuntime) {
-    check_rising(&rt, |heap, room| puts::<Items<&Bump>>(&rt, heap, room));
-    check_rising(&rt, |heap, room| puts::<Sects<&Bump>>(&rt, heap, room));
+/// A type of lists.
+#[derive(Clone, Copy)]
+pub(super) enum Listed {
+    Items,
+    Sects,
+    Entries,
+    Receipts,
+    Readings,
+    Logs,
+    Refused,
+}
+
+/// Appends to a list with a capacity of `room`, and returns whether an allocation failed.
+pub(super) fn is_refused(rt: &impl Abort, heap: &Bump, room: usize, listed: Listed) -> bool {
+    match listed {
+        Listed::Items => puts(rt, heap, room, Items::new(heap)),
+        Listed::Sects => puts(rt, heap, room, Sects::new(heap)),
+        Listed::Entries => puts(rt, heap, room, Entries::new(heap)),
+        Listed::Receipts => puts(rt, heap, room, Receipts::new(heap)),
+        Listed::Readings => puts(rt, heap, room, Readings::new(heap)),
+        Listed::Logs => puts(rt, heap, room, Logs::new(heap)),
+        Listed::Refused => puts(rt, heap, room, Refused::new(heap)),
+    }
 }
 
 #[test]
-fn lists_of_books_and_jobs(rt: HostRuntime) {
-    check_rising(&rt, |heap, room| puts::<Entries<&Bump>>(&rt, heap, room));
-    check_rising(&rt, |heap, room| puts::<Receipts<&Bump>>(&rt, heap, room));
-    check_rising(&rt, |heap, room| puts::<Readings<&Bump>>(&rt, heap, room));
-    check_rising(&rt, |heap, room| puts::<Logs<&Bump>>(&rt, heap, room));
-    check_rising(&rt, |heap, room| puts::<Refused<&Bump>>(&rt, heap, room));
+fn lists(rt: HostRuntime) {
+    check_rising(
+        &rt,
+        &[
+            Call::List(Listed::Items),
+            Call::List(Listed::Sects),
+            Call::List(Listed::Entries),
+            Call::List(Listed::Receipts),
+            Call::List(Listed::Readings),
+            Call::List(Listed::Logs),
+            Call::List(Listed::Refused),
+        ],
+    );
 }

@@ -1,7 +1,7 @@
 //! Stages a run of addends into a map, and makes a map of the images of the values. A failed allocation doesn't change the
 //! committed entries. With ample capacity, the images can be made, and the whole run can be staged after a rollback.
 
-use super::heap::{check_rising, narrow, widen};
+use super::heap::{Call, check_rising, narrow, widen};
 use super::made;
 use bumpalo::Bump;
 use covmap::{Addend, Image, ReportingAddend, StagedMap, Value};
@@ -54,46 +54,61 @@ fn one_entry<A: Allocator + Copy>(alloc: A) -> Result<StagedMap<u64, u64, A>, Al
     Ok(map)
 }
 
-/// The numbers of the committed entries: each key, followed by its value.
-fn entries<A: Allocator + Copy>(
-    alloc: A,
+/// Checks that the committed entries are `wanted`, each a key and its value.
+fn check_entries<A: Allocator + Copy>(
+    rt: &impl Abort,
     map: &StagedMap<u64, u64, A>,
-) -> Result<Vec<u64, A>, AllocError> {
-    let mut numbers = Vec::new(alloc);
-    for (key, value) in map.entries() {
-        numbers.push(*key)?;
-        numbers.push(*value)?;
+    wanted: &[(u64, u64)],
+) {
+    let mut entries = map.entries();
+    for (key, value) in wanted {
+        let Some((found, held)) = entries.next() else {
+            panic!(rt; "an entry is missing");
+        };
+        assert!(rt; *found == *key && *held == *value, "the entry of {key}");
     }
-    Ok(numbers)
+    assert!(rt; entries.next().is_none(), "too many entries");
 }
 
-/// Checks that `given` and `wanted` are the same numbers.
-fn check_numbers(rt: &impl Abort, given: &[u64], wanted: &[u64]) {
-    assert_eq!(rt; given, wanted);
+/// A run with keys before, at and after the key of `one_entry`.
+const RUN: [(u64, Newest); 3] = [
+    (2, Newest { value: 21 }),
+    (4, Newest { value: 41 }),
+    (9, Newest { value: 91 }),
+];
+
+/// Stages `RUN`, and returns whether an allocation failed. Leaves the heap with ample capacity.
+fn is_run_refused<'h>(
+    rt: &impl Abort,
+    heap: &'h Bump,
+    map: &mut StagedMap<u64, u64, &'h Bump>,
+) -> bool {
+    let staged = stage(heap, map, &RUN);
+    widen(heap);
+    match staged {
+        Ok(reports) => {
+            assert_eq!(rt; reports.len(), 3);
+            false
+        }
+        Err(_refused) => true,
+    }
 }
 
-/// Stages a run with keys before, at and after the only committed key, and commits the run.
+/// Stages and commits `RUN` in a map with one entry.
 fn a_run(rt: &impl Abort, heap: &Bump, room: usize) -> bool {
-    let run = [
-        (2, Newest { value: 21 }),
-        (4, Newest { value: 41 }),
-        (9, Newest { value: 91 }),
-    ];
     let mut map = made(rt, one_entry(heap));
     narrow(rt, heap, room);
-    let first = stage(heap, &mut map, &run);
-    widen(heap);
-    check_numbers(rt, &made(rt, entries(heap, &map)), &[4, 40]);
-    let (reports, is_refused) = match first {
-        Ok(reports) => (reports, false),
-        Err(_refused) => {
-            map.rollback();
-            (made(rt, stage(heap, &mut map, &run)), true)
-        }
-    };
-    assert_eq!(rt; reports.len(), 3);
+    let is_refused = is_run_refused(rt, heap, &mut map);
+    check_entries(rt, &map, &[(4, 40)]);
+    if is_refused {
+        map.rollback();
+        assert!(rt;
+            !is_run_refused(rt, heap, &mut map),
+            "refused with ample memory"
+        );
+    }
     map.commit();
-    check_numbers(rt, &made(rt, entries(heap, &map)), &[2, 21, 4, 41, 9, 91]);
+    check_entries(rt, &map, &[(2, 21), (4, 41), (9, 91)]);
     is_refused
 }
 
@@ -140,16 +155,26 @@ fn images(rt: &impl Abort, heap: &Bump, room: usize) -> bool {
     assert!(rt; matches!(staged, Some(Wrapped { number: 90 })));
     assert!(rt; matches!(images.lookup(4), Some(Wrapped { number: 40 })));
     map.commit();
-    check_numbers(rt, &made(rt, entries(heap, &map)), &[4, 40, 9, 90]);
+    check_entries(rt, &map, &[(4, 40), (9, 90)]);
     is_refused
 }
 
-#[test]
-fn images_of_values(rt: HostRuntime) {
-    check_rising(&rt, |heap, room| images(&rt, heap, room));
+/// What is made in or of a map.
+#[derive(Clone, Copy)]
+pub(super) enum Mapped {
+    Run,
+    Images,
+}
+
+/// Stages a run or makes images with a capacity of `room`, and returns whether an allocation failed.
+pub(super) fn is_refused(rt: &impl Abort, heap: &Bump, room: usize, mapped: Mapped) -> bool {
+    match mapped {
+        Mapped::Run => a_run(rt, heap, room),
+        Mapped::Images => images(rt, heap, room),
+    }
 }
 
 #[test]
-fn runs(rt: HostRuntime) {
-    check_rising(&rt, |heap, room| a_run(&rt, heap, room));
+fn runs_and_images(rt: HostRuntime) {
+    check_rising(&rt, &[Call::Map(Mapped::Run), Call::Map(Mapped::Images)]);
 }

@@ -1,8 +1,8 @@
 //! Prints texts, and chooses the files to print by patterns.
 
-ghost use Rattle.covstore.specs.Totals.{AreTotals};
+ghost use Rattle.covtable.specs.Totals.{AreTotals};
 
-use super::heap::{check_rising, narrow, widen};
+use super::heap::{Call, check_rising, narrow, widen};
 use super::stores::holding;
 use super::texts::{SMALL, TRACED};
 use super::wrappers::{add, bytes, list_of, printed, put};
@@ -32,10 +32,10 @@ fn puts_line(rt: &impl Abort, heap: &Bump, room: usize, line: &[u8]) -> bool {
 
 /// Checks that the text is the line `TN:t` followed by `line`.
 fn check_line(rt: &impl Abort, text: &[u8], line: &[u8]) {
-    let behind = text
-        .strip_prefix(b"TN:t\n")
-        .and_then(|rest| rest.strip_suffix(b"\n"));
-    assert_eq!(rt; behind, Some(line));
+    let Some(rest) = text.strip_prefix(b"TN:t\n") else {
+        panic!(rt; "another beginning");
+    };
+    assert_eq!(rt; rest.strip_suffix(b"\n"), Some(line));
 }
 
 /// Printed lines of all kinds.
@@ -57,13 +57,6 @@ LH:1
 end_of_record
 ";
 
-#[test]
-fn lines_of_all_kinds(rt: HostRuntime) {
-    for line in lines(LINES) {
-        check_rising(&rt, |heap, room| puts_line(&rt, heap, room, line));
-    }
-}
-
 /// Adds a pattern to a list of `held` patterns. A failed allocation doesn't change the list.
 fn adds_pattern(rt: &impl Abort, heap: &Bump, room: usize, held: usize) -> bool {
     let mut list = Patterns::new(heap);
@@ -82,31 +75,15 @@ fn adds_pattern(rt: &impl Abort, heap: &Bump, room: usize, held: usize) -> bool 
     first.is_err()
 }
 
-#[test]
-fn patterns(rt: HostRuntime) {
-    for held in 0..10 {
-        check_rising(&rt, |heap, room| adds_pattern(&rt, heap, room, held));
-    }
-}
-
-/// Prints a store with only the tracefile `text`. The report must equal `text`.
-fn prints_all(rt: &impl Abort, heap: &Bump, room: usize, text: &[u8]) -> bool {
+/// Prints a store with only the tracefile `text`, or its files that match a pattern. All files match, so the report must equal
+/// `text`.
+fn prints_report(rt: &impl Abort, heap: &Bump, room: usize, text: &[u8], is_chosen: bool) -> bool {
     let store = holding(rt, heap, text);
-    narrow(rt, heap, room);
-    let first = printed(heap, &store, &Choice::All);
-    widen(heap);
-    let (report, is_refused) = match first {
-        Ok(report) => (report, false),
-        Err(_refused) => (made(rt, printed(heap, &store, &Choice::All)), true),
+    let choice = if is_chosen {
+        Choice::Extract(list_of(rt, heap, &[b"*.c"]))
+    } else {
+        Choice::All
     };
-    check_bytes(rt, report.get(), text);
-    is_refused
-}
-
-/// Prints the files of `SMALL` that match a pattern. The only file of `SMALL` matches.
-fn prints_chosen(rt: &impl Abort, heap: &Bump, room: usize) -> bool {
-    let store = holding(rt, heap, SMALL);
-    let choice = Choice::Extract(list_of(rt, heap, b"*.c"));
     narrow(rt, heap, room);
     let first = printed(heap, &store, &choice);
     widen(heap);
@@ -114,15 +91,8 @@ fn prints_chosen(rt: &impl Abort, heap: &Bump, room: usize) -> bool {
         Ok(report) => (report, false),
         Err(_refused) => (made(rt, printed(heap, &store, &choice)), true),
     };
-    check_bytes(rt, report.get(), SMALL);
+    check_bytes(rt, report.get(), text);
     is_refused
-}
-
-#[test]
-fn tracefiles(rt: HostRuntime) {
-    check_rising(&rt, |heap, room| prints_all(&rt, heap, room, SMALL));
-    check_rising(&rt, |heap, room| prints_all(&rt, heap, room, TRACED));
-    check_rising(&rt, |heap, room| prints_chosen(&rt, heap, room));
 }
 
 const SUMMARY: &[u8] = b"\
@@ -146,7 +116,50 @@ fn prints_summary(rt: &impl Abort, heap: &Bump, room: usize) -> bool {
     is_refused
 }
 
+/// What is printed, or added to what is printed.
+#[derive(Clone, Copy)]
+pub(super) enum Printed<'a> {
+    Line(&'a [u8]),
+    /// A pattern, for a list of so many patterns.
+    Pattern(usize),
+    /// The report of a tracefile, with a choice of files or not.
+    Report(&'a [u8], bool),
+    Summary,
+}
+
+/// Prints with a capacity of `room`, and returns whether an allocation failed.
+pub(super) fn is_refused(rt: &impl Abort, heap: &Bump, room: usize, printed: Printed<'_>) -> bool {
+    match printed {
+        Printed::Line(line) => puts_line(rt, heap, room, line),
+        Printed::Pattern(held) => adds_pattern(rt, heap, room, held),
+        Printed::Report(text, is_chosen) => prints_report(rt, heap, room, text, is_chosen),
+        Printed::Summary => prints_summary(rt, heap, room),
+    }
+}
+
 #[test]
-fn summaries(rt: HostRuntime) {
-    check_rising(&rt, |heap, room| prints_summary(&rt, heap, room));
+fn lines_of_all_kinds(rt: HostRuntime) {
+    for line in lines(LINES) {
+        check_rising(&rt, &[Call::Print(Printed::Line(line))]);
+    }
+}
+
+#[test]
+fn patterns(rt: HostRuntime) {
+    for held in 0..10 {
+        check_rising(&rt, &[Call::Print(Printed::Pattern(held))]);
+    }
+}
+
+#[test]
+fn reports_and_summaries(rt: HostRuntime) {
+    check_rising(
+        &rt,
+        &[
+            Call::Print(Printed::Report(SMALL, false)),
+            Call::Print(Printed::Report(TRACED, false)),
+            Call::Print(Printed::Report(SMALL, true)),
+            Call::Print(Printed::Summary),
+        ],
+    );
 }

@@ -1,191 +1,160 @@
 //! Reads inputs, and checks each submission by its printed report.
 
-use super::heap::{check_rising_by, narrow, widen};
+use super::heap::{Call, check_rising_by, narrow, widen};
 use super::stores::{stored, stored_packed};
 use super::texts::{ANNOTATED, CHECKED, LCOV2, SMALL, TRACED};
-use super::wrappers::{
-    printed, read, read_annotated, read_annotated_packed, read_of_lcov2, read_of_lcov2_packed,
-    read_packed,
-};
+use super::wrappers::{printed, read, read_packed};
 use super::{check_bytes, made};
 use bumpalo::Bump;
-use covline::Submission;
+use covdata::{ReadFault, Submission};
+use covlcov2::{read_lcov2, read_lcov2_packed};
 use covpacked::PackedSubmission;
-use covread::ReadFault;
+use covread::{read_gcov, read_gcov_packed};
 use covreport::Choice;
+use covstore::Store;
 use std::process::Abort;
 use std::test::*;
 
-/// Checks that the submission has `items` items, no inconsistent line, and the printed report `wanted`.
-fn check_read<'h>(
-    rt: &impl Abort,
-    heap: &'h Bump,
-    given: &Submission<&'h Bump>,
-    items: u64,
-    wanted: &[u8],
-) {
-    assert_eq!(rt; (given.items(), given.odd()), (items, 0));
-    let store = stored(rt, heap, given);
-    let report = made(rt, printed(heap, &store, &Choice::All));
-    check_bytes(rt, report.get(), wanted);
-}
-
-/// Like `check_read`, for a packed submission.
-fn check_packed<'h>(
-    rt: &impl Abort,
-    heap: &'h Bump,
-    given: &PackedSubmission<&'h Bump>,
-    items: u64,
-    wanted: &[u8],
-) {
-    assert_eq!(rt; (given.items(), given.odd()), (items, 0));
-    let store = stored_packed(rt, heap, given);
-    let report = made(rt, printed(heap, &store, &Choice::All));
-    check_bytes(rt, report.get(), wanted);
-}
-
-/// Reads a tracefile of two items. The printed report must equal the input.
-fn reads_trace(rt: &impl Abort, heap: &Bump, room: usize, text: &[u8]) -> bool {
-    narrow(rt, heap, room);
-    let first = read(heap, text);
-    widen(heap);
-    let (given, is_refused) = match first {
-        Ok(given) => (given, false),
-        Err(fault) => {
-            assert_eq!(rt; fault, ReadFault::Memory);
-            (made(rt, read(heap, text)), true)
-        }
-    };
-    check_read(rt, heap, &given, 2, text);
-    is_refused
-}
-
-#[test]
-fn tracefiles(rt: HostRuntime) {
-    check_rising_by(&rt, 1, 16, |heap, room| reads_trace(&rt, heap, room, SMALL));
-    check_rising_by(
-        &rt,
-        1,
-        16,
-        |heap, room| reads_trace(&rt, heap, room, CHECKED),
-    );
-}
-
-/// Like `reads_trace`, with a packed submission. Returns whether an allocation failed.
-fn packs_trace(rt: &impl Abort, heap: &Bump, room: usize, text: &[u8]) -> bool {
-    narrow(rt, heap, room);
-    let first = read_packed(heap, text);
-    widen(heap);
-    let (given, is_refused) = match first {
-        Ok(given) => (given, false),
-        Err(fault) => {
-            assert_eq!(rt; fault, ReadFault::Memory);
-            (made(rt, read_packed(heap, text)), true)
-        }
-    };
-    check_packed(rt, heap, &given, 2, text);
-    is_refused
-}
-
-#[test]
-fn packed_tracefiles(rt: HostRuntime) {
-    check_rising_by(&rt, 1, 16, |heap, room| packs_trace(&rt, heap, room, SMALL));
-    check_rising_by(
-        &rt,
-        1,
-        16,
-        |heap, room| packs_trace(&rt, heap, room, CHECKED),
-    );
-}
-
-/// An input in another format. The printed report of each input is `TRACED`.
+/// The format of an input.
 #[derive(Clone, Copy)]
-enum Other {
+enum Format {
+    Trace,
     /// gcov's annotated source, as counts of the test `t`.
     Annotated,
-    /// A tracefile of LCOV 2.
     Lcov2,
 }
 
-/// Reads the input `other`.
-fn read_other(heap: &Bump, other: Other) -> Result<Submission<&Bump>, ReadFault> {
-    match other {
-        Other::Annotated => read_annotated(heap, b"t", ANNOTATED),
-        Other::Lcov2 => read_of_lcov2(heap, LCOV2),
+/// An input, its number of items, and the printed report of its submission. In a tracefile, a function has two items: its start
+/// line and its count.
+#[derive(Clone, Copy)]
+pub(super) struct Input<'a> {
+    format: Format,
+    text: &'a [u8],
+    items: u64,
+    wanted: &'a [u8],
+}
+
+fn read_as<'h>(heap: &'h Bump, input: Input<'_>) -> Result<Submission<&'h Bump>, ReadFault> {
+    match input.format {
+        Format::Trace => read(heap, input.text),
+        Format::Annotated => read_gcov(heap, b"t", input.text),
+        Format::Lcov2 => read_lcov2(heap, input.text),
     }
 }
 
-/// The number of items of the input. In a tracefile, a function has two items: its start line and its count.
-fn items_of(other: Other) -> u64 {
-    match other {
-        Other::Annotated => 8,
-        Other::Lcov2 => 9,
+fn read_packed_as<'h>(
+    heap: &'h Bump,
+    input: Input<'_>,
+) -> Result<PackedSubmission<&'h Bump>, ReadFault> {
+    match input.format {
+        Format::Trace => read_packed(heap, input.text),
+        Format::Annotated => read_gcov_packed(heap, b"t", input.text),
+        Format::Lcov2 => read_lcov2_packed(heap, input.text),
     }
 }
 
-/// Reads the input `other`, and checks the submission. Returns whether an allocation failed.
-fn reads_other(rt: &impl Abort, heap: &Bump, room: usize, other: Other) -> bool {
-    narrow(rt, heap, room);
-    let first = read_other(heap, other);
+/// Checks that the store prints `wanted`.
+fn check_report<'h>(rt: &impl Abort, heap: &'h Bump, store: &Store<&'h Bump>, wanted: &[u8]) {
+    let report = made(rt, printed(heap, store, &Choice::All));
+    check_bytes(rt, report.get(), wanted);
+}
+
+/// Reads the input, and checks the submission, which must have no inconsistent line. Returns whether an allocation failed. Leaves
+/// the heap with ample capacity.
+fn is_plain_refused(rt: &impl Abort, heap: &Bump, input: Input<'_>) -> bool {
+    let given = read_as(heap, input);
     widen(heap);
-    let (given, is_refused) = match first {
-        Ok(given) => (given, false),
+    match given {
+        Ok(given) => {
+            assert_eq!(rt; (given.items(), given.odd()), (input.items, 0));
+            check_report(rt, heap, &stored(rt, heap, &given), input.wanted);
+            false
+        }
         Err(fault) => {
             assert_eq!(rt; fault, ReadFault::Memory);
-            (made(rt, read_other(heap, other)), true)
+            true
         }
-    };
-    check_read(rt, heap, &given, items_of(other), TRACED);
+    }
+}
+
+/// Like `is_plain_refused`, with a packed submission.
+fn is_packed_refused(rt: &impl Abort, heap: &Bump, input: Input<'_>) -> bool {
+    let given = read_packed_as(heap, input);
+    widen(heap);
+    match given {
+        Ok(given) => {
+            assert_eq!(rt; (given.items(), given.odd()), (input.items, 0));
+            check_report(rt, heap, &stored_packed(rt, heap, &given), input.wanted);
+            false
+        }
+        Err(fault) => {
+            assert_eq!(rt; fault, ReadFault::Memory);
+            true
+        }
+    }
+}
+
+/// Reads the input with a capacity of `room`, and returns whether an allocation failed.
+pub(super) fn is_refused(
+    rt: &impl Abort,
+    heap: &Bump,
+    room: usize,
+    input: Input<'_>,
+    is_packed: bool,
+) -> bool {
+    narrow(rt, heap, room);
+    if is_packed {
+        let is_refused = is_packed_refused(rt, heap, input);
+        assert!(rt;
+            !is_refused || !is_packed_refused(rt, heap, input),
+            "refused again"
+        );
+        return is_refused;
+    }
+    let is_refused = is_plain_refused(rt, heap, input);
+    assert!(rt;
+        !is_refused || !is_plain_refused(rt, heap, input),
+        "refused again"
+    );
     is_refused
 }
 
-/// Reads the input `other` into a packed submission.
-fn read_other_packed(heap: &Bump, other: Other) -> Result<PackedSubmission<&Bump>, ReadFault> {
-    match other {
-        Other::Annotated => read_annotated_packed(heap, b"t", ANNOTATED),
-        Other::Lcov2 => read_of_lcov2_packed(heap, LCOV2),
+/// The inputs that are read.
+const INPUTS: &[Input<'static>] = &[
+    Input {
+        format: Format::Trace,
+        text: SMALL,
+        items: 2,
+        wanted: SMALL,
+    },
+    Input {
+        format: Format::Trace,
+        text: CHECKED,
+        items: 2,
+        wanted: CHECKED,
+    },
+    Input {
+        format: Format::Annotated,
+        text: ANNOTATED,
+        items: 8,
+        wanted: TRACED,
+    },
+    Input {
+        format: Format::Lcov2,
+        text: LCOV2,
+        items: 9,
+        wanted: TRACED,
+    },
+];
+
+#[test]
+fn inputs(rt: HostRuntime) {
+    for input in INPUTS {
+        check_rising_by(
+            &rt,
+            1,
+            16,
+            &[Call::Read(*input, false), Call::Read(*input, true)],
+        );
     }
-}
-
-/// Like `reads_other`, with a packed submission.
-fn packs_other(rt: &impl Abort, heap: &Bump, room: usize, other: Other) -> bool {
-    narrow(rt, heap, room);
-    let first = read_other_packed(heap, other);
-    widen(heap);
-    let (given, is_refused) = match first {
-        Ok(given) => (given, false),
-        Err(fault) => {
-            assert_eq!(rt; fault, ReadFault::Memory);
-            (made(rt, read_other_packed(heap, other)), true)
-        }
-    };
-    check_packed(rt, heap, &given, items_of(other), TRACED);
-    is_refused
-}
-
-#[test]
-fn packed_texts_of_other_formats(rt: HostRuntime) {
-    for other in [Other::Annotated, Other::Lcov2] {
-        check_rising_by(&rt, 1, 16, |heap, room| packs_other(&rt, heap, room, other));
-    }
-}
-
-#[test]
-fn annotated_source(rt: HostRuntime) {
-    check_rising_by(
-        &rt,
-        1,
-        16,
-        |heap, room| reads_other(&rt, heap, room, Other::Annotated),
-    );
-}
-
-#[test]
-fn tracefiles_of_lcov2(rt: HostRuntime) {
-    check_rising_by(
-        &rt,
-        1,
-        16,
-        |heap, room| reads_other(&rt, heap, room, Other::Lcov2),
-    );
 }

@@ -1,181 +1,175 @@
-//! Prints operations, answers and totals as text, and checks these texts.
+//! Operations with the answers and totals that are expected of them.
 
-use super::{check_bytes, made};
+use super::check_bytes;
+use super::texts::{CHECKED, CLASHING, SMALL};
+use super::wrappers::{Asked, op_of};
 use covbook::{Answer, Entry, Op};
-use covstore::Totals;
-use std::alloc::{AllocError, Allocator, Global};
+use covtable::Totals;
+use std::alloc::Allocator;
 use std::process::Abort;
 use std::test::*;
 
-/// Appends a space and a number.
-fn put_number(text: &mut Vec<u8>, number: u64) -> Result<(), AllocError> {
-    let decimal: String = format!(in *text.allocator(); " {number}")?;
-    text.extend_from_slice(decimal.as_bytes())
+/// An expected answer.
+#[derive(Clone, Copy)]
+pub(super) enum Wanted<'a> {
+    /// The submission's number and its number of items. No line is inconsistent.
+    Accepted(u64, u64),
+    /// The clash between `CHECKED` and `CLASHING`.
+    Clash,
+    Dropped(u64),
+    Renamed(u64),
+    NoSuchTest,
+    Text(&'a [u8]),
 }
 
-/// Appends a space and a word.
-fn put_word(text: &mut Vec<u8>, word: &[u8]) -> Result<(), AllocError> {
-    text.push(b' ')?;
-    text.extend_from_slice(word)
-}
-
-/// Appends the word `accepted`, and the submission's number, items and inconsistent lines.
-fn put_accepted(text: &mut Vec<u8>, number: u64, items: u64, odd: u64) -> Result<(), AllocError> {
-    put_word(text, b"accepted")?;
-    put_number(text, number)?;
-    put_number(text, items)?;
-    put_number(text, odd)
-}
-
-/// Appends a word and a number of sections.
-fn put_sections(text: &mut Vec<u8>, word: &[u8], sections: u64) -> Result<(), AllocError> {
-    put_word(text, word)?;
-    put_number(text, sections)
-}
-
-/// Appends the word `clash`, the file and line of the clash, and the two checksums.
-fn put_clash(
-    text: &mut Vec<u8>,
-    file: &[u8],
-    line: u64,
-    checksums: (&[u8], &[u8]),
-) -> Result<(), AllocError> {
-    put_word(text, b"clash")?;
-    put_word(text, file)?;
-    put_number(text, line)?;
-    put_word(text, checksums.0)?;
-    put_word(text, checksums.1)
-}
-
-/// Appends a space and a text, with a semicolon for each line feed.
-fn put_lines(text: &mut Vec<u8>, printed: &[u8]) -> Result<(), AllocError> {
-    text.push(b' ')?;
-    for byte in printed {
-        text.push(if *byte == b'\n' { b';' } else { *byte })?;
-    }
-    Ok(())
-}
-
-/// Appends a space and an answer.
-fn put_answer<A: Allocator>(text: &mut Vec<u8>, answer: &Answer<A>) -> Result<(), AllocError> {
-    match answer {
-        Answer::Accepted { number, items, odd } => put_accepted(text, *number, *items, *odd),
-        Answer::Clash {
-            file,
-            line,
-            held,
-            given,
-        } => put_clash(text, file.get(), *line, (held.get(), given.get())),
-        Answer::Dropped { sections } => put_sections(text, b"dropped", *sections),
-        Answer::Renamed { sections } => put_sections(text, b"renamed", *sections),
-        Answer::NoSuchTest => put_word(text, b"no such test"),
-        Answer::Text(printed) => put_lines(text, printed.get().get()),
+/// Checks that the answer is `wanted`.
+pub(super) fn check_answer<A: Allocator>(rt: &impl Abort, answer: &Answer<A>, wanted: Wanted<'_>) {
+    match (answer, wanted) {
+        (Answer::Accepted { number, items, odd }, Wanted::Accepted(place, count)) => {
+            assert_eq!(rt; (*number, *items, *odd), (place, count, 0));
+        }
+        (
+            Answer::Clash {
+                file,
+                line,
+                held,
+                given,
+            },
+            Wanted::Clash,
+        ) => check_clash(rt, file.get(), *line, held.get(), given.get()),
+        (Answer::Dropped { sections }, Wanted::Dropped(count))
+        | (Answer::Renamed { sections }, Wanted::Renamed(count)) => {
+            assert_eq!(rt; *sections, count);
+        }
+        (Answer::NoSuchTest, Wanted::NoSuchTest) => {}
+        (Answer::Text(printed), Wanted::Text(text)) => check_bytes(rt, printed.get().get(), text),
+        _ => panic!(rt; "another answer"),
     }
 }
 
-/// The word of an operation.
-fn word_of<A: Allocator>(op: &Op<A>) -> &'static [u8] {
-    match op {
-        Op::Submit(_) | Op::SubmitPacked(_) => b"submit",
-        Op::DropTest(_) => b"drop",
-        Op::Rename { .. } => b"rename",
-        Op::Report => b"report",
-        Op::Extract(_) => b"extract",
-        Op::Remove(_) => b"remove",
-        Op::Summary => b"summary",
-    }
+/// Checks the file, the line and the two checksums of a clash between `CHECKED` and `CLASHING`.
+fn check_clash(rt: &impl Abort, file: &[u8], line: u64, held: &[u8], given: &[u8]) {
+    assert_eq!(rt; line, 1);
+    check_bytes(rt, file, b"/a.c");
+    check_bytes(rt, held, b"abc");
+    check_bytes(rt, given, b"abd");
 }
 
-/// Appends `|` and the numbers of lines found and hit.
-fn put_totals(text: &mut Vec<u8>, totals: &Totals) -> Result<(), AllocError> {
-    put_word(text, b"|")?;
-    put_number(text, totals.lf)?;
-    put_number(text, totals.lh)
-}
-
-/// Returns the operation and its answer as text, followed by the numbers of lines found and hit after the operation.
-fn told<A: Allocator>(
-    alloc: Global,
+/// Checks that `op` is the operation of `step`, and that the answer and the totals are those that `step` expects.
+pub(super) fn check_told<A: Allocator + Copy>(
+    rt: &impl Abort,
+    alloc: A,
     op: &Op<A>,
     answer: &Answer<A>,
-    totals: &Totals,
-) -> Result<Vec<u8>, AllocError> {
-    let mut text = Vec::from_slice(alloc, word_of(op))?;
-    put_answer(&mut text, answer)?;
-    put_totals(&mut text, totals)?;
-    Ok(text)
-}
-
-/// Checks that `told` returns `wanted` for the operation, its answer and the totals.
-pub(super) fn check_told<A: Allocator>(
-    rt: &(impl Abort + AllocGlobal),
-    op: &Op<A>,
-    answer: &Answer<A>,
-    totals: &Totals,
-    wanted: &[u8],
+    totals: Totals,
+    step: Step<'_>,
 ) {
-    check_bytes(
-        rt,
-        made(rt, told(rt.alloc(), op, answer, totals)).as_slice(),
-        wanted,
+    assert!(rt;
+        op.is_same(&op_of(rt, alloc, step.asked)),
+        "another operation"
     );
+    check_answer(rt, answer, step.wanted);
+    assert_eq!(rt; (totals.lf, totals.lh), step.lines);
 }
 
-/// Checks that `entry` is an entry of `job`, and that `told` returns `wanted` for this entry.
-pub(super) fn check_entry<A: Allocator>(
-    rt: &(impl Abort + AllocGlobal),
+/// Checks that `entry` is an entry of `job`, and checks its operation, answer and totals by `check_told`.
+pub(super) fn check_entry<A: Allocator + Copy>(
+    rt: &impl Abort,
+    alloc: A,
     entry: Option<&Entry<A>>,
     job: u32,
-    wanted: &[u8],
+    step: Step<'_>,
 ) {
     let Some(entry) = entry else {
         panic!(rt; "no entry");
     };
     assert_eq!(rt; entry.job, job);
-    check_told(rt, &entry.op, &entry.answer, &entry.after, wanted);
+    check_told(rt, alloc, &entry.op, &entry.answer, entry.after, step);
 }
 
-/// Checks that `put_answer` appends `wanted` for the answer.
-pub(super) fn check_answer<A: Allocator>(
-    rt: &(impl Abort + AllocGlobal),
-    answer: &Answer<A>,
-    wanted: &[u8],
-) {
-    let mut text = Vec::new(rt.alloc());
-    made(rt, put_answer(&mut text, answer));
-    check_bytes(rt, text.as_slice(), wanted);
-}
-
-/// The text of `told` for the first entry of a book in which an operation is tried: a submission with two lines found and one hit.
-pub(super) const BEGUN: &[u8] = b"submit accepted 1 2 0 | 2 1";
-
-/// The operations that are tried in a book with the entry `BEGUN`. After each `>` stands the text of `told` for the operation.
-pub(super) const STEPS: &[u8] = b"\
-submit>submit accepted 2 2 0 | 2 1
-clash>submit clash /a.c 1 abc abd | 2 1
-packed>submit accepted 2 2 0 | 2 1
-packed-clash>submit clash /a.c 1 abc abd | 2 1
-drop t>drop dropped 1 | 0 0
-drop x>drop no such test | 2 1
-rename t v>rename renamed 1 | 2 1
-rename x v>rename no such test | 2 1
-report>report TN:t;SF:/a.c;DA:1,2,abc;DA:2,0;LF:2;LH:1;end_of_record; | 2 1
-extract *.c>extract TN:t;SF:/a.c;DA:1,2,abc;DA:2,0;LF:2;LH:1;end_of_record; | 2 1
-remove *.c>remove  | 2 1
-summary>summary Summary coverage rate:;  lines......: 50.0% (1 of 2 lines);  functions..: no data found;  branches...: no data found; | 2 1";
-
-/// A row of `STEPS`: the operation to try, and the expected text of `told`.
+/// An operation, its expected answer, and the expected numbers of lines found and hit after the operation.
 #[derive(Clone, Copy)]
 pub(super) struct Step<'a> {
-    pub(super) asked: &'a [u8],
-    pub(super) wanted: &'a [u8],
+    pub(super) asked: Asked<'a>,
+    pub(super) wanted: Wanted<'a>,
+    pub(super) lines: (u64, u64),
 }
 
-/// Parses a row of `STEPS`.
-pub(super) fn step_of<'a>(rt: &impl Abort, row: &'a [u8]) -> Step<'a> {
-    let mut parts = row.split(|byte| *byte == b'>');
-    let (Some(asked), Some(wanted)) = (parts.next(), parts.next()) else {
-        panic!(rt; "no row {row:?}");
-    };
-    Step { asked, wanted }
-}
+/// The first step of a book in which an operation is tried.
+pub(super) const BEGUN: Step<'static> = Step {
+    asked: Asked::Submit(CHECKED),
+    wanted: Wanted::Accepted(1, 2),
+    lines: (2, 1),
+};
+
+/// The steps that are tried in a book after the step `BEGUN`.
+pub(super) const STEPS: &[Step<'static>] = &[
+    Step {
+        asked: Asked::Submit(SMALL),
+        wanted: Wanted::Accepted(2, 2),
+        lines: (2, 1),
+    },
+    Step {
+        asked: Asked::Submit(CLASHING),
+        wanted: Wanted::Clash,
+        lines: (2, 1),
+    },
+    Step {
+        asked: Asked::SubmitPacked(SMALL),
+        wanted: Wanted::Accepted(2, 2),
+        lines: (2, 1),
+    },
+    Step {
+        asked: Asked::SubmitPacked(CLASHING),
+        wanted: Wanted::Clash,
+        lines: (2, 1),
+    },
+    Step {
+        asked: Asked::Drop(b"t"),
+        wanted: Wanted::Dropped(1),
+        lines: (0, 0),
+    },
+    Step {
+        asked: Asked::Drop(b"x"),
+        wanted: Wanted::NoSuchTest,
+        lines: (2, 1),
+    },
+    Step {
+        asked: Asked::Rename(b"t", b"v"),
+        wanted: Wanted::Renamed(1),
+        lines: (2, 1),
+    },
+    Step {
+        asked: Asked::Rename(b"x", b"v"),
+        wanted: Wanted::NoSuchTest,
+        lines: (2, 1),
+    },
+    Step {
+        asked: Asked::Report,
+        wanted: Wanted::Text(CHECKED),
+        lines: (2, 1),
+    },
+    Step {
+        asked: Asked::Extract(&[b"*.c"]),
+        wanted: Wanted::Text(CHECKED),
+        lines: (2, 1),
+    },
+    Step {
+        asked: Asked::Remove(&[b"*.c"]),
+        wanted: Wanted::Text(b""),
+        lines: (2, 1),
+    },
+    Step {
+        asked: Asked::Summary,
+        wanted: Wanted::Text(SUMMARY),
+        lines: (2, 1),
+    },
+];
+
+/// The summary of `CHECKED`.
+const SUMMARY: &[u8] = b"\
+Summary coverage rate:
+  lines......: 50.0% (1 of 2 lines)
+  functions..: no data found
+  branches...: no data found
+";

@@ -2,13 +2,12 @@
 
 ghost use Rattle.std.specs.Prelude.{◌<◌, ◌^◌, None};
 
-use super::heap::{check_rising_by, narrow, widen};
-use super::texts::{ANNOTATED, TRACED};
-use super::{check_bytes, made};
+use super::check_bytes;
+use super::heap::{Call, check_rising_by, narrow, widen};
 use bumpalo::Bump;
 use covsession::session::{SessionFault, session};
-use covsession::{Failed, FromRead, FromWrite, Sink, Source};
-use std::alloc::{AllocError, Allocator, Global};
+use covstream::{Failed, FromRead, FromWrite, Sink, Source};
+use std::alloc::{Allocator, Global};
 use std::cell::Cell;
 use std::process::Abort;
 use std::test::*;
@@ -74,7 +73,7 @@ fn run<A: Allocator + Copy>(
 
 /// Whether a session on `input` runs out of memory. Checks that the output is then a prefix of `wanted`, and otherwise equals
 /// `wanted`.
-fn is_refused(
+fn is_refused_slowly(
     rt: &(impl Abort + AllocGlobal),
     heap: &Bump,
     room: usize,
@@ -93,159 +92,8 @@ fn is_refused(
     false
 }
 
-/// The input of a session and its expected output.
-#[derive(Drop)]
-struct Streams {
-    input: Vec<u8>,
-    wanted: Vec<u8>,
-}
-
-/// Splits an example: lines that begin with `> ` are the expected output, all others the input.
-fn cut(alloc: Global, example: &[u8]) -> Result<Streams, AllocError> {
-    let mut streams = Streams {
-        input: Vec::new(alloc),
-        wanted: Vec::new(alloc),
-    };
-    for line in example.split(|byte| *byte == b'\n') {
-        if let Some(answer) = line.strip_prefix(b"> ") {
-            push_line(&mut streams.wanted, answer)?;
-        } else {
-            push_line(&mut streams.input, line)?;
-        }
-    }
-    Ok(streams)
-}
-
-/// Appends a line.
-fn push_line(text: &mut Vec<u8>, line: &[u8]) -> Result<(), AllocError> {
-    text.extend_from_slice(line)?;
-    text.push(b'\n')?;
-    Ok(())
-}
-
 /// The size of a session's first allocation, its block for reading.
 const BLOCK: usize = 65_536;
-
-/// Checks a session on `streams` with more and more capacity.
-fn check(rt: &(impl Abort + AllocGlobal), streams: &Streams) {
-    let input = streams.input.as_slice();
-    let wanted = streams.wanted.as_slice();
-    check_rising_by(rt, BLOCK, 64, |heap, room| {
-        is_refused(rt, heap, room, input, wanted)
-    });
-}
-
-/// Splits an example, and checks the session on its streams.
-fn check_example(rt: &(impl Abort + AllocGlobal), example: &[u8]) {
-    check(rt, &made(rt, cut(rt.alloc(), example)));
-}
-
-#[test]
-fn a_report(rt: HostRuntime) {
-    check_example(
-        &rt,
-        b"\
-trace
-TN:t
-SF:/a.c
-DA:1,2
-DA:2,0
-LF:2
-LH:1
-end_of_record
-.
-report
-> accepted 1 items 2 odd 0
-> TN:t
-> SF:/a.c
-> DA:1,2
-> DA:2,0
-> LF:2
-> LH:1
-> end_of_record
-> .",
-    );
-}
-
-#[test]
-fn a_clash(rt: HostRuntime) {
-    check_example(
-        &rt,
-        b"\
-trace
-TN:t
-SF:/a.c
-DA:1,1,abc
-end_of_record
-.
-trace
-TN:u
-SF:/a.c
-DA:1,1,abd
-end_of_record
-.
-report
-drop t
-trace
-TN:u
-SF:/a.c
-DA:1,1,abd
-end_of_record
-.
-report
-> accepted 1 items 1 odd 0
-> clash /a.c 1 abc abd
-> TN:t
-> SF:/a.c
-> DA:1,1,abc
-> LF:1
-> LH:1
-> end_of_record
-> .
-> dropped 1
-> accepted 2 items 1 odd 0
-> TN:u
-> SF:/a.c
-> DA:1,1,abd
-> LF:1
-> LH:1
-> end_of_record
-> .",
-    );
-}
-
-#[test]
-fn a_rename(rt: HostRuntime) {
-    check_example(
-        &rt,
-        b"\
-trace
-TN:t
-SF:/a.c
-DA:1,2
-end_of_record
-TN:u
-SF:/a.c
-DA:1,3
-end_of_record
-.
-rename
-t
-u
-report
-drop u
-> accepted 1 items 2 odd 0
-> renamed 1
-> TN:u
-> SF:/a.c
-> DA:1,5
-> LF:1
-> LH:1
-> end_of_record
-> .
-> dropped 1",
-    );
-}
 
 /// The input of a session that submits a tracefile, and asks for a summary.
 const SMALL: &[u8] = b"trace\nTN:t\nSF:/a.c\nDA:1,2\nend_of_record\n.\nsummary\n";
@@ -288,30 +136,194 @@ fn is_refused_at_once(
     true
 }
 
+/// A session that is tried.
+#[derive(Clone, Copy)]
+pub(super) enum Session<'a> {
+    /// A session that reads its input slowly, and the expected output.
+    Slow(&'a [u8], &'a [u8]),
+    /// A session on `SMALL`, which raises the number to that of the bytes written.
+    AtOnce(&'a Cell<usize>),
+}
+
+/// Runs the session with a capacity of `room`, and returns whether it runs out of memory.
+pub(super) fn is_refused(
+    rt: &(impl Abort + AllocGlobal),
+    heap: &Bump,
+    room: usize,
+    session: Session<'_>,
+) -> bool {
+    match session {
+        Session::Slow(input, wanted) => is_refused_slowly(rt, heap, room, input, wanted),
+        Session::AtOnce(noted) => is_refused_at_once(rt, heap, room, noted),
+    }
+}
+
+/// The input of a session that submits a tracefile and prints the report.
+const REPORTING: &[u8] = b"\
+trace
+TN:t
+SF:/a.c
+DA:1,2
+DA:2,0
+LF:2
+LH:1
+end_of_record
+.
+report
+";
+
+const REPORTING_ANSWER: &[u8] = b"\
+accepted 1 items 2 odd 0
+TN:t
+SF:/a.c
+DA:1,2
+DA:2,0
+LF:2
+LH:1
+end_of_record
+.
+";
+
+/// The input of a session with a clash, whose submission is accepted once the other test is dropped.
+const CLASHING: &[u8] = b"\
+trace
+TN:t
+SF:/a.c
+DA:1,1,abc
+end_of_record
+.
+trace
+TN:u
+SF:/a.c
+DA:1,1,abd
+end_of_record
+.
+report
+drop t
+trace
+TN:u
+SF:/a.c
+DA:1,1,abd
+end_of_record
+.
+report
+";
+
+const CLASHING_ANSWER: &[u8] = b"\
+accepted 1 items 1 odd 0
+clash /a.c 1 abc abd
+TN:t
+SF:/a.c
+DA:1,1,abc
+LF:1
+LH:1
+end_of_record
+.
+dropped 1
+accepted 2 items 1 odd 0
+TN:u
+SF:/a.c
+DA:1,1,abd
+LF:1
+LH:1
+end_of_record
+.
+";
+
+/// The input of a session that renames a test to the name of another one.
+const RENAMING: &[u8] = b"\
+trace
+TN:t
+SF:/a.c
+DA:1,2
+end_of_record
+TN:u
+SF:/a.c
+DA:1,3
+end_of_record
+.
+rename
+t
+u
+report
+drop u
+";
+
+const RENAMING_ANSWER: &[u8] = b"\
+accepted 1 items 2 odd 0
+renamed 1
+TN:u
+SF:/a.c
+DA:1,5
+LF:1
+LH:1
+end_of_record
+.
+dropped 1
+";
+
+/// The input of a session that submits annotated source and prints the report.
+const ANNOTATED: &[u8] = b"\
+gcov t
+        -:    0:Source:tmp.c
+        -:    0:Runs:1
+        -:    1:#include <stdio.h>
+function main called 1 returned 100% blocks executed 80%
+        1:    2:int main(void)
+       3*:    3:  if (x)
+        3:    3-block  2
+branch  0 taken 2 (fallthrough)
+branch  1 taken 1
+call    2 returned 3
+    #####:    4:  f();
+branch  0 never executed
+    =====:    5:  g();
+.
+report
+";
+
+const ANNOTATED_ANSWER: &[u8] = b"\
+accepted 1 items 8 odd 0
+TN:t
+SF:tmp.c
+FN:2,main
+FNDA:1,main
+FNF:1
+FNH:1
+BRDA:3,2,0,2
+BRDA:3,2,1,1
+BRDA:4,0,0,-
+BRF:3
+BRH:2
+DA:2,1
+DA:3,3
+DA:4,0
+DA:5,0
+LF:4
+LH:2
+end_of_record
+.
+";
+
+#[test]
+fn sessions(rt: HostRuntime) {
+    check_rising_by(
+        &rt,
+        BLOCK,
+        64,
+        &[
+            Call::Session(Session::Slow(REPORTING, REPORTING_ANSWER)),
+            Call::Session(Session::Slow(CLASHING, CLASHING_ANSWER)),
+            Call::Session(Session::Slow(RENAMING, RENAMING_ANSWER)),
+            Call::Session(Session::Slow(ANNOTATED, ANNOTATED_ANSWER)),
+        ],
+    );
+}
+
 /// The first answer is written even if there is no memory for the second.
 #[test]
 fn answers_before_a_refusal(rt: HostRuntime) {
     let noted = Cell::new(0);
-    check_rising_by(&rt, BLOCK, 64, |heap, room| {
-        is_refused_at_once(&rt, heap, room, &noted)
-    });
+    check_rising_by(&rt, BLOCK, 64, &[Call::Session(Session::AtOnce(&noted))]);
     assert_eq!(rt; noted.get(), 25);
-}
-
-/// The streams of a session that submits annotated source and prints the report.
-fn of_annotated(alloc: Global) -> Result<Streams, AllocError> {
-    let mut streams = Streams {
-        input: Vec::from_slice(alloc, b"gcov t\n")?,
-        wanted: Vec::from_slice(alloc, b"accepted 1 items 8 odd 0\n")?,
-    };
-    streams.input.extend_from_slice(ANNOTATED)?;
-    streams.input.extend_from_slice(b".\nreport\n")?;
-    streams.wanted.extend_from_slice(TRACED)?;
-    streams.wanted.extend_from_slice(b".\n")?;
-    Ok(streams)
-}
-
-#[test]
-fn annotated_source(rt: HostRuntime) {
-    check(&rt, &made(&rt, of_annotated(rt.alloc())));
 }

@@ -2,15 +2,15 @@
 
 ghost use Rattle.std.specs.Prelude.{◌≡◌};
 
-use super::heap::{check_none, check_rising, check_rising_by, narrow, widen};
+use super::heap::{Call, check_none, check_rising, check_rising_by, narrow, widen};
 use super::made;
-use super::said::{BEGUN, STEPS, Step, check_entry, check_told, step_of};
+use super::said::{BEGUN, STEPS, Step, check_entry, check_told};
 use super::wrappers::op_of;
 use bumpalo::Bump;
 use covbook::{BookFault, Entries, Op};
+use covdata::Memory;
 use covjobs::{Done, Live, Name, OpenFault, ReaderFault, Seat, Seats, Shared, Start, open_book};
-use covline::Memory;
-use covstore::Totals;
+use covtable::Totals;
 use std::alloc::Allocator;
 use std::marker::Brand;
 use std::process::Abort;
@@ -110,11 +110,6 @@ fn is_not_opened(rt: &(impl Wait + Abort), heap: &Bump, room: usize) -> bool {
     !is_opened
 }
 
-#[test]
-fn books_are_opened(rt: HostRuntime) {
-    check_rising_by(&rt, 1, 64, |heap, room| is_not_opened(&rt, heap, room));
-}
-
 /// Makes a `Start`, and returns whether that failed. A `Start` must not allocate.
 fn starts(rt: &impl Abort, heap: &Bump, room: usize) -> bool {
     narrow(rt, heap, room);
@@ -122,14 +117,26 @@ fn starts(rt: &impl Abort, heap: &Bump, room: usize) -> bool {
     first.is_err()
 }
 
-#[test]
-fn starts_take_no_memory(rt: HostRuntime) {
-    check_none(&rt, |heap, room| starts(&rt, heap, room));
+/// What is done with a book, and the heap's capacity for it.
+#[derive(Clone, Copy)]
+struct Narrow<'a> {
+    heap: &'a Bump,
+    room: usize,
+    used: Use<'a>,
 }
 
-/// Performs the operation of `tried` in a book with one submission and a reader. Checks the history at the end. Returns whether an
-/// allocation failed.
-fn performs<L: Name, A: Allocator + Copy, R: Wait + Abort + AllocGlobal>(
+/// What is done with a book whose memory is limited.
+#[derive(Clone, Copy)]
+pub(super) enum Use<'a> {
+    Perform(Step<'a>),
+    /// Makes a reader.
+    Read,
+    /// Appends the seats to a list.
+    HandIn,
+}
+
+/// Opens the book and uses it as `tried` says. Returns whether an allocation failed.
+fn uses<L: Name, A: Allocator + Copy, R: Wait + Abort>(
     rt: &R,
     alloc: A,
     start: Start<A>,
@@ -140,41 +147,56 @@ fn performs<L: Name, A: Allocator + Copy, R: Wait + Abort + AllocGlobal>(
     requires book { start.book ≡ L.book }
 {
     let (book, seats) = made(rt, open::<L, A>(alloc, start));
+    match tried.used {
+        Use::Perform(step) => performs(rt, alloc, book, seats, tried, step),
+        Use::Read => reads(rt, &book, tried),
+        Use::HandIn => hands_in(rt, alloc, seats, tried),
+    }
+}
+
+/// Like `uses`, with a new book: one with nine jobs for `HandIn`, otherwise one with one job.
+fn uses_anew<R: Wait + Abort>(rt: &R, heap: &Bump, room: usize, used: Use<'_>) -> bool {
+    let jobs = if matches!(used, Use::HandIn) { 9 } else { 1 };
+    let tried = Narrow { heap, room, used };
+    uses::<Brand, &Bump, R>(rt, heap, made(rt, start(heap, jobs)), tried)
+}
+
+/// Performs the step `step` in a book with one submission and a reader. Checks the history at the end. Returns whether an
+/// allocation failed.
+fn performs<L: Name, A: Allocator + Copy, R: Wait + Abort>(
+    rt: &R,
+    alloc: A,
+    book: Shared<L, A>,
+    seats: Seats<L, A>,
+    tried: Narrow<'_>,
+    step: Step<'_>,
+) -> bool {
     let mut seats = seats.into_vec();
     let is_refused = match seats.first_mut() {
-        Some(seat) => asks(rt, alloc, &book, seat, tried),
+        Some(seat) => asks(rt, alloc, &book, seat, tried, step),
         None => panic!(rt; "no seat"),
     };
     let entries = history_of(rt, book, seats);
     assert_eq!(rt; entries.get().len(), 2);
-    check_entry(rt, entries.get().first(), 0, BEGUN);
-    check_entry(rt, entries.get().last(), 0, tried.row.wanted);
+    check_entry(rt, alloc, entries.get().first(), 0, BEGUN);
+    check_entry(rt, alloc, entries.get().last(), 0, step);
     is_refused
 }
 
-/// The operation to try, the heap, and the heap's capacity for the operation.
-#[derive(Clone, Copy)]
-struct Narrow<'a> {
-    heap: &'a Bump,
-    room: usize,
-    row: Step<'a>,
-}
-
-/// Submits a text, and then tries the operation of `tried` with the limited capacity. Returns whether an allocation failed.
-fn asks<L: Name, A: Allocator + Copy, R: Wait + Abort + AllocGlobal>(
+/// Submits a text, and then tries the operation of `step` with the limited capacity. Returns whether an allocation failed.
+fn asks<L: Name, A: Allocator + Copy, R: Wait + Abort>(
     rt: &R,
     alloc: A,
     book: &Shared<L, A>,
     seat: &mut Seat<L>,
     tried: Narrow<'_>,
+    step: Step<'_>,
 ) -> bool {
-    let begun = made(
-        rt,
-        perform(rt, alloc, book, seat, &op_of(rt, alloc, b"begin")),
-    );
+    let begun = op_of(rt, alloc, BEGUN.asked);
+    let begun = made(rt, perform(rt, alloc, book, seat, &begun));
     let totals = begun.news.reading().totals;
     let mut live = made(rt, reader(rt, book));
-    let op = op_of(rt, alloc, tried.row.asked);
+    let op = op_of(rt, alloc, step.asked);
     narrow(rt, tried.heap, tried.room);
     let first = perform(rt, alloc, book, seat, &op);
     widen(tried.heap);
@@ -188,64 +210,40 @@ fn asks<L: Name, A: Allocator + Copy, R: Wait + Abort + AllocGlobal>(
         }
     };
     check_seat(rt, seat, 2);
-    check_done(rt, &done, &mut live, tried.row.wanted);
+    check_done(rt, alloc, &done, &mut live, step);
     is_refused
 }
 
 /// Checks the second call's receipt, by `check_told`, and that the totals after the call are published.
 fn check_done<L: Name, A: Allocator + Copy>(
-    rt: &(impl Abort + AllocGlobal),
+    rt: &impl Abort,
+    alloc: A,
     done: &Done<L, A>,
     live: &mut Live<L, A>,
-    wanted: &[u8],
+    step: Step<'_>,
 ) {
     let reading = done.news.reading();
     assert_eq!(rt; (done.receipt.place, reading.upto), (1, 2));
     check_told(
         rt,
+        alloc,
         &done.receipt.op,
         &done.receipt.answer,
-        &reading.totals,
-        wanted,
+        reading.totals,
+        step,
     );
     check_live(rt, live, 2, reading.totals);
 }
 
-/// Like `performs`, with a new book.
-fn performs_anew<R: Wait + Abort + AllocGlobal>(
+/// Makes a reader with the limited capacity, and returns whether that failed.
+fn reads<L: Name, A: Allocator, R: Wait + Abort>(
     rt: &R,
-    heap: &Bump,
-    room: usize,
-    row: Step<'_>,
+    book: &Shared<L, A>,
+    tried: Narrow<'_>,
 ) -> bool {
-    let tried = Narrow { heap, room, row };
-    performs::<Brand, &Bump, R>(rt, heap, made(rt, start(heap, 1)), tried)
-}
-
-#[test]
-fn shared_steps(rt: HostRuntime) {
-    for row in STEPS.split(|byte| *byte == b'\n') {
-        let row = step_of(&rt, row);
-        check_rising_by(&rt, 1, 8, |heap, room| performs_anew(&rt, heap, room, row));
-    }
-}
-
-/// Makes a reader with a capacity of `room`, and returns whether that failed.
-fn reads<L: Name, A: Allocator + Copy, R: Wait + Abort>(
-    rt: &R,
-    alloc: A,
-    start: Start<A>,
-    heap: &Bump,
-    room: usize,
-) -> bool
-    requires name { start.name ≡ L.name }
-    requires jobs { start.jobs ≡ L.parts }
-    requires book { start.book ≡ L.book }
-{
-    let (book, _seats) = made(rt, open::<L, A>(alloc, start));
-    narrow(rt, heap, room);
-    let first = reader(rt, &book);
-    widen(heap);
+    narrow(rt, tried.heap, tried.room);
+    let first = reader(rt, book);
+    widen(tried.heap);
     match first {
         Ok(mut live) => {
             check_live(rt, &mut live, 0, Totals::default());
@@ -255,37 +253,21 @@ fn reads<L: Name, A: Allocator + Copy, R: Wait + Abort>(
     }
 }
 
-/// Like `reads`, with a new book.
-fn reads_anew(rt: &(impl Wait + Abort), heap: &Bump, room: usize) -> bool {
-    reads::<Brand, &Bump, _>(rt, heap, made(rt, start(heap, 1)), heap, room)
-}
-
-#[test]
-fn readers_take_no_memory(rt: HostRuntime) {
-    check_none(&rt, |heap, room| reads_anew(&rt, heap, room));
-}
-
-/// Appends the seats of nine jobs to a list, and returns whether an allocation failed. A failed allocation drops the seat and
-/// leaves the list unchanged.
-fn hands_in<L: Name, A: Allocator + Copy, R: Wait + Abort>(
-    rt: &R,
+/// Appends the seats of nine jobs to a list with the limited capacity, and returns whether an allocation failed. A failed
+/// allocation drops the seat and leaves the list unchanged.
+fn hands_in<L: Name, A: Allocator + Copy>(
+    rt: &impl Abort,
     alloc: A,
-    start: Start<A>,
-    heap: &Bump,
-    room: usize,
-) -> bool
-    requires name { start.name ≡ L.name }
-    requires jobs { start.jobs ≡ L.parts }
-    requires book { start.book ≡ L.book }
-{
-    let (_book, seats) = made(rt, open::<L, A>(alloc, start));
+    seats: Seats<L, A>,
+    tried: Narrow<'_>,
+) -> bool {
     let mut list = Seats::new(alloc);
     let mut refused = None;
-    narrow(rt, heap, room);
+    narrow(rt, tried.heap, tried.room);
     for seat in seats.into_vec() {
         let job = seat.job();
         if list.push(seat).is_err() {
-            widen(heap);
+            widen(tried.heap);
             assert_eq!(rt; (refused, list.get().len()), (None, job as usize));
             refused = Some(job);
         }
@@ -296,19 +278,64 @@ fn hands_in<L: Name, A: Allocator + Copy, R: Wait + Abort>(
 
 /// Checks that the seats are those of the jobs 0 to 8 in ascending order, without the job `given_up`.
 fn check_jobs<L: Name>(rt: &impl Abort, seats: &[Seat<L>], given_up: Option<u32>) {
-    let mut jobs = (0..9u32).filter(|job| given_up != Some(*job));
+    let mut job = 0u32;
     for seat in seats {
-        assert_eq!(rt; jobs.next(), Some(seat.job()));
+        if given_up == Some(job) {
+            job = job.wrapping_add(1);
+        }
+        assert_eq!(rt; seat.job(), job);
+        job = job.wrapping_add(1);
     }
-    assert_eq!(rt; jobs.next(), None);
+    let wanted = if given_up.is_some() { 8 } else { 9 };
+    assert_eq!(rt; seats.len(), wanted);
 }
 
-/// Like `hands_in`, with a new book.
-fn hands_in_anew(rt: &(impl Wait + Abort), heap: &Bump, room: usize) -> bool {
-    hands_in::<Brand, &Bump, _>(rt, heap, made(rt, start(heap, 9)), heap, room)
+/// A call on books that are shared.
+#[derive(Clone, Copy)]
+pub(super) enum InBook<'a> {
+    Start,
+    Open,
+    Use(Use<'a>),
+}
+
+/// Makes the call with a capacity of `room`, and returns whether an allocation failed.
+pub(super) fn is_refused<R: Wait + Abort>(
+    rt: &R,
+    heap: &Bump,
+    room: usize,
+    in_book: InBook<'_>,
+) -> bool {
+    match in_book {
+        InBook::Start => starts(rt, heap, room),
+        InBook::Open => is_not_opened(rt, heap, room),
+        InBook::Use(used) => uses_anew(rt, heap, room, used),
+    }
+}
+
+#[test]
+fn books_are_opened(rt: HostRuntime) {
+    check_rising_by(&rt, 1, 64, &[Call::Shared(InBook::Open)]);
+}
+
+#[test]
+fn starts_and_readers_take_no_memory(rt: HostRuntime) {
+    check_none(
+        &rt,
+        &[
+            Call::Shared(InBook::Start),
+            Call::Shared(InBook::Use(Use::Read)),
+        ],
+    );
+}
+
+#[test]
+fn shared_steps(rt: HostRuntime) {
+    for step in STEPS {
+        check_rising_by(&rt, 1, 8, &[Call::Shared(InBook::Use(Use::Perform(*step)))]);
+    }
 }
 
 #[test]
 fn seats(rt: HostRuntime) {
-    check_rising(&rt, |heap, room| hands_in_anew(&rt, heap, room));
+    check_rising(&rt, &[Call::Shared(InBook::Use(Use::HandIn))]);
 }

@@ -4,15 +4,16 @@
 ghost use Rattle.std.specs.Prelude.{◌<◌, OnErr};
 ghost use Rattle.covstore.specs.Store.{max_members};
 
-use super::heap::{check_rising, check_rising_by, narrow, widen};
+use super::heap::{Call, check_rising, check_rising_by, narrow, widen};
 use super::texts::{APART, DOUBLED, JOINED, RENAMED, SMALL};
 use super::wrappers::{printed, read};
 use super::{check_bytes, made};
 use bumpalo::Bump;
-use covline::{Memory, Submission};
+use covdata::{Memory, Submission};
 use covpacked::PackedSubmission;
 use covreport::Choice;
-use covstore::{Refuse, Store, Totals};
+use covstore::Store;
+use covtable::{Refuse, Totals};
 use std::alloc::Allocator;
 use std::process::Abort;
 use std::test::*;
@@ -37,12 +38,14 @@ const OF_SMALL: Totals = Totals {
     bh: 0,
 };
 
-/// Returns a store with only the submission `given`.
+/// Returns a store with only the submission `given`, and with capacity for another one.
 pub(super) fn stored<A: Allocator + Copy>(
     rt: &impl Abort,
     alloc: A,
     given: &Submission<A>,
-) -> Store<A> {
+) -> Store<A>
+    ensures { result.members < max_members }
+{
     let mut store = Store::new(alloc);
     match store.prepare(alloc, given) {
         Ok(plan) => store.commit(plan),
@@ -135,29 +138,11 @@ fn first_text(rt: &impl Abort, heap: &Bump, room: usize) -> bool {
     holds(rt, room, heap, store, (b"", SMALL))
 }
 
-/// Like `stored`, with the promise that the store has capacity for another submission.
-fn begun<A: Allocator + Copy>(rt: &impl Abort, alloc: A, given: &Submission<A>) -> Store<A>
-    ensures { result.members < max_members }
-{
-    let mut store = Store::new(alloc);
-    match store.prepare(alloc, given) {
-        Ok(plan) => store.commit(plan),
-        Err(_refused) => panic!(rt; "refused with ample memory"),
-    }
-    store
-}
-
 /// Adds `SMALL` to a store that already has the same submission.
 fn second_text(rt: &impl Abort, heap: &Bump, room: usize) -> bool {
-    let store = begun(rt, heap, &made(rt, read(heap, SMALL)));
+    let store = stored(rt, heap, &made(rt, read(heap, SMALL)));
     check_store(rt, heap, &store, SMALL, OF_SMALL);
     holds(rt, room, heap, store, (SMALL, DOUBLED))
-}
-
-#[test]
-fn submissions(rt: HostRuntime) {
-    check_rising_by(&rt, 1, 16, |heap, room| first_text(&rt, heap, room));
-    check_rising(&rt, |heap, room| second_text(&rt, heap, room));
 }
 
 /// The totals of `APART`: one line is found, and hit.
@@ -208,29 +193,57 @@ fn renames(rt: &impl Abort, heap: &Bump, room: usize, held: &[u8], row: Renamed<
 
 /// A rename: the new name, the printed report after the rename, and the totals, which must stay the same.
 #[derive(Clone, Copy)]
-struct Renamed<'a> {
+pub(super) struct Renamed<'a> {
     new: &'a [u8],
     wanted: &'a [u8],
     totals: Totals,
 }
 
-#[test]
-fn a_new_name(rt: HostRuntime) {
-    let row = Renamed {
-        new: b"v",
-        wanted: RENAMED,
-        totals: OF_SMALL,
-    };
-    check_rising(&rt, |heap, room| renames(&rt, heap, room, SMALL, row));
+/// A change of a store.
+#[derive(Clone, Copy)]
+pub(super) enum Change<'a> {
+    First,
+    Second,
+    /// A rename in a store with only this tracefile.
+    Rename(&'a [u8], Renamed<'a>),
 }
 
-/// A rename to the name of another test adds up the counts of a line that both tests have.
+/// Changes a store with a capacity of `room`, and returns whether an allocation failed.
+pub(super) fn is_refused(rt: &impl Abort, heap: &Bump, room: usize, change: Change<'_>) -> bool {
+    match change {
+        Change::First => first_text(rt, heap, room),
+        Change::Second => second_text(rt, heap, room),
+        Change::Rename(held, row) => renames(rt, heap, room, held, row),
+    }
+}
+
 #[test]
-fn a_name_that_is_there(rt: HostRuntime) {
-    let row = Renamed {
-        new: b"u",
-        wanted: JOINED,
-        totals: OF_ONE,
-    };
-    check_rising(&rt, |heap, room| renames(&rt, heap, room, APART, row));
+fn submissions(rt: HostRuntime) {
+    check_rising_by(&rt, 1, 16, &[Call::Store(Change::First)]);
+    check_rising(&rt, &[Call::Store(Change::Second)]);
+}
+
+/// A rename to a new name.
+const TO_NEW: Renamed<'static> = Renamed {
+    new: b"v",
+    wanted: RENAMED,
+    totals: OF_SMALL,
+};
+
+/// A rename to the name of another test, which adds up the counts of a line that both tests have.
+const TO_OTHER: Renamed<'static> = Renamed {
+    new: b"u",
+    wanted: JOINED,
+    totals: OF_ONE,
+};
+
+#[test]
+fn renames_of_tests(rt: HostRuntime) {
+    check_rising(
+        &rt,
+        &[
+            Call::Store(Change::Rename(SMALL, TO_NEW)),
+            Call::Store(Change::Rename(APART, TO_OTHER)),
+        ],
+    );
 }

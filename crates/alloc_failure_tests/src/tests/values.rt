@@ -1,6 +1,6 @@
 //! Makes values from other values: texts from bytes, and shareable texts and submissions from plain ones.
 
-use super::heap::{check_rising, narrow, widen};
+use super::heap::{Call, check_rising, narrow, widen};
 use super::texts::SMALL;
 use super::wrappers::{bytes, read, read_packed, shared, shared_packed, shared_text};
 use super::{check_bytes, made};
@@ -66,10 +66,34 @@ fn packed_shared(rt: &impl Abort, heap: &Bump, room: usize) -> bool {
     is_refused
 }
 
+/// A value that is made of another one.
+#[derive(Clone, Copy)]
+pub(super) enum Made {
+    Text,
+    SharedText,
+    SharedSubmission,
+    SharedPacked,
+}
+
+/// Makes the value with a capacity of `room`, and returns whether an allocation failed.
+pub(super) fn is_refused(rt: &impl Abort, heap: &Bump, room: usize, value: Made) -> bool {
+    match value {
+        Made::Text => text_of(rt, heap, room),
+        Made::SharedText => text_shared(rt, heap, room),
+        Made::SharedSubmission => submission_shared(rt, heap, room),
+        Made::SharedPacked => packed_shared(rt, heap, room),
+    }
+}
+
 #[test]
 fn texts_and_what_is_shared(rt: HostRuntime) {
-    check_rising(&rt, |heap, room| text_of(&rt, heap, room));
-    check_rising(&rt, |heap, room| text_shared(&rt, heap, room));
-    check_rising(&rt, |heap, room| submission_shared(&rt, heap, room));
-    check_rising(&rt, |heap, room| packed_shared(&rt, heap, room));
+    check_rising(
+        &rt,
+        &[
+            Call::Value(Made::Text),
+            Call::Value(Made::SharedText),
+            Call::Value(Made::SharedSubmission),
+            Call::Value(Made::SharedPacked),
+        ],
+    );
 }

@@ -1,12 +1,10 @@
 //! Calls other crates from functions without contracts. A test looks only at values, and is proved faster without contracts.
 
 use super::made;
-use super::texts::{CHECKED, CLASHING, SMALL};
-use covbook::{Answer, Book, BookFault, Op, PackedRef, Receipt, SubRef, TextRef};
-use covlcov2::{read_lcov2, read_lcov2_packed};
-use covline::{Bytes, Memory, Submission, TraceLine};
+use covbook::{Answer, Op, PackedRef, SubRef, TextRef};
+use covdata::{Bytes, Memory, ReadFault, Submission, TraceLine};
 use covpacked::PackedSubmission;
-use covread::{ReadFault, read_gcov, read_gcov_packed, read_trace, read_trace_packed};
+use covread::{read_trace, read_trace_packed};
 use covreport::{Choice, PatternFault, Patterns, trace_text};
 use covstore::Store;
 use std::alloc::Allocator;
@@ -24,41 +22,11 @@ pub(super) fn read<A: Allocator + Copy>(alloc: A, text: &[u8]) -> Result<Submiss
     read_trace(alloc, text)
 }
 
-pub(super) fn read_annotated<A: Allocator + Copy>(
-    alloc: A,
-    test: &[u8],
-    text: &[u8],
-) -> Result<Submission<A>, ReadFault> {
-    read_gcov(alloc, test, text)
-}
-
-pub(super) fn read_of_lcov2<A: Allocator + Copy>(
-    alloc: A,
-    text: &[u8],
-) -> Result<Submission<A>, ReadFault> {
-    read_lcov2(alloc, text)
-}
-
 pub(super) fn read_packed<A: Allocator + Copy>(
     alloc: A,
     text: &[u8],
 ) -> Result<PackedSubmission<A>, ReadFault> {
     read_trace_packed(alloc, text)
-}
-
-pub(super) fn read_annotated_packed<A: Allocator + Copy>(
-    alloc: A,
-    test: &[u8],
-    text: &[u8],
-) -> Result<PackedSubmission<A>, ReadFault> {
-    read_gcov_packed(alloc, test, text)
-}
-
-pub(super) fn read_of_lcov2_packed<A: Allocator + Copy>(
-    alloc: A,
-    text: &[u8],
-) -> Result<PackedSubmission<A>, ReadFault> {
-    read_lcov2_packed(alloc, text)
 }
 
 pub(super) fn add<A: Allocator + Copy>(
@@ -109,34 +77,14 @@ pub(super) fn copied_answer<A: Allocator + Copy>(
     answer.copy(alloc)
 }
 
-pub(super) fn step<A: Allocator + Copy>(
-    alloc: A,
-    book: &mut Book<A>,
-    job: u32,
-    op: &Op<A>,
-) -> Result<Receipt<A>, BookFault> {
-    book.step(alloc, job, op)
-}
-
-/// Performs a step in two halves.
-pub(super) fn step_in_halves<A: Allocator + Copy>(
-    alloc: A,
-    book: &mut Book<A>,
-    job: u32,
-    op: &Op<A>,
-) -> Result<Receipt<A>, BookFault> {
-    let ready = book.ready(alloc, job, op)?;
-    Ok(book.finish(ready))
-}
-
-/// Returns the list of `patterns`, which are separated by `|`.
+/// Returns the list of `patterns`.
 pub(super) fn list_of<A: Allocator + Copy>(
     rt: &impl Abort,
     alloc: A,
-    patterns: &[u8],
+    patterns: &[&[u8]],
 ) -> Patterns<A> {
     let mut list = Patterns::new(alloc);
-    for pattern in patterns.split(|byte| *byte == b'|') {
+    for pattern in patterns {
         made(rt, add(alloc, &mut list, pattern));
     }
     list
@@ -154,30 +102,32 @@ fn submit_packed<A: Allocator + Copy>(rt: &impl Abort, alloc: A, text: &[u8]) ->
     Op::SubmitPacked(made(rt, shared_packed(alloc, given)))
 }
 
-/// Returns the operation that `words` describe: its name and then, each after a space, names of tests or patterns separated by `|`.
-/// `submit`, `begin` and `clash` submit `SMALL`, `CHECKED` and `CLASHING`. `packed` and `packed-clash` submit `SMALL` and
-/// `CLASHING` as packed submissions. An unknown name is a summary.
-pub(super) fn op_of<A: Allocator + Copy>(rt: &impl Abort, alloc: A, words: &[u8]) -> Op<A> {
-    let mut words = words.split(|byte| *byte == b' ');
-    let Some(name) = words.next() else {
-        panic!(rt; "no operation");
-    };
-    let first = words.next().unwrap_or(b"");
-    let second = words.next().unwrap_or(b"");
-    match name {
-        b"submit" => submit(rt, alloc, SMALL),
-        b"begin" => submit(rt, alloc, CHECKED),
-        b"clash" => submit(rt, alloc, CLASHING),
-        b"packed" => submit_packed(rt, alloc, SMALL),
-        b"packed-clash" => submit_packed(rt, alloc, CLASHING),
-        b"drop" => Op::DropTest(made(rt, bytes(alloc, first))),
-        b"rename" => Op::Rename {
-            old: made(rt, bytes(alloc, first)),
-            new: made(rt, bytes(alloc, second)),
+/// An operation: its tracefile, names of tests or patterns.
+#[derive(Clone, Copy)]
+pub(super) enum Asked<'a> {
+    Submit(&'a [u8]),
+    SubmitPacked(&'a [u8]),
+    Drop(&'a [u8]),
+    Rename(&'a [u8], &'a [u8]),
+    Report,
+    Extract(&'a [&'a [u8]]),
+    Remove(&'a [&'a [u8]]),
+    Summary,
+}
+
+/// Makes the operation.
+pub(super) fn op_of<A: Allocator + Copy>(rt: &impl Abort, alloc: A, asked: Asked<'_>) -> Op<A> {
+    match asked {
+        Asked::Submit(text) => submit(rt, alloc, text),
+        Asked::SubmitPacked(text) => submit_packed(rt, alloc, text),
+        Asked::Drop(test) => Op::DropTest(made(rt, bytes(alloc, test))),
+        Asked::Rename(old, new) => Op::Rename {
+            old: made(rt, bytes(alloc, old)),
+            new: made(rt, bytes(alloc, new)),
         },
-        b"report" => Op::Report,
-        b"extract" => Op::Extract(list_of(rt, alloc, first)),
-        b"remove" => Op::Remove(list_of(rt, alloc, first)),
-        _ => Op::Summary,
+        Asked::Report => Op::Report,
+        Asked::Extract(patterns) => Op::Extract(list_of(rt, alloc, patterns)),
+        Asked::Remove(patterns) => Op::Remove(list_of(rt, alloc, patterns)),
+        Asked::Summary => Op::Summary,
     }
 }

@@ -6,7 +6,7 @@ use super::wrappers::{copied_answer, copied_op, entries, gathered};
 use covbook::{
     Answer, Book, Entry, GatherFault, JobLog, Logs, Reading, Readings, Receipt, Receipts,
 };
-use covstore::Totals;
+use covtable::Totals;
 use std::process::Abort;
 use std::test::*;
 

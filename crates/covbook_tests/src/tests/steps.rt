@@ -3,7 +3,7 @@
 use super::words::{answer_of, op_of};
 use super::wrappers::{entries, is_same_answer, is_same_op, taken, totals};
 use covbook::{Answer, Book, Entry, Op, Receipt};
-use covstore::Totals;
+use covtable::Totals;
 use std::process::Abort;
 use std::test::*;
 

@@ -2,7 +2,7 @@
 
 use super::wrappers::{bytes_of, read, read_packed, text_of};
 use covbook::{Answer, Op};
-use covline::Bytes;
+use covdata::Bytes;
 use covreport::{PatternFault, Patterns};
 use std::alloc::{AllocError, Global};
 use std::process::Abort;

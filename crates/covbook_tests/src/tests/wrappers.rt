@@ -5,9 +5,9 @@ use covbook::{
     Answer, Book, BookFault, Entry, GatherFault, JobLog, Op, PackedRef, Ready, Receipt, SubRef,
     TextRef,
 };
-use covline::Bytes;
+use covdata::Bytes;
 use covread::{read_trace, read_trace_packed};
-use covstore::Totals;
+use covtable::Totals;
 use std::alloc::Global;
 use std::process::Abort;
 use std::test::*;

@@ -3,13 +3,24 @@
 
 ghost use Rattle.std.specs.Prelude.{◌≡◌};
 
-use super::turns::SMALL;
-use super::wrappers::{close, done, drop_of, open, rename_of, submit};
-use covbook::{Entries, JobLog, Op, Readings, Receipt, Receipts};
-use covjobs::{Done, Name, News, Seat, Shared, Start};
+use super::collecting::{bytes, submission, trace};
+use super::wrappers::{close, done, start};
+use covbook::{Entries, JobLog, Op, Reading, Readings, Receipt, Receipts};
+use covjobs::{Done, Name, News, Seat, Shared, Start, open_book};
 use std::alloc::{Allocator, Global};
 use std::process::Abort;
 use std::sync::Wait;
+
+/// The small tracefile.
+pub(super) const SMALL: &[u8] = b"TN:t\nSF:/a.c\nDA:1,2\nDA:2,0\nLF:2\nLH:1\nend_of_record\n";
+
+/// Makes the start of a book for `jobs` jobs.
+pub(super) fn started<A: Allocator + Copy>(rt: &impl Abort, alloc: A, jobs: u32) -> Start<A> {
+    match start(alloc, jobs) {
+        Ok(start) => start,
+        Err(_fault) => panic!(rt; "no start"),
+    }
+}
 
 /// Opens a book, and returns it with the seats of its jobs.
 pub(super) fn opened<L: Name, A: Allocator + Copy>(
@@ -21,9 +32,17 @@ pub(super) fn opened<L: Name, A: Allocator + Copy>(
     requires jobs { start.jobs ≡ L.parts }
     requires book { start.book ≡ L.book }
 {
-    match open::<L, A>(alloc, start) {
+    match open_book::<L, A>(alloc, start) {
         Ok((book, seats)) => (book, seats.into_vec()),
         Err(_refused) => panic!(rt; "no book is opened"),
+    }
+}
+
+/// The first of the seats.
+pub(super) fn first_of<'a, L: Name>(rt: &impl Abort, seats: &'a mut [Seat<L>]) -> &'a mut Seat<L> {
+    match seats.first_mut() {
+        Some(seat) => seat,
+        None => panic!(rt; "no seat"),
     }
 }
 
@@ -48,24 +67,40 @@ pub(super) fn history_of<L: Name, A: Allocator, R: Wait + Abort>(
     closed(rt, book, seats).0
 }
 
-/// The operation that `name` stands for, if there is one. `submit` submits the small tracefile, `drop` drops the test `x`, and
-/// `rename` renames the test `t` to `v`.
-fn made(alloc: Global, name: &[u8]) -> Option<Op> {
-    match name {
-        b"submit" => submit(alloc, SMALL),
-        b"drop" => drop_of(alloc, b"x"),
-        b"rename" => rename_of(alloc, b"t", b"v"),
-        b"report" => Some(Op::Report),
-        b"summary" => Some(Op::Summary),
-        _ => None,
+/// The operations that the tests perform.
+#[derive(Clone, Copy)]
+pub(super) enum Ask {
+    /// Submits the small tracefile.
+    Submit,
+    /// Drops the test `x`.
+    Drop,
+    /// Renames the test `t` to `v`.
+    Rename,
+    Report,
+    Summary,
+}
+
+/// The operation that `ask` stands for.
+pub(super) fn op_of(rt: &impl Abort, alloc: Global, ask: Ask) -> Op {
+    match ask {
+        Ask::Submit => submit(rt, alloc),
+        Ask::Drop => Op::DropTest(bytes(rt, alloc, b"x")),
+        Ask::Rename => rename(rt, alloc),
+        Ask::Report => Op::Report,
+        Ask::Summary => Op::Summary,
     }
 }
 
-/// The operation that `name` stands for, as in `made`. Panics if there is none.
-pub(super) fn op_of(rt: &impl Abort, alloc: Global, name: &[u8]) -> Op {
-    match made(alloc, name) {
-        Some(op) => op,
-        None => panic!(rt; "no operation"),
+/// The operation that submits the small tracefile.
+fn submit(rt: &impl Abort, alloc: Global) -> Op {
+    Op::Submit(submission(rt, alloc, &trace(rt, alloc, SMALL)))
+}
+
+/// The operation that renames the test `t` to `v`.
+fn rename(rt: &impl Abort, alloc: Global) -> Op {
+    Op::Rename {
+        old: bytes(rt, alloc, b"t"),
+        new: bytes(rt, alloc, b"v"),
     }
 }
 
@@ -101,6 +136,35 @@ pub(super) fn keep(rt: &impl Abort, log: &mut JobLog, receipt: Receipt) {
     }
 }
 
+/// Performs the operation that `ask` stands for, and appends the receipt to the log.
+pub(super) fn perform<L: Name, R: Wait + Abort>(
+    rt: &R,
+    alloc: Global,
+    book: &Shared<L>,
+    seat: &mut Seat<L>,
+    log: &mut JobLog,
+    ask: Ask,
+) {
+    let op = op_of(rt, alloc, ask);
+    keep(rt, log, receipt_of(rt, alloc, book, seat, &op));
+}
+
+/// Appends the reading to the readings.
+pub(super) fn keep_reading(rt: &impl Abort, readings: &mut Readings, reading: Reading) {
+    if readings.push(reading).is_err() {
+        panic!(rt; "out of memory");
+    }
+}
+
+/// A log of the job without receipts and readings.
+pub(super) fn empty_log(alloc: Global, job: u32) -> JobLog {
+    JobLog {
+        job,
+        receipts: Receipts::new(alloc),
+        readings: Readings::new(alloc),
+    }
+}
+
 /// Makes an empty log for each seat.
 pub(super) fn empty_logs<L: Name>(
     rt: &impl Abort,
@@ -109,12 +173,7 @@ pub(super) fn empty_logs<L: Name>(
 ) -> Vec<JobLog> {
     let mut logs = Vec::new(alloc);
     for seat in seats {
-        let log = JobLog {
-            job: seat.job(),
-            receipts: Receipts::new(alloc),
-            readings: Readings::new(alloc),
-        };
-        if logs.push(log).is_err() {
+        if logs.push(empty_log(alloc, seat.job())).is_err() {
             panic!(rt; "out of memory");
         }
     }

@@ -2,10 +2,10 @@
 
 ghost use Rattle.std.specs.Prelude.{◌≡◌};
 
-use super::books::{history_of, op_of, opened, receipt_of};
-use super::turns::check_entries;
-use super::wrappers::{close, none, start, with};
-use covjobs::{CloseFault, Name, Seat, Shared, Start};
+use super::books::{Ask, first_of, history_of, op_of, opened, receipt_of, started};
+use super::said::check_entries;
+use super::wrappers::{close, none};
+use covjobs::{CloseFault, Name, Seat, Seats, Shared, Start};
 use std::marker::Brand;
 use std::process::Abort;
 use std::sync::Wait;
@@ -37,23 +37,19 @@ fn close_without<L: Name, R: Wait + Abort>(
     }
 }
 
-/// Performs the operation `name` with the first seat. Checks that the call succeeds, that the seat is job 0's, and that `calls` of
-/// the seat's calls have succeeded so far.
+/// Performs the operation with the first seat. Checks that the call succeeds, that the seat is job 0's, and that `calls` of the
+/// seat's calls have succeeded so far.
 fn check_usable<L: Name, R: Wait + Abort + AllocGlobal>(
     rt: &R,
     book: &Shared<L>,
     seats: &mut [Seat<L>],
-    name: &[u8],
+    ask: Ask,
     calls: u64,
 ) {
-    match seats.first_mut() {
-        Some(seat) => {
-            let op = op_of(rt, rt.alloc(), name);
-            let _receipt = receipt_of(rt, rt.alloc(), book, seat, &op);
-            check_calls(rt, seat, calls);
-        }
-        None => panic!(rt; "no seat"),
-    }
+    let seat = first_of(rt, seats);
+    let op = op_of(rt, rt.alloc(), ask);
+    let _receipt = receipt_of(rt, rt.alloc(), book, seat, &op);
+    check_calls(rt, seat, calls);
 }
 
 /// Checks that the seat is job 0's, and that `calls` of the seat's calls have succeeded.
@@ -63,13 +59,13 @@ fn check_calls<L: Name>(rt: &impl Abort, seat: &Seat<L>, calls: u64) {
 
 /// Appends `last`, the seat that was held back, to the seats.
 fn with_last<L: Name>(rt: &impl Abort, seats: Vec<Seat<L>>, last: Option<Seat<L>>) -> Vec<Seat<L>> {
-    let Some(seat) = last else {
-        panic!(rt; "no seat was kept back");
-    };
-    match with(seats, seat) {
-        Ok(seats) => seats,
-        Err(_refused) => panic!(rt; "out of memory"),
+    let mut seats = Seats::of(seats);
+    if let Some(seat) = last {
+        if seats.push(seat).is_err() {
+            panic!(rt; "out of memory");
+        }
     }
+    seats.into_vec()
 }
 
 /// Checks that the book isn't closed without the second seat, and that the first seat works before and after this attempt.
@@ -78,9 +74,9 @@ fn refused_once<L: Name, R: Wait + Abort + AllocGlobal>(
     book: Shared<L>,
     mut seats: Vec<Seat<L>>,
 ) -> (Shared<L>, Vec<Seat<L>>) {
-    check_usable(rt, &book, seats.as_mut_slice(), b"submit", 1);
+    check_usable(rt, &book, seats.as_mut_slice(), Ask::Submit, 1);
     let (book, mut seats) = close_without(rt, book, seats, 1);
-    check_usable(rt, &book, seats.as_mut_slice(), b"summary", 2);
+    check_usable(rt, &book, seats.as_mut_slice(), Ask::Summary, 2);
     (book, seats)
 }
 
@@ -101,7 +97,6 @@ fn kept_back<L: Name, R: Wait + Abort + AllocGlobal>(rt: &R, start: Start)
 }
 
 #[test]
-fn seats_kept_back(rt: HostRuntime) -> Result<(), Fail> {
-    kept_back::<Brand, _>(&rt, start(rt.alloc(), 2)?);
-    Ok(())
+fn seats_kept_back(rt: HostRuntime) {
+    kept_back::<Brand, _>(&rt, started(&rt, rt.alloc(), 2));
 }

@@ -1,47 +1,57 @@
 //! Collects inputs with several jobs.
 
-use super::books::op_of;
+use super::books::{Ask, SMALL, op_of};
 use super::check_bytes;
-use super::turns::{SMALL, check_entries};
-use covbook::{Answer, Entry, GatherFault, JobLog, Op};
-use covjobs::{CollectFault, Collected, Gate, Input, NoGate, RefusedInput, collect, collect_owned};
-use covline::{Bytes, Memory};
-use covread::ReadFault;
+use super::said::check_entries;
+use covbook::{Answer, Entry, JobLog, Op, PackedRef, SubRef};
+use covdata::{Bytes, ReadFault};
+use covjobs::{Input, collect, collect_owned};
+use covworkers::{CollectFault, Collected, Gate, NoGate, RefusedInput};
 use std::alloc::Global;
 use std::process::Abort;
 use std::sync::Wait;
 use std::test::*;
 use std::thread::Threads;
 
-const ENTRIES: &[u8] = b"\
-0 submit: accepted 1 2 0 
-0 submit: accepted 2 2 0 
-0 report: TN:t
-SF:/a.c
-DA:1,4
-DA:2,0
-LF:2
-LH:1
-end_of_record
-
-";
+/// A copy of the text.
+pub(super) fn bytes(rt: &impl Abort, alloc: Global, text: &[u8]) -> Bytes {
+    match Bytes::of(alloc, text) {
+        Ok(bytes) => bytes,
+        Err(_refused) => panic!(rt; "out of memory"),
+    }
+}
 
 /// The tracefile as an input.
-pub(super) fn trace(alloc: Global, text: &[u8]) -> Result<Input, Memory> {
-    Ok(Input::Trace(Bytes::of(alloc, text)?))
+pub(super) fn trace(rt: &impl Abort, alloc: Global, text: &[u8]) -> Input {
+    Input::Trace(bytes(rt, alloc, text))
+}
+
+/// The tracefile of LCOV 2 as an input.
+fn lcov2(rt: &impl Abort, alloc: Global, text: &[u8]) -> Input {
+    Input::Lcov2(bytes(rt, alloc, text))
+}
+
+/// The annotated source as an input of the test `t`.
+fn annotated(rt: &impl Abort, alloc: Global, text: &[u8]) -> Input {
+    Input::Gcov {
+        test: bytes(rt, alloc, b"t"),
+        text: bytes(rt, alloc, text),
+    }
 }
 
 /// These tracefiles as inputs.
-pub(super) fn traces(alloc: Global, texts: &[&[u8]]) -> Result<Vec<Input>, Fail> {
+pub(super) fn traces(rt: &impl Abort, alloc: Global, texts: &[&[u8]]) -> Vec<Input> {
     let mut inputs = Vec::new(alloc);
     for text in texts {
-        inputs.push(trace(alloc, text)?)?;
+        if inputs.push(trace(rt, alloc, text)).is_err() {
+            panic!(rt; "out of memory");
+        }
     }
-    Ok(inputs)
+    inputs
 }
 
 /// Collects the inputs with `jobs` jobs and the last operation `last`.
-fn answered<R: Threads + Wait + Sync + AllocGlobal, G: Gate + Sync>(
+pub(super) fn answered<R: Threads + Wait + Sync + AllocGlobal, G: Gate + Sync>(
     rt: &R,
     inputs: &[Input],
     last: &Op,
@@ -75,44 +85,23 @@ pub(super) fn collected_of<R: Threads + Wait + Sync + AllocGlobal + Abort, G: Ga
     collected_after(rt, inputs, &Op::Report, jobs, gate)
 }
 
-/// Collects one input. The last operation renames the input's test.
-fn rename_at_the_end<R: Threads + Wait + Sync + AllocGlobal + Abort>(rt: &R) -> Result<(), Fail> {
-    let inputs = traces(rt.alloc(), &[SMALL])?;
-    let last = op_of(rt, rt.alloc(), b"rename");
-    let collected = collected_after(rt, inputs.as_slice(), &last, 1, &NoGate);
-    let wanted = b"0 submit: accepted 1 2 0 \n0 rename: renamed 1 \n";
+/// Collects one input with one job. Checks the entries.
+fn check_collected<R: Threads + Wait + Sync + AllocGlobal + Abort>(
+    rt: &R,
+    input: Input,
+    last: &Op,
+    wanted: &[u8],
+) {
+    let collected = collected_after(rt, &[input], last, 1, &NoGate);
     check_entries(rt, collected.entries.get(), wanted);
-    Ok(())
 }
 
+/// The last operation renames the input's test.
 #[test]
-fn a_rename_at_the_end(rt: HostRuntime) -> Result<(), Fail> {
-    rename_at_the_end(&rt)
-}
-
-/// Whether only the input with this index is rejected, because its first line is a record outside of any section.
-pub(super) fn is_outside(refused: &[RefusedInput], index: usize) -> bool {
-    match refused.split_first() {
-        Some((first, [])) => {
-            first.index == index && first.fault == ReadFault::Outside { at: 1 }
-        },
-        _ => false,
-    }
-}
-
-/// Collects three inputs with two jobs. The second input is invalid, and job 1 has no other.
-fn one_refused<R: Threads + Wait + Sync + AllocGlobal + Abort>(rt: &R) -> Result<(), Fail> {
-    let inputs = traces(rt.alloc(), &[SMALL, b"DA:1,1", SMALL])?;
-    let collected = collected_of(rt, inputs.as_slice(), 2, &NoGate);
-    assert!(rt; is_outside(collected.refused.get(), 1));
-    assert_eq!(rt; collected.logs.get().len(), 2);
-    check_entries(rt, collected.entries.get(), ENTRIES);
-    Ok(())
-}
-
-#[test]
-fn a_refused_input(rt: HostRuntime) -> Result<(), Fail> {
-    one_refused(&rt)
+fn a_rename_at_the_end(rt: HostRuntime) {
+    let last = op_of(&rt, rt.alloc(), Ask::Rename);
+    let wanted = b"0 submit: accepted 1 2 0 \n0 rename: renamed 1 \n";
+    check_collected(&rt, trace(&rt, rt.alloc(), SMALL), &last, wanted);
 }
 
 /// The expected entries for a tracefile of LCOV 2. The report has the records of version 1 that the tracefile's lines represent.
@@ -134,56 +123,120 @@ end_of_record
 
 ";
 
-/// Collects a tracefile of LCOV 2, and checks the entries.
-fn one_of_lcov2<R: Threads + Wait + Sync + AllocGlobal + Abort>(rt: &R) -> Result<(), Fail> {
+#[test]
+fn a_tracefile_of_lcov2(rt: HostRuntime) {
     let text = b"TN:t\nSF:/a.c\nFNL:0,1,3\nFNA:0,2,f\nBRDA:1,e0,a,3\nDA:1,2\nend_of_record\n";
-    let mut inputs = Vec::new(rt.alloc());
-    inputs.push(Input::Lcov2(Bytes::of(rt.alloc(), text)?))?;
-    let collected = collected_of(rt, inputs.as_slice(), 1, &NoGate);
-    check_entries(rt, collected.entries.get(), LCOV2_ENTRIES);
-    Ok(())
+    check_collected(
+        &rt,
+        lcov2(&rt, rt.alloc(), text),
+        &Op::Report,
+        LCOV2_ENTRIES,
+    );
+}
+
+/// Whether only the input with this index is rejected, because its first line is a record outside of any section.
+pub(super) fn is_outside(refused: &[RefusedInput], index: usize) -> bool {
+    match refused.split_first() {
+        Some((first, [])) => {
+            first.index == index && first.fault == ReadFault::Outside { at: 1 }
+        },
+        _ => false,
+    }
+}
+
+/// Checks how many receipts and readings the log has.
+fn check_log(rt: &impl Abort, log: Option<&JobLog>, receipts: usize, readings: usize) {
+    match log {
+        Some(log) => {
+            assert_eq!(rt; log.receipts.get().len(), receipts);
+            assert_eq!(rt; log.readings.get().len(), readings);
+        }
+        None => panic!(rt; "no log"),
+    }
+}
+
+/// The expected entries for `SMALL` twice.
+const ENTRIES: &[u8] = b"\
+0 submit: accepted 1 2 0 
+0 submit: accepted 2 2 0 
+0 report: TN:t
+SF:/a.c
+DA:1,4
+DA:2,0
+LF:2
+LH:1
+end_of_record
+
+";
+
+/// Collects three inputs with two jobs, and checks both logs. The second input is invalid, and job 1 has no other. Job 0 submits two
+/// inputs and then asks for the report. It reads the totals once after each submit, but not after the report.
+fn one_refused<R: Threads + Wait + Sync + AllocGlobal + Abort>(rt: &R) {
+    let inputs = traces(rt, rt.alloc(), &[SMALL, b"DA:1,1", SMALL]);
+    let collected = collected_of(rt, inputs.as_slice(), 2, &NoGate);
+    assert!(rt; is_outside(collected.refused.get(), 1));
+    check_entries(rt, collected.entries.get(), ENTRIES);
+    check_logs(rt, collected.logs.get());
+}
+
+/// Checks that the first of two logs has three receipts and two readings, and the other none.
+fn check_logs(rt: &impl Abort, logs: &[JobLog]) {
+    assert_eq!(rt; logs.len(), 2);
+    check_log(rt, logs.first(), 3, 2);
+    check_log(rt, logs.get(1), 0, 0);
 }
 
 #[test]
-fn a_tracefile_of_lcov2(rt: HostRuntime) -> Result<(), Fail> {
-    one_of_lcov2(&rt)
+fn a_refused_input(rt: HostRuntime) {
+    one_refused(&rt);
 }
 
-/// Whether `input`, read packed, is the same submission as the tracefile `wanted`, read unpacked.
-fn packs_as(alloc: Global, input: &Input, wanted: &[u8]) -> Result<bool, Fail> {
-    let packed = input.read_packed(alloc)?;
-    let wanted = trace(alloc, wanted)?.read(alloc)?;
-    Ok(packed.is_same_as(&wanted))
+/// The submission of the input.
+pub(super) fn submission(rt: &impl Abort, alloc: Global, input: &Input) -> SubRef {
+    match input.read(alloc) {
+        Ok(submission) => submission,
+        Err(_fault) => panic!(rt; "an input is refused"),
+    }
+}
+
+/// The packed submission of the input.
+fn packed(rt: &impl Abort, alloc: Global, input: &Input) -> PackedRef {
+    match input.read_packed(alloc) {
+        Ok(submission) => submission,
+        Err(_fault) => panic!(rt; "an input is refused"),
+    }
+}
+
+/// Checks that `input`, read packed, is the same submission as the tracefile `wanted`, read unpacked.
+fn check_packed(rt: &impl Abort, alloc: Global, input: &Input, wanted: &[u8]) {
+    let wanted = submission(rt, alloc, &trace(rt, alloc, wanted));
+    assert!(rt; packed(rt, alloc, input).is_same_as(&wanted));
 }
 
 /// Each kind of input can be read packed.
 #[test]
-fn packed_inputs(rt: HostRuntime) -> Result<(), Fail> {
+fn packed_inputs(rt: HostRuntime) {
     let alloc = rt.alloc();
-    let one = trace(alloc, b"SF:/a.c\nDA:1,2\nend_of_record\n")?;
-    let wanted = b"TN:\nSF:/a.c\nDA:1,2\nend_of_record\n";
-    assert!(rt; packs_as(alloc, &one, wanted)?);
+    let one = trace(&rt, alloc, b"SF:/a.c\nDA:1,2\nend_of_record\n");
+    check_packed(&rt, alloc, &one, b"TN:\nSF:/a.c\nDA:1,2\nend_of_record\n");
     let text = b"TN:t\nSF:/a.c\nBRDA:1,e0,a,3\nDA:1,2\nend_of_record\n";
-    let two = Input::Lcov2(Bytes::of(alloc, text)?);
-    let wanted = b"TN:t\nSF:/a.c\nBRDA:1,0,0,3\nDA:1,2\nend_of_record\n";
-    assert!(rt; packs_as(alloc, &two, wanted)?);
-    let text = b"        -:    0:Source:tmp.c\n        3:    3:  if (x)\n";
-    let annotated = Input::Gcov {
-        test: Bytes::of(alloc, b"t")?,
-        text: Bytes::of(alloc, text)?,
-    };
-    assert!(rt;
-        packs_as(
-            alloc,
-            &annotated,
-            b"TN:t\nSF:tmp.c\nDA:3,3\nend_of_record\n"
-        )?
+    check_packed(
+        &rt,
+        alloc,
+        &lcov2(&rt, alloc, text),
+        b"TN:t\nSF:/a.c\nBRDA:1,0,0,3\nDA:1,2\nend_of_record\n",
     );
-    Ok(())
+    let text = b"        -:    0:Source:tmp.c\n        3:    3:  if (x)\n";
+    check_packed(
+        &rt,
+        alloc,
+        &annotated(&rt, alloc, text),
+        b"TN:t\nSF:tmp.c\nDA:3,3\nend_of_record\n",
+    );
 }
 
 /// Collects owned inputs with `jobs` jobs. The last operation is a report.
-fn answered_by_owned<R: Threads + Wait + Sync + AllocGlobal>(
+pub(super) fn answered_by_owned<R: Threads + Wait + Sync + AllocGlobal>(
     rt: &R,
     inputs: Vec<Input>,
     jobs: u32,
@@ -192,7 +245,7 @@ fn answered_by_owned<R: Threads + Wait + Sync + AllocGlobal>(
 }
 
 /// Checks that the answer of the last entry is the text `wanted`.
-fn check_last(rt: &impl Abort, entries: &[Entry], wanted: &[u8]) {
+pub(super) fn check_last(rt: &impl Abort, entries: &[Entry], wanted: &[u8]) {
     match entries.last() {
         Some(entry) => match &entry.answer {
             Answer::Text(text) => check_bytes(rt, text.get().get(), wanted),
@@ -234,8 +287,8 @@ end_of_record
 ";
 
 /// Collects four owned inputs with three jobs. The second input is invalid, and job 0 has two of the others.
-fn owned_by_three<R: Threads + Wait + Sync + AllocGlobal + Abort>(rt: &R) -> Result<(), Fail> {
-    let inputs = traces(rt.alloc(), &[SMALL, b"DA:1,1", OTHERS, SMALL])?;
+fn owned_by_three<R: Threads + Wait + Sync + AllocGlobal + Abort>(rt: &R) {
+    let inputs = traces(rt, rt.alloc(), &[SMALL, b"DA:1,1", OTHERS, SMALL]);
     match answered_by_owned(rt, inputs, 3) {
         Ok(collected) => {
             assert!(rt; is_outside(collected.refused.get(), 1));
@@ -243,81 +296,9 @@ fn owned_by_three<R: Threads + Wait + Sync + AllocGlobal + Abort>(rt: &R) -> Res
         },
         Err(_fault) => panic!(rt; "nothing is collected"),
     }
-    Ok(())
 }
 
 #[test]
-fn owned_inputs(rt: HostRuntime) -> Result<(), Fail> {
-    owned_by_three(&rt)
-}
-
-/// Checks how many receipts and readings the log has.
-fn check_log(rt: &impl Abort, log: Option<&JobLog>, receipts: usize, readings: usize) {
-    match log {
-        Some(log) => {
-            assert_eq!(rt; log.receipts.get().len(), receipts);
-            assert_eq!(rt; log.readings.get().len(), readings);
-        }
-        None => panic!(rt; "no log"),
-    }
-}
-
-/// Collects three inputs with two jobs, and checks both logs. Job 0 submits two inputs and then asks for the report.
-fn read_by_two<R: Threads + Wait + Sync + AllocGlobal + Abort>(rt: &R) -> Result<(), Fail> {
-    let inputs = traces(rt.alloc(), &[SMALL, SMALL, SMALL])?;
-    let collected = collected_of(rt, inputs.as_slice(), 2, &NoGate);
-    let logs = collected.logs.get();
-    assert_eq!(rt; logs.len(), 2);
-    check_log(rt, logs.first(), 3, 2);
-    check_log(rt, logs.get(1), 1, 1);
-    Ok(())
-}
-
-/// A job reads the totals once after each submit, and doesn't read them after the last operation.
-#[test]
-fn a_reading_for_each_submit(rt: HostRuntime) -> Result<(), Fail> {
-    read_by_two(&rt)
-}
-
-/// Whether `collect_owned` rejects this number of jobs.
-fn are_bad_for_owned<R: Threads + Wait + Sync + AllocGlobal>(rt: &R, jobs: u32) -> bool {
-    match answered_by_owned(rt, Vec::new(rt.alloc()), jobs) {
-        Ok(_collected) => false,
-        Err(fault) => fault == CollectFault::BadJobs,
-    }
-}
-
-#[test]
-fn jobs_to_collect_owned(rt: HostRuntime) {
-    assert!(rt; are_bad_for_owned(&rt, 0));
-    assert!(rt; !are_bad_for_owned(&rt, 1));
-    assert!(rt; are_bad_for_owned(&rt, 65));
-}
-
-/// Whether `collect` rejects this number of jobs.
-fn are_bad<R: Threads + Wait + Sync + AllocGlobal>(rt: &R, jobs: u32) -> bool {
-    match answered(rt, &[], &Op::Report, jobs, &NoGate) {
-        Ok(_collected) => false,
-        Err(fault) => fault == CollectFault::BadJobs,
-    }
-}
-
-#[test]
-fn jobs_to_collect(rt: HostRuntime) {
-    assert!(rt; are_bad(&rt, 0));
-    assert!(rt; !are_bad(&rt, 1));
-    assert!(rt; !are_bad(&rt, 64));
-    assert!(rt; are_bad(&rt, 65));
-}
-
-#[test]
-fn numbers_of_collect_faults(rt: HostRuntime) {
-    assert_eq!(rt; CollectFault::BadJobs.number(), 1);
-    assert_eq!(rt; CollectFault::Full.number(), 2);
-    assert_eq!(rt; CollectFault::Memory.number(), 3);
-    assert_eq!(rt;
-        CollectFault::Gather(GatherFault::Missing { place: 0 }).number(),
-        4
-    );
-    assert_eq!(rt; CollectFault::NotLast.number(), 5);
+fn owned_inputs(rt: HostRuntime) {
+    owned_by_three(&rt);
 }

@@ -1,90 +1,138 @@
-//! Collects inputs into a book, each read when its turn comes.
+//! Collects inputs into a book. Each input is read when its turn comes, in one part or several, and each part is a submission of its
+//! own.
 
+use super::books::SMALL;
 use super::check_bytes;
-use super::collecting::{ADDED_UP, OTHERS, is_outside, trace};
-use super::turns::SMALL;
-use covbook::{Answer, Answered, Op};
-use covjobs::{
-    CollectFault, CollectedBook, Given, Input, IntoBookFault, LateFault, LateInput, NoGate, Part,
+use super::collecting::{ADDED_UP, OTHERS, is_outside};
+use super::said::check_answers;
+use covbook::Op;
+use covdata::{Bytes, ReadFault};
+use covjobs::Input;
+use covworkers::{
+    CollectFault, CollectedBook, Given, IntoBookFault, LateFault, LateInput, NoGate, Part,
     collect_into_book,
 };
-use covline::Memory;
-use covread::ReadFault;
 use std::alloc::Global;
 use std::process::Abort;
 use std::sync::Wait;
 use std::test::*;
 use std::thread::Threads;
 
-/// An input that is readable, unreadable, or too large for the memory.
+/// An input with one part per letter: `s` is the small tracefile, `o` is `OTHERS`, `1` and `2` are `ONE` and `TWO`, and `x` is
+/// invalid. At `?` or without a letter, the input can't be read. At `!`, memory runs out.
 #[derive(Drop)]
-enum Late {
-    Readable(Input),
-    Unreadable,
-    TooLarge,
+struct Letters<'a> {
+    parts: &'a [u8],
 }
 
-impl LateInput<Global> for Late {
+impl<'a> LateInput<Global> for Letters<'a> {
+    ghost use Rattle.std.specs.Prelude.{length};
+
     ghost may_give = { λ late outcome. Unit {0} };
 
     ghost may_fail = { λ late. Unit {0} };
 
-    ghost most = { λ late. 1 };
+    ghost most = { λ late. length late.parts.now };
 
     type Fault = ReadFault;
 
     fn read_part(self, alloc: Global) -> Result<Part<Self>, LateFault> {
-        match self {
-            Late::Readable(input) => match input.read(alloc) {
-                Ok(submission) => Ok(Part::Last(Given::plain(submission))),
-                Err(fault) => Err(LateFault::Refused(fault)),
+        let Some((first, rest)) = self.parts.split_first() else {
+            return Err(LateFault::Unreadable);
+        };
+        match read_letter(alloc, *first, rest.is_empty()) {
+            Err(fault) => Err(fault),
+            Ok(given) => if rest.is_empty() {
+                Ok(Part::Last(given))
+            } else {
+                Ok(Part::More(given, Letters { parts: rest }))
             },
-            Late::Unreadable => Err(LateFault::Unreadable),
-            Late::TooLarge => Err(LateFault::Memory),
         }
     }
 
     fn most_parts(&self) -> u64 {
-        1
+        self.parts.len() as u64
     }
 }
 
-/// The text that stands for an input too large for the memory.
-pub(super) const TOO_LARGE: &[u8] = b"too large";
+/// `ONE` and `TWO` have different checksums for one line.
+const ONE: &[u8] = b"TN:t\nSF:/a.c\nDA:7,1,one\nend_of_record\n";
 
-/// Makes an input of the text. An empty text stands for an unreadable input.
-fn late_of(alloc: Global, text: &[u8]) -> Result<Late, Memory> {
-    if text.is_empty() {
-        return Ok(Late::Unreadable);
+const TWO: &[u8] = b"TN:t\nSF:/a.c\nDA:7,1,two\nend_of_record\n";
+
+/// The text that the letter stands for.
+fn text_of(letter: u8) -> &'static [u8] {
+    match letter {
+        b's' => SMALL,
+        b'o' => OTHERS,
+        b'1' => ONE,
+        b'2' => TWO,
+        _ => b"DA:1,1",
     }
-    if text == TOO_LARGE {
-        return Ok(Late::TooLarge);
-    }
-    Ok(Late::Readable(trace(alloc, text)?))
 }
 
-/// Makes an input of each text, as `late_of` does.
-fn lates(alloc: Global, texts: &[&[u8]]) -> Result<Vec<Late>, Fail> {
-    let mut inputs = Vec::new(alloc);
-    for text in texts {
-        inputs.push(late_of(alloc, text)?)?;
+/// Reads the part that the letter stands for.
+fn read_letter(alloc: Global, letter: u8, is_last: bool) -> Result<Given, LateFault> {
+    match letter {
+        b'?' => Err(LateFault::Unreadable),
+        b'!' => Err(LateFault::Memory),
+        _ => read_text(alloc, text_of(letter), is_last),
     }
-    Ok(inputs)
 }
 
-/// Collects inputs into a book with `jobs` jobs.
-fn answered<R: Threads + Wait + Sync + AllocGlobal>(
+/// Reads the tracefile as a submission: packed, unless it is the last part.
+fn read_text(alloc: Global, text: &[u8], is_last: bool) -> Result<Given, LateFault> {
+    let Ok(text) = Bytes::of(alloc, text) else {
+        return Err(LateFault::Memory);
+    };
+    match given_of(alloc, &Input::Trace(text), is_last) {
+        Ok(given) => Ok(given),
+        Err(fault) => Err(LateFault::Refused(fault)),
+    }
+}
+
+/// Reads the input as a submission: packed, unless it is the last part.
+fn given_of(alloc: Global, input: &Input, is_last: bool) -> Result<Given, ReadFault> {
+    if is_last {
+        Ok(Given::plain(input.read(alloc)?))
+    } else {
+        Ok(Given::packed(input.read_packed(alloc)?))
+    }
+}
+
+/// The inputs whose letters are between the spaces of `inputs`.
+fn inputs_of<'a>(rt: &impl Abort, alloc: Global, inputs: &'a str) -> Vec<Letters<'a>> {
+    let mut list = Vec::new(alloc);
+    for parts in inputs.split(' ') {
+        let input = Letters {
+            parts: parts.as_bytes(),
+        };
+        if list.push(input).is_err() {
+            panic!(rt; "out of memory");
+        }
+    }
+    list
+}
+
+/// Collects the inputs with `jobs` jobs.
+pub(super) fn answered<R: Threads + Wait + Sync + AllocGlobal + Abort>(
     rt: &R,
-    inputs: Vec<Late>,
+    inputs: &str,
     jobs: u32,
 ) -> Result<CollectedBook, IntoBookFault> {
-    collect_into_book(rt, rt.alloc(), inputs, jobs, &NoGate)
+    collect_into_book(
+        rt,
+        rt.alloc(),
+        inputs_of(rt, rt.alloc(), inputs),
+        jobs,
+        &NoGate,
+    )
 }
 
-/// Collects inputs into a book with `jobs` jobs. Panics on an error.
+/// Collects the inputs with `jobs` jobs. Panics on an error.
 fn collected_of<R: Threads + Wait + Sync + AllocGlobal + Abort>(
     rt: &R,
-    inputs: Vec<Late>,
+    inputs: &str,
     jobs: u32,
 ) -> CollectedBook {
     match answered(rt, inputs, jobs) {
@@ -94,143 +142,91 @@ fn collected_of<R: Threads + Wait + Sync + AllocGlobal + Abort>(
 }
 
 /// Checks the report that the book prints.
-pub(super) fn check_report<R: AllocGlobal + Abort>(
-    rt: &R,
-    collected: &CollectedBook,
-    wanted: &[u8],
-) {
+fn check_report<R: AllocGlobal + Abort>(rt: &R, collected: &CollectedBook, wanted: &[u8]) {
     match collected.book.text_of(rt.alloc(), &Op::Report) {
         Ok(text) => check_bytes(rt, text.get(), wanted),
         Err(_refused) => panic!(rt; "no memory for the report"),
     }
 }
 
-/// Collects four inputs with three jobs. The second input is rejected, and job 0 has two of the others.
-fn by_three<R: Threads + Wait + Sync + AllocGlobal + Abort>(rt: &R) -> Result<(), Fail> {
-    let inputs = lates(rt.alloc(), &[SMALL, b"DA:1,1", OTHERS, SMALL])?;
-    let collected = collected_of(rt, inputs, 3);
+/// Collects inputs of which the second is rejected. Checks that three submissions add up.
+fn check_added_up<R: Threads + Wait + Sync + AllocGlobal + Abort>(rt: &R, inputs: &str, jobs: u32) {
+    let collected = collected_of(rt, inputs, jobs);
     assert!(rt; is_outside(collected.refused.get(), 1));
     assert_eq!(rt; collected.book.kept().len(), 3);
     check_report(rt, &collected, ADDED_UP);
-    Ok(())
 }
 
+/// Each part of an input is a submission of its own. Parts before an invalid one stay submitted, and the rest of the input is
+/// rejected. A job of several may have two inputs or only one, which is rejected after a part or at once.
 #[test]
-fn collected_into_a_book(rt: HostRuntime) -> Result<(), Fail> {
-    by_three(&rt)
-}
-
-/// Whether the answer accepts a submission as number `wanted`.
-pub(super) fn is_accepted(answer: Option<&Answered>, wanted: u64) -> bool {
-    match answer {
-        Some(kept) => match &kept.answer {
-            Answer::Accepted { number, .. } => *number == wanted,
-            _ => false,
-        },
-        None => false,
+fn collected_into_a_book(rt: HostRuntime) {
+    for (inputs, jobs) in [("sos x", 1), ("s osxs", 1), ("s ox s", 2), ("s x o s", 3)] {
+        check_added_up(&rt, inputs, jobs);
     }
 }
 
-/// Whether the answer is a clash at line `wanted`.
-pub(super) fn is_clash(answer: Option<&Answered>, wanted: u64) -> bool {
-    match answer {
-        Some(kept) => match &kept.answer {
-            Answer::Clash { line, .. } => *line == wanted,
-            _ => false,
-        },
-        None => false,
-    }
-}
+/// The expected answers if the first input's second part clashes with its first part, and so does the second input.
+const TWO_CLASHES: &[u8] = b"\
+accepted 1 1 0 
+clash 7 
+accepted 2 2 0 
+clash 7 
+";
 
-/// Collects two inputs with different checksums for one line. The second input clashes with the first.
-fn two_versions<R: Threads + Wait + Sync + AllocGlobal + Abort>(rt: &R) -> Result<(), Fail> {
-    let texts: [&[u8]; 2] = [
-        b"TN:t\nSF:/a.c\nDA:7,1,one\nend_of_record\n",
-        b"TN:t\nSF:/a.c\nDA:7,1,two\nend_of_record\n",
-    ];
-    let inputs = lates(rt.alloc(), &texts)?;
-    let collected = collected_of(rt, inputs, 1);
-    let kept = collected.book.kept();
-    assert_eq!(rt; kept.len(), 2);
-    assert!(rt; is_accepted(kept.first(), 1));
-    assert!(rt; is_clash(kept.get(1), 7));
-    Ok(())
-}
-
+/// Entries come in the order of the parts.
 #[test]
-fn the_answers_are_kept(rt: HostRuntime) -> Result<(), Fail> {
-    two_versions(&rt)
+fn the_order_of_parts(rt: HostRuntime) {
+    let collected = collected_of(&rt, "12s 2", 1);
+    check_answers(&rt, collected.book.kept(), TWO_CLASHES);
 }
 
-/// Whether `jobs` jobs report input `wanted` as unreadable. Of five inputs, the second and the fourth are unreadable.
-fn stops_at<R: Threads + Wait + Sync + AllocGlobal>(
+/// Whether collecting the inputs ends with the error `wanted`.
+fn ends_with<R: Threads + Wait + Sync + AllocGlobal + Abort>(
     rt: &R,
+    inputs: &str,
     jobs: u32,
-    wanted: usize,
-) -> Result<bool, Fail> {
-    let inputs = lates(rt.alloc(), &[SMALL, b"", b"DA:1,1", b"", SMALL])?;
-    match answered(rt, inputs, jobs) {
-        Ok(_collected) => Ok(false),
-        Err(fault) => Ok(fault == IntoBookFault::Unread { index: wanted }),
-    }
-}
-
-/// The first unreadable input is reported, even if a job reaches a later one first.
-#[test]
-fn the_first_unread_input(rt: HostRuntime) -> Result<(), Fail> {
-    assert!(rt; stops_at(&rt, 1, 1)?);
-    assert!(rt; stops_at(&rt, 2, 1)?);
-    assert!(rt; stops_at(&rt, 3, 1)?);
-    assert!(rt; stops_at(&rt, 64, 1)?);
-    Ok(())
-}
-
-/// Whether collecting these four inputs with two jobs ends with the error `wanted`.
-fn ends_with<R: Threads + Wait + Sync + AllocGlobal>(
-    rt: &R,
-    texts: [&[u8]; 4],
     wanted: IntoBookFault,
-) -> Result<bool, Fail> {
-    let inputs = lates(rt.alloc(), &texts)?;
-    match answered(rt, inputs, 2) {
-        Ok(_collected) => Ok(false),
-        Err(fault) => Ok(fault == wanted),
-    }
-}
-
-/// An unreadable input takes precedence if memory runs out for a later input. If memory runs out for an earlier input, `Memory` is
-/// reported, since that earlier input may be unreadable too.
-#[test]
-fn an_unread_input_beside_refused_memory(rt: HostRuntime) -> Result<(), Fail> {
-    let memory = IntoBookFault::Collect(CollectFault::Memory);
-    let second = IntoBookFault::Unread { index: 1 };
-    let third = IntoBookFault::Unread { index: 2 };
-    assert!(rt; ends_with(&rt, [SMALL, SMALL, b"", TOO_LARGE], third)?);
-    assert!(rt; ends_with(&rt, [SMALL, b"", TOO_LARGE, SMALL], second)?);
-    assert!(rt; ends_with(&rt, [SMALL, TOO_LARGE, b"", SMALL], memory)?);
-    assert!(rt; ends_with(&rt, [SMALL, TOO_LARGE, SMALL, b""], memory)?);
-    Ok(())
-}
-
-/// Whether `collect_into_book` rejects this number of jobs.
-fn are_bad<R: Threads + Wait + Sync + AllocGlobal>(rt: &R, jobs: u32) -> bool {
-    match answered(rt, Vec::new(rt.alloc()), jobs) {
+) -> bool {
+    match answered(rt, inputs, jobs) {
         Ok(_collected) => false,
-        Err(fault) => fault == IntoBookFault::Collect(CollectFault::BadJobs),
+        Err(fault) => fault == wanted,
     }
 }
 
-#[test]
-fn jobs_to_collect_into_a_book(rt: HostRuntime) {
-    assert!(rt; are_bad(&rt, 0));
-    assert!(rt; !are_bad(&rt, 1));
-    assert!(rt; !are_bad(&rt, 64));
-    assert!(rt; are_bad(&rt, 65));
-}
+/// Inputs, the number of jobs, and the index of the first unreadable input, which is reported. A job may reach a later one first. An
+/// input may be unreadable after its first part, or have no part. An unreadable input takes precedence if memory runs out for a
+/// later input.
+const UNREAD: [(&str, u32, usize); 10] = [
+    ("s ? x ? s", 1, 1),
+    ("s ? x ? s", 2, 1),
+    ("s ? x ? s", 3, 1),
+    ("s ? x ? s", 64, 1),
+    ("s s ? !", 2, 2),
+    ("s ? ! s", 2, 1),
+    ("s s? s", 2, 1),
+    ("so so? ?", 2, 1),
+    ("s  s?", 2, 1),
+    ("s? s!", 2, 0),
+];
 
 #[test]
-fn numbers_of_faults_of_a_book(rt: HostRuntime) {
-    assert_eq!(rt; IntoBookFault::Collect(CollectFault::BadJobs).number(), 1);
-    assert_eq!(rt; IntoBookFault::Collect(CollectFault::NotLast).number(), 5);
-    assert_eq!(rt; IntoBookFault::Unread { index: 3 }.number(), 6);
+fn the_first_unread_input(rt: HostRuntime) {
+    for (inputs, jobs, index) in UNREAD {
+        let wanted = IntoBookFault::Unread { index };
+        assert!(rt;
+            ends_with(&rt, inputs, jobs, wanted),
+            "{inputs}, {jobs} jobs"
+        );
+    }
+}
+
+/// A job stops if memory runs out for an input or for a later part of it. That input may be unreadable too, so no later `Unread` is
+/// returned.
+#[test]
+fn refused_memory(rt: HostRuntime) {
+    let memory = IntoBookFault::Collect(CollectFault::Memory);
+    for inputs in ["s ! ? s", "s ! s ?", "s s!", "s! s?"] {
+        assert!(rt; ends_with(&rt, inputs, 2, memory), "{inputs}");
+    }
 }

@@ -2,9 +2,12 @@
 
 ghost use Rattle.std.specs.Prelude.{◌≡◌};
 
-use super::books::{closed, done_of, keep, op_of, opened};
-use super::wrappers::{gathered, learn, reader, reading, start, totals};
-use covbook::{JobLog, Op, Reading, Readings, Receipts};
+use super::books::{
+    Ask, closed, done_of, empty_log, first_of, keep, keep_reading, op_of, opened, receipt_of,
+    started,
+};
+use super::wrappers::{gathered, learn, reader, reading, totals};
+use covbook::{Entry, JobLog, Reading, Readings};
 use covjobs::{Live, Name, News, ReaderFault, Seat, Shared, Start};
 use std::alloc::Global;
 use std::marker::Brand;
@@ -51,61 +54,51 @@ fn submitted<L: Name, R: Wait + Abort>(
     book: &Shared<L>,
     seats: &mut [Seat<L>],
 ) -> News<L> {
-    let op = op_of(rt, alloc, b"submit");
-    match seats.first_mut() {
-        Some(seat) => done_of(rt, alloc, book, seat, &op).news,
-        None => panic!(rt; "no seat"),
-    }
+    let op = op_of(rt, alloc, Ask::Submit);
+    done_of(rt, alloc, book, first_of(rt, seats), &op).news
 }
 
-/// Two readers are made before a submit. Only one learns the news of the submit, but both report it.
-fn read_by_two<L: Name, R: Wait + Abort + AllocGlobal>(rt: &R, start: Start)
-    requires name { start.name ≡ L.name }
-    requires jobs { start.jobs ≡ L.parts }
-    requires book { start.book ≡ L.book }
-{
-    let (book, mut seats) = opened::<L, _>(rt, rt.alloc(), start);
-    let mut first = reader_of(rt, &book);
-    let mut second = reader_of(rt, &book);
-    check_none(rt, &mut first);
-    let news = submitted(rt, rt.alloc(), &book, seats.as_mut_slice());
-    learn(&mut first, &news);
-    check_small(rt, &mut first, 1);
-    check_small(rt, &mut second, 1);
-    let _closed = closed(rt, book, seats);
+/// Makes a reader, which reports no entries. After a submit, the reader reports it, although it learns no news.
+fn asked_reader<L: Name, R: Wait + Abort + AllocGlobal>(
+    rt: &R,
+    book: &Shared<L>,
+    seats: &mut [Seat<L>],
+) -> Live<L> {
+    let mut asked = reader_of(rt, book);
+    check_none(rt, &mut asked);
+    let _news = submitted(rt, rt.alloc(), book, seats);
+    check_small(rt, &mut asked, 1);
+    asked
 }
 
-#[test]
-fn a_submit_is_read(rt: HostRuntime) -> Result<(), Fail> {
-    read_by_two::<Brand, _>(&rt, start(rt.alloc(), 1)?);
-    Ok(())
+/// Checks that `early`, which was made before the book's only entry, reports no entries until it learns the news of the closed
+/// book.
+fn check_early<L: Name>(rt: &impl Abort, mut early: Live<L>, news: &News<L>) {
+    check_none(rt, &mut early);
+    learn(&mut early, news);
+    check_small(rt, &mut early, 1);
 }
 
 /// Closes a book after its only entry. `asked`, which read this entry before the close, still reports it. So does `late`, which was
-/// made after the entry. `early`, which was made before the entry, reports no entries until it learns the news.
+/// made after the entry.
 fn kept_over_close<L: Name, R: Wait + Abort + AllocGlobal>(rt: &R, start: Start)
     requires name { start.name ≡ L.name }
     requires jobs { start.jobs ≡ L.parts }
     requires book { start.book ≡ L.book }
 {
     let (book, mut seats) = opened::<L, _>(rt, rt.alloc(), start);
-    let mut early = reader_of(rt, &book);
-    let mut asked = reader_of(rt, &book);
-    let _news = submitted(rt, rt.alloc(), &book, seats.as_mut_slice());
-    check_small(rt, &mut asked, 1);
+    let early = reader_of(rt, &book);
+    let mut asked = asked_reader(rt, &book, seats.as_mut_slice());
     let mut late = reader_of(rt, &book);
     let (_entries, news) = closed(rt, book, seats);
     check_small(rt, &mut asked, 1);
     check_small(rt, &mut late, 1);
-    check_none(rt, &mut early);
-    learn(&mut early, &news);
-    check_small(rt, &mut early, 1);
+    check_early(rt, early, &news);
 }
 
 #[test]
-fn readers_of_a_closed_book(rt: HostRuntime) -> Result<(), Fail> {
-    kept_over_close::<Brand, _>(&rt, start(rt.alloc(), 1)?);
-    Ok(())
+fn readers_of_a_closed_book(rt: HostRuntime) {
+    kept_over_close::<Brand, _>(&rt, started(&rt, rt.alloc(), 1));
 }
 
 /// Makes `count` readers of the book.
@@ -147,26 +140,18 @@ fn all_places<L: Name, R: Wait + Abort + AllocGlobal>(rt: &R, start: Start)
 }
 
 #[test]
-fn places_for_readers(rt: HostRuntime) -> Result<(), Fail> {
-    all_places::<Brand, _>(&rt, start(rt.alloc(), 1)?);
-    Ok(())
-}
-
-#[test]
-fn numbers_of_reader_faults(rt: HostRuntime) {
-    assert_eq!(rt; ReaderFault::NoPlace.number(), 1);
-    assert_eq!(rt; ReaderFault::Memory.number(), 2);
+fn places_for_readers(rt: HostRuntime) {
+    all_places::<Brand, _>(&rt, started(&rt, rt.alloc(), 1));
 }
 
 /// How often the small tracefile is submitted, and how often the totals are read at the same time.
 const TIMES: u64 = 1000;
 
-/// The result of many submits: the seats, the job's log, and the last news.
+/// The result of many submits: the seats, and the job's log.
 #[derive(Drop)]
 struct Told<L: Name> {
     seats: Vec<Seat<L>>,
     log: JobLog,
-    last: Option<News<L>>,
 }
 
 /// Lets job 0 submit the small tracefile `TIMES` times.
@@ -176,38 +161,29 @@ fn submit_often<L: Name, R: Wait + Abort>(
     book: &Shared<L>,
     mut seats: Vec<Seat<L>>,
 ) -> Told<L> {
-    let mut log = empty_log(alloc);
-    let small = op_of(rt, alloc, b"submit");
-    let mut last = None;
-    if let Some(seat) = seats.first_mut() {
-        for _time in 0..TIMES {
-            last = Some(submit_once(rt, alloc, book, seat, &mut log, &small));
-        }
-    }
-    Told { seats, log, last }
+    let mut log = empty_log(alloc, 0);
+    submit_each(
+        rt,
+        alloc,
+        book,
+        first_of(rt, seats.as_mut_slice()),
+        &mut log,
+    );
+    Told { seats, log }
 }
 
-/// A log of job 0 without receipts and readings.
-fn empty_log(alloc: Global) -> JobLog {
-    JobLog {
-        job: 0,
-        receipts: Receipts::new(alloc),
-        readings: Readings::new(alloc),
-    }
-}
-
-/// Performs `op`, appends the receipt to the log, and returns the news.
-fn submit_once<L: Name, R: Wait + Abort>(
+/// Submits the small tracefile `TIMES` times, and appends the receipts to the log.
+fn submit_each<L: Name, R: Wait + Abort>(
     rt: &R,
     alloc: Global,
     book: &Shared<L>,
     seat: &mut Seat<L>,
     log: &mut JobLog,
-    op: &Op,
-) -> News<L> {
-    let done = done_of(rt, alloc, book, seat, op);
-    keep(rt, log, done.receipt);
-    done.news
+) {
+    let small = op_of(rt, alloc, Ask::Submit);
+    for _time in 0..TIMES {
+        keep(rt, log, receipt_of(rt, alloc, book, seat, &small));
+    }
 }
 
 /// A reader, and the readings that it made.
@@ -241,40 +217,38 @@ fn check_rises(rt: &impl Abort, reading: Reading, seen: u64) {
     }
 }
 
-fn keep_reading(rt: &impl Abort, readings: &mut Readings, reading: Reading) {
-    if readings.push(reading).is_err() {
-        panic!(rt; "out of memory");
-    }
-}
-
-/// Lets the reader learn the last news and read once more. Returns all readings of the reader.
-fn read_last<L: Name>(rt: &impl Abort, watched: Watched<L>, last: Option<News<L>>) -> Readings {
+/// Lets the reader learn the news of the closed book and read once more. Returns all readings of the reader.
+fn read_last<L: Name>(rt: &impl Abort, watched: Watched<L>, news: &News<L>) -> Readings {
     let Watched {
         mut live,
         mut readings,
     } = watched;
-    match last {
-        Some(news) => learn(&mut live, &news),
-        None => panic!(rt; "no seat"),
-    }
+    learn(&mut live, news);
     let reading = totals(&mut live);
     check_reading(rt, reading, TIMES, 2, 1);
     keep_reading(rt, &mut readings, reading);
     readings
 }
 
-/// Closes the book. Checks that it has an entry for each submit, and that `gather` accepts its history with the log.
+/// Checks that the closed book has an entry for each submit, and that `gather` accepts its history with the log.
+fn check_history(rt: &impl Abort, entries: &[Entry], log: JobLog) {
+    assert_eq!(rt; entries.len(), 1000);
+    assert_eq!(rt; log.readings.get().len(), 1001);
+    assert!(rt; gathered(entries, &[log]).is_ok());
+}
+
+/// Closes the book, and checks its history with the log and the reader's readings.
 fn check_closed<L: Name, R: Wait + Abort>(
     rt: &R,
     book: Shared<L>,
-    seats: Vec<Seat<L>>,
-    log: JobLog,
+    told: Told<L>,
+    watched: Watched<L>,
 ) {
+    let Told { seats, mut log } = told;
     let (entries, news) = closed(rt, book, seats);
-    assert_eq!(rt; entries.get().len(), 1000);
     check_news(rt, &news, TIMES);
-    assert_eq!(rt; log.readings.get().len(), 1001);
-    assert!(rt; gathered(entries.get(), &[log]).is_ok());
+    log.readings = read_last(rt, watched, &news);
+    check_history(rt, entries.get(), log);
 }
 
 fn read_while_written<L: Name + Send + Sync, R: Threads + Wait + Abort + AllocGlobal + Sync>(
@@ -293,18 +267,10 @@ fn read_while_written<L: Name + Send + Sync, R: Threads + Wait + Abort + AllocGl
         || submit_often(rt, alloc, &book, seats),
         || watch(rt, alloc, live),
     );
-    let Told { seats, log, last } = told;
-    let readings = read_last(rt, watched, last);
-    let log = JobLog {
-        job: log.job,
-        receipts: log.receipts,
-        readings,
-    };
-    check_closed(rt, book, seats, log);
+    check_closed(rt, book, told, watched);
 }
 
 #[test]
-fn read_at_once(rt: HostRuntime) -> Result<(), Fail> {
-    read_while_written::<Brand, _>(&rt, start(rt.alloc(), 1)?);
-    Ok(())
+fn read_at_once(rt: HostRuntime) {
+    read_while_written::<Brand, _>(&rt, started(&rt, rt.alloc(), 1));
 }

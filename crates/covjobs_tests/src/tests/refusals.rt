@@ -2,8 +2,8 @@
 
 ghost use Rattle.std.specs.Prelude.{◌≡◌};
 
-use super::books::{history_of, opened};
-use super::wrappers::{perform, start};
+use super::books::{first_of, history_of, opened, started};
+use super::wrappers::done;
 use covbook::{BookFault, Op};
 use covjobs::{Name, Seat, Shared, Start};
 use linked_list_allocator::LocalHeap;
@@ -21,9 +21,9 @@ fn summaries<L: Name, A: Allocator + Copy, R: Wait>(
     seat: &mut Seat<L>,
     most: u64,
 ) -> (u64, Option<BookFault>) {
-    for done in 0..most {
-        if let Err(fault) = perform(rt, alloc, book, seat, &Op::Summary) {
-            return (done, Some(fault));
+    for answered in 0..most {
+        if let Err(fault) = done(rt, alloc, book, seat, &Op::Summary) {
+            return (answered, Some(fault));
         }
     }
     (most, None)
@@ -54,18 +54,21 @@ fn fill_heap<L: Name, A: Allocator + Copy, R: Wait + Abort>(
 }
 
 /// Fills the heap with the seat's calls. Checks that the same call succeeds once memory is free again, and gets the next index.
+/// Returns how many calls have succeeded.
 fn check_refusal<L: Name, A: Allocator + Copy, R: Wait + Abort>(
     rt: &R,
     alloc: A,
     book: &Shared<L, A>,
     seat: &mut Seat<L>,
-) {
+) -> u64 {
     let succeeded = fill_heap(rt, alloc, book, seat);
-    match perform(rt, alloc, book, seat, &Op::Summary) {
-        Ok(receipt) => assert_eq!(rt; receipt.place, succeeded),
+    match done(rt, alloc, book, seat, &Op::Summary) {
+        Ok(done) => assert_eq!(rt; done.receipt.place, succeeded),
         Err(_fault) => panic!(rt; "a step is refused"),
     }
-    check_seat(rt, seat, succeeded.wrapping_add(1));
+    let calls = succeeded.wrapping_add(1);
+    check_seat(rt, seat, calls);
+    calls
 }
 
 /// Fills the heap with calls of a book's only seat. Checks that the seat works again after memory is freed.
@@ -75,55 +78,47 @@ fn no_room<L: Name, A: Allocator + Copy, R: Wait + Abort>(rt: &R, alloc: A, star
     requires book { start.book ≡ L.book }
 {
     let (book, mut seats) = opened::<L, A>(rt, alloc, start);
-    if let Some(seat) = seats.first_mut() {
-        check_refusal(rt, alloc, &book, seat);
-    }
-    check_length(rt, book, seats);
+    let calls = check_refusal(rt, alloc, &book, first_of(rt, seats.as_mut_slice()));
+    check_length(rt, book, seats, calls);
 }
 
-/// Closes the book, and checks that its history has one entry per successful call of the only seat.
+/// Closes the book, and checks that its history has one entry per successful call.
 fn check_length<L: Name, A: Allocator, R: Wait + Abort>(
     rt: &R,
     book: Shared<L, A>,
     seats: Vec<Seat<L>, A>,
+    calls: u64,
 ) {
-    let calls = calls_of(rt, seats.as_slice());
     let entries = history_of(rt, book, seats);
     assert_eq!(rt; entries.get().len() as u64, calls);
-}
-
-/// The number of successful calls of the only seat.
-fn calls_of<L: Name>(rt: &impl Abort, seats: &[Seat<L>]) -> u64 {
-    match seats.first() {
-        Some(seat) => seat.calls(),
-        None => panic!(rt; "no seat"),
-    }
 }
 
 #[test]
 fn a_heap_without_room(rt: HostRuntime) -> Result<(), Fail> {
     let heap = LocalHeap::new(rt.alloc(), 800_000)?;
-    no_room::<Brand, _, _>(&rt, &heap, start(&heap, 1)?);
+    no_room::<Brand, _, _>(&rt, &heap, started(&rt, &heap, 1));
     Ok(())
 }
 
-/// The history has at most 1,048,576 entries. A further call fails and doesn't change the seat.
+/// Asks for summaries until the history is full, which has at most 1,048,576 entries. Checks that the failed call doesn't change the
+/// seat.
+fn fill_book<L: Name, R: Wait + Abort + AllocGlobal>(rt: &R, book: &Shared<L>, seat: &mut Seat<L>) {
+    let refused = summaries(rt, rt.alloc(), book, seat, 1_048_577);
+    assert_eq!(rt; refused, (1_048_576, Some(BookFault::Full)));
+    check_seat(rt, seat, 1_048_576);
+}
+
 fn full<L: Name, R: Wait + Abort + AllocGlobal>(rt: &R, start: Start)
     requires name { start.name ≡ L.name }
     requires jobs { start.jobs ≡ L.parts }
     requires book { start.book ≡ L.book }
 {
     let (book, mut seats) = opened::<L, _>(rt, rt.alloc(), start);
-    if let Some(seat) = seats.first_mut() {
-        let refused = summaries(rt, rt.alloc(), &book, seat, 1_048_577);
-        assert_eq!(rt; refused, (1_048_576, Some(BookFault::Full)));
-        check_seat(rt, seat, 1_048_576);
-    }
-    check_length(rt, book, seats);
+    fill_book(rt, &book, first_of(rt, seats.as_mut_slice()));
+    check_length(rt, book, seats, 1_048_576);
 }
 
 #[test]
-fn a_full_book(rt: HostRuntime) -> Result<(), Fail> {
-    full::<Brand, _>(&rt, start(rt.alloc(), 1)?);
-    Ok(())
+fn a_full_book(rt: HostRuntime) {
+    full::<Brand, _>(&rt, started(&rt, rt.alloc(), 1));
 }

@@ -1,25 +1,43 @@
-//! Writes receipts and entries as text.
+//! Writes receipts, entries and answers as text, and compares the text.
 
-use covbook::{Answer, Entry, Op, Receipt};
+use super::check_bytes;
+use covbook::{Answer, Answered, Entry, JobLog, Op, Receipt};
 use std::alloc::AllocError;
+use std::process::Abort;
+use std::test::*;
+
+/// Appends `piece`.
+fn put(rt: &impl Abort, text: &mut Vec<u8>, piece: &[u8]) {
+    if text.extend_from_slice(piece).is_err() {
+        panic!(rt; "out of memory");
+    }
+}
 
 /// Appends a number and a space.
-fn put_number(text: &mut Vec<u8>, number: u64) -> Result<(), AllocError> {
-    let decimal: String = format!(in *text.allocator(); "{number} ")?;
-    text.extend_from_slice(decimal.as_bytes())
+fn put_number(rt: &impl Abort, text: &mut Vec<u8>, number: u64) {
+    let decimal: Result<String, AllocError> = format!(in *text.allocator(); "{number} ");
+    match decimal {
+        Ok(decimal) => put(rt, text, decimal.as_bytes()),
+        Err(_refused) => panic!(rt; "out of memory"),
+    }
+}
+
+/// Appends `word` and a number.
+fn put_counted(rt: &impl Abort, text: &mut Vec<u8>, word: &[u8], number: u64) {
+    put(rt, text, word);
+    put_number(rt, text, number);
 }
 
 /// Appends the word `accepted` and the numbers of an accepted submission.
-fn put_accepted(text: &mut Vec<u8>, number: u64, items: u64, odd: u64) -> Result<(), AllocError> {
-    text.extend_from_slice(b"accepted ")?;
-    put_number(text, number)?;
-    put_number(text, items)?;
-    put_number(text, odd)
+fn put_accepted(rt: &impl Abort, text: &mut Vec<u8>, number: u64, items: u64, odd: u64) {
+    put_counted(rt, text, b"accepted ", number);
+    put_number(rt, text, items);
+    put_number(rt, text, odd);
 }
 
-/// Appends the name of the operation.
-fn put_op(text: &mut Vec<u8>, op: &Op) -> Result<(), AllocError> {
-    let word: &[u8] = match op {
+/// The name of the operation.
+fn op_word(op: &Op) -> &'static [u8] {
+    match op {
         Op::Submit(_) | Op::SubmitPacked(_) => b"submit: ",
         Op::DropTest(_) => b"drop: ",
         Op::Rename { .. } => b"rename: ",
@@ -27,45 +45,66 @@ fn put_op(text: &mut Vec<u8>, op: &Op) -> Result<(), AllocError> {
         Op::Extract(_) => b"extract: ",
         Op::Remove(_) => b"remove: ",
         Op::Summary => b"summary: ",
-    };
-    text.extend_from_slice(word)
+    }
 }
 
-/// Appends the answer with its numbers or its text, and a line feed. For a clash, appends only the word `clash`.
-fn put_answer(text: &mut Vec<u8>, answer: &Answer) -> Result<(), AllocError> {
+/// Appends the answer with its numbers or its text. For a clash, appends only the word `clash` and the line.
+fn put_answer(rt: &impl Abort, text: &mut Vec<u8>, answer: &Answer) {
     match answer {
-        Answer::Accepted { number, items, odd } => put_accepted(text, *number, *items, *odd)?,
-        Answer::Clash { .. } => text.extend_from_slice(b"clash")?,
-        Answer::Dropped { sections } => put_number(text, *sections)?,
-        Answer::Renamed { sections } => {
-            text.extend_from_slice(b"renamed ")?;
-            put_number(text, *sections)?;
-        }
-        Answer::NoSuchTest => text.extend_from_slice(b"no such test")?,
-        Answer::Text(printed) => text.extend_from_slice(printed.get().get())?,
+        Answer::Accepted { number, items, odd } => put_accepted(rt, text, *number, *items, *odd),
+        Answer::Clash { line, .. } => put_counted(rt, text, b"clash ", *line),
+        Answer::Dropped { sections } => put_counted(rt, text, b"dropped ", *sections),
+        Answer::Renamed { sections } => put_counted(rt, text, b"renamed ", *sections),
+        Answer::NoSuchTest => put(rt, text, b"no such test"),
+        Answer::Text(printed) => put(rt, text, printed.get().get()),
     }
-    text.push(b'\n')?;
-    Ok(())
 }
 
-/// Appends the place, the operation and the answer of a receipt.
-pub(super) fn put_receipt(text: &mut Vec<u8>, receipt: &Receipt) -> Result<(), AllocError> {
-    put_number(text, receipt.place)?;
-    put_op(text, &receipt.op)?;
-    put_answer(text, &receipt.answer)
+/// Appends the number, the operation, the answer and a line feed.
+fn put_said(rt: &impl Abort, text: &mut Vec<u8>, number: u64, op: &Op, answer: &Answer) {
+    put_number(rt, text, number);
+    put(rt, text, op_word(op));
+    put_answer(rt, text, answer);
+    put(rt, text, b"\n");
 }
 
-/// Appends the job, the operation and the answer of an entry.
-fn put_entry(text: &mut Vec<u8>, entry: &Entry) -> Result<(), AllocError> {
-    put_number(text, u64::from(entry.job))?;
-    put_op(text, &entry.op)?;
-    put_answer(text, &entry.answer)
+/// Appends the place, the operation and the answer of each receipt.
+fn put_receipts(rt: &impl Abort, text: &mut Vec<u8>, receipts: &[Receipt]) {
+    for receipt in receipts {
+        put_said(rt, text, receipt.place, &receipt.op, &receipt.answer);
+    }
 }
 
-/// Appends all entries.
-pub(super) fn put_entries(text: &mut Vec<u8>, entries: &[Entry]) -> Result<(), AllocError> {
+/// Checks the text of all receipts, log by log.
+pub(super) fn check_receipts(rt: &(impl Abort + AllocGlobal), logs: &[JobLog], wanted: &[u8]) {
+    let mut text = Vec::new(rt.alloc());
+    for log in logs {
+        put_receipts(rt, &mut text, log.receipts.get());
+    }
+    check_bytes(rt, text.as_slice(), wanted);
+}
+
+/// Checks the text of all entries: of each the job, the operation and the answer.
+pub(super) fn check_entries(rt: &(impl Abort + AllocGlobal), entries: &[Entry], wanted: &[u8]) {
+    let mut text = Vec::new(rt.alloc());
     for entry in entries {
-        put_entry(text, entry)?;
+        put_said(
+            rt,
+            &mut text,
+            u64::from(entry.job),
+            &entry.op,
+            &entry.answer,
+        );
     }
-    Ok(())
+    check_bytes(rt, text.as_slice(), wanted);
+}
+
+/// Checks the text of all answers, with a line feed after each.
+pub(super) fn check_answers(rt: &(impl Abort + AllocGlobal), kept: &[Answered], wanted: &[u8]) {
+    let mut text = Vec::new(rt.alloc());
+    for answered in kept {
+        put_answer(rt, &mut text, &answered.answer);
+        put(rt, &mut text, b"\n");
+    }
+    check_bytes(rt, text.as_slice(), wanted);
 }

@@ -2,10 +2,12 @@
 
 ghost use Rattle.std.specs.Prelude.{◌≡◌};
 
-use super::books::{empty_logs, history_of, keep, op_of, opened, receipt_of};
-use super::check_bytes;
-use super::wrappers::{gathered, start};
-use covbook::{Answer, Entry, JobLog, Op, Receipt};
+use super::books::{
+    Ask, empty_logs, history_of, keep, op_of, opened, perform, receipt_of, started,
+};
+use super::collecting::check_last;
+use super::wrappers::gathered;
+use covbook::{Answer, Entry, JobLog, Op};
 use covjobs::{Name, Seat, Shared, Start};
 use std::alloc::Global;
 use std::marker::Brand;
@@ -52,15 +54,6 @@ fn ask_at_once<L: Name + Send + Sync, R: Threads + Wait + Abort + Sync>(
     });
 }
 
-/// Checks that the receipt has the index `place`, and that its answer is `text`.
-fn check_text(rt: &impl Abort, receipt: &Receipt, place: u64, text: &[u8]) {
-    assert_eq!(rt; receipt.place, place);
-    match &receipt.answer {
-        Answer::Text(printed) => check_bytes(rt, printed.get().get(), text),
-        _ => panic!(rt; "no text"),
-    }
-}
-
 /// Whether the entry is an accepted submission whose number is greater by 1 than `number_before`.
 fn has_next_number(entry: &Entry, number_before: u64) -> bool {
     match &entry.answer {
@@ -81,26 +74,24 @@ fn accepted_first(entries: &[Entry]) -> usize {
     entries.len()
 }
 
-/// Lets the first job ask for the report twice, after the threads have ended. Checks both receipts.
-fn check_reports<L: Name, R: Wait + Abort + AllocGlobal>(
+/// Lets the first job ask for the report, after the threads have ended.
+fn ask_for_report<L: Name, R: Wait + Abort>(
     rt: &R,
+    alloc: Global,
     book: &Shared<L>,
     seats: &mut [Seat<L>],
     logs: &mut [JobLog],
 ) {
     if let (Some(seat), Some(log)) = (seats.first_mut(), logs.first_mut()) {
-        for place in 200..202u64 {
-            let receipt = receipt_of(rt, rt.alloc(), book, seat, &Op::Report);
-            check_text(rt, &receipt, place, MERGED);
-            keep(rt, log, receipt);
-        }
+        perform(rt, alloc, book, seat, log, Ask::Report);
     }
 }
 
-/// Checks that the history has the calls of all jobs, and that `gather` accepts the history with the logs.
+/// Checks that the history has the calls of all jobs and then the report, and that `gather` accepts the history with the logs.
 fn check_history(rt: &impl Abort, entries: &[Entry], logs: &[JobLog]) {
-    assert_eq!(rt; entries.len(), 202);
+    assert_eq!(rt; entries.len(), 201);
     assert_eq!(rt; accepted_first(entries), 200);
+    check_last(rt, entries, MERGED);
     assert!(rt; gathered(entries, logs).is_ok());
 }
 
@@ -115,7 +106,7 @@ fn at_once<L: Name + Send + Sync, R: Threads + Wait + Abort + AllocGlobal + Sync
     let alloc = rt.alloc();
     let (book, mut seats) = opened::<L, _>(rt, alloc, start);
     let mut logs = empty_logs(rt, alloc, seats.as_slice());
-    let small = op_of(rt, alloc, b"submit");
+    let small = op_of(rt, alloc, Ask::Submit);
     ask_at_once(
         rt,
         alloc,
@@ -124,12 +115,11 @@ fn at_once<L: Name + Send + Sync, R: Threads + Wait + Abort + AllocGlobal + Sync
         logs.as_mut_slice(),
         &small,
     );
-    check_reports(rt, &book, seats.as_mut_slice(), logs.as_mut_slice());
+    ask_for_report(rt, alloc, &book, seats.as_mut_slice(), logs.as_mut_slice());
     check_history(rt, history_of(rt, book, seats).get(), logs.as_slice());
 }
 
 #[test]
-fn four_threads(rt: HostRuntime) -> Result<(), Fail> {
-    at_once::<Brand, _>(&rt, start(rt.alloc(), 4)?);
-    Ok(())
+fn four_threads(rt: HostRuntime) {
+    at_once::<Brand, _>(&rt, started(&rt, rt.alloc(), 4));
 }

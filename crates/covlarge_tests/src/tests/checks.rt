@@ -2,7 +2,7 @@
 
 use super::texts::{push_long_section, push_sections, three_pieces};
 use super::{WELL, Way, check_whole, check_words};
-use covcommand::LcovVersion;
+use covdata::LcovVersion;
 use std::test::*;
 
 /// Skipped lines in the second and third chunk, and inconsistent lines in the first and third chunk.

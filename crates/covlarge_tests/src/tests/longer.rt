@@ -2,7 +2,7 @@
 
 use super::texts::{doubled, push_long_section, push_sections, three_pieces};
 use super::{Given, WELL, Way, check_words, read_pieces, read_summed};
-use covcommand::LcovVersion;
+use covdata::LcovVersion;
 use covlarge::{LargeTracefile, NextPiece};
 use std::process::Abort;
 use std::test::*;

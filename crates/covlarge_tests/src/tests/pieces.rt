@@ -1,7 +1,7 @@
 //! Tracefiles of one chunk, which are read as a whole.
 
 use super::{Given, WELL, Way, check_words, read_pieces, read_summed};
-use covcommand::LcovVersion;
+use covdata::LcovVersion;
 use covlarge::{LargeTracefile, NextPiece};
 use covread::read_trace;
 use std::process::Abort;
@@ -26,7 +26,7 @@ fn one_piece(rt: HostRuntime) -> Result<(), Fail> {
     let whole = read_trace(rt.alloc(), TWO)?;
     match large.next_piece(rt.alloc()) {
         Ok(NextPiece::Last(piece, None)) => {
-            assert!(rt; piece.get().is_same_as(&whole), "the piece is the whole");
+            assert!(rt; piece.is_same_as(&whole), "the piece is the whole");
         }
         _ => panic!(rt; "there is another end"),
     }

@@ -2,7 +2,7 @@
 
 use super::wrappers::{put_lines, put_name};
 use super::{check_bytes, made};
-use covline::Bytes;
+use covdata::Bytes;
 use std::process::Abort;
 use std::test::*;
 
@@ -14,17 +14,23 @@ fn check_name(rt: &(impl Abort + AllocGlobal), name: &[u8], wanted: &[u8]) {
     check_bytes(rt, text.get(), wanted);
 }
 
-#[test]
-fn shown_names(rt: HostRuntime) {
-    check_name(&rt, b"", b"of ");
-    check_name(&rt, b"/src/a b~.c", b"of /src/a b~.c");
-    check_name(&rt, b"\xc3\xa9\xff\x80", b"of \xc3\xa9\xff\x80");
-    check_name(
-        &rt,
+/// Names, and how they are printed after `of `.
+const NAMES: [(&[u8], &[u8]); 5] = [
+    (b"", b"of "),
+    (b"/src/a b~.c", b"of /src/a b~.c"),
+    (b"\xc3\xa9\xff\x80", b"of \xc3\xa9\xff\x80"),
+    (
         b"a\n\x1b[1m\0\t\x1f\x7f\\.c",
         b"of a\\x0a\\x1b[1m\\x00\\x09\\x1f\\x7f\\\\.c",
-    );
-    check_name(&rt, b"\\x01\x01", b"of \\\\x01\\x01");
+    ),
+    (b"\\x01\x01", b"of \\\\x01\\x01"),
+];
+
+#[test]
+fn shown_names(rt: HostRuntime) {
+    for (name, wanted) in NAMES {
+        check_name(&rt, name, wanted);
+    }
 }
 
 #[test]

@@ -1,11 +1,7 @@
 //! Tables of files.
 
-use super::wrappers::{holding, matching, table};
-use super::{check_bytes, made};
-use covreport::Choice;
-use covstore::Store;
+use super::forms::{Form, check_text};
 use itoa::Buffer;
-use std::alloc::Global;
 use std::process::Abort;
 use std::test::*;
 
@@ -54,98 +50,86 @@ pub(super) const TABLE_OF_TWO: &[u8] = b"       Lines   Functions    Branches  F
  31.6%  6/19   33.3% 1/3   25.0% 1/4  Total
 ";
 
-/// Checks the table of the chosen files.
-fn check_table(rt: &impl Abort, alloc: Global, store: &Store, choice: &Choice, wanted: &[u8]) {
-    let text = made(rt, table(alloc, store, choice));
-    check_bytes(rt, text.get(), wanted);
-}
-
-/// Checks the table of all files of a tracefile.
-fn check_all(rt: &(impl Abort + AllocGlobal), text: &[u8], wanted: &[u8]) {
-    let store = holding(rt, rt.alloc(), text);
-    check_table(rt, rt.alloc(), &store, &Choice::All, wanted);
-}
-
-/// Checks the table of the files of `TWO_FILES` that match the pattern.
-fn check_matching(rt: &(impl Abort + AllocGlobal), pattern: &[u8], wanted: &[u8]) {
-    let store = holding(rt, rt.alloc(), TWO_FILES);
-    let choice = matching(rt, rt.alloc(), pattern);
-    check_table(rt, rt.alloc(), &store, &choice, wanted);
-}
-
-#[test]
-fn two_files(rt: HostRuntime) {
-    check_all(&rt, TWO_FILES, TABLE_OF_TWO);
-}
-
-#[test]
-fn one_of_two_files(rt: HostRuntime) {
-    let wanted = b"     Lines   Functions    Branches  File
+const TABLE_OF_ONE: &[u8] = b"     Lines   Functions    Branches  File
  85.7% 6/7  100.0% 1/1       - 0/0  src/a.c
  85.7% 6/7  100.0% 1/1       - 0/0  Total
 ";
-    check_matching(&rt, b"*a.c", wanted);
-}
 
-#[test]
-fn no_file(rt: HostRuntime) {
-    let wanted = b"     Lines   Functions    Branches  File
+const TABLE_OF_NONE: &[u8] = b"     Lines   Functions    Branches  File
      - 0/0       - 0/0       - 0/0  Total
 ";
-    check_matching(&rt, b"*.h", wanted);
-}
 
-#[test]
-fn a_file_without_lines(rt: HostRuntime) {
-    let wanted = b"     Lines   Functions    Branches  File
+/// The expected table of a file without lines.
+const NO_LINES: &[u8] = b"     Lines   Functions    Branches  File
      - 0/0  100.0% 1/1       - 0/0  c.c
      - 0/0  100.0% 1/1       - 0/0  Total
 ";
-    check_all(
-        &rt,
-        b"TN:t\nSF:c.c\nFN:1,f\nFNDA:1,f\nend_of_record\n",
-        wanted,
-    );
-}
 
-#[test]
-fn a_name_with_an_escape_byte(rt: HostRuntime) {
-    let wanted = b"     Lines   Functions    Branches  File
+/// The expected table of a file whose name has an escape byte.
+const AN_ESCAPE_BYTE: &[u8] = b"     Lines   Functions    Branches  File
 100.0% 1/1       - 0/0       - 0/0  a\\x1b[1m.c
 100.0% 1/1       - 0/0       - 0/0  Total
 ";
-    check_all(&rt, b"TN:t\nSF:a\x1b[1m.c\nDA:1,1\nend_of_record\n", wanted);
-}
 
-/// Appends `DA` records of the lines 1 to `found`, of which the first `hit` lines are hit.
-fn push_lines(text: &mut Vec<u8>, hit: u64, found: u64) -> Result<(), Fail> {
-    let mut digits = Buffer::new();
-    for line in 0..found {
-        text.extend_from_slice(b"DA:")?;
-        text.extend_from_slice(digits.format(line.wrapping_add(1)).as_bytes())?;
-        text.extend_from_slice(if line < hit { b",1\n" } else { b",0\n" })?;
-    }
-    Ok(())
-}
-
-/// A tracefile with two source files, one of 9 lines and one of 1000 lines.
-fn few_and_many(alloc: Global) -> Result<Vec<u8>, Fail> {
-    let mut text = Vec::from_slice(alloc, b"TN:t\nSF:a.c\n")?;
-    push_lines(&mut text, 9, 9)?;
-    text.extend_from_slice(b"end_of_record\nSF:b.c\n")?;
-    push_lines(&mut text, 1, 1_000)?;
-    text.extend_from_slice(b"end_of_record\n")?;
-    Ok(text)
-}
+/// Tracefiles, patterns, and the expected tables of the matching files.
+const TABLES: [(&[u8], &[u8], &[u8]); 5] = [
+    (TWO_FILES, b"", TABLE_OF_TWO),
+    (TWO_FILES, b"*a.c", TABLE_OF_ONE),
+    (TWO_FILES, b"*.h", TABLE_OF_NONE),
+    (
+        b"TN:t\nSF:c.c\nFN:1,f\nFNDA:1,f\nend_of_record\n",
+        b"",
+        NO_LINES,
+    ),
+    (
+        b"TN:t\nSF:a\x1b[1m.c\nDA:1,1\nend_of_record\n",
+        b"",
+        AN_ESCAPE_BYTE,
+    ),
+];
 
 #[test]
-fn numbers_of_different_widths(rt: HostRuntime) -> Result<(), Fail> {
-    let wanted = b"           Lines   Functions    Branches  File
+fn files(rt: HostRuntime) {
+    for (tracefile, pattern, wanted) in TABLES {
+        check_text(&rt, Form::Table, tracefile, pattern, wanted);
+    }
+}
+
+/// Appends `piece`.
+fn put(rt: &impl Abort, text: &mut Vec<u8>, piece: &[u8]) {
+    if text.extend_from_slice(piece).is_err() {
+        panic!(rt; "out of memory");
+    }
+}
+
+/// Appends a `DA` record of the line, with the count 1 or 0.
+fn put_line(rt: &impl Abort, text: &mut Vec<u8>, line: u64, is_hit: bool) {
+    let mut digits = Buffer::new();
+    put(rt, text, b"DA:");
+    put(rt, text, digits.format(line).as_bytes());
+    put(rt, text, if is_hit { b",1\n" } else { b",0\n" });
+}
+
+/// Appends a section of a file with the lines 1 to `found`, of which the first `hit` are hit.
+fn put_section(rt: &impl Abort, text: &mut Vec<u8>, head: &[u8], hit: u64, found: u64) {
+    put(rt, text, head);
+    for line in 0..found {
+        put_line(rt, text, line.wrapping_add(1), line < hit);
+    }
+    put(rt, text, b"end_of_record\n");
+}
+
+/// The expected table of two files, one of 9 lines and one of 1000 lines.
+const DIFFERENT_WIDTHS: &[u8] = b"           Lines   Functions    Branches  File
 100.0%       9/9       - 0/0       - 0/0  a.c
   0.1%    1/1000       - 0/0       - 0/0  b.c
   1.0%   10/1009       - 0/0       - 0/0  Total
 ";
-    let text = few_and_many(rt.alloc())?;
-    check_all(&rt, text.as_slice(), wanted);
-    Ok(())
+
+#[test]
+fn numbers_of_different_widths(rt: HostRuntime) {
+    let mut text = Vec::new(rt.alloc());
+    put_section(&rt, &mut text, b"TN:t\nSF:a.c\n", 9, 9);
+    put_section(&rt, &mut text, b"SF:b.c\n", 1, 1_000);
+    check_text(&rt, Form::Table, text.as_slice(), b"", DIFFERENT_WIDTHS);
 }

@@ -2,10 +2,11 @@
 //! contracts.
 
 use super::made;
-use covline::{Bytes, Memory, Submission};
-use covread::{ReadFault, read_trace};
+use covdata::{Bytes, Memory, ReadFault, Submission};
+use covread::read_trace;
 use covreport::{Choice, PatternFault, Patterns};
-use covstore::{Store, Totals};
+use covstore::Store;
+use covtable::Totals;
 use std::alloc::Allocator;
 use std::process::Abort;
 

@@ -4,7 +4,7 @@ use super::made;
 use super::mixed::item;
 use super::sections::{Section, check_sections, samples};
 use super::wrappers::{bytes, packed, unpacked};
-use covline::{Bytes, Item, Items, Sect, Sects, Submission};
+use covdata::{Bytes, Item, Items, Sect, Sects, Submission};
 use covpacked::{ItemRef, PackedSubmission, ReadText};
 use std::alloc::Allocator;
 use std::process::Abort;

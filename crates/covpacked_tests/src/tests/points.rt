@@ -1,7 +1,7 @@
 //! Tests an item's line or branch, and whether the item is hit.
 
 use super::mixed::item;
-use covline::BranchPoint;
+use covdata::BranchPoint;
 use std::process::Abort;
 use std::test::*;
 

@@ -8,7 +8,7 @@ use super::packs::{Sample, check_packed, packed_of, submission_of};
 use super::sections::{SAMPLES, Section, check_sections, samples};
 use super::wrappers::{close, is_same_as, packed, push, unpacked};
 use bumpalo::Bump;
-use covline::{Memory, Submission};
+use covdata::{Memory, Submission};
 use covpacked::{PackedSects, PackedSubmission};
 use std::alloc::Allocator;
 use std::process::Abort;

@@ -1,7 +1,7 @@
-//! Wraps functions of covline and covpacked in functions without contracts. Tests look only at values, and their proofs are faster
+//! Wraps functions of covdata and covpacked in functions without contracts. Tests look only at values, and their proofs are faster
 //! without contracts.
 
-use covline::{BranchPoint, Bytes, Memory, Submission};
+use covdata::{BranchPoint, Bytes, Memory, Submission};
 use covpacked::{ItemRef, PackedSects, PackedSubmission};
 use std::alloc::Allocator;
 

@@ -1,18 +1,18 @@
 //! Reads gcov's annotated source in one pass.
 
 ghost use Rattle.std.specs.Prelude.{◌≡◌, ◌≤◌, length, Result};
-ghost use Rattle.covline.specs.Row.{SubmissionData};
-ghost use Rattle.covread.specs.declared.fault.ReadFault.{ReadFault as Fault};
+ghost use Rattle.covdata.specs.Row.{SubmissionData};
+ghost use Rattle.covdata.specs.declared.fault.ReadFault.{ReadFault as Fault};
 ghost use Rattle.covread.specs.Outcome.{max_bytes, IsOrMemory};
 ghost use Rattle.covread.specs.GcovOutcome.{IsOutcome, Answers, GrowsLate};
 ghost use Rattle.covread.specs.Gcov.{says_of};
 ghost use Rattle.covread.specs.GcovReading.{shape_of};
 ghost use Rattle.covread.specs.GcovSteps.{held_data, line_step, line_grows, StepsTo, ReadsTo};
 
-use crate::fault::{MAX_BYTES, ReadFault};
 use crate::gcov::line::{OwnFault, read_line};
 use crate::gcov::reader::Reader;
-use covline::{LineFault, Submission, good_test, lines};
+use covdata::{LineFault, MAX_BYTES, ReadFault, Submission, good_test};
+use covline::lines;
 use covpacked::{PackedSubmission, unpack};
 use std::alloc::Allocator;
 

@@ -1,16 +1,15 @@
 //! The state of the gcov reader between two lines.
 
 ghost use Rattle.std.specs.Prelude.{true, is_some, ◌≡◌, [], ◌++◌, map, MatchResult, OnOk, OnErr};
-ghost use Rattle.covline.specs.Lawful.{IsLawful};
-ghost use Rattle.covread.specs.declared.fault.ReadFault.TheVariants.{Memory as NoMemory};
+ghost use Rattle.covdata.specs.Lawful.{IsLawful};
+ghost use Rattle.covdata.specs.declared.fault.ReadFault.TheVariants.{Memory as NoMemory};
 ghost use Rattle.covread.specs.GcovView.{line_data};
 ghost use Rattle.covread.specs.GcovItems.{func_item, line_item};
 ghost use Rattle.covread.specs.GcovSteps.{func_data, held_data, section_data, empty, closed, step, step_path, step_source, step_branch, step_func, step_block, grows, StepsTo, submission_held, ends, EndsTo};
 
-use crate::fault::ReadFault;
 use crate::gcov::line::GcovLine;
 use crate::wide::wide;
-use covline::BranchPoint;
+use covdata::{BranchPoint, ReadFault};
 use covpacked::{PackedSects, PackedSubmission};
 use std::alloc::Allocator;
 

@@ -1,11 +1,11 @@
 //! The functions of a section.
 
 ghost use Rattle.std.specs.Prelude.{◌≡◌, ℕ, nat_lt, ◌++◌, ◌∷◌, [], List, Option, OnOk, option_map};
-ghost use Rattle.covline.specs.Spells.{LineData, FuncStart};
+ghost use Rattle.covdata.specs.Records.{LineData, FuncStart};
 ghost use Rattle.covread.specs.Reads.{start_in};
 ghost use Rattle.covread.specs.TraceFunctions.{AreFunctions, found_by, named};
 
-use covline::Memory;
+use covdata::Memory;
 use std::alloc::Allocator;
 use std::collections::BTreeMap;
 

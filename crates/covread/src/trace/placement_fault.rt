@@ -3,7 +3,7 @@
 ghost use Rattle.std.specs.Prelude.{◌≡◌};
 ghost use Rattle.covread.specs.declared.trace.placement_fault.PlacementFault.TheVariants.{Memory as NoMemory};
 
-use covline::Memory;
+use covdata::Memory;
 use std::alloc::AllocFailed;
 
 /// The reason why a reader rejects a line: the line is misplaced, or an allocation failed.

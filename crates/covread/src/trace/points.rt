@@ -1,13 +1,13 @@
 //! Counts the different lines and branches among the items of a section.
 
 ghost use Rattle.std.specs.Prelude.{◌≡◌, ◌<◌, ◌^◌, ◌++◌, List, [], ◌∷◌, true, Some, IfOk, option_map, MatchOption, length};
-ghost use Rattle.covline.specs.Row.{ItemData};
-ghost use Rattle.covline.specs.Points.{line_point};
+ghost use Rattle.covdata.specs.Row.{ItemData};
+ghost use Rattle.covdata.specs.Points.{line_point};
 ghost use Rattle.covpacked.specs.ItemRefs.{item_ref_data};
 ghost use Rattle.covread.specs.declared.trace.points.Hit.{Hit as HitOf};
 ghost use Rattle.covread.specs.TracePoints.{AreTotals, Counts, IsAscent, IsTally, branch_key, goes_on, hits_said};
 
-use covline::{BranchPoint, Memory, Tally};
+use covdata::{BranchPoint, Memory, Tally};
 use covpacked::{ItemRef, PackedItems};
 use std::alloc::Allocator;
 

@@ -1,19 +1,20 @@
 //! Reads a tracefile in one pass.
 
 ghost use Rattle.std.specs.Prelude.{◌≡◌, ◌≤◌, ◌<◌, ◌∷◌, ℕ, IfOk, length, List, Result, option_map};
-ghost use Rattle.covline.specs.Row.{SubmissionData};
-ghost use Rattle.covread.specs.declared.fault.ReadFault.{ReadFault as Fault};
+ghost use Rattle.covdata.specs.Row.{SubmissionData};
+ghost use Rattle.covdata.specs.declared.fault.ReadFault.{ReadFault as Fault};
 ghost use Rattle.covread.specs.Outcome.{max_bytes, IsOutcome, Answers, GrowsLate, IsOrMemory};
 ghost use Rattle.covline.specs.Lines.{lines_of};
-ghost use Rattle.covline.specs.Spells.{LineData, Branch, Line, Spells};
+ghost use Rattle.covdata.specs.Records.{LineData, Branch, Line};
+ghost use Rattle.covline.specs.Spells.{Spells};
 ghost use Rattle.covread.specs.TraceSteps.{held_data, HasRoom, IsOpen, ReadsTo, TakesLine, fault_at};
 
-use crate::fault::{MAX_BYTES, ReadFault};
 use crate::trace::placement_fault::PlacementFault;
 use crate::trace::reader::Reader;
+use covdata::{BranchPoint, MAX_BYTES, ReadFault, Submission};
 use covline::{
-    BranchPoint, Submission, each_line_has_one_meaning, first_line, lines_are_the_text, read_line,
-    try_branch_line, try_line_count,
+    each_line_has_one_meaning, first_line, lines_are_the_text, read_line, try_branch_line,
+    try_line_count,
 };
 use covpacked::{PackedSubmission, unpack};
 use std::alloc::Allocator;

@@ -1,16 +1,15 @@
 //! The state of the tracefile reader between two lines.
 
 ghost use Rattle.std.specs.Prelude.{◌≡◌, List, [], option_map};
-ghost use Rattle.covline.specs.Spells.{LineData, line_data, Test, Path, Branch, Line, End};
+ghost use Rattle.covdata.specs.Records.{LineData, line_data, Test, Path, Branch, Line, End};
 ghost use Rattle.covread.specs.TraceSection.{IsKept};
 ghost use Rattle.covread.specs.TraceSteps.{held_data, empty, IsOpen, HasRoom, Steps, ends, EndsLawfully};
 
-use crate::fault::ReadFault;
 use crate::trace::placement_fault::PlacementFault;
 use crate::trace::section::SectionBuilder;
 use crate::trace::settle::settle;
 use crate::wide::wide;
-use covline::{BranchPoint, TraceLine};
+use covdata::{BranchPoint, ReadFault, TraceLine};
 use covpacked::{PackedSects, PackedSubmission};
 use std::alloc::Allocator;
 

@@ -1,13 +1,13 @@
 //! Collects the lines of an open section.
 
 ghost use Rattle.std.specs.Prelude.{◌≡◌, ℕ};
-ghost use Rattle.covline.specs.Points.{is_hit};
-ghost use Rattle.covline.specs.Row.{BranchItem};
+ghost use Rattle.covdata.specs.Points.{is_hit};
+ghost use Rattle.covdata.specs.Row.{BranchItem};
 
 use crate::trace::functions::{Functions, take_start};
 use crate::trace::points::{Ascent, Hit, Points};
 use crate::trace::tally::StatedTotal;
-use covline::{BranchPoint, Memory, TraceLine};
+use covdata::{BranchPoint, Memory, TraceLine};
 use covpacked::PackedSects;
 use std::alloc::Allocator;
 use std::collections::BTreeMap;
@@ -41,8 +41,8 @@ pub struct SectionBuilder<'a, A: Allocator> {
 
 impl<'a, A: Allocator + Copy> SectionBuilder<'a, A> {
     ghost use Rattle.std.specs.Prelude.{◌≡◌, ◌+◌, ◌<◌, ◌^◌, ◌++◌, ◌∷◌, [], List, OnOk, length, option_map};
-    ghost use Rattle.covline.specs.Row.{ItemData};
-    ghost use Rattle.covline.specs.Spells.{LineData, FuncStart, FuncCount, Branch, Line, line_data};
+    ghost use Rattle.covdata.specs.Row.{ItemData};
+    ghost use Rattle.covdata.specs.Records.{LineData, FuncStart, FuncCount, Branch, Line, line_data};
     ghost use Rattle.covread.specs.TraceSection.{IsBuiltOf, IsKept};
     ghost use Rattle.covread.specs.TraceTally.{stated_record};
 

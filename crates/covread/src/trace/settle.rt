@@ -1,7 +1,7 @@
 //! Settles a section when it ends: completes its items, and counts its inconsistent lines.
 
 ghost use Rattle.std.specs.Prelude.{◌≡◌, ℕ, ◌+◌, ◌<◌, ◌^◌, List, Option, [], ◌∷◌, false, IfOk, MatchOption, count_by, length, map};
-ghost use Rattle.covline.specs.Spells.{LineData};
+ghost use Rattle.covdata.specs.Records.{LineData};
 ghost use Rattle.covread.specs.Reads.{items_of, is_odd};
 ghost use Rattle.covread.specs.TraceFunctions.{AreFunctions};
 ghost use Rattle.covread.specs.TraceSection.{IsBuiltOf, mark};
@@ -10,7 +10,7 @@ ghost use Rattle.covread.specs.TraceSettle.{HavePlaces, IsSettled, names_in};
 use crate::trace::functions::{Functions, count_function};
 use crate::trace::section::{PendingCount, SectionBuilder};
 use crate::trace::tally::{FunctionTotals, SectionPoints, odd_totals};
-use covline::Memory;
+use covdata::Memory;
 use covpacked::PackedSects;
 use std::alloc::Allocator;
 
@@ -84,7 +84,7 @@ fn settle_counts<'a, A: Allocator + Copy>(
 
 impl<A: Allocator + Copy> SettledCounts<A> {
     ghost use Rattle.std.specs.Prelude.{◌≡◌, ◌+◌, ◌<◌, ◌≤◌, ◌^◌, ◌++◌, ◌∷◌, [], ℕ, List, Option, OnOk, length};
-    ghost use Rattle.covline.specs.Row.{ItemData};
+    ghost use Rattle.covdata.specs.Row.{ItemData};
     ghost use Rattle.covread.specs.TraceFunctions.{AreFunctions};
     ghost use Rattle.covread.specs.TraceSection.{Mark, mark};
     ghost use Rattle.covread.specs.TraceSettle.{IsSettled, names_in};

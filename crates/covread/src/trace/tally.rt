@@ -2,12 +2,12 @@
 
 ghost use Rattle.std.specs.Prelude.{◌≡◌, ◌<◌, ◌^◌, List, true, IfOk, count_by, length, map};
 ghost use Rattle.std.specs.List.{list_any};
-ghost use Rattle.covline.specs.Spells.{LineData};
+ghost use Rattle.covdata.specs.Records.{LineData};
 ghost use Rattle.covread.specs.TracePoints.{AreTotals, Counts, hits_said};
 ghost use Rattle.covread.specs.TraceTally.{AreFew, HasTotals, differs, has, is_other, own_value, stated_record, states};
 
 use crate::trace::points::{Point, Points, totals_of};
-use covline::{BranchPoint, Memory, Tally, TotalKind};
+use covdata::{BranchPoint, Memory, Tally, TotalKind};
 use covpacked::PackedItems;
 use std::alloc::Allocator;
 

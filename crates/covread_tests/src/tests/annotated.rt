@@ -1,25 +1,13 @@
 //! Tests the reader of gcov's annotated source: the items that it returns, and inputs that no session passes to it.
 
 use super::wrappers::{annotated, annotated_packed, is_packed, read};
-use super::{check_bytes, push_line};
-use std::alloc::Global;
+use super::{Counted, check_counted};
+use covdata::ReadFault;
 use std::process::Abort;
 use std::test::*;
 
 mod items;
 mod real;
-
-/// The numbers of sections and items of an input, or its error, as text.
-fn counted(alloc: Global, test: &[u8], text: &[u8]) -> Result<String, Fail> {
-    Ok(match annotated(alloc, test, text) {
-        Ok(submission) => {
-            let sects = submission.sects().len();
-            let items = submission.items();
-            format!(in alloc; "sections {sects} items {items}")?
-        }
-        Err(fault) => format!(in alloc; "{fault}")?,
-    })
-}
 
 /// A packed submission of gcov's output equals the submission of a tracefile with the same items, but not a submission of another
 /// test.
@@ -39,82 +27,49 @@ branch  1 never executed
     Ok(())
 }
 
-/// Checks the numbers of sections and items of an input, or its error.
-fn check_counted(
-    rt: &(impl Abort + AllocGlobal),
-    test: &[u8],
-    text: &[u8],
-    wanted: &[u8],
-) -> Result<(), Fail> {
-    let counted = counted(rt.alloc(), test, text)?;
-    check_bytes(rt, counted.as_bytes(), wanted);
-    Ok(())
+/// Checks the numbers of gcov's output, or its error.
+fn check(rt: &(impl Abort + AllocGlobal), test: &[u8], text: &[u8], wanted: Counted) {
+    check_counted(rt, annotated(rt.alloc(), test, text), wanted);
 }
 
-/// Reads prefixes of one input. Each line that begins with `> ` is the expected result for all input lines above it.
+/// Reads prefixes of one input, each of one line more.
 #[test]
 fn first_lines(rt: HostRuntime) -> Result<(), Fail> {
-    let lines = b"> sections 0 items 0
-        -:    0:Source:tmp.c
-> sections 1 items 0
-        -:    0:Runs:1
-> sections 1 items 0
-        -:    1:#include <stdio.h>
-> sections 1 items 0
-function main called 1 returned 100% blocks executed 80%
-> LostFunction
-        1:    2:int main(void)
-> sections 1 items 2
-       3*:    3:  if (x)
-> sections 1 items 3
-        3:    3-block  2
-> sections 1 items 3
-branch  0 taken 2 (fallthrough)
-> sections 1 items 4
-branch  1 taken 1
-> sections 1 items 5
-call    2 returned 3
-> sections 1 items 5
-    #####:    4:  f();
-> sections 1 items 6
-branch  0 never executed
-> sections 1 items 7
-    =====:    5:  g();
-> sections 1 items 8";
     let mut text: Vec<u8> = Vec::new(rt.alloc());
-    for line in lines.split(|byte| *byte == b'\n') {
-        match line.strip_prefix(b"> ") {
-            None => push_line(&mut text, line)?,
-            Some(wanted) => {
-                check_counted(&rt, b"t", text.as_slice(), wanted)?;
-            }
-        }
+    for (line, wanted) in FIRST_LINES {
+        text.extend_from_slice(line)?;
+        check(&rt, b"t", text.as_slice(), *wanted);
     }
     Ok(())
 }
+
+/// The lines of an input, each with the numbers of the input up to the line.
+const FIRST_LINES: &[(&[u8], Counted)] = &[
+    (b"        -:    0:Source:tmp.c\n", Ok((1, 0, 0))),
+    (b"        -:    0:Runs:1\n", Ok((1, 0, 0))),
+    (b"        -:    1:#include <stdio.h>\n", Ok((1, 0, 0))),
+    (
+        b"function main called 1 returned 100% blocks executed 80%\n",
+        Err(ReadFault::LostFunction),
+    ),
+    (b"        1:    2:int main(void)\n", Ok((1, 2, 0))),
+    (b"       3*:    3:  if (x)\n", Ok((1, 3, 0))),
+    (b"        3:    3-block  2\n", Ok((1, 3, 0))),
+    (b"branch  0 taken 2 (fallthrough)\n", Ok((1, 4, 0))),
+    (b"branch  1 taken 1\n", Ok((1, 5, 0))),
+    (b"call    2 returned 3\n", Ok((1, 5, 0))),
+    (b"    #####:    4:  f();\n", Ok((1, 6, 0))),
+    (b"branch  0 never executed\n", Ok((1, 7, 0))),
+    (b"    =====:    5:  g();\n", Ok((1, 8, 0))),
+];
 
 /// Test names that no tracefile can hold are rejected. No session passes such a name to the reader.
 #[test]
-fn unlawful_names(rt: HostRuntime) -> Result<(), Fail> {
-    for name in b"a\nb|\n|a\r|\r".split(|byte| *byte == b'|') {
-        check_counted(&rt, name, b"", b"BadTest")?;
+fn names(rt: HostRuntime) {
+    check(&rt, b"t", b"", Ok((0, 0, 0)));
+    for name in UNLAWFUL_NAMES {
+        check(&rt, name, b"", Err(ReadFault::BadTest));
     }
-    Ok(())
 }
 
-/// An input of 67,108,864 bytes is read. A longer input is rejected for its length, even if the test's name is unlawful.
-#[test]
-fn longest_text(rt: HostRuntime) -> Result<(), Fail> {
-    let text = vec![in rt.alloc(); b'#'; 67_108_865]?;
-    check_counted(&rt, b"a\nb", &text, b"TooLong")?;
-    check_counted(&rt, b"t", &text[1..], b"sections 0 items 0")
-}
-
-/// Like `longest_text`, with an input of line feeds alone.
-#[test]
-fn most_line_feeds(rt: HostRuntime) -> Result<(), Fail> {
-    let text = vec![in rt.alloc(); b'\n'; 67_108_865]?;
-    check_counted(&rt, b"t", &text, b"TooLong")?;
-    check_counted(&rt, b"a\nb", &text, b"TooLong")?;
-    check_counted(&rt, b"t", &text[1..], b"sections 0 items 0")
-}
+const UNLAWFUL_NAMES: &[&[u8]] = &[b"a\nb", b"\n", b"a\r", b"\r"];

@@ -1,42 +1,31 @@
 //! Tests the longest inputs, and a long section.
 
-use super::wrappers::read;
-use covread::ReadFault;
+use super::wrappers::{annotated, read};
+use super::{Counted, check_counted};
+use covdata::ReadFault;
 use std::alloc::Global;
 use std::process::Abort;
 use std::test::*;
 
-/// The numbers of items and of inconsistent lines of an input, or its error.
-fn counted(alloc: Global, text: &[u8]) -> Result<(u64, u64), ReadFault> {
-    let submission = read(alloc, text)?;
-    Ok((submission.items(), submission.odd()))
+/// Checks the numbers of a tracefile, or of gcov's output for a test of this name, or the error.
+fn check_both(rt: &(impl Abort + AllocGlobal), test: &[u8], text: &[u8], wanted: Counted) {
+    check_counted(rt, read(rt.alloc(), text), wanted);
+    check_counted(rt, annotated(rt.alloc(), test, text), wanted);
 }
 
-/// Checks the numbers of items and of inconsistent lines of an input, or its error.
-fn check_counted(
-    rt: &(impl Abort + AllocGlobal),
-    text: &[u8],
-    wanted: Result<(u64, u64), ReadFault>,
-) {
-    assert_eq!(rt; counted(rt.alloc(), text), wanted);
-}
-
-/// An input of 67,108,864 bytes is read, and an input of one byte more is rejected.
-#[test]
-fn longest_text(rt: HostRuntime) -> Result<(), Fail> {
-    let text = vec![in rt.alloc(); b'#'; 67_108_865]?;
-    check_counted(&rt, &text, Err(ReadFault::TooLong));
-    check_counted(&rt, &text[1..], Ok((0, 0)));
+/// An input of 67,108,864 bytes, all of them `byte`, is read. An input of one byte more is rejected for its length, even if the
+/// test's name is unlawful.
+fn check_longest(rt: &(impl Abort + AllocGlobal), byte: u8) -> Result<(), Fail> {
+    let text = vec![in rt.alloc(); byte; 67_108_865]?;
+    check_both(rt, b"a\nb", &text, Err(ReadFault::TooLong));
+    check_both(rt, b"t", &text[1..], Ok((0, 0, 0)));
     Ok(())
 }
 
-/// Like `longest_text`, with an input of line feeds alone.
 #[test]
-fn most_line_feeds(rt: HostRuntime) -> Result<(), Fail> {
-    let text = vec![in rt.alloc(); b'\n'; 67_108_865]?;
-    check_counted(&rt, &text, Err(ReadFault::TooLong));
-    check_counted(&rt, &text[1..], Ok((0, 0)));
-    Ok(())
+fn longest_texts(rt: HostRuntime) -> Result<(), Fail> {
+    check_longest(&rt, b'#')?;
+    check_longest(&rt, b'\n')
 }
 
 /// Appends records of a line, a function and a branch. `n` is the line number and the count of each.
@@ -59,6 +48,10 @@ fn long_section(rt: HostRuntime) -> Result<(), Fail> {
     text.extend_from_slice(
         b"FNF:300000\nFNH:299999\nBRF:300000\nBRH:299999\nLF:300000\nLH:299999\nend_of_record\n",
     )?;
-    check_counted(&rt, text.as_slice(), Ok((1_200_000, 0)));
+    check_counted(
+        &rt,
+        read(rt.alloc(), text.as_slice()),
+        Ok((1, 1_200_000, 0)),
+    );
     Ok(())
 }

@@ -1,15 +1,16 @@
-//! Tests calls of covline and covread that no session makes, on single records, lists and submissions, and the items of an input.
+//! Tests calls of covdata, covline and covread that no session makes, on single records, lists and submissions, and the items of an
+//! input.
 
+use super::check_bytes;
 use super::wrappers::{
     append, branch_first, bytes_of, copied_items, copied_sects, copied_submission, copy_of,
     counted_first, cut_first, is_packed, put_line, read, read_packed, submission_of, text_of,
 };
-use super::{check_bytes, push_line};
-use covline::{
-    BadSubmission, BranchPoint, Bytes, Item, Items, LineFault, Memory, Sect, Sects, Submission,
-    Tally, TotalKind, TraceLine, good_test, lines, read_line, without_returns,
+use covdata::{
+    BadSubmission, BranchPoint, Bytes, Item, Items, LineFault, Memory, ReadFault, Sect, Sects,
+    Submission, Tally, TotalKind, TraceLine, good_test,
 };
-use covread::ReadFault;
+use covline::{lines, read_line, without_returns};
 use std::alloc::Global;
 use std::process::Abort;
 use std::test::*;
@@ -60,169 +61,143 @@ fn printed_records(rt: HostRuntime) -> Result<(), Fail> {
     Ok(())
 }
 
-/// Checks `counted_first`: the numbers of a text's first line, or `None` if the line must be cut off before it is parsed.
-fn check_first(rt: &impl Abort, text: &[u8], wanted: Option<(u64, u64, &[u8], usize)>) {
-    assert_eq!(rt; counted_first(text), wanted);
-}
-
-/// Checks `branch_first`: the branch of a text's first line, or `None` if the line must be cut off before it is parsed.
-fn check_branch(rt: &impl Abort, text: &[u8], wanted: Option<(BranchPoint, Option<u64>, usize)>) {
-    assert_eq!(rt; branch_first(text), wanted);
-}
-
-/// Checks the length of a text's first line, and the number of bytes after this line.
-fn check_cut(rt: &impl Abort, text: &[u8], wanted: (usize, usize)) {
-    assert_eq!(rt; cut_first(text), wanted);
-}
-
-/// A first `DA:` line, with or without a checksum, is parsed without cutting it off. The line must be cut off first if its checksum
-/// is empty or has a comma, if its line feed is missing, or if its count is 2^64 or more.
-#[test]
-fn checksums_before_a_cut(rt: HostRuntime) {
-    check_first(
-        &rt,
-        b"DA:7,12,sum+/==\nDA:8,1\n",
-        Some((7, 12, b"sum+/==", 7)),
-    );
-    check_first(&rt, b"DA:7,12\nDA:8,1,x\n", Some((7, 12, b"", 9)));
-    check_first(&rt, b"DA:7,12,\n", None);
-    check_first(&rt, b"DA:7,12,a,b\n", None);
-    check_first(&rt, b"DA:7,12,sum", None);
-    check_first(&rt, b"DA:7,18446744073709551616,a\n", None);
-}
-
-/// A first `DA:` line without a checksum is parsed without cutting it off if it has a line feed and a count below 2^64. Other lines
-/// are cut off first.
-#[test]
-fn counts_before_a_cut(rt: HostRuntime) {
-    check_first(&rt, b"DA:7,12", None);
-    check_first(&rt, b"DA:7,18446744073709551616\n", None);
-    check_first(
-        &rt,
+/// A first `DA:` line is parsed without cutting it off if it has a line feed and a count below 2^64, and no checksum or one that is
+/// neither empty nor has a comma. Other lines are cut off first.
+const COUNTS_BEFORE_A_CUT: &[(&[u8], Option<(u64, u64, &[u8], usize)>)] = &[
+    (b"DA:7,12,sum+/==\nDA:8,1\n", Some((7, 12, b"sum+/==", 7))),
+    (b"DA:7,12\nDA:8,1,x\n", Some((7, 12, b"", 9))),
+    (b"DA:7,12,\n", None),
+    (b"DA:7,12,a,b\n", None),
+    (b"DA:7,12,sum", None),
+    (b"DA:7,18446744073709551616,a\n", None),
+    (b"DA:7,12", None),
+    (b"DA:7,18446744073709551616\n", None),
+    (
         b"DA:0,18446744073709551615\n",
         Some((0, 18446744073709551615, b"", 0)),
-    );
-    check_cut(&rt, b"TN:a\r\nrest", (4, 4));
-    check_cut(&rt, b"rest", (4, 0));
+    ),
+];
+
+#[test]
+fn counts_before_a_cut(rt: HostRuntime) {
+    for (text, wanted) in COUNTS_BEFORE_A_CUT {
+        assert!(rt; counted_first(text) == *wanted, "{text:?}");
+    }
 }
+
+const POINT: BranchPoint = BranchPoint {
+    line: 7,
+    block: 0,
+    branch: 2,
+};
 
 /// A first `BRDA:` line is parsed without cutting it off if its last field, right before a line feed, is a dash or a count below
 /// 2^64.
+const BRANCHES_BEFORE_A_CUT: &[(&[u8], Option<(BranchPoint, Option<u64>, usize)>)] = &[
+    (b"BRDA:7,0,2,12\nDA:7,3\n", Some((POINT, Some(12), 7))),
+    (b"BRDA:7,0,2,-\n", Some((POINT, None, 0))),
+    (b"BRDA:7,0,2,-1\n", None),
+    (b"BRDA:7,0,2,18446744073709551616\n", None),
+    (b"BRDA:7,0,2,12", None),
+    (b"BRDA:7,0,2,12\r\n", None),
+];
+
 #[test]
-fn branch_before_a_cut(rt: HostRuntime) {
-    let point = BranchPoint {
-        line: 7,
-        block: 0,
-        branch: 2,
-    };
-    check_branch(&rt, b"BRDA:7,0,2,12\nDA:7,3\n", Some((point, Some(12), 7)));
-    check_branch(&rt, b"BRDA:7,0,2,-\n", Some((point, None, 0)));
-    check_branch(&rt, b"BRDA:7,0,2,-1\n", None);
-    check_branch(&rt, b"BRDA:7,0,2,18446744073709551616\n", None);
-    check_branch(&rt, b"BRDA:7,0,2,12", None);
-    check_branch(&rt, b"BRDA:7,0,2,12\r\n", None);
+fn branches_before_a_cut(rt: HostRuntime) {
+    for (text, wanted) in BRANCHES_BEFORE_A_CUT {
+        assert!(rt; branch_first(text) == *wanted, "{text:?}");
+    }
 }
 
-/// Parses each line, and returns the printed records, with `skipped` for a skipped line and `faulty` for an invalid line.
-fn read_and_printed(alloc: Global, text: &[u8]) -> Result<Bytes, Memory> {
-    let mut printed = Bytes::new(alloc);
-    for line in text.split(|byte| *byte == b'\n') {
-        match read_line(line) {
-            Ok(TraceLine::Skip) => append(&mut printed, b"skipped\n")?,
-            Ok(record) => put_line(&record, &mut printed)?,
-            Err(_fault) => append(&mut printed, b"faulty\n")?,
-        }
-    }
-    Ok(printed)
+/// The length of a text's first line, and the number of bytes after this line.
+#[test]
+fn first_lines(rt: HostRuntime) {
+    assert!(rt; cut_first(b"TN:a\r\nrest") == (4, 4));
+    assert!(rt; cut_first(b"rest") == (4, 0));
 }
+
+/// Appends the printed record of the line, or `skipped` for a skipped line and `faulty` for an invalid line.
+fn put_read(line: &[u8], printed: &mut Bytes) -> Result<(), Memory> {
+    match read_line(line) {
+        Ok(TraceLine::Skip) => append(printed, b"skipped\n"),
+        Ok(record) => put_line(&record, printed),
+        Err(_fault) => append(printed, b"faulty\n"),
+    }
+}
+
+/// Lines, each with its printed record.
+const RECORDS: &[(&[u8], &[u8])] = &[
+    (b"DA:007,1", b"DA:7,1\n"),
+    (b"DA:1,2,", b"faulty\n"),
+    (b"DA:1,2,a b", b"faulty\n"),
+    (b"DA:1,-", b"faulty\n"),
+    (b"FN:3,", b"faulty\n"),
+    (b"FN:3,a,b", b"FN:3,a,b\n"),
+    (b"FNDA:04,a,b", b"FNDA:4,a,b\n"),
+    (b"BRDA:1,0,0,-", b"BRDA:1,0,0,-\n"),
+    (b"BRDA:1,02,3,4", b"BRDA:1,2,3,4\n"),
+    (b"BRDA:1,e0,0,1", b"faulty\n"),
+    (b" DA:1,1", b"skipped\n"),
+    (b"DA:1,-99999999999999999999", b"DA:1,0\n"),
+    (b"DA:1,18446744073709551616", b"DA:1,18446744073709551616\n"),
+    (b"DA:18446744073709551616,1", b"faulty\n"),
+    (
+        b"DA:1,340282366920938463463374607431768211455",
+        b"DA:1,340282366920938463463374607431768211455\n",
+    ),
+    (b"DA:1,340282366920938463463374607431768211456", b"faulty\n"),
+    (b"DA:1,1,abc", b"DA:1,1,abc\n"),
+    (b"end_of_record x", b"end_of_record\n"),
+    (b"TN:", b"TN:\n"),
+    (b"SF:", b"faulty\n"),
+    (b"SF:a", b"SF:a\n"),
+    (b"FNF:01", b"FNF:1\n"),
+    (b"FNH:2", b"FNH:2\n"),
+    (b"BRF:3", b"BRF:3\n"),
+    (b"BRH:4", b"BRH:4\n"),
+    (b"LF:5", b"LF:5\n"),
+    (b"LH:6", b"LH:6\n"),
+];
 
 #[test]
 fn read_records(rt: HostRuntime) -> Result<(), Fail> {
-    let printed = read_and_printed(
-        rt.alloc(),
-        b"\
-DA:007,1
-DA:1,2,
-DA:1,2,a b
-DA:1,-
-FN:3,
-FN:3,a,b
-FNDA:04,a,b
-BRDA:1,0,0,-
-BRDA:1,02,3,4
-BRDA:1,e0,0,1
- DA:1,1
-DA:1,-99999999999999999999
-DA:1,18446744073709551616
-DA:18446744073709551616,1
-DA:1,340282366920938463463374607431768211455
-DA:1,340282366920938463463374607431768211456
-DA:1,1,abc
-end_of_record x
-TN:
-SF:
-SF:a
-FNF:01
-FNH:2
-BRF:3
-BRH:4
-LF:5
-LH:6",
-    )?;
-    check_bytes(
-        &rt,
-        printed.get(),
-        b"\
-DA:7,1
-faulty
-faulty
-faulty
-faulty
-FN:3,a,b
-FNDA:4,a,b
-BRDA:1,0,0,-
-BRDA:1,2,3,4
-faulty
-skipped
-DA:1,0
-DA:1,18446744073709551616
-faulty
-DA:1,340282366920938463463374607431768211455
-faulty
-DA:1,1,abc
-end_of_record
-TN:
-faulty
-SF:a
-FNF:1
-FNH:2
-BRF:3
-BRH:4
-LF:5
-LH:6
-",
-    );
+    for (line, wanted) in RECORDS {
+        let mut printed = Bytes::new(rt.alloc());
+        put_read(line, &mut printed)?;
+        check_bytes(&rt, printed.get(), wanted);
+    }
     Ok(())
 }
 
-/// Appends each line of the text with a bar after the line, and at the end a semicolon.
+/// Appends each line of the text with a bar after the line.
 fn put_lines(text: &[u8], joined: &mut Bytes) -> Result<(), Memory> {
     for line in lines(text) {
         append(joined, line)?;
         append(joined, b"|")?;
     }
-    append(joined, b";")
+    Ok(())
 }
 
-/// A semicolon separates two texts in the input, and ends each text's list of lines in the expected value.
+/// Texts, each with its lines.
+const LINES_OF_TEXTS: &[(&[u8], &[u8])] = &[
+    (b"", b""),
+    (b"a", b"a|"),
+    (b"a\nb", b"a|b|"),
+    (b"\n\na\n", b"||a|"),
+    (b"\r\n", b"|"),
+    (b"a\r\r\nb\n", b"a|b|"),
+    (b"a\rb\n", b"a\rb|"),
+    (b"a\n\r", b"a||"),
+    (b"a\n\rb\r", b"a|\rb|"),
+];
+
 #[test]
 fn lines_of_texts(rt: HostRuntime) -> Result<(), Fail> {
-    let texts = b";a\n;a\nb;\n\na\n;\r\n;a\r\r\nb\n;a\rb\n;a\n\r;a\n\rb\r";
-    let mut joined = Bytes::new(rt.alloc());
-    for text in texts.split(|byte| *byte == b';') {
+    for (text, wanted) in LINES_OF_TEXTS {
+        let mut joined = Bytes::new(rt.alloc());
         put_lines(text, &mut joined)?;
+        check_bytes(&rt, joined.get(), wanted);
     }
-    check_bytes(&rt, joined.get(), b";a|;a|b|;||a|;|;a|b|;a\rb|;a||;a|\rb|;");
     Ok(())
 }
 
@@ -238,37 +213,59 @@ fn tallies(rt: HostRuntime) {
     assert_eq!(rt; (tally.found, tally.hit), (2, 1));
 }
 
+const GOOD_NAMES: &[&[u8]] = &[b"", b"unit", b"a\rb", b"a,b"];
+
+const BAD_NAMES: &[&[u8]] = &[b"a\nb", b"\n", b"a\r", b"\r"];
+
 #[test]
 fn names_of_tests(rt: HostRuntime) {
-    for name in b"|unit|a\rb|a,b".split(|byte| *byte == b'|') {
+    for name in GOOD_NAMES {
         assert!(rt; good_test(name), "{name:?}");
     }
-    for name in b"a\nb|\n|a\r|\r".split(|byte| *byte == b'|') {
+    for name in BAD_NAMES {
         assert!(rt; !good_test(name), "{name:?}");
     }
 }
 
-/// The items of a line, a function and a branch.
-fn items_of(alloc: Global, function: &[u8], checksum: &[u8]) -> Result<Items, Memory> {
-    let name = bytes_of(alloc, function)?;
-    let checksum = Some(bytes_of(alloc, checksum)?);
-    let mut items = Items::new(alloc);
-    items.push(Item::Line {
+/// The item of a line.
+fn line_of(alloc: Global, checksum: &[u8]) -> Result<Item, Memory> {
+    Ok(Item::Line {
         line: 1,
         count: 2,
-        checksum,
-    })?;
-    items.push(Item::Func {
-        name,
+        checksum: Some(bytes_of(alloc, checksum)?),
+    })
+}
+
+/// The item of a function.
+fn function_of(alloc: Global, name: &[u8]) -> Result<Item, Memory> {
+    Ok(Item::Func {
+        name: bytes_of(alloc, name)?,
         line: 3,
         count: 4,
-    })?;
+    })
+}
+
+/// Appends the items of a line, a function and a branch.
+fn push_items(
+    alloc: Global,
+    items: &mut Items,
+    function: &[u8],
+    checksum: &[u8],
+) -> Result<(), Memory> {
+    items.push(line_of(alloc, checksum)?)?;
+    items.push(function_of(alloc, function)?)?;
     items.push(Item::Branch {
         line: 5,
         block: 6,
         branch: 7,
         taken: None,
-    })?;
+    })
+}
+
+/// The items of a line, a function and a branch.
+fn items_of(alloc: Global, function: &[u8], checksum: &[u8]) -> Result<Items, Memory> {
+    let mut items = Items::new(alloc);
+    push_items(alloc, &mut items, function, checksum)?;
     Ok(items)
 }
 
@@ -277,8 +274,9 @@ fn put_points(alloc: Global, item: &Item, text: &mut Vec<u8>) -> Result<(), Fail
     let line = item.line_point();
     let branch = item.branch_point();
     let hit = item.is_hit();
-    let words: String = format!(in alloc; "{line:?} {branch:?} {hit}")?;
-    push_line(text, words.as_bytes())
+    let words: String = format!(in alloc; "{line:?} {branch:?} {hit}\n")?;
+    text.extend_from_slice(words.as_bytes())?;
+    Ok(())
 }
 
 #[test]
@@ -300,42 +298,36 @@ None Some(BranchPoint { line: 5, block: 6, branch: 7 }) false
     Ok(())
 }
 
-/// Appends a section.
-fn push_sect(
-    alloc: Global,
-    sects: &mut Sects,
-    test: &[u8],
-    file: &[u8],
-    items: Items,
-) -> Result<(), Memory> {
-    let test = bytes_of(alloc, test)?;
-    let file = bytes_of(alloc, file)?;
-    sects.push(Sect { test, file, items })
-}
-
 const TWO: &[u8] = b"TN:\nSF:a.c\nDA:1,2,k\nFN:3,f\nFNDA:4,f\nBRDA:5,6,7,-\nend_of_record\n\
     TN:t\nSF:a\rb.c\nDA:1,2,+/==\nFN:3,g(int, int)\nFNDA:4,g(int, int)\nBRDA:5,6,7,-\nend_of_record\n";
 
-/// Appends a section with this test, file and function, and with this checksum.
-fn push_names(
-    alloc: Global,
-    sects: &mut Sects,
-    test: &[u8],
-    file: &[u8],
-    function: &[u8],
-    checksum: &[u8],
-) -> Result<(), Memory> {
-    let items = items_of(alloc, function, checksum)?;
-    push_sect(alloc, sects, test, file, items)
+/// The texts of a section: its test, its file, a function and a checksum.
+type Texts = [&'static [u8]; 4];
+
+/// A section with these texts.
+fn sect_of(alloc: Global, texts: &Texts) -> Result<Sect, Memory> {
+    let [test, file, function, checksum] = texts;
+    Ok(Sect {
+        test: bytes_of(alloc, test)?,
+        file: bytes_of(alloc, file)?,
+        items: items_of(alloc, function, checksum)?,
+    })
 }
 
-/// The sections of `TWO`.
-fn two_sects(alloc: Global) -> Result<Sects, Memory> {
+/// Sections with these texts.
+fn sects_of(alloc: Global, all: &[Texts]) -> Result<Sects, Memory> {
     let mut sects = Sects::new(alloc);
-    push_names(alloc, &mut sects, b"", b"a.c", b"f", b"k")?;
-    push_names(alloc, &mut sects, b"t", b"a\rb.c", b"g(int, int)", b"+/==")?;
+    for texts in all {
+        sects.push(sect_of(alloc, texts)?)?;
+    }
     Ok(sects)
 }
+
+/// The texts of the sections of `TWO`.
+const TEXTS_OF_TWO: &[Texts] = &[
+    [b"", b"a.c", b"f", b"k"],
+    [b"t", b"a\rb.c", b"g(int, int)", b"+/=="],
+];
 
 /// Checks that `text_of` returns the expected text for the sections.
 fn check_sects(rt: &(impl Abort + AllocGlobal), sects: &[Sect], wanted: &[u8]) -> Result<(), Fail> {
@@ -355,7 +347,7 @@ fn check_copied_items(rt: &(impl Abort + AllocGlobal), sects: &[Sect]) -> Result
 
 #[test]
 fn lists_and_their_copies(rt: HostRuntime) -> Result<(), Fail> {
-    let sects = two_sects(rt.alloc())?;
+    let sects = sects_of(rt.alloc(), TEXTS_OF_TWO)?;
     check_sects(&rt, sects.get(), TWO)?;
     let copy = copied_sects(rt.alloc(), &sects)?;
     check_sects(&rt, copy.get(), TWO)?;
@@ -364,7 +356,7 @@ fn lists_and_their_copies(rt: HostRuntime) -> Result<(), Fail> {
 
 /// A submission with the sections of `TWO` and 14 inconsistent lines.
 fn of_two(alloc: Global) -> Result<Submission, Fail> {
-    match submission_of(two_sects(alloc)?, 14) {
+    match submission_of(sects_of(alloc, TEXTS_OF_TWO)?, 14) {
         Ok(submission) => Ok(submission),
         Err((_sects, fault)) => Err(Fail::from(fault)),
     }
@@ -400,11 +392,9 @@ fn handed_back(sects: Sects) -> Option<(Sects, usize)> {
 /// A section with an empty path is rejected. The error contains the sections.
 #[test]
 fn an_empty_file(rt: HostRuntime) -> Result<(), Fail> {
-    let mut sects = Sects::new(rt.alloc());
-    push_names(rt.alloc(), &mut sects, b"t", b"", b"f", b"k")?;
-    match handed_back(sects) {
+    match handed_back(sects_of(rt.alloc(), &[[b"t", b"", b"f", b"k"]])?) {
         Some((sects, unlawful)) => {
-            assert_eq!(rt; unlawful, 0);
+            assert!(rt; unlawful == 0);
             check_sects(
                 &rt,
                 sects.get(),
@@ -415,71 +405,82 @@ fn an_empty_file(rt: HostRuntime) -> Result<(), Fail> {
     }
 }
 
-/// Appends a section with the test, file, function and checksum of a row.
-fn push_row(alloc: Global, sects: &mut Sects, row: &[u8]) -> Result<(), Memory> {
-    let mut parts = row.split(|byte| *byte == b'|');
-    let test = parts.next().unwrap_or(b"");
-    let file = parts.next().unwrap_or(b"");
-    let function = parts.next().unwrap_or(b"");
-    let checksum = parts.next().unwrap_or(b"");
-    push_names(alloc, sects, test, file, function, checksum)
-}
+/// Texts of a section of which one is unlawful.
+const UNLAWFUL_TEXTS: &[Texts] = &[
+    [b"t", b"", b"f", b"k"],
+    [b"t", b"b\n", b"f", b"k"],
+    [b"t", b"a\r", b"f", b"k"],
+    [b"t\n", b"b", b"f", b"k"],
+    [b"t", b"b", b"", b"k"],
+    [b"t", b"b", b"f\ng", b"k"],
+    [b"t", b"b", b"f", b""],
+    [b"t", b"b", b"f", b"k,"],
+    [b"t", b"b", b"f", b" k"],
+    [b"t", b"b", b"f", b"k\tk"],
+    [b"t", b"b", b"f", b"k\rk"],
+];
 
-/// Makes a submission of four sections. Returns the number of sections in the error, and the index of the rejected section. The
-/// third section has the texts of `row`. The fourth section is unlawful too.
-fn told(alloc: Global, row: &[u8]) -> Result<(usize, usize), Memory> {
-    let mut sects = two_sects(alloc)?;
-    push_row(alloc, &mut sects, row)?;
-    push_sect(alloc, &mut sects, b"\n", b"", Items::new(alloc))?;
-    match handed_back(sects) {
-        Some((sects, unlawful)) => Ok((sects.get().len(), unlawful)),
-        None => Ok((0, 0)),
-    }
-}
+const LAWFUL: Texts = [b"", b"a.c", b"f", b"k"];
 
-/// Each row is a test, a file, a function and a checksum, with a bar after each. One of the four is unlawful.
-#[test]
-fn unlawful_texts(rt: HostRuntime) -> Result<(), Fail> {
-    let rows =
-        b"t||f|k|;t|b\n|f|k|;t|a\r|f|k|;t\n|b|f|k|;t|b||k|;t|b|f\ng|k|;t|b|f||;t|b|f|k,|;t|b|f| k|;t|b|f|k\tk|;t|b|f|k\rk|";
-    for row in rows.split(|byte| *byte == b';') {
-        let told = told(rt.alloc(), row)?;
-        assert_eq!(rt; told, (4, 2), "{row:?}");
+const UNLAWFUL: Texts = [b"\n", b"", b"f", b"k"];
+
+/// Checks that a submission is rejected for the third of its four sections, which has these texts. The fourth is unlawful too.
+fn check_unlawful(rt: &(impl Abort + AllocGlobal), texts: &Texts) -> Result<(), Fail> {
+    match handed_back(sects_of(rt.alloc(), &[LAWFUL, LAWFUL, *texts, UNLAWFUL])?) {
+        Some((sects, unlawful)) => assert!(rt;
+            sects.get().len() == 4 && unlawful == 2,
+            "{texts:?}"
+        ),
+        None => panic!(rt; "it isn't refused for its texts: {texts:?}"),
     }
     Ok(())
 }
 
-/// The numbers of the errors of lines, submissions and inputs.
 #[test]
-fn numbers_of_faults(rt: HostRuntime) {
-    let line = ReadFault::Line {
+fn unlawful_texts(rt: HostRuntime) -> Result<(), Fail> {
+    for texts in UNLAWFUL_TEXTS {
+        check_unlawful(&rt, texts)?;
+    }
+    Ok(())
+}
+
+/// The errors of inputs, in the order of their numbers.
+const FAULTS: &[ReadFault] = &[
+    ReadFault::TooLong,
+    ReadFault::Line {
         at: 1,
         fault: LineFault::BadLine,
-    };
-    let numbers = [
-        LineFault::BadLine.number(),
-        LineFault::NumberTooLarge.number(),
-        LineFault::EmptyPath.number(),
-        BadSubmission::TooMany.number(),
-        BadSubmission::BadText { sect: 7 }.number(),
-        ReadFault::TooLong.number(),
-        line.number(),
-        ReadFault::Outside { at: 1 }.number(),
-        ReadFault::Inside { at: 1 }.number(),
-        ReadFault::OpenEnd.number(),
-        ReadFault::BadMark { at: 1 }.number(),
-        ReadFault::NoSource { at: 1 }.number(),
-        ReadFault::Percent { at: 1 }.number(),
-        ReadFault::Instances { at: 1 }.number(),
-        ReadFault::Misplaced { at: 1 }.number(),
-        ReadFault::LostFunction.number(),
-        ReadFault::BadTest.number(),
-        ReadFault::Memory.number(),
-    ];
-    assert_eq!(rt;
-        numbers,
-        [1, 2, 3, 1, 2, 1, 2, 3, 4, 5, 6, 7, 8, 9, 10, 11, 12, 13]
-    );
+    },
+    ReadFault::Outside { at: 1 },
+    ReadFault::Inside { at: 1 },
+    ReadFault::OpenEnd,
+    ReadFault::BadMark { at: 1 },
+    ReadFault::NoSource { at: 1 },
+    ReadFault::Percent { at: 1 },
+    ReadFault::Instances { at: 1 },
+    ReadFault::Misplaced { at: 1 },
+    ReadFault::LostFunction,
+    ReadFault::BadTest,
+    ReadFault::Memory,
+];
+
+#[test]
+fn numbers_of_faults(rt: HostRuntime) {
+    let mut wanted = 1;
+    for fault in FAULTS {
+        assert!(rt; fault.number() == wanted, "{fault:?}");
+        wanted = wanted.wrapping_add(1);
+    }
+}
+
+/// The numbers of the errors of lines and submissions.
+#[test]
+fn numbers_of_other_faults(rt: HostRuntime) {
+    assert!(rt; LineFault::BadLine.number() == 1);
+    assert!(rt; LineFault::NumberTooLarge.number() == 2);
+    assert!(rt; LineFault::EmptyPath.number() == 3);
+    assert!(rt; BadSubmission::TooMany.number() == 1);
+    assert!(rt; BadSubmission::BadText { sect: 7 }.number() == 2);
 }
 
 /// Checks the sections of an input that is read as a submission and as a packed submission. No line may be inconsistent.
@@ -492,21 +493,25 @@ fn check_read(rt: &(impl Abort + AllocGlobal), text: &[u8], wanted: &[u8]) -> Re
 
 /// Items come in the order of their lines. A start line is an item with the count 0. A count of a function is an item with the
 /// least start line that the function has in the section.
-#[test]
-fn items_of_texts(rt: HostRuntime) -> Result<(), Fail> {
-    check_read(
-        &rt,
+const ITEMS_OF_TEXTS: &[(&[u8], &[u8])] = &[
+    (
         b"VER:x\r\nSF:/a.c\r\nDA:1,1\r\nend_of_record",
         b"TN:\nSF:/a.c\nDA:1,1\nend_of_record\n",
-    )?;
-    check_read(
-        &rt,
+    ),
+    (
         b"TN:t\nSF:a\nFN:9,f\nFNDA:1,f\nFN:3,f\nFNDA:2,f\nend_of_record\n",
         b"TN:t\nSF:a\nFN:9,f\nFNDA:0,f\nFN:3,f\nFNDA:1,f\nFN:3,f\nFNDA:0,f\nFN:3,f\nFNDA:2,f\nend_of_record\n",
-    )?;
-    check_read(
-        &rt,
+    ),
+    (
         b"SF:a\nDA:5,1\nBRDA:5,0,1,-\nFN:4,f\nDA:4,18446744073709551615,1B2M2Y8AsgTpgAmY7PhCfg\nend_of_record\nSF:b\nend_of_record\n",
         b"TN:\nSF:a\nDA:5,1\nBRDA:5,0,1,-\nFN:4,f\nFNDA:0,f\nDA:4,18446744073709551615,1B2M2Y8AsgTpgAmY7PhCfg\nend_of_record\nTN:\nSF:b\nend_of_record\n",
-    )
+    ),
+];
+
+#[test]
+fn items_of_texts(rt: HostRuntime) -> Result<(), Fail> {
+    for (text, wanted) in ITEMS_OF_TEXTS {
+        check_read(&rt, text, wanted)?;
+    }
+    Ok(())
 }

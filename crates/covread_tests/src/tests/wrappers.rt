@@ -2,13 +2,12 @@
 //! contracts.
 
 use covcheck::{TextSummary, check_gcov, check_trace, summary_line};
-use covline::{
-    BadSubmission, BranchPoint, Bytes, Item, Items, Memory, Sect, Sects, Submission, TraceLine,
+use covdata::{
+    BadSubmission, BranchPoint, Bytes, Item, Items, Memory, ReadFault, Sect, Sects, Submission,
+    TraceLine,
 };
 use covpacked::PackedSubmission;
-use covread::{
-    ReadFault, fits_no_shape, read_gcov, read_gcov_packed, read_trace, read_trace_packed,
-};
+use covread::{fits_no_shape, read_gcov, read_gcov_packed, read_trace, read_trace_packed};
 use std::alloc::Global;
 use std::test::*;
 

@@ -2,15 +2,15 @@
 
 ghost use Rattle.std.specs.Prelude.{◌≡◌, ◌++◌};
 ghost use Rattle.std.specs.List.{flat_map};
-ghost use Rattle.covline.specs.Printed.{printed};
+ghost use Rattle.covdata.specs.Printed.{printed};
 ghost use Rattle.covreport.specs.Report.{branch_records};
-ghost use Rattle.covstore.specs.Value.{is_taken as value_is_taken};
+ghost use Rattle.covtable.specs.Value.{is_taken as value_is_taken};
 
 use super::front::Front;
 use super::record::put_branch;
 use super::totals::put_totals_if_any;
 use crate::printer::Printer;
-use covline::{Tally, TotalKind};
+use covdata::{Tally, TotalKind};
 use covstore::Section;
 use std::alloc::Allocator;
 

@@ -1,7 +1,7 @@
 //! Builds records in a buffer, so that each record is printed in few pieces.
 
 ghost use Rattle.std.specs.Prelude.{◌≡◌, ◌+◌, ◌<◌, ◌≤◌, ◌++◌, [], ◌∷◌, decimal, length};
-ghost use Rattle.covline.specs.Spells.{comma};
+ghost use Rattle.covdata.specs.Delimiters.{comma};
 
 use itoa::{Buffer, write_digits};
 use std::marker::Model;

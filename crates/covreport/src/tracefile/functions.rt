@@ -2,16 +2,17 @@
 
 ghost use Rattle.std.specs.Prelude.{◌≡◌, ◌<◌, ◌≤◌, ◌^◌, ◌++◌, [], length, map, vec_capacity, vec_len};
 ghost use Rattle.std.specs.List.{flat_map};
-ghost use Rattle.covline.specs.Printed.{printed};
+ghost use Rattle.covdata.specs.Printed.{printed};
 ghost use Rattle.covreport.specs.FunctionView.{printed_function};
 ghost use Rattle.covreport.specs.Report.{by_start, start_record, call_record, function_records, functions_hit};
-ghost use Rattle.covstore.specs.ValuesView.{function_data};
+ghost use Rattle.covtable.specs.ValuesView.{function_data};
 
 use super::record::{put_call, put_start};
 use super::totals::put_totals_if_any;
 use crate::printer::Printer;
-use covline::{Tally, TotalKind};
-use covstore::{FunctionValue, Section};
+use covdata::{Tally, TotalKind};
+use covstore::Section;
+use covtable::FunctionValue;
 use std::alloc::Allocator;
 
 /// A function as it is printed. The derived order is the order of printing: by start line, then by the bytes of the name. The names

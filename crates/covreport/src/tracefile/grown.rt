@@ -4,7 +4,7 @@ ghost use Rattle.std.specs.Prelude.{◌≡◌, ◌≢◌, ◌++◌, [], true, fa
 
 use crate::noted::Noted;
 use crate::printer::Printer;
-use covline::{Bytes, Memory};
+use covdata::{Bytes, Memory};
 use std::alloc::Allocator;
 
 /// A text that grows as it is printed, until an allocation fails.

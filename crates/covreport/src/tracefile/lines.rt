@@ -2,14 +2,14 @@
 
 ghost use Rattle.std.specs.Prelude.{◌≡◌, ◌++◌};
 ghost use Rattle.std.specs.List.{flat_map};
-ghost use Rattle.covline.specs.Printed.{printed};
+ghost use Rattle.covdata.specs.Printed.{printed};
 ghost use Rattle.covreport.specs.Report.{line_records};
 
 use super::front::Front;
 use super::record::put_count;
 use super::totals::put_totals;
 use crate::printer::Printer;
-use covline::{Tally, TotalKind};
+use covdata::{Tally, TotalKind};
 use covstore::Section;
 use std::alloc::Allocator;
 

@@ -1,18 +1,18 @@
 //! The records of a tracefile. Each function prints one record.
 
 ghost use Rattle.std.specs.Prelude.{◌≡◌, ◌++◌, ◌∷◌, [], ◌+◌, ◌≤◌, codes, decimal, length};
-ghost use Rattle.covline.specs.Lines.{line_feed};
-ghost use Rattle.covline.specs.Printed.{printed, taken_text};
-ghost use Rattle.covline.specs.Spells.{Test, Path, Total, End, comma, key_of};
+ghost use Rattle.covdata.specs.Delimiters.{line_feed, comma};
+ghost use Rattle.covdata.specs.Printed.{printed, taken_text};
+ghost use Rattle.covdata.specs.Records.{Test, Path, Total, End, key_of};
 ghost use Rattle.covreport.specs.FunctionView.{printed_function};
 ghost use Rattle.covreport.specs.Report.{branch_record, call_record, line_record, start_record};
-ghost use Rattle.covstore.specs.ValuesView.{branch_data, line_data};
+ghost use Rattle.covtable.specs.ValuesView.{branch_data, line_data};
 
 use super::front::Front;
 use super::functions::PrintedFunction;
 use crate::printer::Printer;
-use covline::TotalKind;
-use covstore::{BranchValue, LineValue};
+use covdata::TotalKind;
+use covtable::{BranchValue, LineValue};
 
 /// Prints a `TN` record: the name of a test.
 pub(super) fn put_test<P: Printer>(name: &[u8], out: &mut P)

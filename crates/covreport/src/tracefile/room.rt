@@ -6,7 +6,7 @@ ghost use Rattle.covreport.specs.Room.{most_functions as most_functions_of};
 
 use super::functions::PrintedFunction;
 use crate::choice::Choice;
-use covline::Memory;
+use covdata::Memory;
 use covstore::{Section, Store};
 use std::alloc::Allocator;
 

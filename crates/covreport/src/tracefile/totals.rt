@@ -2,12 +2,12 @@
 
 ghost use Rattle.std.specs.Prelude.{◌≡◌, ◌++◌};
 ghost use Rattle.std.specs.List.{flat_map};
-ghost use Rattle.covline.specs.Printed.{printed};
+ghost use Rattle.covdata.specs.Printed.{printed};
 ghost use Rattle.covreport.specs.Report.{totals, totals_if_any};
 
 use super::record::put_total;
 use crate::printer::Printer;
-use covline::{Tally, TotalKind};
+use covdata::{Tally, TotalKind};
 
 /// Prints how many points of a kind are found and hit, in two records.
 pub(super) fn put_totals<P: Printer>(found: TotalKind, hit: TotalKind, tally: Tally, out: &mut P)

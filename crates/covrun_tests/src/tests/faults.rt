@@ -1,9 +1,10 @@
 //! Runs whose input or output fails: the exit status, the reported errors, and the output before the failure.
 
-ghost use Rattle.std.specs.Prelude.{None};
+ghost use Rattle.std.specs.Prelude.{◌<◌, ◌^◌, None};
 
-use super::{called, check_text, words_of};
-use covsession::{Failed, FromRead, FromWrite, Sink, Source};
+use super::{called, check_text, kept_sinks, words_of};
+use covrun::{IntoFiles, Sinks, World};
+use covstream::{Failed, FromRead, FromWrite, Sink, Source};
 use std::process::Abort;
 use std::random::RandomSource;
 use std::rt::Files;
@@ -39,25 +40,33 @@ impl Sink for Closed {
     }
 }
 
+/// Runs the program with the arguments `words` and the output `output`. Returns the exit status, the output and the error stream.
+fn call_into<
+    R: Files<File: Send, Dir: Send> + RandomSource + AllocGlobal + Threads + Wait + Sync,
+    O: Sink + Drop,
+>(rt: &R, words: &[String], output: O) -> (u8, O, Vec<u8>)
+    requires { O.failed_writes output < 2 ^ 62 }
+{
+    let mut world = World {
+        files: IntoFiles::new(rt),
+        input: FromRead::new(&b""[..]),
+        sinks: Sinks {
+            output,
+            faults: FromWrite::new(Vec::new(rt.alloc())),
+        },
+    };
+    let status = called(rt, words, &mut world);
+    let World { sinks, .. } = world;
+    let Sinks { output, faults } = sinks;
+    (status, output, faults.into_inner())
+}
+
 /// Runs the program with a `Closed` output. Returns the exit status and the error stream.
 fn call_closed<
     R: Files<File: Send, Dir: Send> + RandomSource + AllocGlobal + Threads + Wait + Sync,
 >(rt: &R, asked: &str, takes: bool) -> Result<(u8, Vec<u8>), Fail> {
     let words = words_of(rt.alloc(), asked)?;
-    let mut faults: Vec<u8> = Vec::new(rt.alloc());
-    let status = {
-        let input: &[u8] = b"";
-        let mut source = FromRead::new(input);
-        let mut sink = Closed { takes, failed: 0 };
-        let mut complaints = FromWrite::new(&mut faults);
-        called(
-            rt,
-            words.as_slice(),
-            &mut source,
-            &mut sink,
-            &mut complaints,
-        )
-    };
+    let (status, _, faults) = call_into(rt, words.as_slice(), Closed { takes, failed: 0 });
     Ok((status, faults))
 }
 
@@ -163,24 +172,12 @@ fn a_check_whose_output_takes_one_line(rt: HostRuntime) -> Result<(), Fail> {
         rt.alloc(),
         "covcollect check /dev/null /dev/null /tmp/covrun_tests-none",
     )?;
-    let mut sink = Closing {
+    let sink = Closing {
         left: 1,
         taken: Vec::new(rt.alloc()),
         failed: 0,
     };
-    let mut faults: Vec<u8> = Vec::new(rt.alloc());
-    let status = {
-        let input: &[u8] = b"";
-        let mut source = FromRead::new(input);
-        let mut complaints = FromWrite::new(&mut faults);
-        called(
-            &rt,
-            words.as_slice(),
-            &mut source,
-            &mut sink,
-            &mut complaints,
-        )
-    };
+    let (status, sink, faults) = call_into(&rt, words.as_slice(), sink);
     assert!(rt; status == 1, "the status is {status}");
     assert!(rt; sink.failed == 1, "{} writes failed", sink.failed);
     let line = "/dev/null: sections 0 items 0 odd 0 skipped 0\n";
@@ -213,21 +210,13 @@ fn call_broken<
     R: Files<File: Send, Dir: Send> + RandomSource + AllocGlobal + Threads + Wait + Sync,
 >(rt: &R, asked: &str) -> Result<(u8, u64), Fail> {
     let words = words_of(rt.alloc(), asked)?;
-    let mut source = Broken { reads: 0 };
-    let mut output: Vec<u8> = Vec::new(rt.alloc());
-    let mut faults: Vec<u8> = Vec::new(rt.alloc());
-    let status = {
-        let mut sink = FromWrite::new(&mut output);
-        let mut complaints = FromWrite::new(&mut faults);
-        called(
-            rt,
-            words.as_slice(),
-            &mut source,
-            &mut sink,
-            &mut complaints,
-        )
+    let mut world = World {
+        files: IntoFiles::new(rt),
+        input: Broken { reads: 0 },
+        sinks: kept_sinks(rt.alloc()),
     };
-    Ok((status, source.reads))
+    let status = called(rt, words.as_slice(), &mut world);
+    Ok((status, world.input.reads))
 }
 
 /// Checks the exit status of a run with a `Broken` input, and how often the input was read.

@@ -4,9 +4,9 @@
 ghost use Rattle.std.specs.Prelude.{◌≡◌, ◌≢◌, None, Some};
 
 use super::outputs::NoFiles;
-use super::{Told, check_text, words_of};
-use covrun::{Folder, Opened, run};
-use covsession::{Failed, FromRead, FromWrite, Source};
+use super::{Told, check_text, kept_sinks, words_of};
+use covrun::{Folder, Opened, World, run};
+use covstream::{Failed, FromRead, Source};
 use std::process::Abort;
 use std::sync::Wait;
 use std::test::*;
@@ -18,28 +18,13 @@ fn call_over<R: AllocGlobal + Threads + Wait + Sync, F: Folder<File: Send> + Syn
     folder: &F,
     words: &[String],
 ) -> Told {
-    let mut output: Vec<u8> = Vec::new(rt.alloc());
-    let mut faults: Vec<u8> = Vec::new(rt.alloc());
-    let status = {
-        let input: &[u8] = b"";
-        let mut source = FromRead::new(input);
-        let mut sink = FromWrite::new(&mut output);
-        let mut complaints = FromWrite::new(&mut faults);
-        run(
-            rt,
-            folder,
-            words,
-            &mut NoFiles { failed: 0 },
-            &mut source,
-            &mut sink,
-            &mut complaints,
-        )
+    let mut world = World {
+        files: NoFiles { failed: 0 },
+        input: FromRead::new(&b""[..]),
+        sinks: kept_sinks(rt.alloc()),
     };
-    Told {
-        status,
-        output,
-        faults,
-    }
+    let status = run(rt, folder, words, &mut world);
+    Told::of(status, world.sinks)
 }
 
 /// Checks that a run of `asked` on the files of `folder` ends with status 1, and writes `output` and `faults`.

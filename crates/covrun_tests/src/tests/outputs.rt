@@ -4,9 +4,9 @@ ghost use Rattle.std.specs.Prelude.{◌≡◌, ◌<◌, ◌^◌, None, Some, map
 ghost use Rattle.std.specs.String.{string_bytes};
 
 use super::folders::OneFile;
-use super::{check_text, words_of};
-use covrun::{OutputFault, OutputFolder, run};
-use covsession::{Failed, FromRead, FromWrite, Sink};
+use super::{Told, check_text, kept_sinks, words_of};
+use covrun::{OutputFault, OutputFolder, World, run};
+use covstream::{Failed, FromRead, FromWrite, Sink};
 use std::alloc::Global;
 use std::process::Abort;
 use std::sync::Wait;
@@ -102,40 +102,31 @@ impl OutputFolder for Shelf {
     }
 }
 
-/// Runs the command line `asked` with the output folder `files`. Returns the exit status and the error stream. Checks that the
-/// standard output is empty.
-fn call_onto<R: AllocGlobal + Threads + Wait + Abort + Sync, P: OutputFolder>(
+/// Runs the command line `asked` with the output folder `files`. Returns the exit status, the error stream and the folder. Checks
+/// that the standard output is empty.
+fn call_onto<R: AllocGlobal + Threads + Wait + Abort + Sync, P: OutputFolder + Drop>(
     rt: &R,
     asked: &str,
-    files: &mut P,
-) -> Result<(u8, Vec<u8>), Fail>
-    requires begun { P.begun files.old ≡ None }
-    requires few { P.failed files.old < 2 ^ 62 }
+    files: P,
+) -> Result<(u8, Vec<u8>, P), Fail>
+    requires begun { P.begun files ≡ None }
+    requires few { P.failed files < 2 ^ 62 }
 {
     let words = words_of(rt.alloc(), asked)?;
     let folder = OneFile {
         name: "a.info",
         text: b"SF:/src/a.c\nDA:1,2\nDA:2,0\nend_of_record\n",
     };
-    let mut output: Vec<u8> = Vec::new(rt.alloc());
-    let mut faults: Vec<u8> = Vec::new(rt.alloc());
-    let status = {
-        let input: &[u8] = b"";
-        let mut source = FromRead::new(input);
-        let mut sink = FromWrite::new(&mut output);
-        let mut complaints = FromWrite::new(&mut faults);
-        run(
-            rt,
-            &folder,
-            words.as_slice(),
-            files,
-            &mut source,
-            &mut sink,
-            &mut complaints,
-        )
+    let mut world = World {
+        files,
+        input: FromRead::new(&b""[..]),
+        sinks: kept_sinks(rt.alloc()),
     };
-    check_text(rt, asked, output.as_slice(), "")?;
-    Ok((status, faults))
+    let status = run(rt, &folder, words.as_slice(), &mut world);
+    let World { files, sinks, .. } = world;
+    let told = Told::of(status, sinks);
+    check_text(rt, asked, told.output.as_slice(), "")?;
+    Ok((told.status, told.faults, files))
 }
 
 /// A shelf with space for `room` files.
@@ -155,15 +146,14 @@ fn shelf_of(alloc: Global, room: u64) -> Shelf
 /// The text goes only into the file of `--output`. Rates below their thresholds are reported afterwards.
 #[test]
 fn a_text_goes_onto_a_shelf(rt: HostRuntime) -> Result<(), Fail> {
-    let mut files = shelf_of(rt.alloc(), 1);
-    let (status, faults) = call_onto(&rt, "covcollect merge a.info -o b.info", &mut files)?;
+    let asked = "covcollect merge a.info -o b.info";
+    let (status, faults, files) = call_onto(&rt, asked, shelf_of(rt.alloc(), 1))?;
     check_text(&rt, "merge", faults.as_slice(), "")?;
     assert_eq!(rt; status, 0);
     let text = "TN:\nSF:/src/a.c\nDA:1,2\nDA:2,0\nLF:2\nLH:1\nend_of_record\n";
     check_shelf(&rt, &files, "b.info", text)?;
-    let mut files = shelf_of(rt.alloc(), 1);
     let asked = "covcollect summary --json --fail-under-lines 60 --output=s.txt a.info";
-    let (status, faults) = call_onto(&rt, asked, &mut files)?;
+    let (status, faults, files) = call_onto(&rt, asked, shelf_of(rt.alloc(), 1))?;
     check_text(
         &rt,
         asked,
@@ -193,9 +183,8 @@ fn check_shelf(
 /// then.
 #[test]
 fn a_file_cannot_be_written(rt: HostRuntime) -> Result<(), Fail> {
-    let mut full = shelf_of(rt.alloc(), 0);
     let asked = "covcollect summary --fail-under-lines 60 -o full\x1b.txt a.info";
-    let (status, faults) = call_onto(&rt, asked, &mut full)?;
+    let (status, faults, full) = call_onto(&rt, asked, shelf_of(rt.alloc(), 0))?;
     check_text(
         &rt,
         asked,
@@ -204,9 +193,8 @@ fn a_file_cannot_be_written(rt: HostRuntime) -> Result<(), Fail> {
     )?;
     assert_eq!(rt; status, 1);
     assert!(rt; full.files.is_empty());
-    let mut none = NoFiles { failed: 0 };
     let asked = "covcollect merge -o none.info a.info";
-    let (status, faults) = call_onto(&rt, asked, &mut none)?;
+    let (status, faults, _) = call_onto(&rt, asked, NoFiles { failed: 0 })?;
     check_text(&rt, asked, faults.as_slice(), "none.info: can't write\n")?;
     assert_eq!(rt; status, 1);
     Ok(())
@@ -283,14 +271,14 @@ impl OutputFolder for Shorts {
 /// A file is abandoned and reported after a failed write to it.
 #[test]
 fn a_write_to_a_file_fails(rt: HostRuntime) -> Result<(), Fail> {
-    let mut files = Shorts {
+    let files = Shorts {
         alloc: rt.alloc(),
         begun: None,
         abandoned: 0,
         failed: 0,
     };
     let asked = "covcollect merge -o short.info a.info";
-    let (status, faults) = call_onto(&rt, asked, &mut files)?;
+    let (status, faults, files) = call_onto(&rt, asked, files)?;
     check_text(&rt, asked, faults.as_slice(), "short.info: can't write\n")?;
     assert_eq!(rt; status, 1);
     assert_eq!(rt; files.abandoned, 1);

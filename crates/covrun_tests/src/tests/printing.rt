@@ -6,40 +6,36 @@ use super::faults::Closing;
 use super::folders::OneFile;
 use super::outputs::NoFiles;
 use super::{check_text, words_of};
-use covrun::{Folder, run};
-use covsession::{FromRead, FromWrite, Sink};
+use covrun::{Folder, Sinks, World, run};
+use covstream::{FromRead, FromWrite, Sink};
 use std::alloc::Global;
 use std::process::Abort;
 use std::sync::Wait;
 use std::test::*;
 use std::thread::Threads;
 
-/// Runs the program with the arguments `words`, the files of `folder` and the output `output`. Returns the exit status and the
-/// error stream.
-fn call_into<R: AllocGlobal + Threads + Wait + Sync, F: Folder<File: Send> + Sync, O: Sink>(
+/// Runs the program with the arguments `words`, the files of `folder` and the output `output`. Returns the exit status, the error
+/// stream and the output.
+fn call_into<R: AllocGlobal + Threads + Wait + Sync, F: Folder<File: Send> + Sync, O: Sink + Drop>(
     rt: &R,
     folder: &F,
     words: &[String],
-    output: &mut O,
-) -> (u8, Vec<u8>)
-    requires { O.failed_writes output.old < 2 ^ 62 }
+    output: O,
+) -> (u8, Vec<u8>, O)
+    requires { O.failed_writes output < 2 ^ 62 }
 {
-    let mut faults: Vec<u8> = Vec::new(rt.alloc());
-    let status = {
-        let input: &[u8] = b"";
-        let mut source = FromRead::new(input);
-        let mut complaints = FromWrite::new(&mut faults);
-        run(
-            rt,
-            folder,
-            words,
-            &mut NoFiles { failed: 0 },
-            &mut source,
+    let mut world = World {
+        files: NoFiles { failed: 0 },
+        input: FromRead::new(&b""[..]),
+        sinks: Sinks {
             output,
-            &mut complaints,
-        )
+            faults: FromWrite::new(Vec::new(rt.alloc())),
+        },
     };
-    (status, faults)
+    let status = run(rt, folder, words, &mut world);
+    let World { sinks, .. } = world;
+    let Sinks { output, faults } = sinks;
+    (status, faults.into_inner(), output)
 }
 
 /// Merges the tracefile `text` into an output that takes `writes` whole writes and then fails. Returns the exit status, the error
@@ -54,13 +50,12 @@ fn merge_into<R: AllocGlobal + Threads + Wait + Sync>(
         name: "a.info",
         text,
     };
-    let mut output = Closing {
+    let output = Closing {
         left: writes,
         taken: Vec::new(rt.alloc()),
         failed: 0,
     };
-    let (status, faults) = call_into(rt, &folder, words.as_slice(), &mut output);
-    Ok((status, faults, output))
+    Ok(call_into(rt, &folder, words.as_slice(), output))
 }
 
 /// Checks merges of the tracefile `text`, which must be printed unchanged in `blocks` writes. An output that fails earlier must

@@ -10,14 +10,13 @@ ghost use Rattle.covsession.specs.declared.session.fault.SessionFault.TheVariant
 
 use crate::session::fault::SessionFault;
 use crate::session::output::Output;
-use crate::stream::Sink;
 use covbook::Answer;
-use covline::LineFault;
-use covread::ReadFault;
+use covdata::{LineFault, ReadFault};
+use covstream::Sink;
 use itoa::Buffer;
 use std::alloc::Allocator;
 
-// Appends these words and then the number.
+// Appends `words` and then `number` in decimal.
 fn add_number<A: Allocator>(
     line: &mut Vec<u8, A>,
     words: &[u8],
@@ -59,7 +58,7 @@ fn accepted_line<A: Allocator>(
     Ok(line)
 }
 
-/// The line about a clash; empty for any other answer.
+/// The line about a checksum mismatch (`Clash`); empty for any other answer.
 pub fn clash_line<A: Allocator>(alloc: A, answer: &Answer<A>) -> Result<Vec<u8, A>, SessionFault>
     ensures line { IfOk result (λ text. text.items ≡ clash_text (answer_data answer.now)) }
     ensures fault { IfErr result (λ f. f ≡ session_faults.Memory) }
@@ -109,7 +108,7 @@ fn renamed_line<A: Allocator>(alloc: A, sections: u64) -> Result<Vec<u8, A>, Ses
     Ok(line)
 }
 
-// The name of an error within a line.
+// The name of a line's error.
 fn line_fault_text(fault: LineFault) -> &'static [u8]
     ensures { result.now ≡ line_fault_name fault }
 {
@@ -138,7 +137,7 @@ fn text_alone<A: Allocator>(alloc: A, name: &[u8]) -> Result<Vec<u8, A>, Session
     Ok(Vec::from_slice(alloc, name)?)
 }
 
-// The name of an error, and its line number if it has one.
+// The name of an error, with the line number if the error has one.
 fn fault_words<A: Allocator>(alloc: A, fault: ReadFault) -> Result<Vec<u8, A>, SessionFault>
     ensures words { IfOk result (λ text. text.items ≡ fault_text fault) }
     ensures fault { IfErr result (λ f. f ≡ session_faults.Memory) }

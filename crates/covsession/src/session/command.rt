@@ -17,14 +17,14 @@ use crate::session::SessionBook;
 use crate::session::answers::say_answer;
 use crate::session::fault::SessionFault;
 use crate::session::output::Output;
-use crate::stream::Sink;
 use covbook::Op;
-use covline::Bytes;
+use covdata::Bytes;
 use covreport::{PatternFault, Patterns};
+use covstream::Sink;
 use std::alloc::Allocator;
 pub use word::{Format, Pick, Word, word_of};
 
-/// The job of a session's entries.
+/// The job number of a session's entries.
 const SESSION_JOB: u32 = 0;
 
 /// Performs one step of the book, as job 0, and writes the answer to the output.
@@ -45,14 +45,14 @@ pub fn step<O: Sink, A: Allocator + Copy>(
     say_answer(alloc, &receipt.answer, output)
 }
 
-// A list of this pattern alone, or the empty list without a pattern. Returns `None` if the pattern is too long.
+// Returns a list of `pattern` alone, or an empty list if there is no pattern. Returns `None` if `pattern` is too long.
 fn patterns_of<A: Allocator + Copy>(
     alloc: A,
     pattern: Option<&[u8]>,
 ) -> Result<Option<Patterns<A>>, SessionFault>
     ensures list { IfOk result (λ r. IsListOf (option_map (λ p. p.now) pattern.entry) r) }
     ensures fault { IfErr result (λ f. f ≡ session_faults.Memory) }
-    // Only copying the pattern allocates, after its length was checked.
+    // Only a copy of the pattern is allocated, after the pattern's length was checked.
     ensures short { OnErr result (IfSome pattern.entry (λ p. length p.now ≤ max_pattern_bytes)) }
 {
     let mut patterns = Patterns::new(alloc);
@@ -84,7 +84,7 @@ fn drop_op<A: Allocator>(alloc: A, test: &[u8]) -> Result<Op<A>, SessionFault>
     Ok(Op::DropTest(Bytes::of(alloc, test)?))
 }
 
-/// Answers a command that is one line. A line that needs a text or two names after it is answered as unfinished.
+/// Answers a command of one line. Answers `unfinished` to a line after which a text or two names are missing.
 pub fn answer_word<O: Sink, A: Allocator + Copy>(
     alloc: A,
     book: &mut SessionBook<A>,

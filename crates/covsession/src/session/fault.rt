@@ -1,7 +1,7 @@
 //! The errors that end a session.
 
 use covbook::BookFault;
-use covline::Memory;
+use covdata::Memory;
 use std::alloc::AllocError;
 
 /// The error that ended a session.

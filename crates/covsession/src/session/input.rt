@@ -2,7 +2,8 @@
 
 ghost use Rattle.std.specs.Prelude.{◌≡◌, ◌≢◌, ℕ, ◌-◌, ◌+◌, ◌^◌, ◌<◌, ◌≤◌, List, [], ◌∷◌, ◌++◌, length, take, drop, IfOk, IfErr, OnOk, OnErr};
 ghost use Rattle.std.specs.Io.KnownBytes.{IsAtEnd};
-ghost use Rattle.covline.specs.Lines.{before_feed, line_feed};
+ghost use Rattle.covdata.specs.Delimiters.{line_feed};
+ghost use Rattle.covline.specs.Lines.{before_feed};
 ghost use Rattle.covsession.specs.Broken.{FailsTaking, IsIdle, IsLinePart, Stalls};
 ghost use Rattle.covsession.specs.Streams.{unread, turns, moment, CanRead, CanCall, Takes, Moves, TakesPart, TakesLine};
 ghost use Rattle.covsession.specs.Text.{AreLines, HasCollected};
@@ -12,7 +13,7 @@ use crate::session::fault::SessionFault;
 use crate::session::lines::whole_lines_len;
 use crate::session::output::Output;
 use crate::session::text::{LineEnd, Text};
-use crate::stream::{Sink, Source};
+use covstream::{Sink, Source};
 use memchr::memchr;
 use std::alloc::Allocator;
 use std::marker::Model;
@@ -31,8 +32,8 @@ pub fn block<A: Allocator>(alloc: A) -> Result<Vec<u8, A>, SessionFault>
     Ok(vec![in alloc; 0; BLOCK_BYTES]?)
 }
 
-/// Bytes that were read but not yet consumed, and the source of further bytes. Contracts see both, how many reads were made, how
-/// many of them failed, and how many may follow.
+/// Bytes that were read but not yet consumed, and the source of further bytes. Contracts see both, and how many reads were made,
+/// failed, and may follow.
 #[derive(Drop)]
 pub struct SessionInput<'s, I: Source, A: Allocator> {
     bytes: Vec<u8, A>,
@@ -61,7 +62,7 @@ impl<'s, I: Source, A: Allocator> Model for SessionInput<'s, I, A> {
 }
 
 impl<'s, I: Source, A: Allocator> SessionInput<'s, I, A> {
-    /// The input from this source, before the first read. `block` is the buffer of reads.
+    /// The input from `source`, before the first read. `block` is the buffer for reads.
     pub fn new(block: Vec<u8, A>, source: &'s mut I) -> SessionInput<'s, I, A>
         requires { length block.items ≡ 65536 }
         ensures empty { result.pending ≡ [] }
@@ -99,7 +100,7 @@ impl<'s, I: Source, A: Allocator> SessionInput<'s, I, A> {
         &self.bytes[self.from..self.to]
     }
 
-    // How many of the pending bytes come before the first line feed; all of them if there is none.
+    // Returns how many pending bytes come before the first line feed, or how many bytes are pending if there is no line feed.
     fn feed_at(&self) -> usize
         ensures front { before_feed self.now.pending ≡ take result self.now.pending }
         ensures bound { result ≤ length self.now.pending }
@@ -131,7 +132,7 @@ impl<'s, I: Source, A: Allocator> SessionInput<'s, I, A> {
         ensures ended { OnOk result (self.new.pending ≡ [] → IsAtEnd self.new.left) }
         ensures fewer { OnOk result (turns self.new < turns self.old) }
         ensures fault { IfErr result (λ f. f ≡ session_faults.Read) }
-        // Fails only if no read is left, or if the read failed. Then it consumes no bytes.
+        // Fails only if no read is left, or if the read failed. A failure consumes no bytes.
         ensures stalls { OnErr result (Stalls self.old self.new) }
     {
         if self.reads_left == 0 {
@@ -147,8 +148,7 @@ impl<'s, I: Source, A: Allocator> SessionInput<'s, I, A> {
         Ok(())
     }
 
-    // Makes sure that a byte is pending, unless the source is at its end. If none is pending, writes and flushes the output, and
-    // then reads.
+    // Makes sure that a byte is pending, unless the source is at its end. Writes and flushes the output before a read.
     fn fill<O: Sink>(&mut self, output: &mut Output<'_, O, A>) -> Result<(), SessionFault>
         requires { CanCall (moment self.old output.old) }
         ensures moves { OnOk result (Moves (moment self.old output.old) (moment self.new output.new) [] []) }
@@ -165,7 +165,7 @@ impl<'s, I: Source, A: Allocator> SessionInput<'s, I, A> {
         self.read(output)
     }
 
-    // Consumes the pending part of a line. Returns whether it includes the line feed.
+    // Moves the pending part of a line to `text`. Returns whether the line feed was consumed too.
     fn take_part(&mut self, text: &mut Text<A>) -> Result<bool, SessionFault>
         ensures taken { IfOk result (λ whole. (part : List ℕ) × (before_feed part ≡ part)
             × TakesPart whole self.old.pending part self.new.pending
@@ -187,8 +187,8 @@ impl<'s, I: Source, A: Allocator> SessionInput<'s, I, A> {
         Ok(false)
     }
 
-    /// Consumes the pending whole lines of a text, up to the first line that begins with a dot. The text's current line must still
-    /// be empty.
+    /// Moves pending whole lines to `text`, up to the first line that begins with a dot. The current line of `text` must still be
+    /// empty.
     pub fn take_lines(&mut self, text: &mut Text<A>) -> Result<(), SessionFault>
         ensures taken { OnOk result ((lines : List ℕ) × AreLines lines × (self.old.pending ≡ lines ++ self.new.pending)
             × ((before : List ℕ) → HasCollected text.old before [] → HasCollected text.new (before ++ lines) [])) }
@@ -205,7 +205,7 @@ impl<'s, I: Source, A: Allocator> SessionInput<'s, I, A> {
         Ok(())
     }
 
-    /// Consumes a line, and returns how it ended.
+    /// Moves the next line to `text`, without the line feed, and returns how the line ended.
     pub fn take_line<O: Sink>(
         &mut self,
         text: &mut Text<A>,

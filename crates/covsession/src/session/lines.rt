@@ -12,7 +12,7 @@ fn begins_with_dot(bytes: &[u8]) -> bool
     matches!(bytes, [b'.', ..])
 }
 
-/// The length of the whole lines at the front, up to the first line that begins with a dot. So none of these lines ends a text.
+/// Returns the length of the whole lines before the first line that begins with a dot. None of these lines ends a text.
 pub fn whole_lines_len(bytes: &[u8]) -> usize
     ensures bound { result ≤ length bytes.now }
     ensures lines { AreLines (take result bytes.now) }

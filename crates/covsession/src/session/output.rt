@@ -8,7 +8,7 @@ ghost use Rattle.covsession.specs.Streams.{Says};
 ghost use Rattle.covsession.specs.declared.session.fault.SessionFault.TheVariants as session_faults;
 
 use crate::session::fault::SessionFault;
-use crate::stream::Sink;
+use covstream::Sink;
 use std::alloc::Allocator;
 use std::marker::Model;
 
@@ -16,7 +16,7 @@ use std::marker::Model;
 const MAX_WAITING: usize = 65_536;
 
 /// Buffered bytes, and the sink that they will be written to. Contracts see both, how many bytes the sink holds back, and how many
-/// of its calls failed.
+/// calls of the sink failed.
 #[derive(Drop)]
 pub struct Output<'s, O: Sink, A: Allocator> {
     waiting: Vec<u8, A>,
@@ -86,7 +86,7 @@ impl<'s, O: Sink, A: Allocator> Output<'s, O, A> {
         Ok(())
     }
 
-    // Writes the buffered bytes, and then these.
+    // Writes the buffered bytes, and then `bytes`.
     fn put_through(&mut self, bytes: &[u8]) -> Result<(), SessionFault>
         requires { self.old.failed_writes < 2 ^ 63 }
         ensures says { OnOk result (Says self.old self.new bytes.now) }
@@ -99,8 +99,8 @@ impl<'s, O: Sink, A: Allocator> Output<'s, O, A> {
         put_bytes(bytes, self.sink)
     }
 
-    /// Buffers these bytes, or writes them after the buffered ones. At most 65,536 bytes are buffered after the call. If the buffer
-    /// can't grow, writes the bytes at once, so an answer is never cut short for lack of memory.
+    /// Buffers `bytes`, or writes them after the buffered ones. At most 65,536 bytes are buffered after the call. Writes at once if
+    /// the buffer can't grow, so an answer is never cut short for lack of memory.
     pub fn say(&mut self, bytes: &[u8]) -> Result<(), SessionFault>
         requires { self.old.failed_writes < 2 ^ 63 }
         ensures says { OnOk result (Says self.old self.new bytes.now) }
@@ -142,9 +142,9 @@ impl<'s, O: Sink, A: Allocator> Output<'s, O, A> {
         }
     }
 
-    /// Flushes the output before this error, and returns the error that ends the session: `Write` if a write or flush fails now,
-    /// else `fault`. After `Read` nothing is left to be flushed, since the output was flushed before the read. After `Write` no
-    /// further write is tried.
+    /// Returns the error that ends the session after the error `fault`. Flushes the output after `Memory` and `Full`, and returns
+    /// `Write` if a write or the flush fails. After `Read` nothing is left to be flushed, since the output was flushed before the
+    /// read. After `Write` no further write is tried.
     pub fn stop(&mut self, fault: SessionFault) -> SessionFault
         requires { self.old.failed_writes < 2 ^ 63 }
         ensures { StopsAs self.old self.new fault result }
@@ -159,7 +159,7 @@ impl<'s, O: Sink, A: Allocator> Output<'s, O, A> {
     }
 }
 
-/// Writes all these bytes, in as many calls as needed. After a failed write, the sink has taken a prefix of them.
+/// Writes all of `bytes`, in as many calls as needed. After a failed write, the sink has taken a prefix of `bytes`.
 pub fn put_bytes<O: Sink>(bytes: &[u8], sink: &mut O) -> Result<(), SessionFault>
     requires { O.failed_writes sink.old < 2 ^ 63 }
     ensures written { OnOk result (Appends (O.written sink.old) (O.written sink.new) bytes.now) }

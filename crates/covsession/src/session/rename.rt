@@ -16,9 +16,10 @@ use crate::session::fault::SessionFault;
 use crate::session::input::SessionInput;
 use crate::session::output::Output;
 use crate::session::text::{LineEnd, Text};
-use crate::stream::{Sink, Source};
 use covbook::Op;
-use covline::{Bytes, without_returns};
+use covdata::Bytes;
+use covline::without_returns;
+use covstream::{Sink, Source};
 use std::alloc::Allocator;
 
 /// The names of a rename.
@@ -28,11 +29,11 @@ pub struct Names<A: Allocator> {
     pub old: Bytes<A>,
     /// The test's new name.
     pub new: Bytes<A>,
-    /// How the second line ended.
+    /// How the line of the new name ended.
     pub ending: LineEnd,
 }
 
-// Whether these bytes with this ending are a line. They aren't if the input ended before the line's first byte.
+// Whether a line was read. `false` means that the input ended before the line's first byte.
 fn is_there(line: &[u8], ending: LineEnd) -> bool
     ensures { IsThere result ending line.now }
 {
@@ -63,7 +64,7 @@ fn take_name<I: Source, O: Sink, A: Allocator + Copy>(
     Ok(Some((name, ending)))
 }
 
-// Reads two lines as the old and the new name. Returns `None` if the input ends before both lines are there.
+// Reads two lines as the old and the new name. Returns `None` if the input ends before the second line.
 fn take_names<I: Source, O: Sink, A: Allocator + Copy>(
     alloc: A,
     input: &mut SessionInput<'_, I, A>,

@@ -1,10 +1,10 @@
 //! Reads the text after a line `trace` or `gcov`, and submits or rejects it.
 
 ghost use Rattle.std.specs.Prelude.{◌≡◌, ◌≢◌, ◌⊎◌, ℕ, ◌^◌, ◌<◌, length, List, [], Result, Err, IfOk, IfErr, OnOk};
-ghost use Rattle.covline.specs.Row.{SubmissionData};
+ghost use Rattle.covdata.specs.Row.{SubmissionData};
 ghost use Rattle.covbook.specs.Step.{max_entries, table_of, ops_in};
-ghost use Rattle.covread.specs.declared.fault.ReadFault.{ReadFault as Fault};
-ghost use Rattle.covread.specs.declared.fault.ReadFault.TheVariants as read_faults;
+ghost use Rattle.covdata.specs.declared.fault.ReadFault.{ReadFault as Fault};
+ghost use Rattle.covdata.specs.declared.fault.ReadFault.TheVariants as read_faults;
 ghost use Rattle.covread.specs.Outcome.{IsOrMemory};
 ghost use Rattle.covsession.specs.Command.{Command, format_of, IsBody, IsReadAs};
 ghost use Rattle.covsession.specs.Session.{refused_text, text_after, Asks};
@@ -20,10 +20,11 @@ use crate::session::fault::SessionFault;
 use crate::session::input::SessionInput;
 use crate::session::output::Output;
 use crate::session::text::{CollectedText, LineEnd, Text};
-use crate::stream::{Sink, Source};
 use covbook::{Op, PackedRef};
+use covdata::{MAX_BYTES, ReadFault};
 use covpacked::PackedSubmission;
-use covread::{MAX_BYTES, ReadFault, read_gcov_packed, read_trace_packed};
+use covread::{read_gcov_packed, read_trace_packed};
+use covstream::{Sink, Source};
 use std::alloc::Allocator;
 
 /// The length of the longest text whose buffer is reused for the next text.
@@ -56,7 +57,7 @@ pub fn take_text<I: Source, O: Sink, A: Allocator>(
     }
 }
 
-// Decides whether a text's error is answered: `Ok` if so, or `Memory`, which ends the session, if memory ran out.
+// Returns `Ok` if the session answers the error `fault`. Returns `Memory`, which ends the session, if `fault` is `Memory`.
 fn check_answerable(fault: ReadFault) -> Result<(), SessionFault>
     ensures answerable { OnOk result (IsNotMemory fault) }
     ensures fault { IfErr result (λ f. (fault ≡ read_faults.Memory) × (f ≡ session_faults.Memory)) }
@@ -97,7 +98,7 @@ fn read_as<A: Allocator + Copy>(
     }
 }
 
-// Submits the text's submission, or answers why the text is rejected.
+// Submits a parsed text, or answers why the text is rejected. `read` is the result of parsing.
 fn submit<O: Sink, A: Allocator + Copy>(
     alloc: A,
     book: &mut SessionBook<A>,
@@ -133,15 +134,15 @@ pub struct Given<'a, A: Allocator> {
     pub taken: CollectedText<A>,
 }
 
-/// Keeps the buffer of a text for the next one, unless it is large. New memory would cost more: the first write to a page of memory
-/// takes longer than parsing a text that fills the page.
+/// Keeps the buffer of `text` in `room` for the next text, unless `text` is large. New memory would cost more: the first write to a
+/// page of memory takes longer than parsing a text that fills the page.
 fn keep_room<A: Allocator>(room: &mut Vec<u8, A>, text: Vec<u8, A>) {
     if text.len() <= MAX_KEPT_BYTES {
         *room = text;
     }
 }
 
-/// Answers a collected text. After parsing, keeps its buffer for the next text, or frees it.
+/// Answers a collected text. Keeps the text's buffer in `room` after parsing, or frees the buffer.
 pub fn answer_given<O: Sink, A: Allocator + Copy>(
     alloc: A,
     book: &mut SessionBook<A>,

@@ -1,7 +1,7 @@
 //! Collects a text or a command line, part by part.
 
 ghost use Rattle.std.specs.Prelude.{◌≡◌, ◌↔◌, ℕ, List, [], ◌∷◌, ◌++◌, take, IsTrue, IfErr, OnOk};
-ghost use Rattle.covline.specs.Lines.{line_feed};
+ghost use Rattle.covdata.specs.Delimiters.{line_feed};
 ghost use Rattle.covread.specs.Outcome.{max_bytes};
 ghost use Rattle.covsession.specs.Text.{line_after, line_with, HasCollected, IsTextOf};
 ghost use Rattle.covsession.specs.declared.session.fault.SessionFault.TheVariants as session_faults;
@@ -18,18 +18,18 @@ pub enum LineEnd {
     Input,
 }
 
-/// What the bytes of an unfinished line are. This decides whether the line can be the one that ends a text.
+/// What an unfinished line has so far. This decides whether the line can end a text.
 #[derive(Clone, Copy)]
 pub enum LineSoFar {
     /// The line has no byte yet.
     Nothing,
-    /// A dot, with any number of carriage returns after it. If the line ends here, it ends the text.
+    /// A dot, followed by any number of carriage returns. A line that ends here ends the text.
     Dot,
-    /// Anything else: this line doesn't end the text.
+    /// Anything else: the line doesn't end the text.
     Other,
 }
 
-/// The state of a line after one more byte.
+/// Returns the state of the line `so_far` after one more byte.
 pub fn with_byte(so_far: LineSoFar, byte: u8) -> LineSoFar
     ensures { result ≡ line_with so_far byte }
 {
@@ -52,7 +52,7 @@ pub fn with_byte(so_far: LineSoFar, byte: u8) -> LineSoFar
     }
 }
 
-/// The state of a line after some more bytes.
+/// Returns the state of the line `so_far` after some more bytes.
 pub fn with_bytes(so_far: LineSoFar, bytes: &[u8]) -> LineSoFar
     ensures { result ≡ line_after so_far bytes.now }
 {
@@ -77,16 +77,16 @@ pub enum CollectedText<A: Allocator> {
     Unfinished,
 }
 
-/// The bytes of a text or a command line that were collected so far. Only the first `limit` bytes are stored.
+/// The collected bytes of a text or a command line. Only the first `limit` bytes are stored.
 #[derive(Drop)]
 pub struct Text<A: Allocator> {
-    /// The first bytes, up to the limit.
+    /// The stored bytes: the first ones, at most `limit`.
     pub kept: Vec<u8, A>,
     /// The greatest number of bytes that are stored.
     pub limit: usize,
     /// How many bytes were collected, stored or not.
     pub total: u64,
-    /// How many of them come before the current line.
+    /// How many collected bytes come before the current line.
     pub begins: u64,
     /// The state of the current line.
     pub line: LineSoFar,
@@ -117,7 +117,7 @@ impl<A: Allocator> Text<A> {
         }
     }
 
-    // Appends the part to the stored bytes, up to the limit.
+    // Appends `part` to the stored bytes, as far as `limit` allows.
     fn keep(&mut self, part: &[u8]) -> Result<(), SessionFault>
         ensures kept { OnOk result ((all : List ℕ) → self.old.kept.items ≡ take self.old.limit all
             → self.new.kept.items ≡ take self.old.limit (all ++ part.now)) }
@@ -133,7 +133,7 @@ impl<A: Allocator> Text<A> {
         Ok(())
     }
 
-    /// Adds these bytes to the current line.
+    /// Appends `part` to the current line.
     pub fn add(&mut self, part: &[u8]) -> Result<(), SessionFault>
         ensures collected { OnOk result ((before : List ℕ) → (now : List ℕ)
             → HasCollected self.old before now
@@ -147,7 +147,7 @@ impl<A: Allocator> Text<A> {
         Ok(())
     }
 
-    /// Adds a line feed, which ends the current line and begins the next one.
+    /// Appends a line feed, which ends the current line and begins the next one.
     pub fn next_line(&mut self) -> Result<(), SessionFault>
         ensures collected { OnOk result ((before : List ℕ) → (now : List ℕ)
             → HasCollected self.old before now
@@ -162,7 +162,7 @@ impl<A: Allocator> Text<A> {
         Ok(())
     }
 
-    /// Adds whole lines. The current line must still be empty.
+    /// Appends whole lines. The current line must still be empty.
     pub fn add_lines(&mut self, lines: &[u8]) -> Result<(), SessionFault>
         ensures collected { OnOk result ((before : List ℕ) → HasCollected self.old before [] → HasCollected self.new (before ++ lines.now) []) }
         ensures limit { OnOk result (self.new.limit ≡ self.old.limit) }
@@ -174,7 +174,7 @@ impl<A: Allocator> Text<A> {
         Ok(())
     }
 
-    /// All collected bytes, if the limit is `usize::MAX`.
+    /// Returns all collected bytes, if `limit` is `usize::MAX`.
     pub fn whole(&self) -> &[u8]
         ensures { (before : List ℕ) → (now : List ℕ) → self.now.limit ≡ usize.MAX → HasCollected self.now before now
             → result.now ≡ before ++ now }
@@ -182,7 +182,7 @@ impl<A: Allocator> Text<A> {
         self.kept.as_slice()
     }
 
-    /// Whether the current line ends the text, provided that no further byte belongs to it.
+    /// Whether the current line ends the text, if no further byte follows in this line.
     pub fn is_last(&self) -> bool
         ensures { IsTrue result ↔ self.now.line ≡ LineSoFar.Dot }
     {
@@ -192,7 +192,7 @@ impl<A: Allocator> Text<A> {
         }
     }
 
-    /// Returns the text: all bytes before the current line, or `TooLong` if they exceed the size limit.
+    /// Returns the text, which is all bytes before the current line, or `TooLong` if these exceed the size limit.
     pub fn body(self) -> CollectedText<A>
         requires { self.limit ≡ max_bytes }
         ensures { (before : List ℕ) → (now : List ℕ) → HasCollected self before now → IsTextOf before result }

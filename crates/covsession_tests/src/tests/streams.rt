@@ -3,8 +3,9 @@
 ghost use Rattle.std.specs.Prelude.{None, length, ◌-◌};
 
 use super::session_end;
+use covsession::run_session;
 use covsession::session::SessionFault;
-use covsession::{Failed, FromRead, FromWrite, Sink, Source, run_session};
+use covstream::{Failed, FromRead, FromWrite, Sink, Source};
 use std::alloc::Global;
 use std::cell::Cell;
 use std::io::{self, Read, Write};

@@ -3,8 +3,8 @@
 use crate::file_checksums::FileChecksums;
 use crate::keys::{Branch, FunctionName};
 use crate::sums::{BranchSum, FunctionSum, LineSum};
-use crate::values::{BranchValue, FunctionValue, LineValue};
 use covmap::{Entries, SlotIndex};
+use covtable::{BranchValue, FunctionValue, LineValue};
 use std::alloc::{Allocator, Global};
 use std::marker::Model;
 
@@ -16,7 +16,7 @@ pub struct Functions<'a, A: Allocator = Global> {
 
 impl<'a, A: Allocator> Model for Functions<'a, A> {
     ghost use Rattle.std.specs.Prelude.{List, map};
-    ghost use Rattle.covstore.specs.Content.{FunctionValueData};
+    ghost use Rattle.covtable.specs.Content.{FunctionValueData};
     ghost use Rattle.covstore.specs.State.{function_seen};
 
     ghost Value = { List FunctionValueData };
@@ -38,7 +38,7 @@ impl<'a, A: Allocator> Functions<'a, A> {
 
 impl<'a, A: Allocator> Iterator for Functions<'a, A> {
     ghost use Rattle.std.specs.Iterator.{YieldsFirstBy, item_count};
-    ghost use Rattle.covstore.specs.ValuesView.{function_data};
+    ghost use Rattle.covtable.specs.ValuesView.{function_data};
 
     type Item = FunctionValue<'a>;
 
@@ -64,7 +64,7 @@ pub struct Branches<'a, A: Allocator = Global> {
 
 impl<'a, A: Allocator> Model for Branches<'a, A> {
     ghost use Rattle.std.specs.Prelude.{List, map};
-    ghost use Rattle.covstore.specs.Content.{BranchValueData};
+    ghost use Rattle.covtable.specs.Content.{BranchValueData};
     ghost use Rattle.covstore.specs.State.{branch_seen};
 
     ghost Value = { List BranchValueData };
@@ -86,7 +86,7 @@ impl<'a, A: Allocator> Branches<'a, A> {
 
 impl<'a, A: Allocator> Iterator for Branches<'a, A> {
     ghost use Rattle.std.specs.Iterator.{YieldsFirstBy, item_count};
-    ghost use Rattle.covstore.specs.ValuesView.{branch_data};
+    ghost use Rattle.covtable.specs.ValuesView.{branch_data};
 
     type Item = BranchValue;
 
@@ -117,7 +117,7 @@ pub struct Lines<'a, A: Allocator = Global> {
 
 impl<'a, A: Allocator> Model for Lines<'a, A> {
     ghost use Rattle.std.specs.Prelude.{List, map};
-    ghost use Rattle.covstore.specs.Content.{LineValueData};
+    ghost use Rattle.covtable.specs.Content.{LineValueData};
     ghost use Rattle.covstore.specs.State.{line_seen};
 
     ghost Value = { List LineValueData };
@@ -146,7 +146,7 @@ impl<'a, A: Allocator> Lines<'a, A> {
 
 impl<'a, A: Allocator> Iterator for Lines<'a, A> {
     ghost use Rattle.std.specs.Iterator.{YieldsFirstBy, item_count};
-    ghost use Rattle.covstore.specs.ValuesView.{line_data};
+    ghost use Rattle.covtable.specs.ValuesView.{line_data};
 
     type Item = LineValue<'a>;
 

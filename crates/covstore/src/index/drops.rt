@@ -7,7 +7,7 @@ ghost use Rattle.std.specs.Ordering.{nat_cmp};
 ghost use Rattle.covstore.specs.SoleTest.{no_points};
 ghost use Rattle.covstore.specs.Kinds.{branch_above, function_above, line_above};
 ghost use Rattle.covstore.specs.PointIndexDrops.{AreHoldersWith, AreWith, IsTallyWithout, LosesHolders, LosesTest};
-ghost use Rattle.covstore.specs.Value.{branch_cmp};
+ghost use Rattle.covtable.specs.Value.{branch_cmp};
 
 use crate::file_checksums::FileChecksums;
 use crate::keys::{Branch, FunctionName, PointKey};

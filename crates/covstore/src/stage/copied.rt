@@ -16,7 +16,7 @@ use crate::stage::fault::StageFault;
 use crate::stage::one_item::{stage_branch, stage_function, stage_line};
 use crate::sums::{BranchSum, FunctionSum, LineSum};
 use crate::test::Test;
-use covline::Memory;
+use covdata::Memory;
 use covmap::StagedMap;
 use std::alloc::Allocator;
 

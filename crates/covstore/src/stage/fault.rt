@@ -1,6 +1,6 @@
 //! Why the items of a section can't be staged.
 
-use covline::{Bytes, Memory};
+use covdata::{Bytes, Memory};
 use std::alloc::{AllocError, AllocFailed, Allocator};
 
 /// Why the items of a section can't be staged.

@@ -2,7 +2,7 @@
 
 ghost use Rattle.std.specs.Prelude.{◌≡◌, ◌+◌, ◌≤◌, None, length, option_map, IfErr, IfOk, IfSome, OnOk};
 ghost use Rattle.covmap.specs.Puts.{put, value_of};
-ghost use Rattle.covline.specs.Row.{LineItem, FuncItem, BranchItem};
+ghost use Rattle.covdata.specs.Row.{LineItem, FuncItem, BranchItem};
 ghost use Rattle.covpacked.specs.ItemRefs.{item_ref_data};
 ghost use Rattle.covstore.specs.FileIndexView.{index_staged, index_committed};
 ghost use Rattle.covstore.specs.TestView.{test_staged, test_committed};
@@ -19,7 +19,7 @@ use crate::stage::fault::StageFault;
 use crate::stage::sole::stage_sole_addend;
 use crate::sums::{BranchAddend, FunctionAddend, LineAddend, LineSum, PointAddend, PointSum};
 use crate::test::Test;
-use covline::BranchPoint;
+use covdata::BranchPoint;
 use covmap::{Key, Query, StagedMap};
 use covpacked::ItemRef;
 use std::alloc::{AllocError, Allocator};

@@ -1,7 +1,8 @@
 //! Drops tests, and lists the files of a store with their totals.
 
 use super::held::{NOTHING, check_held, store_of};
-use covstore::{FileTotals, Store, Totals};
+use covstore::{Store, Totals};
+use covtable::FileTotals;
 use std::process::Abort;
 use std::test::*;
 

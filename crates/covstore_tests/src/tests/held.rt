@@ -5,7 +5,7 @@ ghost use Rattle.covstore.specs.Store.{max_members};
 
 use super::check_bytes;
 use super::wrappers::{put_line, read};
-use covline::{Bytes, Memory, TraceLine};
+use covdata::{Bytes, Memory, TraceLine};
 use covstore::{Section, Store, Totals};
 use std::alloc::Global;
 use std::process::Abort;

@@ -5,7 +5,7 @@ ghost use Rattle.covstore.specs.Store.{SameContent, max_members};
 
 use super::held::{NOTHING, check_held, has_test, store_of};
 use super::wrappers::{read, read_packed};
-use covline::{Memory, Submission};
+use covdata::{Memory, Submission};
 use covpacked::PackedSubmission;
 use covstore::{Refuse, Store, Totals};
 use std::process::Abort;

@@ -3,7 +3,7 @@
 use super::check_bytes;
 use super::choices::{FIRST, GIVEN};
 use super::held::store_of;
-use covline::{Bytes, Memory};
+use covdata::{Bytes, Memory};
 use covreport::{Choice, Noted, Printer, Printing};
 use covstore::Store;
 use std::alloc::Global;

@@ -1,9 +1,9 @@
 //! Wrappers without contracts around functions of other crates. A test looks only at values, and without contracts its proof is
 //! faster.
 
-use covline::{Bytes, Memory, Submission, TraceLine};
+use covdata::{Bytes, Memory, ReadFault, Submission, TraceLine};
 use covpacked::PackedSubmission;
-use covread::{ReadFault, read_trace, read_trace_packed};
+use covread::{read_trace, read_trace_packed};
 use covreport::{PatternFault, Patterns, matches};
 use std::alloc::Global;
 use std::process::Abort;

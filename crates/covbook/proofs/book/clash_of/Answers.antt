@@ -1,6 +1,6 @@
 use Rattle.std.proofs.Common.{ap}
-use Rattle.covstore.specs.declared.refuse.Refuse.{Refuse}
-use Rattle.covstore.specs.RefuseView.{refuse_data}
+use Rattle.covtable.specs.declared.refuse.Refuse.{Refuse}
+use Rattle.covtable.specs.RefuseView.{refuse_data}
 use Rattle.covbook.specs.Refusal.{refusal_answer}
 use Rattle.covbook.proofs.book.clash_of.Goals as goal
 

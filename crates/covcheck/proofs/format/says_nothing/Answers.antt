@@ -1,5 +1,6 @@
 use Rattle.std.proofs.Common.{subst}
-use Rattle.covline.specs.Spells.{Skip, Spells, LineData}
+use Rattle.covdata.specs.Records.{Skip, LineData}
+use Rattle.covline.specs.Spells.{Spells}
 use Rattle.covcheck.proofs.format.says_nothing.Goals as goal
 
 pub returns-in-Ok : goal.returns-in-Ok

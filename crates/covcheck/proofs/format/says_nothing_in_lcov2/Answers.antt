@@ -1,5 +1,5 @@
 use Rattle.std.proofs.Common.{subst}
-use Rattle.covline.specs.Spells.{Skip}
+use Rattle.covdata.specs.Records.{Skip}
 use Rattle.covlcov2.specs.Spells.{Lcov2Data, Lcov2Spells, Plain}
 use Rattle.covcheck.proofs.format.says_nothing_in_lcov2.Goals as goal
 

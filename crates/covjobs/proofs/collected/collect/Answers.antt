@@ -1,8 +1,8 @@
 use Rattle.std.proofs.Common.{List, subst}
 use Rattle.covbook.specs.View.{op_data}
-use Rattle.covjobs.specs.Collect.{InputData, IsCollected, IsOutcomeOf}
+use Rattle.covjobs.specs.Inputs.{InputData, IsCollected, IsOutcomeOf}
 use Rattle.covjobs.specs.InputView.{input_data}
-use Rattle.covjobs.proofs.ReadWhole.{collected_said}
+use Rattle.covworkers.proofs.ReadWhole.{collected_said}
 use Rattle.covjobs.proofs.collected.collect.Goals as goal
 
 -- what is collected from the inputs is collected from what they say

@@ -1,7 +1,7 @@
 use Rattle.covbook.specs.View.{op_data}
-use Rattle.covjobs.specs.Collect.{IsOutcomeOf}
+use Rattle.covjobs.specs.Inputs.{IsOutcomeOf}
 use Rattle.covjobs.specs.InputView.{input_data}
-use Rattle.covjobs.proofs.ReadWhole.{collected_said}
+use Rattle.covworkers.proofs.ReadWhole.{collected_said}
 use Rattle.covjobs.proofs.collected.collect_owned.Goals as goal
 
 -- what is collected from the inputs is collected from what they say

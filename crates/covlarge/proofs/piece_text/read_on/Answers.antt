@@ -1,8 +1,8 @@
 use Rattle.std.proofs.Common.{◌≡◌, ◌-◌, ◌<◌, length, drop, ap, subst, arith}
 use Rattle.std.proofs.lemmas.Result.{err_from_is_err_and}
 use Rattle.covlarge.proofs.Cuts.{found_at, until_end, until_on}
-use Rattle.covlarge.proofs.ReadBlocks.{read_failed}
 use Rattle.covlarge.specs.Found.{IsFound}
+use Rattle.covstream.proofs.ReadBlocks.{read_failed}
 use Rattle.covlarge.proofs.piece_text.read_on.Goals as goal
 
 pub returns-in_err-all-clause-failed : goal.returns-in_err-all-clause-failed

@@ -1,6 +1,6 @@
 use Rattle.std.proofs.Common.{List, length}
 use Rattle.covline.specs.Lines.{lines_of}
-use Rattle.covline.specs.Spells.{LineData}
+use Rattle.covdata.specs.Records.{LineData}
 use Rattle.covread.specs.TraceSteps.{held_data}
 use Rattle.covlcov2.specs.Spells.{Lcov2Data}
 use Rattle.covlcov2.specs.Steps.{IsHeld}

@@ -1,4 +1,4 @@
-use Rattle.covline.specs.Spells.{line_data}
+use Rattle.covdata.specs.Records.{line_data}
 use Rattle.covline.proofs.PrintedLaws.{printed-spells}
 use Rattle.covline.proofs.print.put_line.Goals as goal
 

@@ -1,6 +1,6 @@
 use Rattle.std.proofs.Common.{◌++◌, List, ap, ◌∙◌}
-use Rattle.covstore.specs.Files.{FileTotalsData}
-use Rattle.covstore.specs.FilesView.{file_totals_data}
+use Rattle.covtable.specs.Files.{FileTotalsData}
+use Rattle.covtable.specs.ValuesView.{file_totals_data}
 use Rattle.covreport.specs.ChoiceView.{choice_data}
 use Rattle.covlist.specs.Chosen.{chosen_among, chosen_files}
 use Rattle.covlist.specs.Json.{objects}

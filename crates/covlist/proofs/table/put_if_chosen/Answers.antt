@@ -1,5 +1,5 @@
 use Rattle.std.proofs.Common.{◌≡◌, ◌++◌, List, ℕ, OnOk, subst}
-use Rattle.covstore.specs.FilesView.{file_totals_data}
+use Rattle.covtable.specs.ValuesView.{file_totals_data}
 use Rattle.covreport.specs.ChoiceView.{choice_data}
 use Rattle.covlist.specs.Table.{file_row}
 use Rattle.covlist.proofs.Files.{chosen_alone, passed_over}

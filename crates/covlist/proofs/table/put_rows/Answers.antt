@@ -1,7 +1,7 @@
 use Rattle.std.proofs.Common.{◌≡◌, ◌++◌, List, sym, ap, ◌∙◌, subst}
 use Rattle.std.specs.List.{flat_map}
-use Rattle.covstore.specs.Files.{FileTotalsData, files_with_totals}
-use Rattle.covstore.specs.FilesView.{file_totals_data}
+use Rattle.covtable.specs.Files.{FileTotalsData, files_with_totals}
+use Rattle.covtable.specs.ValuesView.{file_totals_data}
 use Rattle.covreport.specs.ChoiceView.{choice_data}
 use Rattle.covlist.specs.Chosen.{chosen_among, chosen_files}
 use Rattle.covlist.specs.Table.{file_row}

@@ -1,7 +1,7 @@
 use Rattle.std.proofs.Common.{◌≡◌, ◌∙◌, ap, sym, subst, map}
 use Rattle.std.proofs.lemmas.List.{take_all}
-use Rattle.covline.specs.Lawful.{IsLawful}
-use Rattle.covline.specs.SectView.{sect_data}
+use Rattle.covdata.specs.Lawful.{IsLawful}
+use Rattle.covdata.specs.SectView.{sect_data}
 use Rattle.covpacked.proofs.Copied.{copied_more}
 use Rattle.covpacked.proofs.convert.pack.Goals as goal
 

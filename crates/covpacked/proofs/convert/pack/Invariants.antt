@@ -1,5 +1,5 @@
 use Rattle.std.proofs.Common.{◌≡◌, [], map, take}
-use Rattle.covline.specs.SectView.{sect_data}
+use Rattle.covdata.specs.SectView.{sect_data}
 use Rattle.covpacked.proofs.convert.pack.Given as goal
 
 -- so far the sections that were passed are packed

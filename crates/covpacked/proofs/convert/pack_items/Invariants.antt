@@ -1,5 +1,5 @@
 use Rattle.std.proofs.Common.{◌≡◌, ◌++◌, map, take}
-use Rattle.covline.specs.Row.{item_data}
+use Rattle.covdata.specs.Row.{item_data}
 use Rattle.covpacked.proofs.convert.pack_items.Given as goal
 
 -- so far the open section has the items that were passed

@@ -1,5 +1,5 @@
 use Rattle.std.proofs.Common.{◌≡◌, ◌↔◌, ◌+◌, length, drop, map}
-use Rattle.covline.specs.Row.{item_data}
+use Rattle.covdata.specs.Row.{item_data}
 use Rattle.covpacked.proofs.same.same_items_as.Given as goal
 
 -- so far the items are equal

@@ -1,5 +1,5 @@
 use Rattle.std.proofs.Common.{◌≡◌, ◌↔◌, drop, map}
-use Rattle.covline.specs.SectView.{sect_data}
+use Rattle.covdata.specs.SectView.{sect_data}
 use Rattle.covpacked.proofs.same.same_sects_as.Given as goal
 
 -- so far the sections are equal

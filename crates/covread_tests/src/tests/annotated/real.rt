@@ -1,14 +1,18 @@
 //! Tests unchanged outputs of gcov 12 for four small programs, which were compiled with `--coverage` and run once. The outputs
 //! contain the programs' sources. Expected values were worked out by hand, line by line.
 
-use super::items::check_all;
+use super::items::{Example, check_all};
 use std::test::*;
 
-/// The last line of each example has the command that wrote the example's input.
 #[test]
 fn texts_of_gcov(rt: HostRuntime) -> Result<(), Fail> {
-    check_all(
-        &rt,
+    check_all(&rt, TEXTS_OF_GCOV)
+}
+
+/// Each example's name has the command that wrote its input.
+const TEXTS_OF_GCOV: &[Example] = &[
+    (
+        "gcov a.gcda, of a C program with a function that is never called",
         b"        -:    0:Source:a.c
         -:    0:Graph:a.gcno
         -:    0:Data:a.gcda
@@ -28,20 +32,26 @@ fn texts_of_gcov(rt: HostRuntime) -> Result<(), Fail> {
        1*:   13:  if (argc > 7) sum += never(sum);
         1:   14:  return sum < 0;
         -:   15:}
-> Sect t a.c
-> Line 1 1500
-> Line 2 1500
-> Line 3 1496
-> Line 4 4
-> Line 7 0
-> Line 9 1
-> Line 10 1
-> Line 11 1501
-> Line 12 1500
-> Line 13 1
-> Line 14 1
-= gcov a.gcda, of a C program with a function that is never called
-        -:    0:Source:a.c
+",
+        b"TN:t
+SF:a.c
+DA:1,1500
+DA:2,1500
+DA:3,1496
+DA:4,4
+DA:7,0
+DA:9,1
+DA:10,1
+DA:11,1501
+DA:12,1500
+DA:13,1
+DA:14,1
+end_of_record
+",
+    ),
+    (
+        "gcov -b -c a.gcda",
+        b"        -:    0:Source:a.c
         -:    0:Graph:a.gcno
         -:    0:Data:a.gcda
         -:    0:Runs:1
@@ -75,33 +85,42 @@ branch  1 taken 1
 call    2 never executed
         1:   14:  return sum < 0;
         -:   15:}
-> Sect t a.c
-> Func keep 1 1500
-> Line 1 1500
-> Line 2 1500
-> Branch 2 0 0 1497
-> Branch 2 0 1 3
-> Branch 2 0 2 1496
-> Branch 2 0 3 1
-> Line 3 1496
-> Line 4 4
-> Func never 7 0
-> Line 7 0
-> Branch 7 0 0 -
-> Branch 7 0 1 -
-> Func main 9 1
-> Line 9 1
-> Line 10 1
-> Line 11 1501
-> Branch 11 0 0 1500
-> Branch 11 0 1 1
-> Line 12 1500
-> Line 13 1
-> Branch 13 0 0 0
-> Branch 13 0 1 1
-> Line 14 1
-= gcov -b -c a.gcda
-        -:    0:Source:a.c
+",
+        b"TN:t
+SF:a.c
+FN:1,keep
+FNDA:1500,keep
+DA:1,1500
+DA:2,1500
+BRDA:2,0,0,1497
+BRDA:2,0,1,3
+BRDA:2,0,2,1496
+BRDA:2,0,3,1
+DA:3,1496
+DA:4,4
+FN:7,never
+FNDA:0,never
+DA:7,0
+BRDA:7,0,0,-
+BRDA:7,0,1,-
+FN:9,main
+FNDA:1,main
+DA:9,1
+DA:10,1
+DA:11,1501
+BRDA:11,0,0,1500
+BRDA:11,0,1,1
+DA:12,1500
+DA:13,1
+BRDA:13,0,0,0
+BRDA:13,0,1,1
+DA:14,1
+end_of_record
+",
+    ),
+    (
+        "gcov -a -b -c a.gcda",
+        b"        -:    0:Source:a.c
         -:    0:Graph:a.gcno
         -:    0:Data:a.gcda
         -:    0:Runs:1
@@ -149,33 +168,42 @@ call    2 never executed
         1:   14:  return sum < 0;
         1:   14-block  0
         -:   15:}
-> Sect t a.c
-> Func keep 1 1500
-> Line 1 1500
-> Line 2 1500
-> Branch 2 0 0 1497
-> Branch 2 0 1 3
-> Branch 2 1 2 1496
-> Branch 2 1 3 1
-> Line 3 1496
-> Line 4 4
-> Func never 7 0
-> Line 7 0
-> Branch 7 0 0 -
-> Branch 7 0 1 -
-> Func main 9 1
-> Line 9 1
-> Line 10 1
-> Line 11 1501
-> Branch 11 1 0 1500
-> Branch 11 1 1 1
-> Line 12 1500
-> Line 13 1
-> Branch 13 0 0 0
-> Branch 13 0 1 1
-> Line 14 1
-= gcov -a -b -c a.gcda
-        -:    0:Source:a.c
+",
+        b"TN:t
+SF:a.c
+FN:1,keep
+FNDA:1500,keep
+DA:1,1500
+DA:2,1500
+BRDA:2,0,0,1497
+BRDA:2,0,1,3
+BRDA:2,1,2,1496
+BRDA:2,1,3,1
+DA:3,1496
+DA:4,4
+FN:7,never
+FNDA:0,never
+DA:7,0
+BRDA:7,0,0,-
+BRDA:7,0,1,-
+FN:9,main
+FNDA:1,main
+DA:9,1
+DA:10,1
+DA:11,1501
+BRDA:11,1,0,1500
+BRDA:11,1,1,1
+DA:12,1500
+DA:13,1
+BRDA:13,0,0,0
+BRDA:13,0,1,1
+DA:14,1
+end_of_record
+",
+    ),
+    (
+        "gcov -b a.gcda",
+        b"        -:    0:Source:a.c
         -:    0:Graph:a.gcno
         -:    0:Data:a.gcda
         -:    0:Runs:1
@@ -209,9 +237,12 @@ branch  1 taken 100%
 call    2 never executed
         1:   14:  return sum < 0;
         -:   15:}
-> Percent at 8
-= gcov -b a.gcda
-        -:    0:Source:a.c
+",
+        b"Percent at 8\n",
+    ),
+    (
+        "gcov -H a.gcda",
+        b"        -:    0:Source:a.c
         -:    0:Graph:a.gcno
         -:    0:Data:a.gcda
         -:    0:Runs:1
@@ -230,9 +261,12 @@ call    2 never executed
        1*:   13:  if (argc > 7) sum += never(sum);
         1:   14:  return sum < 0;
         -:   15:}
-> BadMark at 5
-= gcov -H a.gcda
-        -:    0:Source:b.c
+",
+        b"BadMark at 5\n",
+    ),
+    (
+        "gcov b.gcda, of a C program with a switch",
+        b"        -:    0:Source:b.c
         -:    0:Graph:b.gcno
         -:    0:Data:b.gcda
         -:    0:Runs:1
@@ -254,22 +288,28 @@ call    2 never executed
         3:   16:  do n -= 5; while (n > 0);
         1:   17:  return n == -1 ? 0 : 1;
         -:   18:}
-> Sect t b.c
-> Line 3 14
-> Line 4 14
-> Line 5 4
-> Line 6 7
-> Line 7 7
-> Line 8 3
-> Line 10 14
-> Line 12 1
-> Line 13 1
-> Line 14 15
-> Line 15 14
-> Line 16 3
-> Line 17 1
-= gcov b.gcda, of a C program with a switch
-        -:    0:Source:b.c
+",
+        b"TN:t
+SF:b.c
+DA:3,14
+DA:4,14
+DA:5,4
+DA:6,7
+DA:7,7
+DA:8,3
+DA:10,14
+DA:12,1
+DA:13,1
+DA:14,15
+DA:15,14
+DA:16,3
+DA:17,1
+end_of_record
+",
+    ),
+    (
+        "gcov -b -c b.gcda",
+        b"        -:    0:Source:b.c
         -:    0:Graph:b.gcno
         -:    0:Data:b.gcda
         -:    0:Runs:1
@@ -303,33 +343,41 @@ branch  0 taken 2
 branch  1 taken 1 (fallthrough)
         1:   17:  return n == -1 ? 0 : 1;
         -:   18:}
-> Sect t b.c
-> Func count 3 14
-> Line 3 14
-> Line 4 14
-> Branch 4 0 0 4
-> Branch 4 0 1 7
-> Branch 4 0 2 3
-> Line 5 4
-> Line 6 7
-> Line 7 7
-> Line 8 3
-> Line 10 14
-> Func main 12 1
-> Line 12 1
-> Line 13 1
-> Line 14 15
-> Branch 14 0 0 10
-> Branch 14 0 1 5
-> Branch 14 0 2 4
-> Branch 14 0 3 1
-> Line 15 14
-> Line 16 3
-> Branch 16 0 0 2
-> Branch 16 0 1 1
-> Line 17 1
-= gcov -b -c b.gcda
-        -:    0:Source:b.c
+",
+        b"TN:t
+SF:b.c
+FN:3,count
+FNDA:14,count
+DA:3,14
+DA:4,14
+BRDA:4,0,0,4
+BRDA:4,0,1,7
+BRDA:4,0,2,3
+DA:5,4
+DA:6,7
+DA:7,7
+DA:8,3
+DA:10,14
+FN:12,main
+FNDA:1,main
+DA:12,1
+DA:13,1
+DA:14,15
+BRDA:14,0,0,10
+BRDA:14,0,1,5
+BRDA:14,0,2,4
+BRDA:14,0,3,1
+DA:15,14
+DA:16,3
+BRDA:16,0,0,2
+BRDA:16,0,1,1
+DA:17,1
+end_of_record
+",
+    ),
+    (
+        "gcov -a -b -c b.gcda",
+        b"        -:    0:Source:b.c
         -:    0:Graph:b.gcno
         -:    0:Data:b.gcda
         -:    0:Runs:1
@@ -373,33 +421,41 @@ branch  1 taken 1 (fallthrough)
         1:   17:  return n == -1 ? 0 : 1;
         1:   17-block  0
         -:   18:}
-> Sect t b.c
-> Func count 3 14
-> Line 3 14
-> Line 4 14
-> Branch 4 0 0 4
-> Branch 4 0 1 7
-> Branch 4 0 2 3
-> Line 5 4
-> Line 6 7
-> Line 7 7
-> Line 8 3
-> Line 10 14
-> Func main 12 1
-> Line 12 1
-> Line 13 1
-> Line 14 15
-> Branch 14 1 0 10
-> Branch 14 1 1 5
-> Branch 14 2 2 4
-> Branch 14 2 3 1
-> Line 15 14
-> Line 16 3
-> Branch 16 0 0 2
-> Branch 16 0 1 1
-> Line 17 1
-= gcov -a -b -c b.gcda
-        -:    0:Source:b.c
+",
+        b"TN:t
+SF:b.c
+FN:3,count
+FNDA:14,count
+DA:3,14
+DA:4,14
+BRDA:4,0,0,4
+BRDA:4,0,1,7
+BRDA:4,0,2,3
+DA:5,4
+DA:6,7
+DA:7,7
+DA:8,3
+DA:10,14
+FN:12,main
+FNDA:1,main
+DA:12,1
+DA:13,1
+DA:14,15
+BRDA:14,1,0,10
+BRDA:14,1,1,5
+BRDA:14,2,2,4
+BRDA:14,2,3,1
+DA:15,14
+DA:16,3
+BRDA:16,0,0,2
+BRDA:16,0,1,1
+DA:17,1
+end_of_record
+",
+    ),
+    (
+        "gcov -a -b -c -u b.gcda. An unconditional branch gives no item, but takes a number of its line",
+        b"        -:    0:Source:b.c
         -:    0:Graph:b.gcno
         -:    0:Data:b.gcda
         -:    0:Runs:1
@@ -449,33 +505,41 @@ branch  1 taken 1 (fallthrough)
         1:   17-block  0
 unconditional  0 taken 1
         -:   18:}
-> Sect t b.c
-> Func count 3 14
-> Line 3 14
-> Line 4 14
-> Branch 4 0 0 4
-> Branch 4 0 1 7
-> Branch 4 0 2 3
-> Line 5 4
-> Line 6 7
-> Line 7 7
-> Line 8 3
-> Line 10 14
-> Func main 12 1
-> Line 12 1
-> Line 13 1
-> Line 14 15
-> Branch 14 1 1 10
-> Branch 14 1 2 5
-> Branch 14 2 3 4
-> Branch 14 2 4 1
-> Line 15 14
-> Line 16 3
-> Branch 16 0 0 2
-> Branch 16 0 1 1
-> Line 17 1
-= gcov -a -b -c -u b.gcda. An unconditional branch gives no item, but takes a number of its line
-        -:    0:Source:c.cc
+",
+        b"TN:t
+SF:b.c
+FN:3,count
+FNDA:14,count
+DA:3,14
+DA:4,14
+BRDA:4,0,0,4
+BRDA:4,0,1,7
+BRDA:4,0,2,3
+DA:5,4
+DA:6,7
+DA:7,7
+DA:8,3
+DA:10,14
+FN:12,main
+FNDA:1,main
+DA:12,1
+DA:13,1
+DA:14,15
+BRDA:14,1,1,10
+BRDA:14,1,2,5
+BRDA:14,2,3,4
+BRDA:14,2,4,1
+DA:15,14
+DA:16,3
+BRDA:16,0,0,2
+BRDA:16,0,1,1
+DA:17,1
+end_of_record
+",
+    ),
+    (
+        "gcov c.gcda, of a C++ program that throws an exception",
+        b"        -:    0:Source:c.cc
         -:    0:Graph:c.gcno
         -:    0:Data:c.gcda
         -:    0:Runs:1
@@ -500,24 +564,30 @@ unconditional  0 taken 1
     =====:   19:    return 2;
     =====:   20:  }
     #####:   21:}
-> Sect t c.cc
-> Line 4 1
-> Line 5 5
-> Line 6 5
-> Line 7 1
-> Line 8 4
-> Line 9 4
-> Line 12 1
-> Line 13 1
-> Line 15 5
-> Line 16 1
-> Line 17 1
-> Line 18 1
-> Line 19 0
-> Line 20 0
-> Line 21 0
-= gcov c.gcda, of a C++ program that throws an exception
-        -:    0:Source:c.cc
+",
+        b"TN:t
+SF:c.cc
+DA:4,1
+DA:5,5
+DA:6,5
+DA:7,1
+DA:8,4
+DA:9,4
+DA:12,1
+DA:13,1
+DA:15,5
+DA:16,1
+DA:17,1
+DA:18,1
+DA:19,0
+DA:20,0
+DA:21,0
+end_of_record
+",
+    ),
+    (
+        "gcov -b -c c.gcda",
+        b"        -:    0:Source:c.cc
         -:    0:Graph:c.gcno
         -:    0:Data:c.gcda
         -:    0:Runs:1
@@ -562,36 +632,45 @@ call    1 never executed
     =====:   20:  }
 call    0 never executed
     #####:   21:}
-> Sect t c.cc
-> Func _ZN5StackC2Ev 4 1
-> Line 4 1
-> Func _ZN5Stack4pushEi 5 5
-> Line 5 5
-> Line 6 5
-> Branch 6 0 0 1
-> Branch 6 0 1 4
-> Line 7 1
-> Line 8 4
-> Line 9 4
-> Func main 12 1
-> Line 12 1
-> Line 13 1
-> Line 15 5
-> Branch 15 0 1 4
-> Branch 15 0 2 1
-> Branch 15 0 3 5
-> Branch 15 0 4 0
-> Line 16 1
-> Branch 16 0 0 0
-> Branch 16 0 1 1
-> Branch 16 0 2 0
-> Line 17 1
-> Line 18 1
-> Line 19 0
-> Line 20 0
-> Line 21 0
-= gcov -b -c c.gcda
-        -:    0:Source:c.cc
+",
+        b"TN:t
+SF:c.cc
+FN:4,_ZN5StackC2Ev
+FNDA:1,_ZN5StackC2Ev
+DA:4,1
+FN:5,_ZN5Stack4pushEi
+FNDA:5,_ZN5Stack4pushEi
+DA:5,5
+DA:6,5
+BRDA:6,0,0,1
+BRDA:6,0,1,4
+DA:7,1
+DA:8,4
+DA:9,4
+FN:12,main
+FNDA:1,main
+DA:12,1
+DA:13,1
+DA:15,5
+BRDA:15,0,1,4
+BRDA:15,0,2,1
+BRDA:15,0,3,5
+BRDA:15,0,4,0
+DA:16,1
+BRDA:16,0,0,0
+BRDA:16,0,1,1
+BRDA:16,0,2,0
+DA:17,1
+DA:18,1
+DA:19,0
+DA:20,0
+DA:21,0
+end_of_record
+",
+    ),
+    (
+        "gcov -a -b -c c.gcda",
+        b"        -:    0:Source:c.cc
         -:    0:Graph:c.gcno
         -:    0:Data:c.gcda
         -:    0:Runs:1
@@ -646,36 +725,45 @@ call    1 never executed
 call    0 never executed
     #####:   21:}
     %%%%%:   21-block  0
-> Sect t c.cc
-> Func _ZN5StackC2Ev 4 1
-> Line 4 1
-> Func _ZN5Stack4pushEi 5 5
-> Line 5 5
-> Line 6 5
-> Branch 6 0 0 1
-> Branch 6 0 1 4
-> Line 7 1
-> Line 8 4
-> Line 9 4
-> Func main 12 1
-> Line 12 1
-> Line 13 1
-> Line 15 5
-> Branch 15 0 1 4
-> Branch 15 0 2 1
-> Branch 15 2 3 5
-> Branch 15 2 4 0
-> Line 16 1
-> Branch 16 0 0 0
-> Branch 16 0 1 1
-> Branch 16 0 2 0
-> Line 17 1
-> Line 18 1
-> Line 19 0
-> Line 20 0
-> Line 21 0
-= gcov -a -b -c c.gcda
-        -:    0:Source:d.cc
+",
+        b"TN:t
+SF:c.cc
+FN:4,_ZN5StackC2Ev
+FNDA:1,_ZN5StackC2Ev
+DA:4,1
+FN:5,_ZN5Stack4pushEi
+FNDA:5,_ZN5Stack4pushEi
+DA:5,5
+DA:6,5
+BRDA:6,0,0,1
+BRDA:6,0,1,4
+DA:7,1
+DA:8,4
+DA:9,4
+FN:12,main
+FNDA:1,main
+DA:12,1
+DA:13,1
+DA:15,5
+BRDA:15,0,1,4
+BRDA:15,0,2,1
+BRDA:15,2,3,5
+BRDA:15,2,4,0
+DA:16,1
+BRDA:16,0,0,0
+BRDA:16,0,1,1
+BRDA:16,0,2,0
+DA:17,1
+DA:18,1
+DA:19,0
+DA:20,0
+DA:21,0
+end_of_record
+",
+    ),
+    (
+        "gcov d.gcda, of a C++ program with two instances of a template",
+        b"        -:    0:Source:d.cc
         -:    0:Graph:d.gcno
         -:    0:Data:d.gcda
         -:    0:Runs:1
@@ -697,7 +785,7 @@ _Z5twiceIiET_S0_:
         1:    5:int main() {
        1*:    6:  return twice(2) != 4 || twice(2L) != 4;
         -:    7:}
-> Instances at 8
-= gcov d.gcda, of a C++ program with two instances of a template",
-    )
-}
+",
+        b"Instances at 8\n",
+    ),
+];

@@ -1,12 +1,12 @@
 use Rattle.std.proofs.Common.{List, sym, ap, ◌∙◌, subst}
-use Rattle.covstore.specs.Files.{FileTotalsData}
-use Rattle.covstore.specs.FilesView.{file_totals_data}
+use Rattle.covtable.specs.Files.{FileTotalsData}
+use Rattle.covtable.specs.ValuesView.{file_totals_data}
 use Rattle.covreport.specs.Choice.{is_chosen}
 use Rattle.covreport.specs.ChoiceView.{choice_data}
-use Rattle.covstore.specs.Totals.{AreTotals, totals_of}
-use Rattle.covstore.specs.TotalsExchanged.{together}
+use Rattle.covtable.specs.Totals.{AreTotals, totals_of}
+use Rattle.covtable.specs.TotalsExchanged.{together}
 use Rattle.covreport.proofs.ChosenFiles.{all_parted, chosen_of, chosen_stays, none_left, other_goes, other_is_among, others}
-use Rattle.covstore.proofs.TotalsDifferent.{are_totals}
+use Rattle.covtable.proofs.TotalsDifferent.{are_totals}
 use Rattle.covreport.proofs.summary.chosen_totals.Goals as goal
 
 pub loop-file-init : goal.loop-file-init

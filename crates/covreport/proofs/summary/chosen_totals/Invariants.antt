@@ -1,8 +1,8 @@
 use Rattle.std.proofs.Common.{◌≡◌}
 use Rattle.covreport.specs.Choice.{is_chosen}
 use Rattle.covreport.specs.ChoiceView.{choice_data}
-use Rattle.covstore.specs.Totals.{totals_of}
-use Rattle.covstore.specs.TotalsExchanged.{together}
+use Rattle.covtable.specs.Totals.{totals_of}
+use Rattle.covtable.specs.TotalsExchanged.{together}
 use Rattle.covreport.proofs.ChosenFiles.{chosen_of, others}
 use Rattle.covreport.proofs.summary.chosen_totals.Given as goal
 

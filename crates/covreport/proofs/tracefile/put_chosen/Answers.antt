@@ -4,7 +4,7 @@ use Rattle.std.proofs.lemmas.Bool.{false≢true}
 use Rattle.covreport.specs.ChoiceView.{choice_data}
 use Rattle.covreport.specs.Report.{report_text}
 use Rattle.covreport.specs.Room.{most_functions}
-use Rattle.covstore.specs.Content.{SectionData}
+use Rattle.covtable.specs.Content.{SectionData}
 use Rattle.covreport.proofs.Texts.{report_goes_on, report_ends}
 use Rattle.covreport.proofs.Room.{room_first, room_rest}
 use Rattle.covreport.proofs.tracefile.put_chosen.Goals as goal

@@ -1,6 +1,6 @@
 use Rattle.std.proofs.Common.{ℕ, ◌++◌, List, ap, ◌∙◌}
-use Rattle.covline.specs.Printed.{printed}
-use Rattle.covline.specs.Spells.{Test, Path}
+use Rattle.covdata.specs.Printed.{printed}
+use Rattle.covdata.specs.Records.{Test, Path}
 use Rattle.covreport.proofs.Texts.{section_is}
 use Rattle.covreport.proofs.tracefile.put_section.Goals as goal
 

@@ -2,13 +2,10 @@ use Rattle.std.specs.Prelude.{Ok, map, take}
 use Rattle.std.specs.String.{string_bytes}
 use Rattle.covrun.specs.Checked.{TellsEach}
 use Rattle.covrun.specs.Folder.{folder_data}
-use Rattle.covrun.specs.Streams.{sinks}
 use Rattle.covrun.proofs.checked.check_round.Given as goal
 
 -- the first files of the round are reported, and `worst` is the worst of their verdicts
 abbrev pub invariant-loop-report : goal.invariant-loop-report
 invariant-loop-report g l =
-    TellsEach (folder_data (g.F.Folder.holds l.folder) (g.F.Folder.may_refuse l.folder) (g.F.Folder.may_open l.folder) g.F.File.Source.left g.F.File.Source.failed_reads)
-    l.fn.format l.fn.strictness (take l.report-index (map string_bytes l.files)) (Ok l.worst)
-    (sinks (g.O.Sink.written l.initial.output) (g.O.Sink.held l.initial.output) (g.O.Sink.failed_writes l.initial.output) (g.E.Sink.written l.initial.faults) (g.E.Sink.failed_writes l.initial.faults))
-    (sinks (g.O.Sink.written l.output) (g.O.Sink.held l.output) (g.O.Sink.failed_writes l.output) (g.E.Sink.written l.faults) (g.E.Sink.failed_writes l.faults))
+    TellsEach (folder_data g.F.Folder g.F.File.Source l.folder) l.options.format l.options.strictness (take l.report-index (map string_bytes l.files)) (Ok l.worst)
+    l.initial.sinks l.sinks

@@ -1,6 +1,6 @@
 use Rattle.std.proofs.Common.{Err, map, slice_get, refl, inl, inr, ap, ◌∙◌}
 use Rattle.std.specs.String.{string_bytes}
-use Rattle.covjobs.specs.declared.book_fault.IntoBookFault.TheVariants as into_book
+use Rattle.covworkers.specs.declared.book_fault.IntoBookFault.TheVariants as into_book
 use Rattle.covsession.specs.declared.session.fault.SessionFault.TheVariants as faults
 use Rattle.covrun.specs.Ending.{Unreadable, name_at, of_collect}
 use Rattle.covrun.specs.Folder.{folder_data}
@@ -12,8 +12,7 @@ use Rattle.covrun.proofs.collecting.do_work.Goals as goal
 
 pub returns-in_default : goal.returns-in_default
 returns-in_default g c =
-    failure_told (folder_data (g.F.Folder.holds c.args.folder.now) (g.F.Folder.may_refuse c.args.folder.now) (g.F.Folder.may_open c.args.folder.now) g.F.File.Source.left g.F.File.Source.failed_reads) (work_data c.args.work.now) _ (failures.Stopped faults.Memory) _ (inl refl)
-    c.report_failure.ensures.status _ _ _ _ _ _ _ c.report_failure.ensures.said _
+    failure_told (folder_data g.F.Folder g.F.File.Source c.args.folder.now) (work_data c.args.work.now) _ (failures.Stopped faults.Memory) _ _ _ (inl refl) c.report_failure.ensures
 
 pub returns-in-Ok-answer_of : goal.returns-in-Ok-answer_of
 returns-in-Ok-answer_of g c =
@@ -21,10 +20,10 @@ returns-in-Ok-answer_of g c =
     let read = texts_read c.in-Ok.inputs.items c.args.folder.now g.F.File.Source.left g.F.File.Source.failed_reads
     (record { own = λ one. one.folder.now; name = λ one. one.name.now; format = λ one. one.format.now; strictness = λ one. one.strictness; opened = λ one. one.opened })
     c.args.work.now.format c.args.work.now.strictness
-    (λ folder. folder_data (g.F.Folder.holds folder) (g.F.Folder.may_refuse folder) (g.F.Folder.may_open folder) g.F.File.Source.left g.F.File.Source.failed_reads)
+    (folder_data g.F.Folder g.F.File.Source)
     _ collected.0 c.in-Ok.ensures.names c.in-Ok.ensures.own collected.1 in
-    answer_told (folder_data (g.F.Folder.holds c.args.folder.now) (g.F.Folder.may_refuse c.args.folder.now) (g.F.Folder.may_open c.args.folder.now) g.F.File.Source.left g.F.File.Source.failed_reads) (work_data c.args.work.now) _ _ _ _ _ _ _
-    (ends_collected (folder_data (g.F.Folder.holds c.args.folder.now) (g.F.Folder.may_refuse c.args.folder.now) (g.F.Folder.may_open c.args.folder.now) g.F.File.Source.left g.F.File.Source.failed_reads) _
+    answer_told (folder_data g.F.Folder g.F.File.Source c.args.folder.now) (work_data c.args.work.now) _ _ _ _ _
+    (ends_collected (folder_data g.F.Folder g.F.File.Source c.args.folder.now) _
     (work_data c.args.work.now) _ c.of-naming.ensures _ c.get-names.ensures collected.0 _ _ _ _ read.0 read.1 c.requires.text collected.2 (inr c.in-Ok-answer_of.ensures.answer))
     c.report_answer.ensures
 
@@ -34,33 +33,33 @@ returns-in-Ok-collect_into_book g c =
     let read = texts_read c.in-Ok.inputs.items c.args.folder.now g.F.File.Source.left g.F.File.Source.failed_reads
     (record { own = λ one. one.folder.now; name = λ one. one.name.now; format = λ one. one.format.now; strictness = λ one. one.strictness; opened = λ one. one.opened })
     c.args.work.now.format c.args.work.now.strictness
-    (λ folder. folder_data (g.F.Folder.holds folder) (g.F.Folder.may_refuse folder) (g.F.Folder.may_open folder) g.F.File.Source.left g.F.File.Source.failed_reads)
+    (folder_data g.F.Folder g.F.File.Source)
     _ collected.0 c.in-Ok.ensures.names c.in-Ok.ensures.own collected.1 in
-    failure_told (folder_data (g.F.Folder.holds c.args.folder.now) (g.F.Folder.may_refuse c.args.folder.now) (g.F.Folder.may_open c.args.folder.now) g.F.File.Source.left g.F.File.Source.failed_reads) (work_data c.args.work.now) _ c.in-Err.failure _
-    (ends_collected (folder_data (g.F.Folder.holds c.args.folder.now) (g.F.Folder.may_refuse c.args.folder.now) (g.F.Folder.may_open c.args.folder.now) g.F.File.Source.left g.F.File.Source.failed_reads) _
+    failure_told (folder_data g.F.Folder g.F.File.Source c.args.folder.now) (work_data c.args.work.now) _ c.in-Err.failure _ _ _
+    (ends_collected (folder_data g.F.Folder g.F.File.Source c.args.folder.now) _
     (work_data c.args.work.now) _ c.of-naming.ensures _ c.get-names.ensures collected.0 _ _ _ _ read.0 read.1 c.requires.text collected.2 c.in-Err.ensures.failure)
-    c.report_failure-in-Err.ensures.status _ _ _ _ _ _ _ c.report_failure-in-Err.ensures.said _
+    c.report_failure-in-Err.ensures
 
 pub returns-in-Err-Unread : goal.returns-in-Err-Unread
 returns-in-Err-Unread g c =
-    failure_told (folder_data (g.F.Folder.holds c.args.folder.now) (g.F.Folder.may_refuse c.args.folder.now) (g.F.Folder.may_open c.args.folder.now) g.F.File.Source.left g.F.File.Source.failed_reads) (work_data c.args.work.now) _ c.unreadable.result _
-    (ends_unreadable (folder_data (g.F.Folder.holds c.args.folder.now) (g.F.Folder.may_refuse c.args.folder.now) (g.F.Folder.may_open c.args.folder.now) g.F.File.Source.left g.F.File.Source.failed_reads) _
+    failure_told (folder_data g.F.Folder g.F.File.Source c.args.folder.now) (work_data c.args.work.now) _ c.unreadable.result _ _ _
+    (ends_unreadable (folder_data g.F.Folder g.F.File.Source c.args.folder.now) _
     (work_data c.args.work.now) _ c.get-names.ensures _ _
     (unreadable_read c.in-Ok.inputs.items c.args.folder.now g.F.File.Source.left g.F.File.Source.failed_reads
     (record { own = λ one. one.folder.now; name = λ one. one.name.now; format = λ one. one.format.now; strictness = λ one. one.strictness; opened = λ one. one.opened })
     c.args.work.now.format c.args.work.now.strictness
-    (λ folder. folder_data (g.F.Folder.holds folder) (g.F.Folder.may_refuse folder) (g.F.Folder.may_open folder) g.F.File.Source.left g.F.File.Source.failed_reads)
+    (folder_data g.F.Folder g.F.File.Source)
     (map string_bytes c.get-names.result.now) c.in-Err-Unread.index _ c.in-Ok.ensures.names c.in-Ok.ensures.own c.in-Err-Unread.field-0-is c.in-Err-Unread.ensures.unread)
     (unreadable_told _ _ _ _ c.of-naming.ensures (c.file_name.ensures ∙ ap (λ index. name_at (slice_get (map string_bytes c.get-names.result.now) index)) c.in-Err-Unread.index-is) c.unreadable.ensures))
-    c.report_failure-in-Err-Unread.ensures.status _ _ _ _ _ _ _ c.report_failure-in-Err-Unread.ensures.said _
+    c.report_failure-in-Err-Unread.ensures
 
 pub returns : goal.returns
 returns g c =
-    failure_told (folder_data (g.F.Folder.holds c.args.folder.now) (g.F.Folder.may_refuse c.args.folder.now) (g.F.Folder.may_open c.args.folder.now) g.F.File.Source.left g.F.File.Source.failed_reads) (work_data c.args.work.now) _ c.failure_of_collect.result _
-    (ends_uncollected (folder_data (g.F.Folder.holds c.args.folder.now) (g.F.Folder.may_refuse c.args.folder.now) (g.F.Folder.may_open c.args.folder.now) g.F.File.Source.left g.F.File.Source.failed_reads) _
+    failure_told (folder_data g.F.Folder g.F.File.Source c.args.folder.now) (work_data c.args.work.now) _ c.failure_of_collect.result _ _ _
+    (ends_uncollected (folder_data g.F.Folder g.F.File.Source c.args.folder.now) _
     (work_data c.args.work.now) _ _ (λ is. (c.in-Err-Collect.ensures.bad).0 (ap (λ fault. Err fault) (c.in-Err-Collect.field-0-is ∙ ap (λ fault. into_book.Collect fault) is)))
     (may_come c.in-Ok.inputs.items c.args.folder.now g.F.File.Source.left
     (record { own = λ one. one.folder.now; name = λ one. one.name.now; format = λ one. one.format.now; strictness = λ one. one.strictness; opened = λ one. one.opened })
     c.args.work.now.format c.args.work.now.strictness _ _ _ _ c.in-Err-Collect.fault (c.in-Ok.ensures.names ∙ c.get-names.ensures) c.in-Ok.ensures.own c.in-Err-Collect.field-0-is c.in-Err-Collect.ensures.unread)
     (c.failure_of_collect.ensures ∙ ap of_collect c.in-Err-Collect.fault-is))
-    c.report_failure-in-Err-Collect.ensures.status _ _ _ _ _ _ _ c.report_failure-in-Err-Collect.ensures.said _
+    c.report_failure-in-Err-Collect.ensures

@@ -1,5 +1,5 @@
 use Rattle.std.proofs.Common.{rules, ◌≡◌}
-use Rattle.covread.specs.declared.fault.ReadFault.TheVariants as reads
+use Rattle.covdata.specs.declared.fault.ReadFault.TheVariants as reads
 use Rattle.covrun.proofs.Checks.{examined_refusal, examined_summary}
 use Rattle.covrun.proofs.file_report.report_on_text.Goals as goal
 

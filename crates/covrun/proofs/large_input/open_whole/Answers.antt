@@ -3,6 +3,6 @@ use Rattle.covrun.proofs.large_input.open_whole.Goals as goal
 
 pub returns-in-Ok-clause-opened : goal.returns-in-Ok-clause-opened
 returns-in-Ok-clause-opened g c =
-    opened_now (g.F.Folder.holds c.args.folder.now) (g.F.Folder.may_refuse c.args.folder.now) (g.F.Folder.may_open c.args.folder.now) g.F.File.Source.left g.F.File.Source.failed_reads
+    opened_now g.F.Folder g.F.File.Source c.args.folder.now
     c.args.name.now c.args.version c.args.strictness _ c.begin_large.result c.in-Ok.ensures.opened c.in-Ok.ensures.bytes
     c.begin_large.ensures.whole c.begin_large.ensures.told c.begin_large.ensures.source c.begin_large.ensures.left

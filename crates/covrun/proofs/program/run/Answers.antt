@@ -9,4 +9,5 @@ returns-in-Ok g c =
 pub returns-in-Err : goal.returns-in-Err
 returns-in-Err g c =
     let e = c.in-Err.ensures in
-    (Err c.in-Err.fault, record { asks = e.asks; strictness = e.strictness; size = e.size; output = e.output; bounds = e.bounds; fits = e.fits; taken = e.takes; told = e.told }, (refl, refl, c.report_line.ensures))
+    rw (← c.world.view_is)
+    (Err c.in-Err.fault, record { asks = e.asks; strictness = e.strictness; size = e.size; output = e.output; bounds = e.bounds; fits = e.fits; taken = e.takes; told = e.told }, ((refl, refl), c.report_line.ensures))

@@ -16,12 +16,12 @@ pub enum Pick {
     Remove,
 }
 
-/// The format of a text that follows a line.
+/// The format of a text that follows a command line.
 #[derive(Clone, Copy)]
 pub enum Format<'a> {
     /// A tracefile (geninfo(1) of LCOV 1.x).
     Tracefile,
-    /// gcov's annotated source (gcov(1)). Its counts get this test name.
+    /// gcov's annotated source (gcov(1)), whose counts get this test name.
     Annotated(&'a [u8]),
 }
 
@@ -34,7 +34,7 @@ pub enum Word<'a> {
     Report,
     /// `summary`: the totals of points found and hit.
     Summary,
-    /// `extract` or `remove`: a choice of files. If the line has a space, the pattern is what follows the first one.
+    /// `extract` or `remove`: a choice of files. The pattern is what follows the line's first space, if there is a space.
     Choose(Pick, Option<&'a [u8]>),
     /// `drop`: drops the test with this name.
     Drop(&'a [u8]),
@@ -66,7 +66,7 @@ pub fn word_of(line: &[u8]) -> Word<'_>
     }
 }
 
-/// Parses a command line that isn't a single known word.
+/// Parses a command line other than `report`, `summary`, `rename`, `trace` and a blank line.
 fn word_with_argument(words: &[u8]) -> Word<'_>
     requires some { words.now ≢ [] }
     requires no_report { words.now ≢ codes "report" }
@@ -99,7 +99,7 @@ fn test_named(argument: Option<&[u8]>) -> &[u8]
     }
 }
 
-/// The line before its first space, and after it. Without a space, the whole line and `None`.
+/// Returns the parts of a line before and after the first space, or the whole line and `None` if there is no space.
 fn split_at_space(words: &[u8]) -> (&[u8], Option<&[u8]>)
     ensures name { result.0.now ≡ before_space words.now }
     ensures whole { IsWordWith words.now result.0.now (option_map (λ p. p.now) result.1) }

@@ -1,7 +1,7 @@
 use Rattle.std.proofs.Common.{ℕ, Vec, List, ◌∷◌, sym, ap, ◌∙◌, subst}
 use Rattle.covstore.specs.declared.file.File.{File}
-use Rattle.covstore.specs.declared.totals.Totals.{Totals}
-use Rattle.covstore.specs.TotalsExchanged.{FitTogether, together}
+use Rattle.covtable.specs.declared.totals.Totals.{Totals}
+use Rattle.covtable.specs.TotalsExchanged.{FitTogether, together}
 use Rattle.covstore.specs.FileView.{file_committed}
 use Rattle.covstore.specs.StoreView.{files_committed}
 use Rattle.covstore.proofs.DropsTotals.{IsAddedUp, all_added, none_added, one_added, one_fits}

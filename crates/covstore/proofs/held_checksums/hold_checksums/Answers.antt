@@ -1,6 +1,6 @@
 use Rattle.std.proofs.Common.{[], ◌∷◌, ◌++◌, List, sym, ap, subst, ◌∙◌, append-nil, append_assoc}
 use Rattle.std.proofs.lemmas.Result.{err_from_is_err_and}
-use Rattle.covline.specs.Row.{ItemData}
+use Rattle.covdata.specs.Row.{ItemData}
 use Rattle.covpacked.specs.ItemRefs.{item_ref_data}
 use Rattle.covstore.specs.Section.{Clashes}
 use Rattle.covstore.specs.HeldChecksums.{HoldsTexts}

@@ -1,5 +1,5 @@
 use Rattle.std.proofs.Common.{◌∷◌, [], ◌++◌, List, sym, ap, ◌∙◌, append_assoc}
-use Rattle.covline.specs.Row.{ItemData}
+use Rattle.covdata.specs.Row.{ItemData}
 use Rattle.covpacked.specs.ItemRefs.{item_ref_data}
 use Rattle.covstore.specs.Runs.{runs_with}
 use Rattle.covstore.proofs.RunsSums.{runs_more}

@@ -2,7 +2,7 @@ use Rattle.std.proofs.Common.{◌≡◌, ℕ, List, [], ◌∷◌, ◌++◌, Vec
 use Rattle.std.proofs.lemmas.Result.{err_from_is_err_and}
 use Rattle.covstore.specs.declared.file.File.{File}
 use Rattle.covstore.specs.FileView.{file_staged, file_committed, no_file}
-use Rattle.covstore.specs.RefuseView.{refuse_data}
+use Rattle.covtable.specs.RefuseView.{refuse_data}
 use Rattle.covstore.specs.Store.{KeepsState}
 use Rattle.covstore.specs.StoreView.{AreSettledBut, IsSettledBut, files_committed}
 use Rattle.covstore.proofs.AddsMaps.{inserted_settled}

@@ -1,8 +1,8 @@
 use Rattle.std.proofs.Common.{◌≡◌, ◌∙◌, ◌++◌, ap, refl, sym, subst}
 use Rattle.std.proofs.lemmas.List.{append-nil}
 use Rattle.covline.specs.Lines.{lines_of}
-use Rattle.covline.specs.Spells.{line_data}
-use Rattle.covline.specs.Printed.{printed}
+use Rattle.covdata.specs.Records.{line_data}
+use Rattle.covdata.specs.Printed.{printed}
 use Rattle.covuses.specs.Counted.{if_counted}
 use Rattle.covuses.proofs.Counted.{ArePrinted, one_more, no_more, none_printed}
 use Rattle.covuses.proofs.records.counted_lines.Goals as goal

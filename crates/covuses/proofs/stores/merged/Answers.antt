@@ -1,5 +1,5 @@
 use Rattle.std.proofs.Common.{[], ◌∷◌}
-use Rattle.covline.specs.Row.{rows_of}
+use Rattle.covdata.specs.Row.{rows_of}
 use Rattle.covuses.proofs.StandsStill.{stands_still}
 use Rattle.covuses.proofs.stores.merged.Goals as goal
 

@@ -1,5 +1,5 @@
 use Rattle.std.proofs.Common.{ap, ◌∙◌}
-use Rattle.covstore.specs.Without.{sections_of_test, without_test}
+use Rattle.covtable.specs.Without.{sections_of_test, without_test}
 use Rattle.covbook.specs.Held.{BookData}
 use Rattle.covbook.specs.Op.{DroppedAnswer}
 use Rattle.covbook.specs.Step.{ops_in, table_of, totals_at}

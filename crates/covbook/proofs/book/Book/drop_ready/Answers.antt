@@ -1,5 +1,5 @@
 use Rattle.std.proofs.Common.{◌≡◌, ℕ, true, List, sym, ap, ◌∙◌}
-use Rattle.covstore.specs.Without.{sections_of_test, without_test}
+use Rattle.covtable.specs.Without.{sections_of_test, without_test}
 use Rattle.covbook.specs.Op.{DroppedAnswer}
 use Rattle.covbook.specs.Step.{has_test, ops_in, table_after_drop, table_of, totals_at}
 use Rattle.covbook.specs.View.{answer_data}

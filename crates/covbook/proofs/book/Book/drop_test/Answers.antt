@@ -1,7 +1,7 @@
 use Rattle.std.proofs.Common.{ℕ, List, subst}
 use Rattle.covstore.specs.Store.{StandsFor}
-use Rattle.covstore.specs.Table.{Table}
-use Rattle.covstore.specs.Without.{without_test}
+use Rattle.covtable.specs.Table.{Table}
+use Rattle.covtable.specs.Without.{without_test}
 use Rattle.covbook.proofs.Runs.{dropped_book}
 use Rattle.covbook.proofs.book.Book.drop_test.Goals as goal
 

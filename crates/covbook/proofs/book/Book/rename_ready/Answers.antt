@@ -1,6 +1,6 @@
 use Rattle.std.proofs.Common.{ℕ, List, sym, ap, ◌∙◌}
-use Rattle.covstore.specs.Totals.{totals_of}
-use Rattle.covstore.specs.Without.{sections_of_test}
+use Rattle.covtable.specs.Totals.{totals_of}
+use Rattle.covtable.specs.Without.{sections_of_test}
 use Rattle.covbook.specs.Op.{RenamedAnswer}
 use Rattle.covbook.specs.Step.{has_test, ops_in, table_of}
 use Rattle.covbook.proofs.Halves.{renamed_next, renaming_planned}

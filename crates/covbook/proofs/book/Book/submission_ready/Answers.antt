@@ -1,5 +1,5 @@
 use Rattle.std.proofs.Common.{ℕ, ◌+◌, length, sym, ap, subst, ◌∙◌}
-use Rattle.covline.specs.Row.{items_in}
+use Rattle.covdata.specs.Row.{items_in}
 use Rattle.covbook.specs.Op.{AcceptedAnswer, IsLawfulOp}
 use Rattle.covbook.specs.Step.{table_of, totals_at, ops_in}
 use Rattle.covbook.specs.View.{answer_data, op_data}

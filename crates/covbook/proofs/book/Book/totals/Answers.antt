@@ -1,5 +1,5 @@
 use Rattle.std.proofs.Common.{ap, ◌∙◌}
-use Rattle.covstore.specs.Totals.{totals_of}
+use Rattle.covtable.specs.Totals.{totals_of}
 use Rattle.covbook.specs.Held.{BookData}
 use Rattle.covbook.specs.Step.{last_totals, ops_in, table_of, totals_at}
 use Rattle.covbook.proofs.Runs.{last_told}

@@ -1,10 +1,10 @@
 use Rattle.std.specs.Prelude.{IfOk}
 use Rattle.std.proofs.Common.{◌≡◌, [], ◌∷◌, ◌++◌, subst}
-use Rattle.covline.specs.Row.{SubmissionData, rows_of}
-use Rattle.covstore.specs.Content.{content_at}
+use Rattle.covdata.specs.Row.{SubmissionData, rows_of}
+use Rattle.covtable.specs.Content.{content_at}
 use Rattle.covstore.specs.Store.{StandsFor}
-use Rattle.covstore.specs.Table.{Table}
-use Rattle.covstore.specs.Totals.{totals_of}
+use Rattle.covtable.specs.Table.{Table}
+use Rattle.covtable.specs.Totals.{totals_of}
 use Rattle.covbook.proofs.submitted.SubRefSubmitted.prepare_in.Goals as goal
 
 pub returns-clause-after : goal.returns-clause-after

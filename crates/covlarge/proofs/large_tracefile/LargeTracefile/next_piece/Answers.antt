@@ -24,6 +24,11 @@ returns-in_err-submission-in-Sections g c =
     rw (told.1, told.2) (piece_unread g.S.Source.left g.S.Source.failed_reads _ c.args.self c.self.view_is c.read_on.new.source _ _ _ _ _
     c.in_ok-text.ensures.found c.in_ok-text.ensures.front c.in_ok-begun.ensures.front c.in_ok-begun.ensures.bytes c.in-Sections.len c.in-Sections.is _ c.in_err-submission-in-Sections.ensures.read)
 
+pub returns-in_err-rest-in-Sections : goal.returns-in_err-rest-in-Sections
+returns-in_err-rest-in-Sections g c =
+    let told = err_from_is_err_and c.from_residual-in_err-rest-in-Sections.result c.from_residual-in_err-rest-in-Sections.ensures.1 in
+    rw (told.1, told.2) tt
+
 pub invariant_of-next : goal.invariant_of-next
 invariant_of-next g c =
     let found = sections g.S.Source.left g.S.Source.failed_reads _ c.args.self c.self.view_is c.read_on.new.source _ _ _ _ _

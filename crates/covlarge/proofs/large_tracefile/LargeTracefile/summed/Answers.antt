@@ -1,5 +1,5 @@
 use Rattle.std.proofs.Common.{◌≡◌, Some, refl, ap, ◌∙◌}
-use Rattle.covcommand.specs.declared.asked.LcovVersion.{LcovVersion}
+use Rattle.covdata.specs.declared.version.LcovVersion.{LcovVersion}
 use Rattle.covlarge.specs.State.{begun_state}
 use Rattle.covlarge.specs.StateData.{StateData}
 use Rattle.covlarge.specs.Summary.{SummaryData, nothing_held}

@@ -1,4 +1,4 @@
-use Rattle.covline.specs.Spells.{line_data}
+use Rattle.covdata.specs.Records.{line_data}
 use Rattle.covlcov2.proofs.Passing.{passed}
 use Rattle.covlcov2.proofs.reader.Lcov2Reader.pass.Goals as goal
 

@@ -1,5 +1,5 @@
 use Rattle.std.proofs.Common.{◌∙◌, ap, sym}
-use Rattle.covline.specs.Row.{items_in}
+use Rattle.covdata.specs.Row.{items_in}
 use Rattle.covpacked.specs.PackedView.{PackedData, items_of}
 use Rattle.covpacked.proofs.Closes.{closed_count}
 use Rattle.covpacked.proofs.Packeds.{few_items}

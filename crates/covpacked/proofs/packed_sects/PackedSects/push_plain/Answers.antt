@@ -1,5 +1,5 @@
 use Rattle.std.proofs.Common.{◌∙◌, ap, [], ◌∷◌, ◌++◌}
-use Rattle.covline.specs.Row.{ItemData}
+use Rattle.covdata.specs.Row.{ItemData}
 use Rattle.covpacked.specs.PackedView.{PackedData}
 use Rattle.covpacked.specs.Words.{item_of_parts}
 use Rattle.covpacked.proofs.Packeds.{appended_item, appended_ok, appended_sects, not_appended, on_err_then, on_ok_then, plain_end, plain_item}

@@ -1,6 +1,6 @@
 use Rattle.std.proofs.Common.{◌-◌, length, map, take, ap, sym, ◌∙◌, ◌∷◌, []}
 use Rattle.std.proofs.lemmas.List.{map-append}
-use Rattle.covline.specs.SectView.{sect_data}
+use Rattle.covdata.specs.SectView.{sect_data}
 use Rattle.covpacked.proofs.Lasts.{last_parts}
 use Rattle.covpacked.proofs.read_text.SubmissionReadText.last_test.Goals as goal
 

@@ -1,7 +1,7 @@
 use Rattle.std.proofs.Common.{Result, [], sym, subst}
 use Rattle.std.proofs.lemmas.Result.{err_from_is_err_and}
-use Rattle.covline.specs.Row.{SubmissionData}
-use Rattle.covread.specs.declared.fault.ReadFault.{ReadFault}
+use Rattle.covdata.specs.Row.{SubmissionData}
+use Rattle.covdata.specs.declared.fault.ReadFault.{ReadFault}
 use Rattle.covread.specs.Outcome.{Answers, GrowsLate}
 use Rattle.covread.specs.TraceSteps.{held_data}
 use Rattle.covread.proofs.TraceLoop.{ends_late}

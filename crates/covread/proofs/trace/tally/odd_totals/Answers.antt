@@ -1,7 +1,7 @@
 use Rattle.std.proofs.Common.{List, map, subst, ◌∙◌}
 use Rattle.std.specs.Ordering.{nat_cmp}
-use Rattle.covline.specs.Points.{line_point}
-use Rattle.covline.specs.Row.{ItemData}
+use Rattle.covdata.specs.Points.{line_point}
+use Rattle.covdata.specs.Row.{ItemData}
 use Rattle.covread.specs.TracePoints.{AreTotals, branch_key}
 use Rattle.covread.specs.TraceTally.{AreOwn, branch_cmp, stated_record}
 use Rattle.covread.specs.declared.trace.tally.OwnTotals.{OwnTotals}

@@ -1,11 +1,11 @@
 use Rattle.std.proofs.Common.{refl, ◌++◌, length, ap, ap₂, ◌∙◌, arith}
 use Rattle.std.specs.List.{flat_map}
-use Rattle.covline.specs.Printed.{printed}
-use Rattle.covline.specs.declared.trace_line.TotalKind.TheVariants.{BranchFound, BranchHit}
+use Rattle.covdata.specs.Printed.{printed}
+use Rattle.covdata.specs.declared.trace_line.TotalKind.TheVariants.{BranchFound, BranchHit}
 use Rattle.covreport.specs.Report.{branch_record, branches_hit, totals_if_any}
-use Rattle.covstore.specs.Content.{BranchValueData}
-use Rattle.covstore.specs.Value.{is_taken}
-use Rattle.covstore.specs.ValuesView.{branch_data}
+use Rattle.covtable.specs.Content.{BranchValueData}
+use Rattle.covtable.specs.Value.{is_taken}
+use Rattle.covtable.specs.ValuesView.{branch_data}
 use Rattle.covreport.proofs.Texts.{printed_none, printed_more, printed_all, count_fits, with_tail}
 use Rattle.covreport.proofs.tracefile.branches.put_branches.Goals as goal
 

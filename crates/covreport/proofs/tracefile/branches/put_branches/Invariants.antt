@@ -1,7 +1,7 @@
-use Rattle.covstore.specs.Value.{is_taken}
-use Rattle.covline.specs.Printed.{printed}
+use Rattle.covtable.specs.Value.{is_taken}
+use Rattle.covdata.specs.Printed.{printed}
 use Rattle.covreport.specs.Report.{branch_record}
-use Rattle.covstore.specs.Content.{BranchValueData}
+use Rattle.covtable.specs.Content.{BranchValueData}
 use Rattle.covreport.proofs.Texts.{IsPrinted}
 use Rattle.covreport.proofs.tracefile.branches.put_branches.Given as goal
 

@@ -1,6 +1,6 @@
 use Rattle.std.proofs.Common.{◌≡◌, ◌++◌, List, [], ◌∷◌, length, map, refl, ap, sym, ◌∙◌, arith}
 use Rattle.std.proofs.lemmas.List.{length_push}
-use Rattle.covstore.specs.Content.{FunctionValueData}
+use Rattle.covtable.specs.Content.{FunctionValueData}
 use Rattle.covreport.specs.FunctionView.{printed_function}
 use Rattle.covreport.specs.declared.tracefile.functions.PrintedFunction.{PrintedFunction}
 use Rattle.covreport.proofs.ByStart.{collects, collected, fits_one_more}

@@ -1,8 +1,8 @@
 use Rattle.std.proofs.Common.{drop, map, nat_lt}
-use Rattle.covline.specs.Printed.{printed}
+use Rattle.covdata.specs.Printed.{printed}
 use Rattle.covreport.specs.Report.{call_record}
 use Rattle.covreport.proofs.Texts.{IsPrinted}
-use Rattle.covstore.specs.Content.{FunctionValueData}
+use Rattle.covtable.specs.Content.{FunctionValueData}
 use Rattle.covreport.specs.FunctionView.{printed_function}
 use Rattle.covreport.proofs.tracefile.functions.put_calls.Given as goal
 

@@ -1,13 +1,13 @@
 use Rattle.std.proofs.Common.{◌≡◌, ℕ, ◌++◌, List, length, map, sym, ap, ap₂, ◌∙◌, arith}
 use Rattle.std.specs.List.{flat_map}
 use Rattle.std.proofs.lemmas.List.{length-map}
-use Rattle.covline.specs.Printed.{printed}
-use Rattle.covline.specs.Spells.{LineData}
-use Rattle.covline.specs.declared.trace_line.TotalKind.TheVariants.{FuncFound, FuncHit}
+use Rattle.covdata.specs.Printed.{printed}
+use Rattle.covdata.specs.Records.{LineData}
+use Rattle.covdata.specs.declared.trace_line.TotalKind.TheVariants.{FuncFound, FuncHit}
 use Rattle.covreport.specs.FunctionView.{printed_function}
 use Rattle.covreport.specs.Report.{by_start, start_record, call_record, functions_hit, totals_if_any}
 use Rattle.covreport.specs.declared.tracefile.functions.PrintedFunction.{PrintedFunction}
-use Rattle.covstore.specs.Content.{FunctionValueData}
+use Rattle.covtable.specs.Content.{FunctionValueData}
 use Rattle.covreport.proofs.ByStart.{length-by_start, hit-by_start}
 use Rattle.covreport.proofs.Texts.{with_tail}
 use Rattle.covreport.proofs.tracefile.functions.put_functions.Goals as goal

@@ -1,8 +1,8 @@
 use Rattle.std.proofs.Common.{◌≡◌, ◌++◌, drop, map}
 use Rattle.std.specs.List.{flat_map}
-use Rattle.covline.specs.Printed.{printed}
+use Rattle.covdata.specs.Printed.{printed}
 use Rattle.covreport.specs.Report.{start_record}
-use Rattle.covstore.specs.Content.{FunctionValueData}
+use Rattle.covtable.specs.Content.{FunctionValueData}
 use Rattle.covreport.specs.FunctionView.{printed_function}
 use Rattle.covreport.proofs.tracefile.functions.put_starts.Given as goal
 

@@ -1,6 +1,6 @@
 use Rattle.std.proofs.Common.{◌≡◌, List, length, map, ap, ◌∙◌, arith}
 use Rattle.std.proofs.lemmas.List.{length-map}
-use Rattle.covstore.specs.Content.{FunctionValueData}
+use Rattle.covtable.specs.Content.{FunctionValueData}
 use Rattle.covreport.specs.FunctionView.{printed_function}
 use Rattle.covreport.specs.Report.{by_start}
 use Rattle.covreport.specs.declared.tracefile.functions.PrintedFunction.{PrintedFunction}

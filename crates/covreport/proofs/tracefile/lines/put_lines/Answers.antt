@@ -1,10 +1,10 @@
 use Rattle.std.proofs.Common.{refl, nat_lt, length, ap, ap₂, ◌++◌, ◌∙◌, arith}
 use Rattle.std.specs.List.{flat_map}
-use Rattle.covline.specs.Printed.{printed}
-use Rattle.covline.specs.declared.trace_line.TotalKind.TheVariants.{LineFound, LineHit}
+use Rattle.covdata.specs.Printed.{printed}
+use Rattle.covdata.specs.declared.trace_line.TotalKind.TheVariants.{LineFound, LineHit}
 use Rattle.covreport.specs.Report.{line_record, lines_hit, totals}
-use Rattle.covstore.specs.Content.{LineValueData}
-use Rattle.covstore.specs.ValuesView.{line_data}
+use Rattle.covtable.specs.Content.{LineValueData}
+use Rattle.covtable.specs.ValuesView.{line_data}
 use Rattle.covreport.proofs.Texts.{printed_none, printed_more, printed_all, count_fits, with_tail}
 use Rattle.covreport.proofs.tracefile.lines.put_lines.Goals as goal
 

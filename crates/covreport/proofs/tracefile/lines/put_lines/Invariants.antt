@@ -1,7 +1,7 @@
 use Rattle.std.proofs.Common.{nat_lt}
-use Rattle.covline.specs.Printed.{printed}
+use Rattle.covdata.specs.Printed.{printed}
 use Rattle.covreport.specs.Report.{line_record}
-use Rattle.covstore.specs.Content.{LineValueData}
+use Rattle.covtable.specs.Content.{LineValueData}
 use Rattle.covreport.proofs.Texts.{IsPrinted}
 use Rattle.covreport.proofs.tracefile.lines.put_lines.Given as goal
 

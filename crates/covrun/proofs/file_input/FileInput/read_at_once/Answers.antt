@@ -9,8 +9,8 @@ returns-in_err-read_whole g c =
     let told = err_from_is_err_and c.from_residual.result c.from_residual.ensures.1 in
     part_faults c.from_residual.result
     (λ late. MayTake g.F.File.Source.left (g.F.Folder.holds late.folder.now late.name.now) late.format.now late.strictness late.opened)
-    (λ late. MayFailAs (folder_data (g.F.Folder.holds late.folder.now) (g.F.Folder.may_refuse late.folder.now) (g.F.Folder.may_open late.folder.now) g.F.File.Source.left g.F.File.Source.failed_reads)
+    (λ late. MayFailAs (folder_data g.F.Folder g.F.File.Source late.folder.now)
     g.F.File.Source.left g.F.File.Source.failed_reads late.name.now late.format.now late.opened)
     (λ late. most_parts late.format.now late.opened) c.args.self _ told.0 told.1 told.2
-    (whole_ends g.F.File.Source.left g.F.File.Source.failed_reads (folder_data (g.F.Folder.holds c.args.self.folder.now) (g.F.Folder.may_refuse c.args.self.folder.now) (g.F.Folder.may_open c.args.self.folder.now) g.F.File.Source.left g.F.File.Source.failed_reads)
+    (whole_ends g.F.File.Source.left g.F.File.Source.failed_reads (folder_data g.F.Folder g.F.File.Source c.args.self.folder.now)
     c.args.self.name.now c.args.self.strictness c.args.self.opened c.args.self.format.now c.requires _ c.in_err-read_whole.ensures)

@@ -1,6 +1,6 @@
 use Rattle.std.proofs.Common.{[], ◌∷◌, append-nil, refl, sym}
 use Rattle.covsession.specs.Command.{Refuse, Unfinished, format_of}
-use Rattle.covread.specs.declared.fault.ReadFault.TheVariants as faults
+use Rattle.covdata.specs.declared.fault.ReadFault.TheVariants as faults
 use Rattle.covsession.proofs.SessionSteps.{answered, ok_map, says_nil}
 use Rattle.covbook.specs.Step.{ops_in}
 use Rattle.std.proofs.Common.{codes}

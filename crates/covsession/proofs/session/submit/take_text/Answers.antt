@@ -1,7 +1,7 @@
 use Rattle.std.proofs.Common.{◌≡◌, ◌++◌, [], ◌∷◌, rules, refl, sym, ◌∙◌, subst}
 use Rattle.std.proofs.lemmas.Bool.{false≢true}
 use Rattle.std.specs.List.{concat}
-use Rattle.covline.specs.Lines.{line_feed}
+use Rattle.covdata.specs.Delimiters.{line_feed}
 use Rattle.covsession.specs.Broken.{IsPart}
 use Rattle.covsession.specs.Command.{IsBody}
 use Rattle.covsession.specs.Streams.{moment, TakesLine, line_bytes, line_pieces}

@@ -20,7 +20,7 @@ use Rattle.covstore.proofs.CopiesMap.{other_found, other_there, place_there, put
 use Rattle.covstore.proofs.FollowsSole.{sole_found, sole_written, written_again}
 use Rattle.covstore.proofs.MapKeys.{seen}
 use Rattle.covstore.proofs.MapNames.{has_name}
-use Rattle.covstore.proofs.Orders.{names_order}
+use Rattle.covtable.proofs.Orders.{names_order}
 use Rattle.covstore.proofs.Settled.{file_name, same_file}
 use Rattle.covstore.proofs.file.File.copy_points.Goals as goal
 

@@ -20,7 +20,7 @@ use Rattle.covstore.proofs.FollowsSole.{sole_found, sole_written}
 use Rattle.covstore.proofs.KeepsMore.{file_keeps}
 use Rattle.covstore.proofs.MapKeys.{seen}
 use Rattle.covstore.proofs.MapNames.{has_name}
-use Rattle.covstore.proofs.Orders.{names_order}
+use Rattle.covtable.proofs.Orders.{names_order}
 use Rattle.covstore.proofs.Settled.{file_name}
 use Rattle.covstore.proofs.file.File.stage_in.Goals as goal
 

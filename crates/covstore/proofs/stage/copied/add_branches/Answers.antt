@@ -1,6 +1,6 @@
 use Rattle.std.proofs.Common.{ap, ◌∙◌}
-use Rattle.covline.specs.Row.{BranchItem}
-use Rattle.covline.specs.Points.{BranchPoint}
+use Rattle.covdata.specs.Row.{BranchItem}
+use Rattle.covdata.specs.Points.{BranchPoint}
 use Rattle.covstore.specs.Renaming.{branch_item}
 use Rattle.covstore.proofs.CopiesLoop.{copying_all, copying_first, copying_more, copying_room}
 use Rattle.covstore.proofs.StepsMore.{held_both}

@@ -1,5 +1,5 @@
 use Rattle.std.proofs.Common.{ℕ, List, ap, ◌∙◌}
-use Rattle.covline.specs.Row.{FuncItem}
+use Rattle.covdata.specs.Row.{FuncItem}
 use Rattle.covstore.specs.Renaming.{function_item}
 use Rattle.covstore.proofs.CopiesLoop.{copying_all, copying_first, copying_more, copying_room}
 use Rattle.covstore.proofs.StepsMore.{held_both}

@@ -1,6 +1,6 @@
 use Rattle.std.proofs.Common.{◌++◌, List, map}
 use Rattle.std.proofs.lemmas.Result.{on_ok_weaker}
-use Rattle.covline.specs.Row.{ItemData}
+use Rattle.covdata.specs.Row.{ItemData}
 use Rattle.covstore.specs.FileIndexView.{index_staged}
 use Rattle.covstore.specs.Renaming.{branch_item, function_item, line_item}
 use Rattle.covstore.specs.TestView.{test_staged}

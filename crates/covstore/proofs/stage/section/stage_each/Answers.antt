@@ -1,6 +1,6 @@
 use Rattle.std.proofs.Common.{[], ◌∷◌, ◌++◌, List, sym, ap, subst, refl, ◌∙◌, append-nil, append_assoc}
 use Rattle.std.proofs.lemmas.Result.{err_from_is_err_and}
-use Rattle.covline.specs.Row.{ItemData}
+use Rattle.covdata.specs.Row.{ItemData}
 use Rattle.covpacked.specs.ItemRefs.{item_ref_data}
 use Rattle.covstore.specs.Section.{Adds, Clashes}
 use Rattle.covstore.specs.FileIndexView.{index_staged}

@@ -1,5 +1,5 @@
 use Rattle.std.proofs.Common.{◌≡◌, ◌++◌, List}
-use Rattle.covline.specs.Row.{ItemData}
+use Rattle.covdata.specs.Row.{ItemData}
 use Rattle.covstore.proofs.AddsLoop.{HasTaken}
 use Rattle.covstore.specs.Follows.{StillFollows}
 use Rattle.covstore.proofs.stage.section.stage_each.Given as goal

@@ -1,10 +1,10 @@
 use Rattle.std.proofs.Common.{◌≢◌, List, [], ◌∷◌, ◌++◌, sym, ap, subst, ◌∙◌, append-nil, append_assoc}
 use Rattle.std.specs.List.{flat_map}
 use Rattle.std.proofs.lemmas.Result.{err_from_is_err_and}
-use Rattle.covline.specs.Row.{SectData, rows_of_sect}
+use Rattle.covdata.specs.Row.{SectData, rows_of_sect}
 use Rattle.covpacked.specs.PackedSects.{packed_sect_data}
 use Rattle.covstore.specs.Store.{AddsRows, ClashesWith}
-use Rattle.covstore.specs.RefuseView.{refuse_data}
+use Rattle.covtable.specs.RefuseView.{refuse_data}
 use Rattle.covstore.proofs.AddsSome.{some_of_them}
 use Rattle.covstore.proofs.AddsStore.{HasTakenSects, held_by_both, next_room, no_sects, one_sect, sect_clashes}
 use Rattle.covmap.proofs.SlotWrites.{on_err}

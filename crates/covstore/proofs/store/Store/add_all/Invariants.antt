@@ -1,5 +1,5 @@
 use Rattle.std.proofs.Common.{◌≡◌, ◌++◌, List}
-use Rattle.covline.specs.Row.{SectData}
+use Rattle.covdata.specs.Row.{SectData}
 use Rattle.covstore.proofs.AddsStore.{HasTakenSects}
 use Rattle.covstore.proofs.store.Store.add_all.Given as goal
 

@@ -1,6 +1,6 @@
 use Rattle.std.proofs.Common.{[], ◌∷◌, ◌++◌, refl, sym, subst, List, ◌+◌}
 use Rattle.covstore.specs.declared.store.Touched.{Touched}
-use Rattle.covline.specs.Row.{rows_of}
+use Rattle.covdata.specs.Row.{rows_of}
 use Rattle.covstore.specs.StoreView.{AreSettledBut, files_staged, files_committed, touched_data}
 use Rattle.covstore.specs.Store.{IsPlanOf, StandsFor, StoreData}
 use Rattle.covstore.proofs.Settled.{file_name}

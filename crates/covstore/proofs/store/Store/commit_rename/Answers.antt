@@ -5,7 +5,7 @@ use Rattle.covstore.specs.StoreView.{AreSettledBut, files_staged, files_committe
 use Rattle.covstore.specs.Renaming.{IsMoving, IsMovingIfAny}
 use Rattle.covstore.specs.State.{FileData, IsConsistentFile}
 use Rattle.covstore.specs.Store.{StandsFor, StoreData}
-use Rattle.covstore.specs.Table.{all_rows}
+use Rattle.covtable.specs.Table.{all_rows}
 use Rattle.std.specs.List.{AllByRecursion}
 use Rattle.covstore.proofs.RenamedTablesState.{stands_moved, store_moved}
 use Rattle.covstore.proofs.Settled.{file_name}

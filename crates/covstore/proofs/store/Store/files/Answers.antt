@@ -1,6 +1,6 @@
 use Rattle.std.proofs.Common.{Vec, ℕ, List, sym, ap, ◌∙◌}
 use Rattle.covstore.specs.declared.file.File.{File}
-use Rattle.covstore.specs.Files.{files_with_totals}
+use Rattle.covtable.specs.Files.{files_with_totals}
 use Rattle.covstore.specs.FilesView.{files_with_points}
 use Rattle.covstore.specs.Store.{StoreData}
 use Rattle.covstore.specs.StoreView.{files_committed}

@@ -4,13 +4,13 @@ use Rattle.std.specs.List.{list_any}
 use Rattle.std.proofs.lemmas.Iterator.Consumers.{YieldsList-from_rest}
 use Rattle.std.proofs.lemmas.Iterator.Search.{any_from_yields_List}
 use Rattle.covstore.specs.declared.file.File.{File}
-use Rattle.covstore.specs.Content.{SectionData}
+use Rattle.covtable.specs.Content.{SectionData}
 use Rattle.covstore.specs.FileView.{file_committed}
 use Rattle.covstore.specs.Store.{StoreData}
 use Rattle.covstore.specs.StoreView.{files_committed}
 use Rattle.covstore.specs.State.{has_points_of}
-use Rattle.covstore.specs.Table.{all_rows}
-use Rattle.covstore.proofs.Contents.{test_by_content}
+use Rattle.covtable.specs.Table.{all_rows}
+use Rattle.covtable.proofs.Contents.{test_by_content}
 use Rattle.covstore.proofs.HasTest.{any_in_files, any_named}
 use Rattle.covstore.proofs.Settled.{file_name}
 use Rattle.covstore.proofs.store.Store.has_test.Goals as goal

@@ -1,12 +1,12 @@
 use Rattle.std.proofs.Common.{◌≡◌, ◌≢◌, List, [], ◌∷◌, ◌++◌, ap, sym, subst, ◌∙◌, arith}
 use Rattle.std.specs.Prelude.{None, Some}
 use Rattle.std.specs.List.{flat_map}
-use Rattle.covline.specs.Row.{Row, SectData, SubmissionData, rows_of, rows_of_sect}
-use Rattle.covstore.specs.Clash.{clash_of}
+use Rattle.covdata.specs.Row.{Row, SectData, SubmissionData, rows_of, rows_of_sect}
+use Rattle.covtable.specs.Clash.{clash_of}
 use Rattle.covstore.specs.Store.{AddsTo}
-use Rattle.covstore.specs.Table.{all_rows}
-use Rattle.covstore.specs.Content.{content_at}
-use Rattle.covstore.specs.Totals.{totals_of}
+use Rattle.covtable.specs.Table.{all_rows}
+use Rattle.covtable.specs.Content.{content_at}
+use Rattle.covtable.specs.Totals.{totals_of}
 use Rattle.covmap.proofs.SlotWrites.{on_err}
 use Rattle.covstore.proofs.Nothing.{if_ok_then, no_rows, some_rows_of}
 use Rattle.covstore.proofs.store.Store.prepare.Goals as goal

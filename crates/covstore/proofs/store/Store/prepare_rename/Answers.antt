@@ -4,13 +4,13 @@ use Rattle.std.proofs.lemmas.Bool.{eqb-true, false≢true}
 use Rattle.std.proofs.lemmas.List.{nil_from_length}
 use Rattle.std.proofs.lemmas.Slice.Eq.{bytes_eq-Decides}
 use Rattle.covmap.proofs.SlotWrites.{on_err}
-use Rattle.covstore.specs.Renamed.{renamed}
+use Rattle.covtable.specs.Renamed.{renamed}
 use Rattle.covstore.specs.Renaming.{IsMovingIfAny, names_with}
 use Rattle.covstore.specs.Store.{StandsFor, StoreData}
 use Rattle.covstore.specs.StoreView.{files_committed}
-use Rattle.covstore.specs.Table.{Table}
-use Rattle.covstore.specs.Without.{sections_of_test}
-use Rattle.covstore.proofs.RenamedTables.{renamed_none_counted, renamed_same}
+use Rattle.covtable.specs.Table.{Table}
+use Rattle.covtable.specs.Without.{sections_of_test}
+use Rattle.covtable.proofs.RenamedTables.{renamed_none_counted, renamed_same}
 use Rattle.covstore.proofs.Settled.{file_name}
 use Rattle.covstore.proofs.WithoutStores.{names_counted, sections_named, sections_with}
 use Rattle.covstore.proofs.store.Store.prepare_rename.Goals as goal

@@ -1,9 +1,9 @@
 use Rattle.std.proofs.Common.{ℕ, Bool, List, [], ◌∷◌, ap, refl, subst, sym, arith}
 use Rattle.std.specs.Ordering.{nat_cmp}
-use Rattle.covline.specs.declared.point.BranchPoint.{BranchPoint}
-use Rattle.covline.specs.Points.{line_point}
-use Rattle.covline.specs.Row.{BranchItem}
-use Rattle.covline.specs.Spells.{Branch}
+use Rattle.covdata.specs.declared.point.BranchPoint.{BranchPoint}
+use Rattle.covdata.specs.Points.{line_point}
+use Rattle.covdata.specs.Row.{BranchItem}
+use Rattle.covdata.specs.Records.{Branch}
 use Rattle.covread.specs.declared.trace.points.Hit.{Hit}
 use Rattle.covread.specs.TracePoints.{Counts, branch_key, hits_said}
 use Rattle.covread.specs.TraceSection.{stored}

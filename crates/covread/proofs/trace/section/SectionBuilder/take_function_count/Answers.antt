@@ -1,10 +1,10 @@
 use Rattle.std.proofs.Common.{ℕ, List, length, map, refl, ap, subst, ◌∙◌}
 use Rattle.std.specs.Ordering.{nat_cmp}
 use Rattle.std.proofs.lemmas.List.{map_push}
-use Rattle.covline.specs.declared.point.BranchPoint.{BranchPoint}
-use Rattle.covline.specs.Points.{line_point}
-use Rattle.covline.specs.Row.{FuncItem}
-use Rattle.covline.specs.Spells.{FuncCount}
+use Rattle.covdata.specs.declared.point.BranchPoint.{BranchPoint}
+use Rattle.covdata.specs.Points.{line_point}
+use Rattle.covdata.specs.Row.{FuncItem}
+use Rattle.covdata.specs.Records.{FuncCount}
 use Rattle.covread.proofs.OnOk.{on_ok_then}
 use Rattle.covread.specs.declared.trace.points.Hit.{Hit}
 use Rattle.covread.specs.TracePoints.{Counts, branch_key}

@@ -1,10 +1,10 @@
 use Rattle.std.proofs.Common.{ℕ, List, refl, subst, arith}
 use Rattle.std.specs.Prelude.{option_map}
 use Rattle.std.specs.Ordering.{nat_cmp}
-use Rattle.covline.specs.declared.point.BranchPoint.{BranchPoint}
-use Rattle.covline.specs.Points.{line_point}
-use Rattle.covline.specs.Row.{LineItem}
-use Rattle.covline.specs.Spells.{Line}
+use Rattle.covdata.specs.declared.point.BranchPoint.{BranchPoint}
+use Rattle.covdata.specs.Points.{line_point}
+use Rattle.covdata.specs.Row.{LineItem}
+use Rattle.covdata.specs.Records.{Line}
 use Rattle.covread.specs.declared.trace.points.Hit.{Hit}
 use Rattle.covread.specs.TracePoints.{Counts, branch_key, hits_said}
 use Rattle.covread.specs.TraceSection.{stored}

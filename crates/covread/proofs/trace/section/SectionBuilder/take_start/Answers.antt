@@ -1,9 +1,9 @@
 use Rattle.std.proofs.Common.{ℕ, List, refl, subst}
 use Rattle.std.specs.Ordering.{nat_cmp}
-use Rattle.covline.specs.declared.point.BranchPoint.{BranchPoint}
-use Rattle.covline.specs.Points.{line_point}
-use Rattle.covline.specs.Row.{FuncItem}
-use Rattle.covline.specs.Spells.{FuncStart}
+use Rattle.covdata.specs.declared.point.BranchPoint.{BranchPoint}
+use Rattle.covdata.specs.Points.{line_point}
+use Rattle.covdata.specs.Row.{FuncItem}
+use Rattle.covdata.specs.Records.{FuncStart}
 use Rattle.covread.proofs.OnOk.{on_ok_then}
 use Rattle.covread.specs.declared.trace.points.Hit.{Hit}
 use Rattle.covread.specs.TracePoints.{Counts, branch_key}

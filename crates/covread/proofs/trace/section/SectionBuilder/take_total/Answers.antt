@@ -1,9 +1,9 @@
 use Rattle.std.proofs.Common.{ℕ, ◌++◌, ◌∷◌, [], List, map, refl, sym, ap, subst, ◌∙◌}
 use Rattle.std.specs.Ordering.{nat_cmp}
 use Rattle.std.proofs.lemmas.List.{map_push}
-use Rattle.covline.specs.declared.point.BranchPoint.{BranchPoint}
-use Rattle.covline.specs.Points.{line_point}
-use Rattle.covline.specs.Spells.{LineData}
+use Rattle.covdata.specs.declared.point.BranchPoint.{BranchPoint}
+use Rattle.covdata.specs.Points.{line_point}
+use Rattle.covdata.specs.Records.{LineData}
 use Rattle.covread.specs.declared.trace.points.Hit.{Hit}
 use Rattle.covread.specs.TracePoints.{Counts, branch_key}
 use Rattle.covread.specs.TraceTally.{branch_cmp, stated_record}

@@ -1,8 +1,0 @@
--- What a worker submits, as plain data.
-use Rattle.covline.specs.Row.{SubmissionData}
-use Rattle.covjobs.specs.declared.given.Form.{Form}
-use Rattle.covjobs.specs.declared.given.Form.TheVariants.{Plain, Packed}
-
-abbrev pub form_data : {A : Type 0} → Form A → SubmissionData
-form_data (Plain submission) = submission
-form_data (Packed submission) = submission

@@ -1,8 +1,0 @@
-use Rattle.std.proofs.Common.{take, map}
-use Rattle.std.specs.Prelude.{All}
-use Rattle.covline.specs.SectView.{sect_data}
-use Rattle.covline.specs.Lawful.{IsLawfulSect}
-use Rattle.covline.proofs.checks.first_unlawful.Given as goal
-
-abbrev pub invariant-loop-at : goal.invariant-loop-at
-invariant-loop-at g l = All IsLawfulSect (take l.at (map sect_data l.sects))

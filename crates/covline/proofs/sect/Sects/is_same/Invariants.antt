@@ -1,7 +1,0 @@
-use Rattle.std.proofs.Common.{◌≡◌, map, take}
-use Rattle.covline.specs.SectView.{sect_data}
-use Rattle.covline.proofs.sect.Sects.is_same.Given as goal
-
--- so far the sections are equal
-abbrev pub invariant-loop-index : goal.invariant-loop-index
-invariant-loop-index g l = map sect_data (take l.index l.sects) ≡ map sect_data (take l.index l.others)

@@ -1,6 +1,0 @@
--- The `Sect` of the Rattle code, as plain data.
-use Rattle.covline.specs.declared.sect.Sect.{Sect}
-use Rattle.covline.specs.Row.{SectData}
-
-abbrev pub sect_data : {A : Type 0} → Sect A → SectData
-sect_data s = record { test = s.test; file = s.file; items = s.items }

@@ -1,5 +1,0 @@
-use Rattle.covstore.proofs.TotalsKinds.{totals_of_rows}
-use Rattle.covstore.proofs.laws.totals_count_the_rows.Goals as goal
-
-pub returns : goal.returns
-returns c = totals_of_rows

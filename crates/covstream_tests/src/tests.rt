@@ -1,0 +1,4 @@
+//! Expected values were worked out by hand.
+
+mod adapters;
+mod blocks;

@@ -1,0 +1,16 @@
+pub mod Ascending
+pub mod Value
+pub mod Clash
+pub mod Table
+pub mod Content
+pub mod Totals
+pub mod TotalsSteps
+pub mod Counted
+pub mod Refuse
+pub mod RefuseView
+pub mod ValuesView
+pub mod Keys
+pub mod TotalsExchanged
+pub mod Without
+pub mod Renamed
+pub mod Files

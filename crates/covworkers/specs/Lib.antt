@@ -1,0 +1,9 @@
+pub use Rattle.covlock.specs.Start
+pub mod GivenView
+pub mod CollectFault
+pub mod Collect
+pub mod Shares
+pub mod Work
+pub mod Late
+pub mod Stops
+pub mod Latest

@@ -1,0 +1,177 @@
+//! Collects inputs into a book that stores only the answers of its history.
+
+use crate::book_fault::{IntoBookFault, refused_by};
+use crate::collect_fault::CollectFault;
+use crate::done::all_done;
+use crate::gate::Gate;
+use crate::late::{LateInput, most_parts_of};
+use crate::readers::Readers;
+use crate::refused::Refused;
+use crate::worker::Worker;
+use covbook::laws::{a_run_goes_on, calls_count_a_history, order_does_not_matter};
+use covbook::{Answered, Book, BookFault, Receipt};
+use covdata::{Memory, ReadFault};
+use covlock::{Name, News, Seats, Start, open_book_keeping};
+use std::alloc::Global;
+use std::marker::Brand;
+use std::snapshot::Snapshot;
+use std::sync::Wait;
+use std::thread::Threads;
+
+/// The result of `collect_into_book`.
+#[derive(Drop)]
+pub struct CollectedBook<F: Drop = ReadFault> {
+    /// The book. Its table has the counts of all accepted submissions. Of its history, it stores only the answers; the rest exists
+    /// only in proofs.
+    pub book: Book<Global, Answered>,
+    /// The rejected inputs, in the inputs' order. Of these inputs, only parts before the error are in the history.
+    pub refused: Refused<Global, F>,
+}
+
+ghost use Rattle.std.specs.Prelude.{◌≡◌, ◌↔◌, ◌<◌, Err, IfOk, IfErr, IsTrue, length, map};
+ghost use Rattle.std.specs.List.{AllByRecursion};
+ghost use Rattle.std.specs.List.Sorted.{IsPermutation, IsNonDecreasingBy};
+ghost use Rattle.covbook.specs.Kept.{IsKeptWell, IsPrefix};
+ghost use Rattle.covbook.specs.Step.{max_entries};
+ghost use Rattle.covworkers.specs.declared.book_fault.IntoBookFault.TheVariants as into_book;
+ghost use Rattle.covworkers.specs.declared.collect_fault.CollectFault.TheVariants as faults;
+ghost use Rattle.covworkers.specs.declared.refused.RefusedInput.{RefusedInput};
+ghost use Rattle.covworkers.specs.Late.{IsCollectedSoFar, IsIntoBookFault};
+ghost use Rattle.covworkers.specs.Latest.{history_of};
+ghost use Rattle.covworkers.specs.Work.{kept_of, seats_in, refused_in};
+ghost use Rattle.covlock.specs.Start.{AreJobs};
+
+/// Collects inputs as covjobs' `collect` does, but stores no history and no logs, and no job reads the totals. A worker reads its
+/// inputs one after another, part by part: it submits each part before it reads the next one, and frees the input before it submits
+/// the last part. An error rejects the rest of the input; the parts before the error stay submitted.
+///
+/// If job 0 next asks for a text, whichever it is, the history with this further entry is a result of `collect`: matching logs of
+/// the jobs exist. The history always has capacity for this entry. `Book::text_of` returns the text.
+///
+/// Errors: those of `collect` except `Gather`, and `Unread` with the first unreadable input. If that input is known, `Unread` takes
+/// precedence over `Full` and `Memory`. `Full` is returned only if the inputs can have at least 1,048,576 parts. `NotLast` is
+/// returned if a worker knows of more entries than the closed book has, or if the book is full although the inputs have fewer
+/// parts. Neither happens. No contract says that `Memory` is returned only after a failed allocation.
+pub fn collect_into_book<
+    R: Threads + Wait + Sync,
+    G: Gate + Sync,
+    T: LateInput<Global, Fault: Send> + Send,
+>(
+    rt: &R,
+    alloc: Global,
+    inputs: Vec<T>,
+    jobs: u32,
+    gate: &G,
+) -> Result<CollectedBook<T::Fault>, IntoBookFault>
+    ensures collected { IfOk result (λ c. IsCollectedSoFar T.may_give inputs.items jobs c.book.entries c.refused) }
+    ensures not_full { IfOk result (λ c. length c.book.entries < max_entries) }
+    ensures unread { IfErr result (IsIntoBookFault T.may_give T.may_fail T.most inputs.items) }
+    ensures bad { (result ≡ Err (into_book.Collect faults.BadJobs)) ↔ (AreJobs jobs → ⊥) }
+{
+    let start = Start::new(alloc, jobs)?;
+    collect_named::<R, G, Brand, T>(rt, alloc, inputs, jobs, gate, start)
+}
+
+/// Like `collect_into_book`, with a book opened from `start`.
+fn collect_named<
+    R: Threads + Wait + Sync,
+    G: Gate + Sync,
+    L: Name + Send + Sync,
+    T: LateInput<Global, Fault: Send> + Send,
+>(
+    rt: &R,
+    alloc: Global,
+    inputs: Vec<T>,
+    jobs: u32,
+    gate: &G,
+    start: Start,
+) -> Result<CollectedBook<T::Fault>, IntoBookFault>
+    requires name { start.name ≡ L.name }
+    requires parts { start.jobs ≡ L.parts }
+    requires book { start.book ≡ L.book }
+    requires jobs { start.jobs ≡ jobs }
+    requires some { 0 < jobs }
+    ensures collected { IfOk result (λ c. IsCollectedSoFar T.may_give inputs.items jobs c.book.entries c.refused) }
+    ensures not_full { IfOk result (λ c. length c.book.entries < max_entries) }
+    ensures unread { IfErr result (IsIntoBookFault T.may_give T.may_fail T.most inputs.items) }
+    ensures jobs_are_good { result ≡ Err (into_book.Collect faults.BadJobs) → ⊥ }
+{
+    let most_parts = most_parts_of(inputs.as_slice());
+    let (book, seats) = open_book_keeping::<L, Global, Answered>(alloc, start)?;
+    let workers: Vec<Worker<L, Global, Snapshot<Receipt>, T::Fault>> = all_done(
+        rt,
+        alloc,
+        &book,
+        gate,
+        seats,
+        jobs,
+        Readers::None,
+        inputs,
+    )?;
+    let (seats, latest, refused) = hand_in_news(alloc, workers)?;
+    let (book, news) = match book.close_book(rt, seats) {
+        Ok((book, news)) => (book, news),
+        // No seat is missing: each worker returns its own.
+        Err(_back) => unreachable!(),
+    };
+    if !are_before(latest.as_slice(), &news) {
+        return Err(IntoBookFault::Collect(CollectFault::NotLast));
+    }
+    if book.is_full() {
+        return Err(IntoBookFault::Collect(refused_by(most_parts, BookFault::Full)));
+    }
+    calls_count_a_history();
+    a_run_goes_on();
+    order_does_not_matter();
+    Ok(CollectedBook { book, refused })
+}
+
+/// Splits the workers into their seats, each job's latest news, and the rejected inputs in the inputs' order.
+fn hand_in_news<L: Name, F: Drop>(
+    alloc: Global,
+    workers: Vec<Worker<L, Global, Snapshot<Receipt>, F>>,
+) -> Result<(Seats<L>, Vec<Option<News<L>>>, Refused<Global, F>), Memory>
+    ensures seats { IfOk result (λ r. r.0 ≡ seats_in workers.items) }
+    ensures latest { IfOk result (λ r. map history_of r.1.items ≡ map (λ w. w.latest) workers.items) }
+    ensures refused { IfOk result (λ r. IsPermutation (refused_in workers.items) r.2) }
+    ensures ascending { IfOk result (λ r. IsNonDecreasingBy (λ (i : RefusedInput F). i.index) r.2) }
+    ensures kept { IfOk result (λ _. AllByRecursion (λ w. IsKeptWell (kept_of w)) workers.items) }
+{
+    let mut seats = Seats::new(alloc);
+    let mut latest = Vec::new(alloc);
+    let mut refused = Refused::new(alloc);
+    for worker in workers {
+        let (seat, own_latest, own_refused) = worker.into_news();
+        seats.push(seat)?;
+        latest.push(own_latest)?;
+        refused.append(own_refused)?;
+    }
+    refused.sort();
+    Ok((seats, latest, refused))
+}
+
+/// Whether each history in `latest` is a prefix of the history of `news`.
+fn are_before<L: Name>(latest: &[Option<News<L>>], news: &News<L>) -> bool
+    ensures { IsTrue result ↔ AllByRecursion (λ own. IsPrefix (history_of own) news.now) latest.now }
+{
+    for own in latest {
+        if !is_before(own, news) {
+            return false;
+        }
+    }
+    true
+}
+
+/// Whether the history of `latest` is a prefix of the history of `news`. `None` stands for the empty history.
+fn is_before<L: Name>(latest: &Option<News<L>>, news: &News<L>) -> bool
+    ensures { IsTrue result ↔ IsPrefix (history_of latest.now) news.now }
+{
+    match latest {
+        Some(latest) => {
+            // Proof only: one of the two histories is a prefix of the other.
+            let _longer = latest.longer(news);
+            latest.reading().upto <= news.reading().upto
+        }
+        None => true,
+    }
+}
