@@ -7,7 +7,8 @@ use Rattle.covdata.specs.Lawful.{IsLawful, max_items}
 use Rattle.covtable.specs.declared.totals.Totals.{Totals}
 use Rattle.covtable.specs.Clash.{Agree, checksums_in, clash_of}
 use Rattle.covtable.specs.Content.{content_at, content_of}
-use Rattle.covstore.specs.Store.{AddsRows, ClashesWith, HasRoomForRows, IsPlanOf, PlanData, SameCommitted, StandsFor, StoreData, max_members}
+use Rattle.covstore.specs.Store.{AddsRows, ClashesWith, HasRoomForRows, IsPlanOf, PlanData, SameCommitted, StandsFor, StoreData}
+use Rattle.covtable.specs.Shown.{max_members}
 use Rattle.covtable.specs.Refuse.{IsRefusedAt, RefuseData, ClashRefuse, MemoryRefuse}
 use Rattle.covstore.specs.State.{IsStateOf, sections_of, totals_in}
 use Rattle.covstore.specs.StoreKept.{IsKept}
