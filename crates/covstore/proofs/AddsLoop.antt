@@ -1,6 +1,6 @@
 -- Items that are staged one after another: those so far, and those that are left.
 use Rattle.std.proofs.Common.{◌≡◌, ℕ, ◌+◌, ◌<◌, List, [], ◌∷◌, ◌++◌, get_or, length, take, drop, map, refl, sym, ap, ◌∙◌}
-use Rattle.std.proofs.lemmas.List.{drop_more, map-append, map_more, take-append-drop}
+use Rattle.std.proofs.lemmas.List.{drop_more, map_more}
 use Rattle.covdata.specs.Row.{ItemData}
 use Rattle.covstore.specs.declared.index.FileIndex.{FileIndex}
 use Rattle.covstore.specs.declared.stage.fault.StageFault.{StageFault}
@@ -71,8 +71,3 @@ module _ {D E : Type 0} (f : D → E) (items : List D) (i : ℕ) (d : D) (within
 
   pub taken_at : map f (take (i + 1) items) ≡ map f (take i items) ++ f d ∷ []
   taken_at = map_more f items i d within ∙ ap (λ (x : D). map f (take i items) ++ f x ∷ []) (sym is)
-
-  pub all_at : map f items ≡ map f (take i items) ++ f d ∷ map f (drop (i + 1) items)
-  all_at =
-      ap (map f) (sym (take-append-drop i items)) ∙ map-append f (take i items) (drop i items)
-      ∙ ap (λ (xs : List E). map f (take i items) ++ xs) left_at

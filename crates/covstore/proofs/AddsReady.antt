@@ -1,15 +1,13 @@
 -- The items of a section in files that were prepared for them: the committed files stay, and the items are added to the staged
 -- ones.
-use Rattle.std.proofs.Common.{◌≡◌, ℕ, Bool, true, Some, List, [], ◌∷◌, length, refl, sym, ap, ◌∙◌, subst, arith}
+use Rattle.std.proofs.Common.{◌≡◌, ℕ, Some, List, refl, sym, ap, ◌∙◌, subst}
 use Rattle.std.specs.Cmp.Lexicographic.{slice_cmp}
 use Rattle.std.specs.Ordering.{nat_cmp}
-use Rattle.std.specs.Prelude.{◌==◌}
-use Rattle.std.proofs.lemmas.Bool.{eqb-true}
 use Rattle.covdata.specs.Row.{ItemData, Row}
 use Rattle.covtable.specs.declared.totals.Totals.{Totals}
 use Rattle.covtable.specs.TotalsExchanged.{FitTogether, IsAmong, IsExchange, exchanged}
 use Rattle.covstore.specs.FileSection.{AddsItems, HasRoomIn}
-use Rattle.covstore.specs.Store.{AddsRows, AddsTo, ClashesAmong, HasRoomForRows, KeepsState, SameCommitted, StoreData}
+use Rattle.covstore.specs.Store.{AddsTo, ClashesAmong, HasRoomForRows, KeepsState, SameCommitted, StoreData}
 use Rattle.covtable.specs.Refuse.{RefuseData, ClashRefuse, MemoryRefuse}
 use Rattle.covstore.specs.StoreView.{IsStore}
 use Rattle.covmap.specs.Puts.{put, value_of}
@@ -17,7 +15,6 @@ use Rattle.covstore.specs.StoreSection.{HasRoomAmong, RefusedIn, rows_of_items}
 use Rattle.covstore.specs.State.{FileData, file_totals, totals_in}
 use Rattle.covtable.specs.Table.{all_rows}
 use Rattle.covstore.proofs.AddsSection.{room_in, section_adds, section_fits, section_totals}
-use Rattle.covstore.proofs.AddsStore.{no_rows_added}
 use Rattle.covstore.proofs.ExchangedFiles.{file_among}
 use Rattle.covstore.proofs.StateSections.{sections_are}
 use Rattle.covstore.proofs.Stores.{store_of}
@@ -32,19 +29,6 @@ held_kept members totals files files_after staged staged_after after later befor
       members = refl;
       committed = keeps;
     })
-
--- ---- the rows of a section
-
-pub same_rows : (file test name other : List ℕ) (items more : List ItemData) → file ≡ name → test ≡ other → items ≡ more → rows_of_items file test items ≡ rows_of_items name other more
-same_rows file test name other items more its_file its_test its_items =
-    ap (λ (f : List ℕ). rows_of_items f test items) its_file ∙ ap (λ (t : List ℕ). rows_of_items name t items) its_test ∙ ap (rows_of_items name other) its_items
-
-pub no_items : {X : Type 0} (xs : List X) (b : Bool) → b ≡ (length xs == 0) → b ≡ true → xs ≡ []
-no_items [] b is empty = refl
-no_items (x ∷ xs) b is empty = let none : length (x ∷ xs) ≡ 0 = eqb-true (length (x ∷ xs)) 0 (sym is ∙ empty) in absurd (omega (arith, none))
-
-pub nothing_added : (file test : List ℕ) (items : List ItemData) (store : StoreData) → items ≡ [] → AddsRows (rows_of_items file test items) store store
-nothing_added file test items store none = subst (λ (all : List ItemData). AddsRows (rows_of_items file test all) store store) (sym none) (no_rows_added store)
 
 -- ---- the files were prepared, and the file is one of them
 

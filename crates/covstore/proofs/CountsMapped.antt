@@ -47,7 +47,3 @@ module _ {K V W : Type 0} (cmp : K → K → Ordering) (is_above : V → Bool) (
   pub counts_mapped_at : (tests : List (List (K × V))) (counts : List (K × TestCounts)) → AreCounts cmp is_above tests counts
       → AreCounts cmp is_other (map (map (λ pair. (pair.0, f pair.0 pair.1))) tests) counts
   counts_mapped_at tests counts are = record { ascending = are.ascending; counted = λ key. are.counted key ∙ sym (tests_at-mapped key tests) }
-
-  pub counts_unmapped_at : (tests : List (List (K × V))) (counts : List (K × TestCounts)) → AreCounts cmp is_other (map (map (λ pair. (pair.0, f pair.0 pair.1))) tests) counts
-      → AreCounts cmp is_above tests counts
-  counts_unmapped_at tests counts are = record { ascending = are.ascending; counted = λ key. are.counted key ∙ tests_at-mapped key tests }

@@ -1,11 +1,11 @@
 -- Lines that ascend from a least one.
-use Rattle.std.proofs.Common.{◌≡◌, ℕ, ◌+◌, ◌≤◌, ◌<◌, List, [], ◌∷◌, ◌++◌, sym, subst, arith}
+use Rattle.std.proofs.Common.{◌≡◌, ℕ, ◌+◌, ◌≤◌, ◌<◌, List, [], ◌∷◌, sym, subst, arith}
 use Rattle.std.specs.declared.cmp.Ordering.TheVariants.{Less}
 use Rattle.std.specs.List.Sorted.{IsStrictlySortedBy}
 use Rattle.std.specs.Ordering.{nat_cmp}
 use Rattle.std.proofs.lemmas.Bool.{cond-true, lt-ltb}
 use Rattle.covdata.specs.Row.{ItemData}
-use Rattle.covstore.specs.HeldChecksums.{AscendFrom, checked_line, checked_lines}
+use Rattle.covstore.specs.HeldChecksums.{AscendFrom, checked_lines}
 use Rattle.covtable.proofs.Ascend.{All-weaker}
 
 less_of : (x y : ℕ) → x < y → nat_cmp x y ≡ Less
@@ -26,14 +26,6 @@ ascend_none least = record { above = tt; sorted = tt }
 -- what is known so far: if the lines that are left ascend from `least`, all lines ascend
 abbrev pub AscendWith : List ItemData → List ItemData → ℕ → Type 0
 AscendWith all left least = AscendFrom least (checked_lines left) → IsStrictlySortedBy nat_cmp (checked_lines all)
-
-pub ascend_start : (all : List ItemData) → AscendWith all all 0
-ascend_start all ascend = ascend.sorted
-
-pub ascend_next : (all left rest : List ItemData) (item : ItemData) (least next : ℕ) → left ≡ item ∷ rest → ((lines : List ℕ) → AscendFrom next lines → AscendFrom least (checked_line item ++ lines))
-    → AscendWith all left least → AscendWith all rest next
-ascend_next all left rest item least next is follows with_left ascend =
-    with_left (subst (λ (items : List ItemData). AscendFrom least (checked_lines items)) (sym is) (follows (checked_lines rest) ascend))
 
 pub ascend_end : (all left : List ItemData) (least : ℕ) → left ≡ [] → AscendWith all left least → IsStrictlySortedBy nat_cmp (checked_lines all)
 ascend_end all left least none with_left = with_left (subst (λ (items : List ItemData). AscendFrom least (checked_lines items)) (sym none) (ascend_none least))
