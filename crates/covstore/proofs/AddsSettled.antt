@@ -30,7 +30,7 @@ All-set {K} {V} P here w (pair ∷ pairs) new all = at (here pair.0) refl (All-s
     at false e rest = (all.0, rest)
 
 -- nothing is staged in a test whose name isn't among these
-abbrev IsSettledTest : {A : Type 0} → List (List ℕ) → Vec ℕ A × Test A → Type 0
+abbrev pub IsSettledTest : {A : Type 0} → List (List ℕ) → Vec ℕ A × Test A → Type 0
 IsSettledTest tests pair = list_any (λ test. bytes_eq test pair.0.items) tests ≡ false → test_staged pair.1 ≡ test_committed pair.1
 
 pub test_settled : {A : Type 0} (tests : List (List ℕ)) (test : List ℕ) → list_any (λ name. bytes_eq name test) tests ≡ true → (before after : File A) (w : Test A)

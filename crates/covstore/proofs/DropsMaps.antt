@@ -1,17 +1,15 @@
 -- The store's maps after a test is dropped from their files.
 use Rattle.std.proofs.Common.{◌≡◌, ℕ, Bool, true, false, cond, List, [], ◌∷◌, ◌++◌, refl, sym, ap, subst, inl, inr, Vec}
-use Rattle.std.specs.List.{AllByRecursion, list_any}
+use Rattle.std.specs.List.{AllByRecursion}
 use Rattle.std.specs.Map.{remove_entry}
-use Rattle.std.specs.Str.{bytes_eq}
 use Rattle.covstore.specs.declared.file.File.{File}
-use Rattle.covstore.specs.declared.test.Test.{Test}
 use Rattle.covstore.specs.FileDrops.{AreWithoutTest, IsWithoutTest}
 use Rattle.covstore.specs.FileView.{file_committed}
 use Rattle.covstore.specs.StoreView.{AreSettledBut, IsSettledBut, files_committed, tests_of}
 use Rattle.covstore.specs.FileIndexView.{index_staged, index_committed}
-use Rattle.covstore.specs.TestView.{test_staged, test_committed}
 use Rattle.covstore.proofs.DropsRetain.{AreWritten}
 use Rattle.covtable.proofs.Members.{All-in, In-joined}
+use Rattle.covstore.proofs.AddsSettled.{IsSettledTest}
 
 -- what is committed of the second file is that of the first one without the test. Where nothing was staged in the first file,
 -- nothing is staged in the second
@@ -45,10 +43,6 @@ All-removed {K} {X} P here (entry ∷ entries) all = by (here entry.0) (All-remo
     by : (is : Bool) → AllByRecursion P (remove_entry here entries) → AllByRecursion P (cond is entries (entry ∷ remove_entry here entries))
     by true rest = all.1
     by false rest = (all.0, rest)
-
--- nothing is staged in a test whose name isn't among these
-abbrev IsSettledTest : {A : Type 0} → List (List ℕ) → Vec ℕ A × Test A → Type 0
-IsSettledTest tests pair = list_any (λ test. bytes_eq test pair.0.items) tests ≡ false → test_staged pair.1 ≡ test_committed pair.1
 
 -- one of the file's tests is removed, and nothing is staged in its index. Then nothing is staged but in these tests, as before
 pub removed_settled : {A : Type 0} (tests : List (List ℕ)) (here : Vec ℕ A → Bool) (before after : File A) → index_staged after.index ≡ index_committed after.index

@@ -13,7 +13,8 @@ use Rattle.covmap.specs.Puts.{value_of, put, ArePairs}
 use Rattle.covtable.proofs.Ascend.{IsExactOrder, All-weaker}
 use Rattle.covstore.proofs.Puts.{value_of_before}
 
-reverse_eq : (order : Ordering) → is_eq (ordering_reverse order) ≡ is_eq order
+-- two keys are equal in either order
+pub reverse_eq : (order : Ordering) → is_eq (ordering_reverse order) ≡ is_eq order
 reverse_eq Less = refl
 reverse_eq Equal = refl
 reverse_eq Greater = refl

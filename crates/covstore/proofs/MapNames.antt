@@ -1,12 +1,11 @@
 -- The entries of a map whose keys are names, before and after the value at one name is replaced.
-use Rattle.std.proofs.Common.{◌≡◌, ℕ, Bool, true, false, cond, Option, Some, None, option_map, List, [], ◌∷◌, map, refl, sym, ap, ◌∙◌, subst}
+use Rattle.std.proofs.Common.{◌≡◌, ℕ, Bool, true, false, cond, Some, None, option_map, List, [], ◌∷◌, map, refl, sym, ap, ◌∙◌, subst}
 use Rattle.std.specs.Cmp.Lexicographic.{slice_cmp}
-use Rattle.std.specs.declared.cmp.Ordering.{Ordering}
-use Rattle.std.specs.declared.cmp.Ordering.TheVariants.{Less, Equal, Greater}
+use Rattle.std.specs.declared.cmp.Ordering.TheVariants.{Less}
 use Rattle.std.specs.List.{AllByRecursion}
 use Rattle.std.specs.List.Sorted.{IsStrictlySortedBy}
 use Rattle.std.specs.Map.{keys_of, lookup, set_value}
-use Rattle.std.specs.Ordering.{is_eq, nat_cmp, ordering_reverse}
+use Rattle.std.specs.Ordering.{is_eq, nat_cmp}
 use Rattle.std.specs.Str.{bytes_eq}
 use Rattle.std.proofs.lemmas.Bool.{false_from_ne_true, false≢true}
 use Rattle.std.proofs.lemmas.Cmp.{nat_list_cmp_total, tied_itself}
@@ -16,6 +15,7 @@ use Rattle.std.proofs.lemmas.Option.{same_Some}
 use Rattle.std.proofs.lemmas.Slice.Eq.{bytes_eq-Decides}
 use Rattle.covmap.specs.Puts.{value_of}
 use Rattle.covtable.proofs.Orders.{names_order}
+use Rattle.covstore.proofs.MapKeys.{reverse_eq, seen_value}
 
 -- `bytes_eq` is false of different names
 pub bytes_apart : (a b : List ℕ) → (a ≡ b → ⊥) → bytes_eq a b ≡ false
@@ -81,20 +81,8 @@ module _ {K : Type 0} (name : K → List ℕ) (key : List ℕ) where
     map_written f v w (e ∷ es) same found = map_written_at f v w e es (has_name e.0) same found (map_written f v w es same)
 
 pub is_eq-flipped : (a b : List ℕ) → is_eq (slice_cmp nat_cmp a b) ≡ is_eq (slice_cmp nat_cmp b a)
-is_eq-flipped a b = ap is_eq (nat_list_cmp_total.antisymm a b) ∙ flipped (slice_cmp nat_cmp b a)
-  where
-    flipped : (order : Ordering) → is_eq (ordering_reverse order) ≡ is_eq order
-    flipped Less = refl
-    flipped Equal = refl
-    flipped Greater = refl
+is_eq-flipped a b = ap is_eq (nat_list_cmp_total.antisymm a b) ∙ reverse_eq (slice_cmp nat_cmp b a)
 
 -- a look-up by name in these pairs finds `f` of what a look-up in the map finds
 pub value_of_named : {K X Y : Type 0} (name : K → List ℕ) (f : X → Y) (key : List ℕ) (pairs : List (K × X)) → value_of (slice_cmp nat_cmp) key (names_with name f pairs) ≡ option_map f (lookup (has_name name key) pairs)
-value_of_named name f key [] = refl
-value_of_named {K} {X} {Y} name f key (pair ∷ pairs) =
-    ap (λ (b : Bool). cond b (Some (f pair.1)) (value_of (slice_cmp nat_cmp) key (names_with name f pairs))) (is_eq-flipped (name pair.0) key)
-    ∙ first_or (is_eq (slice_cmp nat_cmp key (name pair.0))) pair.1 (value_of (slice_cmp nat_cmp) key (names_with name f pairs)) (lookup (has_name name key) pairs) (value_of_named name f key pairs)
-  where
-    first_or : (b : Bool) (x : X) (later : Option Y) (found : Option X) → later ≡ option_map f found → cond b (Some (f x)) later ≡ option_map f (cond b (Some x) found)
-    first_or true x later found e = refl
-    first_or false x later found e = e
+value_of_named name f key pairs = seen_value names_order name f key pairs

@@ -8,6 +8,7 @@ use Rattle.std.proofs.lemmas.List.Folds.{flat_map-map}
 use Rattle.covstore.specs.declared.file.File.{File}
 use Rattle.covstore.specs.declared.test.Test.{Test}
 use Rattle.covtable.specs.Content.{SectionData}
+use Rattle.covtable.proofs.Members.{All-back, All-front}
 use Rattle.covstore.specs.FileView.{file_committed}
 use Rattle.covstore.specs.StoreView.{files_committed}
 use Rattle.covstore.specs.ContentView.{or_none, sections_left, tests_seen}
@@ -23,22 +24,14 @@ tests_of_pairs name file kept pairs is =
     ap (flat_map (λ (test : List ℕ × TestData). section_seen file kept.index.texts test.0 test.1)) is
     ∙ flat_map-map (λ (test : List ℕ × TestData). section_seen file kept.index.texts test.0 test.1) (λ pair. (name pair.0, test_committed pair.1)) pairs
 
--- ---- what is true of all sections that are left
-
-pub all_first : {X : Type 0} (P : X → Type 0) (xs ys : List X) → AllByRecursion P (xs ++ ys) → AllByRecursion P xs
-all_first P [] ys all = tt
-all_first P (x ∷ xs) ys all = (all.0, all_first P xs ys all.1)
-
-pub all_last : {X : Type 0} (P : X → Type 0) (xs ys : List X) → AllByRecursion P (xs ++ ys) → AllByRecursion P ys
-all_last P [] ys all = all
-all_last P (x ∷ xs) ys all = all_last P xs ys all.1
+-- ---- the next file
 
 -- what is true of all sections that are left is true of those of the next file
 pub all_of_next : {K A : Type 0} (P : SectionData → Type 0) (name : K → List ℕ) (current : Option (List SectionData)) (files : List (K × File A)) (all : List SectionData) (key : K) (file : File A) (rest : List (K × File A))
     → files ≡ (key, file) ∷ rest → sections_left name current files ≡ all → AllByRecursion P all → AllByRecursion P (sections_of_file (name key, file_committed file))
 all_of_next {K = K} {A = A} P name current files all key file rest is left holds =
-    let files_in : AllByRecursion P (sections_of (files_committed name files)) = all_last P (or_none current) (sections_of (files_committed name files)) (subst (AllByRecursion P) (sym left) holds) in
-    all_first P (sections_of_file (name key, file_committed file)) (sections_of (files_committed name rest))
+    let files_in : AllByRecursion P (sections_of (files_committed name files)) = All-back P (or_none current) (sections_of (files_committed name files)) (subst (AllByRecursion P) (sym left) holds) in
+    All-front P (sections_of_file (name key, file_committed file)) (sections_of (files_committed name rest))
     (subst (λ (fs : List (K × File A)). AllByRecursion P (sections_of (files_committed name fs))) is files_in)
 
 -- ---- the next file becomes the current one

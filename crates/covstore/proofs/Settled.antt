@@ -22,6 +22,7 @@ use Rattle.covstore.specs.FileIndexView.{index_staged, index_committed}
 use Rattle.covstore.specs.TestView.{test_staged, test_committed}
 use Rattle.covtable.proofs.Ascend.{All-weaker}
 use Rattle.covstore.proofs.MapNames.{All-unfound, All-written, bytes_apart, map_written, names_with}
+use Rattle.covstore.proofs.AddsSettled.{IsSettledTest}
 
 -- ---- the tests of a file
 
@@ -36,10 +37,6 @@ not_among_at false rest all more e = more e
 not_among : (name last : List ℕ) (tests : List (List ℕ)) → (last ≡ name → ⊥) → among name tests ≡ false → among name (tests ++ last ∷ []) ≡ false
 not_among name last [] apart e = ap (λ (b : Bool). b || false) (bytes_apart last name apart)
 not_among name last (test ∷ tests) apart e = not_among_at (bytes_eq test name) (among name tests) (among name (tests ++ last ∷ [])) (not_among name last tests apart) e
-
--- nothing is staged in a test whose name isn't among these
-abbrev IsSettledTest : {A : Type 0} → List (List ℕ) → Vec ℕ A × Test A → Type 0
-IsSettledTest tests pair = among pair.0.items tests ≡ false → test_staged pair.1 ≡ test_committed pair.1
 
 -- if the test isn't among those of the file, and nothing is staged in any other, nothing is staged in the file's tests
 pub all_unfound : {A : Type 0} (tests : List (List ℕ)) (test : List ℕ) (file : File A) → IsSettledBut (tests ++ test ∷ []) file → tests ≡ []
