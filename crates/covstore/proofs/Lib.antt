@@ -24,6 +24,7 @@ pub mod StateSeen
 pub mod StateOrder
 pub mod StateSections
 pub mod RunsSums
+pub mod Merges
 pub mod StateRows
 pub mod MapKeys
 pub mod MapNames
@@ -90,15 +91,14 @@ pub mod DropsRest
 pub mod WithoutSections
 pub mod DropsLoop
 pub mod WithoutStores
-pub mod CopiesLoop
 pub mod RenamedAlike
-pub mod RenamedValuesLists
-pub mod RenamedValues
-pub mod RenamedValuesState
 pub mod RenamedTablesState
 pub mod RenamedTablesCopies
 pub mod RenamedTablesFew
 pub mod RenamedTablesLoop
+pub mod Summing
+pub mod HoldsAgain
+pub mod AddsPoints
 pub mod CopiesMap
 pub mod CopiesFile
 pub mod NamedFiles

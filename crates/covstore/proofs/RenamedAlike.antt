@@ -1,14 +1,15 @@
 -- Alike items add up to the same.
-use Rattle.std.proofs.Common.{◌≡◌, ℕ, Option, unwrap_or, List, [], ◌∷◌, map, refl, ap, inl}
+use Rattle.std.proofs.Common.{◌≡◌, ℕ, Option, unwrap_or, List, [], ◌∷◌, ◌++◌, map, refl, ap, inl}
 use Rattle.std.specs.Cmp.Lexicographic.{slice_cmp}
 use Rattle.std.specs.List.{flat_map}
 use Rattle.std.specs.Option.{is_some}
 use Rattle.std.specs.Ordering.{nat_cmp}
+use Rattle.std.proofs.lemmas.List.Sorted.{IsPermutation-append_comm}
 use Rattle.covdata.specs.Points.{BranchPoint, line_point, func_point, branch_point, line_points, func_points, branch_points}
 use Rattle.covdata.specs.Row.{ItemData}
 use Rattle.covstore.specs.Sums.{branch_sum, function_sum, line_sum, test_of}
 use Rattle.covtable.specs.Value.{lines_in, names_in, branches_in, bounded, branch_cmp, line_added, line_value, checksum_said, line_checksum, first_of, start_said, function_start, function_added, function_count, taken_said, branch_value}
-use Rattle.covtable.proofs.Alike.{AreAlike, alike_said, sum_alike, least_alike, same_mapped}
+use Rattle.covtable.proofs.Alike.{AreAlike, alike_permuted, alike_said, sum_alike, least_alike, same_mapped}
 use Rattle.covtable.proofs.Orders.{lines_order, names_order, branches_order}
 use Rattle.covstore.proofs.EachKind.{same_test}
 
@@ -57,3 +58,7 @@ module _ (xs ys : List ItemData) (alike : AreAlike xs ys) where
       (same_mapped nat_cmp lines_order (line_points xs) (line_points ys) (line_sum xs) (line_sum ys) (alike_said line_point xs ys alike) line_alike)
       (same_mapped (slice_cmp nat_cmp) names_order (func_points xs) (func_points ys) (function_sum xs) (function_sum ys) (alike_said func_point xs ys alike) function_alike)
       (same_mapped branch_cmp branches_order (branch_points xs) (branch_points ys) (branch_sum xs) (branch_sum ys) (alike_said branch_point xs ys alike) branch_alike)
+
+-- two lists of items add up to the same in either order
+pub tests_swapped : (xs ys : List ItemData) → test_of (xs ++ ys) ≡ test_of (ys ++ xs)
+tests_swapped xs ys = test_alike (xs ++ ys) (ys ++ xs) (alike_permuted (xs ++ ys) (ys ++ xs) (IsPermutation-append_comm xs ys))

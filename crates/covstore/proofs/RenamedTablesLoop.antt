@@ -26,7 +26,7 @@ use Rattle.covtable.proofs.Members.{Contains-from, In, In-from, In-joined, In-un
 use Rattle.covtable.proofs.Orders.{names_order}
 use Rattle.covstore.proofs.Prepares.{rows_in_table}
 use Rattle.covstore.proofs.Puts.{value_of_pair}
-use Rattle.covstore.proofs.RenamedValues.{tests_swapped}
+use Rattle.covstore.proofs.RenamedAlike.{tests_swapped}
 use Rattle.covstore.proofs.RenamedTablesCopies.{all_copied, copied_next, copies_of, held_in_moved, later_items, moved_items, points_still}
 use Rattle.covstore.proofs.RenamedTablesFew.{copied_room}
 use Rattle.covstore.proofs.StateSame.{same_contents, tests_with_more}

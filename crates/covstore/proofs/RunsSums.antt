@@ -71,7 +71,8 @@ summed_twice : {K V Q M : Type 0} (cmp : K → K → Ordering) (named : Q → K)
 summed_twice cmp named sum [] more pairs = refl
 summed_twice cmp named sum (item ∷ run) more pairs = summed_twice cmp named sum run more (summed cmp named sum (item ∷ []) pairs)
 
-run_sums : (kind : Kind) (items : List ItemData) (test : TestData) → points_with kind (flat_map (run_of kind) items) (at kind test) ≡ at kind (with_items items test)
+-- likewise for the points of a kind
+pub run_sums : (kind : Kind) (items : List ItemData) (test : TestData) → points_with kind (flat_map (run_of kind) items) (at kind test) ≡ at kind (with_items items test)
 run_sums kind [] test = refl
 run_sums kind (item ∷ items) test = twice kind ∙ ap (points_with kind (flat_map (run_of kind) items)) (one_run kind item test) ∙ run_sums kind items (with_item item test)
   where

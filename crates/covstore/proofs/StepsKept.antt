@@ -66,7 +66,7 @@ module _ (front : List TestData) (before after : TestData) (back : List TestData
   holding_with : (line : ℕ) (test : TestData) → holders_at line (front ++ test ∷ back) ≡ some_above (holding line (front ++ back) + one_if (is_holding line test))
   holding_with line test = ap some_above (count_by-between (is_holding line) front test back)
 
-  holding_same : (line : ℕ) → is_holding line after ≡ is_holding line before → holders_at line (front ++ before ∷ back) ≡ holders_at line (front ++ after ∷ back)
+  pub holding_same : (line : ℕ) → is_holding line after ≡ is_holding line before → holders_at line (front ++ before ∷ back) ≡ holders_at line (front ++ after ∷ back)
   holding_same line same =
       holding_with line before ∙ ap (λ (b : Bool). some_above (holding line (front ++ back) + one_if b)) (sym same) ∙ sym (holding_with line after)
 
@@ -86,6 +86,14 @@ module _ (front : List TestData) (before after : TestData) (back : List TestData
   other_holders line other true apart = refl
   other_holders line other false apart = value_of-put_apart lines_order line other (one_more (value_of nat_cmp line holders)) holders apart
 
+  -- if the test holds a checksum of this line afterwards, `held_more` gives the line's new number of tests
+  pub own_more : (line : ℕ) → is_holding line after ≡ true → value_of nat_cmp line holders ≡ holders_at line (front ++ before ∷ back)
+      → value_of nat_cmp line (held_more line (is_holding line before) holders) ≡ holders_at line (front ++ after ∷ back)
+  own_more line holds is =
+      own_holders line (holding line (front ++ back)) (is_holding line before) (is ∙ holding_with line before)
+      ∙ ap (λ (b : Bool). some_above (holding line (front ++ back) + one_if b)) (sym holds)
+      ∙ sym (holding_with line after)
+
   -- if the test holds a checksum of this line afterwards, and of other lines as before, `held_more` gives the new numbers of
   -- tests
   pub holders_more : (line : ℕ) → is_holding line after ≡ true → ((other : ℕ) → is_eq (nat_cmp line other) ≡ false → is_holding other after ≡ is_holding other before)
@@ -94,10 +102,7 @@ module _ (front : List TestData) (before after : TestData) (back : List TestData
   holders_more line holds apart moves are other = ⊎_elim
       (λ (e : is_eq (nat_cmp line other) ≡ true).
       subst (λ (l : ℕ). value_of nat_cmp l more ≡ holders_at l (front ++ after ∷ back)) (tells_apart lines_order.exact line other e)
-      (ap (value_of nat_cmp line) moves
-      ∙ own_holders line (holding line (front ++ back)) (is_holding line before) (are line ∙ holding_with line before)
-      ∙ ap (λ (b : Bool). some_above (holding line (front ++ back) + one_if b)) (sym holds)
-      ∙ sym (holding_with line after)))
+      (ap (value_of nat_cmp line) moves ∙ own_more line holds (are line)))
       (λ (e : is_eq (nat_cmp line other) ≡ false).
       ap (value_of nat_cmp other) moves ∙ other_holders line other (is_holding line before) e ∙ are other ∙ holding_same other (apart other e))
       (cases_Bool (is_eq (nat_cmp line other)))

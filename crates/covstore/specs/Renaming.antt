@@ -1,19 +1,20 @@
 -- A prepared rename: the staged files have the old test's values under the new name too. The commit then drops the old test.
-use Rattle.std.specs.Prelude.{◌≡◌, ◌≢◌, ℕ, ◌+◌, ◌≤◌, ◌^◌, true, false, List, ◌++◌, Option, Some, None, length, map, filter}
+use Rattle.std.specs.Prelude.{◌≡◌, ◌≢◌, ℕ, ◌+◌, ◌≤◌, ◌^◌, Bool, true, false, List, [], ◌∷◌, ◌++◌, IfSome, Option, Some, None, length, map, filter}
 use Rattle.std.specs.Cmp.Lexicographic.{slice_cmp}
 use Rattle.std.specs.Option.{is_some}
 use Rattle.std.specs.Ordering.{nat_cmp}
-use Rattle.covdata.specs.Row.{ItemData, LineItem, FuncItem, BranchItem, Row}
-use Rattle.covdata.specs.Points.{BranchPoint}
+use Rattle.covdata.specs.Row.{Row}
 use Rattle.covstore.specs.declared.sums.LineSum.{LineSum}
-use Rattle.covstore.specs.declared.sums.FunctionSum.{FunctionSum}
-use Rattle.covstore.specs.declared.sums.BranchSum.{BranchSum}
+use Rattle.covstore.specs.Checksums.{held_more}
 use Rattle.covstore.specs.FileSection.{HasFile}
 use Rattle.covstore.specs.FileIndex.{FileIndexData}
+use Rattle.covstore.specs.Items.{HasRoom, KeepsCounts, KeepsTextsOf}
+use Rattle.covstore.specs.Kinds.{Kind, at, of_each}
 use Rattle.covmap.specs.Puts.{put, value_of}
 use Rattle.covtable.specs.Renamed.{moved_rows, renamed}
+use Rattle.covstore.specs.Runs.{addend_of, as_run, points_with}
 use Rattle.covstore.specs.StoreSection.{rows_of_items}
-use Rattle.covstore.specs.State.{FileData, IsStateOf, has_checksum, has_no_points, has_points_of, points_at, text_at}
+use Rattle.covstore.specs.State.{FileData, IsStateOf, has_checksum, has_no_points, has_points_of, points_at}
 use Rattle.covstore.specs.Store.{StandsFor, StoreData}
 use Rattle.covstore.specs.Sums.{TestData}
 use Rattle.covtable.specs.Table.{Table}
@@ -87,21 +88,35 @@ pub record HasRoomToCopy (file old : List ℕ) (store : StoreData) : Type 0 wher
 abbrev pub names_with : List ℕ → List (List ℕ × FileData) → List (List ℕ)
 names_with test files = map (λ pair. pair.0) (filter (λ pair. has_points_of test pair.1) files)
 
--- ---- a test's values as items
+-- ---- the points of a test are added to another test of the file
 
-abbrev pub line_item : List (ℕ × List ℕ) → ℕ × LineSum → ItemData
-line_item texts pair = LineItem pair.0 pair.1.count (text_at texts pair.0 pair.1.has_checksum)
+-- the test with the points of `source` added
+abbrev pub merged : TestData → TestData → TestData
+merged source test = of_each (λ kind. points_with kind (as_run (addend_of kind) (at kind source)) (at kind test))
 
-abbrev pub function_item : List ℕ × FunctionSum → ItemData
-function_item pair = FuncItem pair.0 pair.1.line pair.1.count
+-- `holders` after a test holds a checksum of the line, if `has` is true. `was` tells whether the test held it before
+abbrev pub held_if : Bool → ℕ → Bool → List (ℕ × ℕ) → List (ℕ × ℕ)
+held_if true line was holders = held_more line was holders
+held_if false line was holders = holders
 
-abbrev pub branch_item : BranchPoint × BranchSum → ItemData
-branch_item pair = BranchItem pair.0.line pair.0.block pair.0.branch pair.1.times
+-- `holders` after a test with these points holds the checksums of the lines of another test
+abbrev pub held_again : List (ℕ × LineSum) → List (ℕ × LineSum) → List (ℕ × ℕ) → List (ℕ × ℕ)
+held_again [] points holders = holders
+held_again (pair ∷ lines) points holders = held_again lines points (held_if pair.1.has_checksum pair.0 (is_above_at has_checksum (value_of nat_cmp pair.0 points)) holders)
 
--- one item for each point of the test, with the point's value. `texts` has the checksums of the file's lines
-abbrev pub items_of_test : List (ℕ × List ℕ) → TestData → List ItemData
-items_of_test texts test = map (line_item texts) test.lines ++ (map function_item test.functions ++ map branch_item test.branches)
+-- some test holds a checksum of each of these lines that has one. The number of these tests has room for one more
+abbrev pub HasHolders : List (ℕ × LineSum) → List (ℕ × ℕ) → Type 0
+HasHolders lines holders =
+    (line : ℕ) → is_above_at has_checksum (value_of nat_cmp line lines) ≡ true → (is_some (value_of nat_cmp line holders) ≡ true) × IfSome (value_of nat_cmp line holders) (λ tests. tests ≤ 2 ^ 63)
 
--- for each of these lines that has a checksum, the index counts a test that holds it
-abbrev pub HasHolders : List (ℕ × LineSum) → FileIndexData → Type 0
-HasHolders lines index = (line : ℕ) → is_above_at has_checksum (value_of nat_cmp line lines) ≡ true → is_some (value_of nat_cmp line index.holders) ≡ true
+-- there is room in this test and in the index of its file for the points of `source`, another test of the file
+pub record HasRoomForPoints (source test : TestData) (index : FileIndexData) : Type 0 where
+  pub room : HasRoom test index
+  pub few : (kind : Kind) → length (at kind index.counts) + length (at kind source) ≤ 2 ^ 63
+  pub holders : HasHolders source.lines index.holders
+
+-- `after` is the test with the points of `source` added. The index still counts its tests, and keeps all held checksums
+pub record AddsPoints (source test : TestData) (index : FileIndexData) (after : TestData) (more : FileIndexData) : Type 0 where
+  pub points : after ≡ merged source test
+  pub counts : KeepsCounts test after index more
+  pub texts : KeepsTextsOf index more

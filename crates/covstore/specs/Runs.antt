@@ -1,5 +1,5 @@
 -- The items of a section, split by kind into runs, and what staging these runs does.
-use Rattle.std.specs.Prelude.{◌≡◌, Option, List, [], ◌∷◌, ◌++◌, length}
+use Rattle.std.specs.Prelude.{◌≡◌, Option, List, [], ◌∷◌, ◌++◌, length, map}
 use Rattle.std.specs.List.{flat_map}
 use Rattle.std.specs.Option.{is_some}
 use Rattle.covdata.specs.Row.{ItemData, LineItem, FuncItem, BranchItem}
@@ -19,6 +19,16 @@ abbrev pub AddendOf : Kind → Type 0
 AddendOf Line = LineAddend
 AddendOf Function = FunctionAddend
 AddendOf Branch = BranchAddend
+
+-- the addend that adds what a sum has
+abbrev pub addend_of : (kind : Kind) → SumOf kind → AddendOf kind
+addend_of Line sum = record { count = sum.count; has_checksum = sum.has_checksum }
+addend_of Function sum = record { line = sum.line; count = sum.count }
+addend_of Branch sum = record { times = sum.times }
+
+-- points with their sums, as points with what is added to them
+abbrev pub as_run : {K V M : Type 0} → (V → M) → List (K × V) → List (K × M)
+as_run addend points = map (λ point. (point.0, addend point.1)) points
 
 -- points, each with what is added to it, in the order of the items
 abbrev pub RunOf : Kind → Type 0

@@ -11,7 +11,7 @@ use crate::kept_texts::KeptTexts;
 use crate::packed_u64::PackedU64;
 use crate::short_text::ShortText;
 use crate::stage::fault::StageFault;
-use covdata::Bytes;
+use covdata::{Bytes, Memory};
 use covmap::{SlotIndex, StagedMap};
 use std::alloc::Allocator;
 use std::marker::Model;
@@ -78,6 +78,27 @@ impl<A: Allocator + Copy> Checksums<A> {
             return Ok(());
         }
         self.set_holders(alloc, line, tests.get() + 1)
+    }
+
+    /// Stages the checksum of `line`, which must have a holder, as held by one more test. If `is_held`, the test holds the checksum
+    /// already and isn't counted again. A failed allocation discards the staged values.
+    pub(crate) fn hold_again(&mut self, alloc: A, line: u64, is_held: bool) -> Result<(), Memory>
+        requires held { is_some (value_of nat_cmp line self.old.staged) ≡ true }
+        requires room { IfSome (value_of nat_cmp line self.old.staged) (λ tests. tests ≤ 2 ^ 63) }
+        ensures committed { self.new.committed ≡ self.old.committed }
+        ensures texts { self.new.texts ≡ self.old.texts }
+        ensures ok { OnOk result (self.new.staged ≡ held_more line is_held self.old.staged) }
+    {
+        if is_held {
+            return Ok(());
+        }
+        let Some(tests) = self.holders.lookup_staged(line) else {
+            unreachable!();
+        };
+        match self.set_holders(alloc, line, tests.get() + 1) {
+            Ok(()) => Ok(()),
+            Err(_refused) => Err(Memory),
+        }
     }
 
     /// Stages `text` as the checksum of `line`, held by a first test. A failed allocation may discard the staged values.

@@ -5,7 +5,7 @@ ghost use Rattle.std.specs.Prelude.{◌≡◌, ℕ, List, [], ◌∷◌, ◌++�
 use crate::boxed::Boxed;
 use crate::content::FileSections;
 use crate::index::FileIndex;
-use crate::stage::copied::stage_values;
+use crate::stage::copied::stage_points;
 use crate::stage::fault::StageFault;
 use crate::stage::section::stage_items;
 use crate::test::Test;
@@ -147,7 +147,7 @@ impl<A: Allocator + Copy> File<A> {
         }
     }
 
-    /// Stages the values of the test `old` as items of the test `new`. Adds the test `new` if the file doesn't have it.
+    /// Adds the points of the test `old` to the test `new`, staged. Adds the test `new` if the file doesn't have it.
     pub(crate) fn copy_test(&mut self, alloc: A, old: &[u8], new: &[u8]) -> Result<(), Memory>
         requires apart { old.now ≢ new.now }
         requires room { HasRoomToCopyIn old.now (file_staged self.old) }
@@ -193,7 +193,7 @@ impl<A: Allocator + Copy> File<A> {
         Ok(())
     }
 
-    /// Stages the values of the test `old` as items of the test `new`. The file must have both tests.
+    /// Adds the points of the test `old` to the test `new`, staged. The file must have both tests.
     fn copy_points(&mut self, alloc: A, old: &[u8], new: &[u8]) -> Result<(), Memory>
         requires apart { old.now ≢ new.now }
         requires room { HasRoomToCopyIn old.now (file_staged self.old) }
@@ -214,7 +214,7 @@ impl<A: Allocator + Copy> File<A> {
         let Some(source) = self.tests.get(old) else {
             unreachable!();
         };
-        let added = stage_values(points.get_mut(), &mut self.index, alloc, source.get());
+        let added = stage_points(points.get_mut(), &mut self.index, alloc, source.get());
         let Some(place) = self.tests.get_mut(new) else {
             unreachable!();
         };

@@ -9,6 +9,7 @@ ghost use Rattle.std.specs.Ordering.{nat_cmp};
 use crate::boxed::Boxed;
 use crate::checksums::Checksums;
 use crate::stage::fault::StageFault;
+use covdata::Memory;
 use covmap::SlotIndex;
 use std::alloc::Allocator;
 use std::marker::Model;
@@ -63,6 +64,20 @@ impl<A: Allocator + Copy> FileChecksums<A> {
         first.get_mut().hold(alloc, line, text, is_held)?;
         self.held = Some(first);
         Ok(())
+    }
+
+    /// Like `Checksums::hold_again`.
+    pub(crate) fn hold_again(&mut self, alloc: A, line: u64, is_held: bool) -> Result<(), Memory>
+        requires held { is_some (value_of nat_cmp line self.old.staged) ≡ true }
+        requires room { IfSome (value_of nat_cmp line self.old.staged) (λ tests. tests ≤ 2 ^ 63) }
+        ensures committed { self.new.committed ≡ self.old.committed }
+        ensures texts { self.new.texts ≡ self.old.texts }
+        ensures ok { OnOk result (self.new.staged ≡ held_more line is_held self.old.staged) }
+    {
+        match &mut self.held {
+            Some(held) => held.get_mut().hold_again(alloc, line, is_held),
+            None => unreachable!(),
+        }
     }
 
     /// Commits the staged values. Never allocates.

@@ -389,8 +389,8 @@ impl<A: Allocator + Copy> Store<A> {
         Ok(())
     }
 
-    /// Stages the values of the test `old` as items of the test `new`, in each file of `names`. `names` must be the files with
-    /// points of `old`.
+    /// Adds the points of the test `old` to the test `new`, staged, in each file of `names`. `names` must be the files with points of
+    /// `old`.
     fn copy_all(
         &mut self,
         alloc: A,
@@ -412,7 +412,7 @@ impl<A: Allocator + Copy> Store<A> {
         Ok(())
     }
 
-    /// Stages the values of the test `old` as items of the test `new` in `file`, and appends `new` to the list of tests with staged
+    /// Adds the points of the test `old` to the test `new` in `file`, staged, and appends `new` to the list of tests with staged
     /// values. The file must have points of `old`.
     fn copy_file(&mut self, alloc: A, file: &[u8], old: &[u8], new: &[u8]) -> Result<(), Memory>
         requires apart { old.now ≢ new.now }

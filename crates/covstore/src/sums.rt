@@ -5,7 +5,8 @@ ghost use Rattle.std.specs.Prelude.{◌≡◌, Bool, true, Option};
 ghost use Rattle.std.proofs.Common.{refl};
 ghost use Rattle.covstore.specs.PointIndexCounts.{change_of, is_above_at, is_hit_by_some, tests_fit, test_counts_with};
 ghost use Rattle.covstore.specs.SoleTest.{count_of_one};
-ghost use Rattle.covstore.specs.Kinds.{branch_above, function_above, line_above};
+ghost use Rattle.covstore.specs.Kinds.{Branch, Function, Line, branch_above, function_above, line_above};
+ghost use Rattle.covstore.specs.Runs.{addend_of};
 ghost use Rattle.covstore.specs.State.{has_checksum};
 ghost use Rattle.covstore.specs.Stays.{branch_stays, function_stays, line_stays};
 ghost use Rattle.covstore.specs.Sums.{branch_with, function_with, line_with};
@@ -24,9 +25,15 @@ pub(crate) trait PointSum: Value {
         ensures { result ≡ above self.now };
 }
 
-/// The amount that an item adds to the sum at a point. A sum above 0 stays above 0. `report` returns the change of the point's
-/// counts in the index.
+/// The amount that an item, or the sum of another test, adds to the sum at a point. A sum above 0 stays above 0. `report` returns
+/// the change of the point's counts in the index.
 pub(crate) trait PointAddend<S: PointSum>: ReportingAddend<S, TestsAddend> {
+    ghost addend: { S → Self };
+
+    /// Makes an addend that adds as much as `sum` has.
+    fn of(sum: &S) -> Self
+        ensures { result ≡ addend sum.now };
+
     ghost always_fits: { (more : Self) (before : Option S) → Self.fits more before };
 
     ghost stays: { (more : Self) (before : Option S) → is_above_at S.above before ≡ true → S.above (Self.sum more before) ≡ true };
@@ -110,6 +117,15 @@ impl ReportingAddend<LineSum, TestsAddend> for LineAddend {
 }
 
 impl PointAddend<LineSum> for LineAddend {
+    ghost addend = { addend_of Line };
+
+    fn of(sum: &LineSum) -> LineAddend {
+        LineAddend {
+            count: sum.count.get(),
+            has_checksum: sum.has_checksum,
+        }
+    }
+
     ghost always_fits = { λ more before. tt };
 
     ghost stays = { line_stays };
@@ -152,6 +168,15 @@ impl ReportingAddend<FunctionSum, TestsAddend> for FunctionAddend {
 }
 
 impl PointAddend<FunctionSum> for FunctionAddend {
+    ghost addend = { addend_of Function };
+
+    fn of(sum: &FunctionSum) -> FunctionAddend {
+        FunctionAddend {
+            line: sum.line.get(),
+            count: sum.count.get(),
+        }
+    }
+
     ghost always_fits = { λ more before. tt };
 
     ghost stays = { function_stays };
@@ -190,6 +215,14 @@ impl ReportingAddend<BranchSum, TestsAddend> for BranchAddend {
 }
 
 impl PointAddend<BranchSum> for BranchAddend {
+    ghost addend = { addend_of Branch };
+
+    fn of(sum: &BranchSum) -> BranchAddend {
+        BranchAddend {
+            times: sum.times.get(),
+        }
+    }
+
     ghost always_fits = { λ more before. tt };
 
     ghost stays = { branch_stays };

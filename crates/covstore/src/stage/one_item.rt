@@ -69,7 +69,7 @@ pub(crate) fn stage_item<A: Allocator + Copy>(
 }
 
 /// Stages a line's item.
-pub(crate) fn stage_line<A: Allocator + Copy>(
+fn stage_line<A: Allocator + Copy>(
     test: &mut Test<A>,
     index: &mut FileIndex<A>,
     alloc: A,
@@ -101,7 +101,7 @@ pub(crate) fn stage_line<A: Allocator + Copy>(
 }
 
 /// Stages a function's item.
-pub(crate) fn stage_function<A: Allocator + Copy>(
+fn stage_function<A: Allocator + Copy>(
     test: &mut Test<A>,
     index: &mut FileIndex<A>,
     alloc: A,
@@ -131,7 +131,7 @@ pub(crate) fn stage_function<A: Allocator + Copy>(
 }
 
 /// Stages a branch's item.
-pub(crate) fn stage_branch<A: Allocator + Copy>(
+fn stage_branch<A: Allocator + Copy>(
     test: &mut Test<A>,
     index: &mut FileIndex<A>,
     alloc: A,

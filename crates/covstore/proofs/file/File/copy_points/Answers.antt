@@ -15,7 +15,7 @@ use Rattle.covstore.specs.Sums.{TestData}
 use Rattle.covstore.specs.TestView.{test_staged, test_committed}
 use Rattle.covstore.proofs.AddsFile.{not_there, test_value}
 use Rattle.covstore.proofs.AddsSettled.{test_settled}
-use Rattle.covstore.proofs.CopiesFile.{copies_holders, copies_in, copies_room}
+use Rattle.covstore.proofs.CopiesFile.{copies_in, copies_room}
 use Rattle.covstore.proofs.CopiesMap.{other_found, other_there, place_there, put_back, same_back}
 use Rattle.covstore.proofs.FollowsSole.{sole_found, sole_written, written_again}
 use Rattle.covstore.proofs.MapKeys.{seen}
@@ -49,10 +49,10 @@ unreachable-requires-in_default-get_mut g c =
     place_there name test_staged c.args.new.now c.self.inside.tests.entries (c.get_mut.follows.lender empty).entries target empty c.get_mut.ensures.ordered found (c.get_mut.follows.holds empty)
     (sym c.in_default-get_mut.ensures.value)
 
--- the values are added
+-- the points are added
 
-pub stage_values-added-requires-clause-room : goal.stage_values-added-requires-clause-room
-stage_values-added-requires-clause-room g c =
+pub stage_points-added-requires-clause-room : goal.stage_points-added-requires-clause-room
+stage_points-added-requires-clause-room g c =
     let name = λ (key : Vec ℕ g.row.A.Denot). key.items in
     let pairs = c.self.inside.tests.entries in
     let tests = seen names_order name test_staged pairs in
@@ -65,25 +65,10 @@ stage_values-added-requires-clause-room g c =
     let its_source = subst (λ (f : File g.row.A.Denot). value_of (slice_cmp nat_cmp) c.args.old.now (file_staged f).tests ≡ value_of (slice_cmp nat_cmp) c.args.old.now (file_committed f).tests) (sym c.self.view_is) c.requires.same ∙ other_found name test_committed new pairs (c.get_mut.follows.lender empty).entries target empty c.get_mut.ensures.ordered found (c.get_mut.follows.holds empty) old c.requires.apart source
     (sym c.in-Some-get.ensures.value ∙ ap Some (sym c.get-2.ensures)) in
     let few : length tests ≤ 2 ^ 63 = omega (arith, length-map {B = List ℕ × TestData} pairs (λ pair. (name pair.0, test_staged pair.1)), c.len.ensures.len, c.len.ensures.small) in
-    copies_room old new tests (index_staged c.self.inside.index) (test_committed source) (test_staged target) its_source (test_value name test_staged new pairs target found) (subst (λ (f : File g.row.A.Denot). HasRoomToCopyIn c.args.old.now (file_staged f)) (sym c.self.view_is) c.requires.room) few
+    copies_room tests (index_staged c.self.inside.index) old new (test_committed source) (test_staged target) its_source (test_value name test_staged new pairs target found) (subst (λ (f : File g.row.A.Denot). HasRoomToCopyIn c.args.old.now (file_staged f)) (sym c.self.view_is) c.requires.room) few
 
-pub stage_values-added-requires-clause-holders : goal.stage_values-added-requires-clause-holders
-stage_values-added-requires-clause-holders g c =
-    let name = λ (key : Vec ℕ g.row.A.Denot). key.items in
-    let pairs = c.self.inside.tests.entries in
-    let tests = seen names_order name test_staged pairs in
-    let old = c.args.old.now in
-    let new = c.args.new.now in
-    let target = c.get_mut-2.result.now in
-    let empty = c.replace-points.new.dest in
-    let source = c.get-2.result.now in
-    let found = sym c.in-Some.ensures.value ∙ ap Some (sym c.replace-points.ensures.value) ∙ ap Some (sym c.get_mut-2.ensures.value) in
-    let its_source = subst (λ (f : File g.row.A.Denot). value_of (slice_cmp nat_cmp) c.args.old.now (file_staged f).tests ≡ value_of (slice_cmp nat_cmp) c.args.old.now (file_committed f).tests) (sym c.self.view_is) c.requires.same ∙ other_found name test_committed new pairs (c.get_mut.follows.lender empty).entries target empty c.get_mut.ensures.ordered found (c.get_mut.follows.holds empty) old c.requires.apart source
-    (sym c.in-Some-get.ensures.value ∙ ap Some (sym c.get-2.ensures)) in
-    copies_holders old new tests (index_staged c.self.inside.index) (test_committed source) (test_staged target) its_source (test_value name test_staged new pairs target found) (subst (λ (f : File g.row.A.Denot). HasRoomToCopyIn c.args.old.now (file_staged f)) (sym c.self.view_is) c.requires.room)
-
-pub stage_values-added-requires-clause-follows : goal.stage_values-added-requires-clause-follows
-stage_values-added-requires-clause-follows g c =
+pub stage_points-added-requires-clause-follows : goal.stage_points-added-requires-clause-follows
+stage_points-added-requires-clause-follows g c =
     sole_found (has_name file_name c.args.new.now) c.self.inside.tests.entries c.self.inside.index c.get_mut-2.result.now
     (sym c.in-Some.ensures.value ∙ ap Some (sym c.replace-points.ensures.value) ∙ ap Some (sym c.get_mut-2.ensures.value)) c.self.invariant
 
@@ -94,10 +79,10 @@ invariant_of-self g c =
     let here = has_name file_name c.args.new.now in
     let entries = c.self.inside.tests.entries in
     let empty = c.replace-points.new.dest in
-    let points = c.stage_values-added.new.test in
+    let points = c.stage_points-added.new.test in
     rw ((c.get_mut-3.follows.holds points), (c.get_mut.follows.holds empty), written_again here entries empty points)
-    (sole_written here entries c.self.inside.index c.stage_values-added.new.index c.get_mut-2.result.now points
-    (sym c.in-Some.ensures.value ∙ ap Some (sym c.replace-points.ensures.value) ∙ ap Some (sym c.get_mut-2.ensures.value)) c.self.invariant c.stage_values-added.ensures.follows)
+    (sole_written here entries c.self.inside.index c.stage_points-added.new.index c.get_mut-2.result.now points
+    (sym c.in-Some.ensures.value ∙ ap Some (sym c.replace-points.ensures.value) ∙ ap Some (sym c.get_mut-2.ensures.value)) c.self.invariant c.stage_points-added.ensures.follows)
 
 pub returns-clause-committed : goal.returns-clause-committed
 returns-clause-committed g c =
@@ -105,14 +90,14 @@ returns-clause-committed g c =
     let new = c.args.new.now in
     let lent = c.get_mut-2.result.now in
     let empty = c.replace-points.new.dest in
-    let points = c.stage_values-added.new.test in
+    let points = c.stage_points-added.new.test in
     let found = sym c.in-Some.ensures.value ∙ ap Some (sym c.replace-points.ensures.value) ∙ ap Some (sym c.get_mut-2.ensures.value) in
     rw (← c.self.view_is)
     (record {
       tests = same_back name test_committed new c.self.inside.tests.entries (c.get_mut.follows.lender empty).entries lent empty c.get_mut.ensures.ordered found (c.get_mut.follows.holds empty)
           c.in-Some-get_mut.place.now points (c.get_mut-3.follows.lender points).entries c.get_mut-3.ensures.ordered (sym c.in-Some-get_mut.ensures.value) (c.get_mut-3.follows.holds points)
-          c.stage_values-added.ensures.test_committed;
-      index = c.stage_values-added.ensures.index_committed;
+          c.stage_points-added.ensures.test_committed;
+      index = c.stage_points-added.ensures.index_committed;
     })
 
 pub returns-clause-ok : goal.returns-clause-ok
@@ -125,7 +110,7 @@ returns-clause-ok g c =
     let new = c.args.new.now in
     let lent = c.get_mut-2.result.now in
     let empty = c.replace-points.new.dest in
-    let points = c.stage_values-added.new.test in
+    let points = c.stage_points-added.new.test in
     let found = sym c.in-Some.ensures.value ∙ ap Some (sym c.replace-points.ensures.value) ∙ ap Some (sym c.get_mut-2.ensures.value) in
     let lifted = (c.get_mut.follows.holds empty) in
     let source = c.get-2.result.now in
@@ -136,19 +121,19 @@ returns-clause-ok g c =
     (c.get_mut-3.follows.lender points).entries c.get_mut-3.ensures.ordered (sym c.in-Some-get_mut.ensures.value) (c.get_mut-3.follows.holds points))
     refl in
     rw (← c.self.view_is)
-    (on_ok_weaker c.stage_values-added.result
+    (on_ok_weaker c.stage_points-added.result
     (λ adds. subst (λ (file : FileData). CopiesIn old new (file_staged before) file) (sym is)
-    (copies_in old new tests (index_staged before.index) (test_committed source) (test_staged lent) its_source (test_value name test_staged new pairs lent found)
-    (test_staged points) (index_staged c.stage_values-added.new.index) adds))
-    c.stage_values-added.ensures.ok)
+    (copies_in tests (index_staged before.index) old new (test_committed source) (test_staged lent) its_source (test_value name test_staged new pairs lent found)
+    (test_staged points) (index_staged c.stage_points-added.new.index) adds))
+    c.stage_points-added.ensures.ok)
 
 pub returns-clause-settled : goal.returns-clause-settled
 returns-clause-settled g c = λ tests among settled.
     let new = c.args.new.now in
     let empty = c.replace-points.new.dest in
-    let points = c.stage_values-added.new.test in
+    let points = c.stage_points-added.new.test in
     let file : File g.row.A.Denot = record { tests = record { entries = c.self.inside.tests.entries }; index = c.self.inside.index } in
-    let middle : File g.row.A.Denot = record { tests = record { entries = (c.get_mut.follows.lender empty).entries }; index = c.stage_values-added.new.index } in
-    let after : File g.row.A.Denot = record { tests = record { entries = (c.get_mut-3.follows.lender points).entries }; index = c.stage_values-added.new.index } in
+    let middle : File g.row.A.Denot = record { tests = record { entries = (c.get_mut.follows.lender empty).entries }; index = c.stage_points-added.new.index } in
+    let after : File g.row.A.Denot = record { tests = record { entries = (c.get_mut-3.follows.lender points).entries }; index = c.stage_points-added.new.index } in
     test_settled tests new among middle after points (c.get_mut-3.follows.holds points)
     (test_settled tests new among file middle empty (c.get_mut.follows.holds empty) (subst (λ (f : File g.row.A.Denot). IsSettledBut tests f) (sym c.self.view_is) settled))

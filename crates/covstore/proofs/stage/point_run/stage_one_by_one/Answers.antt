@@ -1,30 +1,23 @@
-use Rattle.std.proofs.Common.{◌∷◌, List, ap, arith, sym, ◌∙◌}
-use Rattle.std.proofs.lemmas.List.{length-append}
-use Rattle.covmap.specs.Run.{summed}
+use Rattle.std.proofs.Common.{◌∙◌}
+use Rattle.covstore.proofs.Summing.{summing_next, summing_room}
 use Rattle.covstore.proofs.stage.point_run.stage_one_by_one.Goals as goal
+
+pub stage_addend-requires : goal.stage_addend-requires
+stage_addend-requires g c = record {
+  follows = c.loop-item.invariant.3;
+  room = summing_room g.K.Key.cmp g.S.PointSum.above g.Q.Query.named g.M.Addend.sum c.args.run.now c.args.points.now.staged c.args.kept.now.staged c.in-Some.item.now c.loop-item.rest.now c.in-Some.others.now
+      c.loop-item.points.staged c.loop-item.kept.staged c.in-Some.ensures.cases.0 c.loop-item.invariant.0;
+}
 
 pub loop-item-preserved : goal.loop-item-preserved
 loop-item-preserved g c =
-    let kept = c.loop-item.invariant in
-    let room = kept.3 in
-    let step = c.in_ok-stage_addend.ensures in
-    let parts = c.in-Some.ensures.cases in
-    let before = c.loop-item.points.staged in
-    let after = c.stage_addend.new.points.staged in
-    let run = summed g.K.Key.cmp g.Q.Query.named g.M.Addend.sum in (
-      step.test_committed ∙ kept.0,
-      step.index_committed ∙ kept.1,
-      ap (λ (points : List (g.row.K.Denot × g.row.S.Denot)). run c.in-Some.others.now points) step.test
-          ∙ sym (ap (λ (rest : List (g.row.Q.Denot × g.row.M.Denot)). run rest before) parts.0)
-          ∙ kept.2,
-      record {
-        front = room.front;
-        back = room.back;
-        kept = step.counts room.front room.back room.kept;
-        few_tests = omega (arith, room.few_tests, length-append room.front (before ∷ room.back), length-append room.front (after ∷ room.back));
-        few = omega (arith, step.few, room.few, parts.1);
-      },
-      λ front back are. step.counts front back (kept.4 front back are),
-      c.stage_addend.ensures.follows,
-      λ none. c.stage_addend.ensures.counted (kept.6 none),
+    let l = c.loop-item in
+    let e = c.stage_addend.ensures in
+    let step = c.in_ok-stage_addend.ensures in (
+      summing_next g.K.Key.cmp g.S.PointSum.above g.Q.Query.named g.M.Addend.sum c.args.run.now c.args.points.now.staged c.args.kept.now.staged c.in-Some.item.now l.rest.now c.in-Some.others.now l.points.staged l.kept.staged
+          c.in-Some.ensures.cases.0 l.invariant.0 c.stage_addend.new.points.staged c.stage_addend.new.kept.staged step.test step.counts step.few,
+      e.test_committed ∙ l.invariant.1,
+      e.index_committed ∙ l.invariant.2,
+      e.follows,
+      λ none. e.counted (l.invariant.4 none),
     )
