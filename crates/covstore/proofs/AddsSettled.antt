@@ -4,9 +4,10 @@ use Rattle.std.proofs.Common.{◌≡◌, ℕ, Bool, true, false, cond, ◌||◌,
 use Rattle.std.specs.BTreeMap.{insert_entry, is_at}
 use Rattle.std.specs.Cmp.Lexicographic.{slice_cmp}
 use Rattle.std.specs.declared.cmp.Ordering.{Ordering}
+use Rattle.std.specs.declared.cmp.Ordering.TheVariants.{Less, Equal, Greater}
 use Rattle.std.specs.List.{AllByRecursion, list_any}
 use Rattle.std.specs.Map.{lookup, set_value}
-use Rattle.std.specs.Ordering.{nat_cmp}
+use Rattle.std.specs.Ordering.{match_ordering, nat_cmp}
 use Rattle.std.specs.Str.{bytes_eq}
 use Rattle.std.proofs.lemmas.Bool.{false≢true}
 use Rattle.std.proofs.lemmas.Map.Views.{tells_apart}
@@ -33,10 +34,45 @@ All-set {K} {V} P here w (pair ∷ pairs) new all = at (here pair.0) refl (All-s
 abbrev pub IsSettledTest : {A : Type 0} → List (List ℕ) → Vec ℕ A × Test A → Type 0
 IsSettledTest tests pair = list_any (λ test. bytes_eq test pair.0.items) tests ≡ false → test_staged pair.1 ≡ test_committed pair.1
 
-pub test_settled : {A : Type 0} (tests : List (List ℕ)) (test : List ℕ) → list_any (λ name. bytes_eq name test) tests ≡ true → (before after : File A) (w : Test A)
+found_pair : {K V : Type 0} (P : K × V → Type 0) (here : K → Bool) (v : V) (pairs : List (K × V)) → lookup here pairs ≡ Some v → AllByRecursion P pairs → (k : K) × (here k ≡ true) × P (k, v)
+found_pair P here v [] found all = absurd (none-some v found)
+found_pair {K} {V} P here v (pair ∷ pairs) found all = at (here pair.0) refl found (λ later. found_pair P here v pairs later all.1)
+  where
+    at : (b : Bool) → here pair.0 ≡ b → cond b (Some pair.1) (lookup here pairs) ≡ Some v → (lookup here pairs ≡ Some v → (k : K) × (here k ≡ true) × P (k, v)) → (k : K) × (here k ≡ true) × P (k, v)
+    at true e is rest = (pair.0, e, subst (λ (x : V). P (pair.0, x)) (same_Some pair.1 v is) all.0)
+    at false e is rest = rest is
+
+-- what is true of all keys after a value is replaced was true of them before
+keys_set : {K V : Type 0} (P : K → Type 0) (here : K → Bool) (w : V) (pairs : List (K × V)) → AllByRecursion (λ (e : K × V). P e.0) (set_value here pairs w) → AllByRecursion (λ (e : K × V). P e.0) pairs
+keys_set P here w [] all = tt
+keys_set {K} {V} P here w (pair ∷ pairs) all = at (here pair.0) (keys_set P here w pairs) all
+  where
+    at : (b : Bool) → (AllByRecursion (λ (e : K × V). P e.0) (set_value here pairs w) → AllByRecursion (λ (e : K × V). P e.0) pairs)
+        → AllByRecursion (λ (e : K × V). P e.0) (cond b ((pair.0, w) ∷ pairs) (pair ∷ set_value here pairs w)) → AllByRecursion (λ (e : K × V). P e.0) (pair ∷ pairs)
+    at true rest all = all
+    at false rest all = (all.0, rest all.1)
+
+-- likewise after a value is inserted
+keys_inserted : {K V : Type 0} (cmp : K → K → Ordering) (P : K → Type 0) (key : K) (w : V) (pairs : List (K × V)) → AllByRecursion (λ (e : K × V). P e.0) (insert_entry cmp pairs key w)
+    → AllByRecursion (λ (e : K × V). P e.0) pairs
+keys_inserted cmp P key w [] all = tt
+keys_inserted {K} {V} cmp P key w (pair ∷ pairs) all = at (cmp key pair.0) (keys_inserted cmp P key w pairs) all
+  where
+    at : (order : Ordering) → (AllByRecursion (λ (e : K × V). P e.0) (insert_entry cmp pairs key w) → AllByRecursion (λ (e : K × V). P e.0) pairs)
+        → AllByRecursion (λ (e : K × V). P e.0) (match_ordering order ((key, w) ∷ pair ∷ pairs) ((pair.0, w) ∷ pairs) (pair ∷ insert_entry cmp pairs key w)) → AllByRecursion (λ (e : K × V). P e.0) (pair ∷ pairs)
+    at Less rest all = all.1
+    at Equal rest all = all
+    at Greater rest all = (all.0, rest all.1)
+
+pub test_settled : {A : Type 0} (tests : List (List ℕ)) (test : List ℕ) → list_any (λ name. bytes_eq name test) tests ≡ true → (before after : File A) (v w : Test A)
+    → lookup (is_at (λ (other : Vec ℕ A). slice_cmp nat_cmp test other.items)) before.tests.entries ≡ Some v
     → after.tests.entries ≡ set_value (is_at (λ (other : Vec ℕ A). slice_cmp nat_cmp test other.items)) before.tests.entries w → IsSettledBut tests before → IsSettledBut tests after
-test_settled {A} tests test among before after w written settled = record {
-  index = λ e. absurd (false≢true (sym (ap (list_any (λ (name : List ℕ). bytes_eq name test)) e) ∙ among));
+test_settled {A} tests test among before after v w found written settled = record {
+  index = λ all.
+      let here = is_at (λ (other : Vec ℕ A). slice_cmp nat_cmp test other.items) in
+      let own : Vec ℕ A → Type 0 = λ (name : Vec ℕ A). list_any (λ other. bytes_eq other name.items) tests ≡ false in
+      let pair = found_pair (λ (pair : Vec ℕ A × Test A). own pair.0) here v before.tests.entries found (keys_set own here w before.tests.entries (subst (AllByRecursion (λ (pair : Vec ℕ A × Test A). own pair.0)) written all)) in
+      absurd (false≢true (sym pair.2 ∙ sym (ap (λ (name : List ℕ). list_any (λ (other : List ℕ). bytes_eq other name) tests) (tells_apart names_order.exact test pair.0.items pair.1)) ∙ among));
   points = subst (AllByRecursion (IsSettledTest tests)) (sym written)
       (All-set (IsSettledTest tests) (is_at (λ (other : Vec ℕ A). slice_cmp nat_cmp test other.items)) w before.tests.entries
       (λ k e other. absurd (false≢true (sym other ∙ sym (ap (λ (own : List ℕ). list_any (λ (name : List ℕ). bytes_eq name own) tests) (tells_apart names_order.exact test k.items e)) ∙ among)))
@@ -45,20 +81,16 @@ test_settled {A} tests test among before after w written settled = record {
 
 pub test_inserted : {A : Type 0} (tests : List (List ℕ)) (cmp : Vec ℕ A → Vec ℕ A → Ordering) (before after : File A) (key : Vec ℕ A) (w : Test A) → test_staged w ≡ test_committed w → after.index ≡ before.index
     → after.tests.entries ≡ insert_entry cmp before.tests.entries key w → IsSettledBut tests before → IsSettledBut tests after
-test_inserted tests cmp before after key w same index written settled = record {
-  index = λ e. ap index_staged index ∙ settled.index e ∙ sym (ap index_committed index);
+test_inserted {A} tests cmp before after key w same index written settled = record {
+  index = λ all.
+      ap index_staged index
+      ∙ settled.index (keys_inserted cmp (λ (name : Vec ℕ A). list_any (λ test. bytes_eq test name.items) tests ≡ false) key w before.tests.entries
+      (subst (AllByRecursion (λ (pair : Vec ℕ A × Test A). list_any (λ test. bytes_eq test pair.0.items) tests ≡ false)) written all))
+      ∙ sym (ap index_committed index);
   points = subst (AllByRecursion (IsSettledTest tests)) (sym written) (All-inserted cmp (IsSettledTest tests) key w before.tests.entries (λ e. same) (λ other is e. same) settled.points);
 }
 
 -- ---- the files
-
-found_pair : {K V : Type 0} (P : K × V → Type 0) (here : K → Bool) (v : V) (pairs : List (K × V)) → lookup here pairs ≡ Some v → AllByRecursion P pairs → (k : K) × (here k ≡ true) × P (k, v)
-found_pair P here v [] found all = absurd (none-some v found)
-found_pair {K} {V} P here v (pair ∷ pairs) found all = at (here pair.0) refl found (λ later. found_pair P here v pairs later all.1)
-  where
-    at : (b : Bool) → here pair.0 ≡ b → cond b (Some pair.1) (lookup here pairs) ≡ Some v → (lookup here pairs ≡ Some v → (k : K) × (here k ≡ true) × P (k, v)) → (k : K) × (here k ≡ true) × P (k, v)
-    at true e is rest = (pair.0, e, subst (λ (x : V). P (pair.0, x)) (same_Some pair.1 v is) all.0)
-    at false e is rest = rest is
 
 -- if a file is replaced, and still nothing is staged in it but in touched tests, nothing is staged in any file but in touched
 -- tests

@@ -12,6 +12,7 @@ use Rattle.covstore.specs.TestView.{test_committed, test_staged}
 pub settled_same : {A : Type 0} (tests : List (List ℕ)) (before after : File A) → after.tests ≡ before.tests → index_committed after.index ≡ index_committed before.index
     → index_staged after.index ≡ index_staged before.index → IsSettledBut tests before → IsSettledBut tests after
 settled_same {A} tests before after same committed staged settled = record {
-  index = λ none. staged ∙ settled.index none ∙ sym committed;
+  index = λ all.
+      staged ∙ settled.index (subst (λ (t : FileTests A). AllByRecursion (λ (pair : Vec ℕ A × Test A). list_any (λ test. bytes_eq test pair.0.items) tests ≡ false) t.entries) same all) ∙ sym committed;
   points = subst (λ (t : FileTests A). AllByRecursion (λ (pair : Vec ℕ A × Test A). list_any (λ test. bytes_eq test pair.0.items) tests ≡ false → test_staged pair.1 ≡ test_committed pair.1) t.entries) (sym same) settled.points;
 }

@@ -3,7 +3,6 @@
 use Rattle.std.proofs.Common.{◌≡◌, Bool, true, false, cond, Option, Some, None, List, [], ◌∷◌, refl, sym, ap, ◌∙◌, subst}
 use Rattle.std.specs.BTreeMap.{insert_entry}
 use Rattle.std.specs.declared.cmp.Ordering.{Ordering}
-use Rattle.std.specs.List.{AllByRecursion}
 use Rattle.std.specs.Map.{lookup, remove_entry, set_value}
 use Rattle.std.specs.Option.{IfSome}
 use Rattle.std.proofs.lemmas.Bool.{cond-false, cond-true}
@@ -11,7 +10,7 @@ use Rattle.std.proofs.lemmas.Option.{none-some, same_Some}
 use Rattle.covmap.specs.MapData.{MapData}
 use Rattle.covstore.specs.declared.index.FileIndex.{FileIndex}
 use Rattle.covstore.specs.declared.test.Test.{Test}
-use Rattle.covstore.specs.Follows.{CanFollow, CountsAll, Follows, FollowsSettled, FollowsSole, StillFollows, no_test}
+use Rattle.covstore.specs.Follows.{CanFollow, CountsAll, Follows, FollowsSole, StillFollows, no_test}
 use Rattle.covstore.specs.Sums.{TestData, test_of}
 use Rattle.covstore.specs.TestView.{test_committed, test_staged}
 
@@ -19,10 +18,6 @@ use Rattle.covstore.specs.TestView.{test_committed, test_staged}
 
 none_follows : {X : Type 0} (P : X → Type 0) (follows : Option X) → follows ≡ None → IfSome follows P
 none_follows P follows none = subst (λ (o : Option _). IfSome o P) (sym none) tt
-
-follows_more : {X : Type 0} (P Q : X → Type 0) (follows : Option X) → ((seen : X) → P seen → Q seen) → IfSome follows P → IfSome follows Q
-follows_more P Q None more if = tt
-follows_more P Q (Some seen) more if = more seen if
 
 pub counts_follow : {A : Type 0} (test : Test A) (index : FileIndex A) → CountsAll index → Follows test index
 counts_follow test index counts = record {
@@ -42,25 +37,6 @@ is_no_test {A} test committed staged =
     let branches = same_data test.branches [] [] (ap (λ (t : TestData). t.branches) committed) (ap (λ (t : TestData). t.branches) staged) in
     λ i. record { lines = lines i; functions = functions i; branches = branches i }
 
--- nothing is staged in the test
-pub follows_settled : {A : Type 0} (test : Test A) (index : FileIndex A) → test_staged test ≡ test_committed test → Follows test index → FollowsSettled index
-follows_settled test index settled follows = record {
-  lines = follows_more (λ seen. seen ≡ test.lines) (λ seen. seen.staged ≡ seen.committed) index.lines.follows
-      (λ seen e. ap (λ (p : MapData _ _). p.staged) e ∙ ap (λ (t : TestData). t.lines) settled ∙ sym (ap (λ (p : MapData _ _). p.committed) e)) follows.lines;
-  functions = follows_more (λ seen. seen ≡ test.functions) (λ seen. seen.staged ≡ seen.committed) index.functions.follows
-      (λ seen e. ap (λ (p : MapData _ _). p.staged) e ∙ ap (λ (t : TestData). t.functions) settled ∙ sym (ap (λ (p : MapData _ _). p.committed) e)) follows.functions;
-  branches = follows_more (λ seen. seen ≡ test.branches) (λ seen. seen.staged ≡ seen.committed) index.branches.follows
-      (λ seen e. ap (λ (p : MapData _ _). p.staged) e ∙ ap (λ (t : TestData). t.branches) settled ∙ sym (ap (λ (p : MapData _ _). p.committed) e)) follows.branches;
-}
-
--- the index follows none, so nothing is staged in what it follows
-pub counts_settled : {A : Type 0} (index : FileIndex A) → CountsAll index → FollowsSettled index
-counts_settled index counts = record {
-  lines = none_follows (λ seen. seen.staged ≡ seen.committed) index.lines.follows counts.lines;
-  functions = none_follows (λ seen. seen.staged ≡ seen.committed) index.functions.follows counts.functions;
-  branches = none_follows (λ seen. seen.staged ≡ seen.committed) index.branches.follows counts.branches;
-}
-
 -- ---- the tests of a file
 
 module _ {K A : Type 0} where
@@ -68,12 +44,6 @@ module _ {K A : Type 0} where
   sole_counted [] index counts = counts_follow no_test index counts
   sole_counted (pair ∷ []) index counts = counts_follow pair.1 index counts
   sole_counted (pair ∷ other ∷ pairs) index counts = counts
-
-  -- nothing is staged in the tests
-  pub sole_settled : (entries : List (K × Test A)) (index : FileIndex A) → AllByRecursion (λ pair. test_staged pair.1 ≡ test_committed pair.1) entries → FollowsSole entries index → FollowsSettled index
-  sole_settled [] index settled follows = follows_settled no_test index refl follows
-  sole_settled (pair ∷ []) index settled follows = follows_settled pair.1 index settled.0 follows
-  sole_settled (pair ∷ other ∷ pairs) index settled counts = counts_settled index counts
 
   -- a test is inserted
   pub sole_inserted : (cmp : K → K → Ordering) (entries : List (K × Test A)) (key : K) (test : Test A) (index : FileIndex A) → test ≡ no_test → CanFollow entries index

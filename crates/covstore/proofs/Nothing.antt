@@ -1,12 +1,8 @@
 -- A submission without rows is prepared as the empty one.
-use Rattle.std.proofs.Common.{◌≡◌, ◌≢◌, ℕ, ◌==◌, Bool, true, false, List, [], ◌∷◌, ◌++◌, length, Result, Ok, Err, ap, sym, subst, ◌∙◌, arith}
-use Rattle.std.specs.Prelude.{IfOk, None}
+use Rattle.std.proofs.Common.{◌≡◌, ◌≢◌, [], length, Result, Ok, Err, ap, sym, ◌∙◌}
+use Rattle.std.specs.Prelude.{IfOk}
 use Rattle.std.proofs.lemmas.List.{nil_from_length}
-use Rattle.covdata.specs.Lawful.{IsLawful}
-use Rattle.covdata.specs.Row.{Row, SubmissionData, items_in, rows_of}
-use Rattle.covtable.specs.Clash.{clash_of}
-use Rattle.covstore.specs.Store.{AddsTo, IsPlanOf, StoreData}
-use Rattle.covtable.specs.Table.{Table, all_rows}
+use Rattle.covdata.specs.Row.{SubmissionData, items_in, rows_of}
 use Rattle.covtable.proofs.Bounds.{length-rows_of_sects}
 
 -- without items there are no rows

@@ -1,6 +1,6 @@
 -- Items without a checksum are split by kind into runs. Once the runs are staged, the items are added. This can be done with
 -- some of the items at a time.
-use Rattle.std.proofs.Common.{◌≡◌, ℕ, Some, None, List, [], ◌++◌, length, map, refl, sym, ap, ◌∙◌, subst, inl, inr}
+use Rattle.std.proofs.Common.{◌≡◌, ℕ, Some, None, List, [], ◌++◌, length, refl, sym, ap, ◌∙◌, subst, inl, inr}
 use Rattle.std.specs.List.{All}
 use Rattle.std.specs.Option.{is_some}
 use Rattle.std.specs.Ordering.{nat_cmp}
@@ -16,7 +16,7 @@ use Rattle.covstore.specs.Section.{Adds, Clashes, ClashesAt, HasRoomFor}
 use Rattle.covstore.specs.Sums.{TestData}
 use Rattle.covstore.proofs.AddsItem.{items_add}
 use Rattle.covstore.proofs.AddsMore.{clash_front, clash_later}
-use Rattle.covtable.proofs.Members.{Contains-from, In, In-joined, In-unmap}
+use Rattle.covtable.proofs.Members.{Contains-from, In, In-joined}
 use Rattle.covstore.proofs.AddsLoop.{HasTaken, none_taken, some_have_room, some_taken}
 use Rattle.covstore.specs.FileIndexView.{KeepsCommitted, index_staged}
 use Rattle.covstore.specs.TestView.{test_staged, test_committed}

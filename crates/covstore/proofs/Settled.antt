@@ -21,6 +21,7 @@ use Rattle.covstore.specs.StoreView.{AreSettledBut, IsSettledBut, files_staged, 
 use Rattle.covstore.specs.FileIndexView.{index_staged, index_committed}
 use Rattle.covstore.specs.TestView.{test_staged, test_committed}
 use Rattle.covtable.proofs.Ascend.{All-weaker}
+use Rattle.covtable.proofs.Members.{All-from}
 use Rattle.covstore.proofs.MapNames.{All-unfound, All-written, bytes_apart, map_written, names_with}
 use Rattle.covstore.proofs.AddsSettled.{IsSettledTest}
 
@@ -38,30 +39,31 @@ not_among : (name last : List ℕ) (tests : List (List ℕ)) → (last ≡ name 
 not_among name last [] apart e = ap (λ (b : Bool). b || false) (bytes_apart last name apart)
 not_among name last (test ∷ tests) apart e = not_among_at (bytes_eq test name) (among name tests) (among name (tests ++ last ∷ [])) (not_among name last tests apart) e
 
--- if the test isn't among those of the file, and nothing is staged in any other, nothing is staged in the file's tests
-pub all_unfound : {A : Type 0} (tests : List (List ℕ)) (test : List ℕ) (file : File A) → IsSettledBut (tests ++ test ∷ []) file → tests ≡ []
-    → lookup (λ (k : Vec ℕ A). is_eq (slice_cmp nat_cmp test k.items)) file.tests.entries ≡ None → AllByRecursion (λ (pair : Vec ℕ A × Test A). test_staged pair.1 ≡ test_committed pair.1) file.tests.entries
-all_unfound {A} tests test file was all none =
-    All-unfound (λ (k : Vec ℕ A). k.items) test (IsSettledTest (tests ++ test ∷ [])) (λ (pair : Vec ℕ A × Test A). test_staged pair.1 ≡ test_committed pair.1) file.tests.entries none
-    (λ pair settled apart. settled (not_among pair.0.items test tests (λ same. apart (sym same)) (ap (among pair.0.items) all))) was.points
-
-module _ {A : Type 0} (tests : List (List ℕ)) (test : List ℕ) (before after : File A) (was : IsSettledBut (tests ++ test ∷ []) before) (index : tests ≡ [] → index_staged after.index ≡ index_committed after.index) where
+module _ {A : Type 0} (tests : List (List ℕ)) (test : List ℕ) (before after : File A) (was : IsSettledBut (tests ++ test ∷ []) before) where
   others_stay : (pair : Vec ℕ A × Test A) → IsSettledTest (tests ++ test ∷ []) pair → (pair.0.items ≡ test → ⊥) → IsSettledTest tests pair
   others_stay pair settled apart = λ e. settled (not_among pair.0.items test tests (λ same. apart (sym same)) e)
 
   pub settled_found : (v w : Test A) → IsStrictlySortedBy (λ (a b : Vec ℕ A). slice_cmp nat_cmp a.items b.items) (keys_of before.tests.entries)
       → after.tests.entries ≡ set_value (λ (k : Vec ℕ A). is_eq (slice_cmp nat_cmp test k.items)) before.tests.entries w
-      → lookup (λ (k : Vec ℕ A). is_eq (slice_cmp nat_cmp test k.items)) before.tests.entries ≡ Some v → test_staged w ≡ test_committed w → IsSettledBut tests after
-  settled_found v w sorted written found settled = record {
-    index = index;
+      → lookup (λ (k : Vec ℕ A). is_eq (slice_cmp nat_cmp test k.items)) before.tests.entries ≡ Some v → test_staged w ≡ test_committed w
+      → index_staged after.index ≡ index_committed after.index → IsSettledBut tests after
+  settled_found v w sorted written found settled index = record {
+    index = λ all. index;
     points = subst (AllByRecursion (IsSettledTest tests)) (sym written)
         (All-written (λ (k : Vec ℕ A). k.items) test (IsSettledTest (tests ++ test ∷ [])) (IsSettledTest tests) v w before.tests.entries sorted found
         (λ k old same. λ e. settled) others_stay was.points);
   }
 
-  pub settled_unfound : lookup (λ (k : Vec ℕ A). is_eq (slice_cmp nat_cmp test k.items)) before.tests.entries ≡ None → after.tests.entries ≡ before.tests.entries → IsSettledBut tests after
-  settled_unfound none same = record {
-    index = index;
+  pub settled_unfound : lookup (λ (k : Vec ℕ A). is_eq (slice_cmp nat_cmp test k.items)) before.tests.entries ≡ None → after.tests.entries ≡ before.tests.entries → after.index ≡ before.index
+      → IsSettledBut tests after
+  settled_unfound none same index = record {
+    index = λ all.
+        ap index_staged index
+        ∙ was.index
+        (All-unfound (λ (k : Vec ℕ A). k.items) test (λ (pair : Vec ℕ A × Test A). among pair.0.items tests ≡ false) (λ (pair : Vec ℕ A × Test A). among pair.0.items (tests ++ test ∷ []) ≡ false) before.tests.entries none
+        (λ pair e apart. not_among pair.0.items test tests (λ is. apart (sym is)) e)
+        (subst (AllByRecursion (λ (pair : Vec ℕ A × Test A). among pair.0.items tests ≡ false)) same all))
+        ∙ sym (ap index_committed index);
     points = subst (AllByRecursion (IsSettledTest tests)) (sym same)
         (All-unfound (λ (k : Vec ℕ A). k.items) test (IsSettledTest (tests ++ test ∷ [])) (IsSettledTest tests) before.tests.entries none others_stay was.points);
   }
@@ -158,7 +160,7 @@ test_settled (pair ∷ pairs) all =
     ∙ ap (λ (rest : List (List ℕ × TestData)). (pair.0.items, test_committed pair.1) ∷ rest) (test_settled pairs all.1)
 
 file_settled : {A : Type 0} (file : File A) → IsSettledBut [] file → file_staged file ≡ file_committed file
-file_settled file settled = same_file (test_settled file.tests.entries settled.points) (settled.index refl)
+file_settled {A} file settled = same_file (test_settled file.tests.entries settled.points) (settled.index (All-from (λ (pair : Vec ℕ A × Test A). among pair.0.items [] ≡ false) file.tests.entries (λ pair i. refl)))
 
 pub all_settled : {A : Type 0} (pairs : List (Vec ℕ A × File A)) → AreSettledBut file_name [] pairs → files_staged file_name pairs ≡ files_committed file_name pairs
 all_settled [] all = refl
@@ -182,12 +184,10 @@ among_fewer name last tests e = or_false_left (among name tests) (among name (la
 test_with_more : {A : Type 0} (last : List ℕ) (tests : List (List ℕ)) (pairs : List (Vec ℕ A × Test A)) → AllByRecursion (IsSettledTest tests) pairs → AllByRecursion (IsSettledTest (tests ++ last ∷ [])) pairs
 test_with_more {A} last tests pairs all = All-weaker (IsSettledTest tests) (IsSettledTest (tests ++ last ∷ [])) pairs (λ pair settled e. settled (among_fewer pair.0.items last tests e)) all
 
-not_empty : {X : Type 0} (xs : List X) (x : X) → xs ++ x ∷ [] ≡ [] → ⊥
-not_empty xs x e = let lengths = ap length e in omega (arith, lengths, length_push xs x)
-
 file_with_more : {A : Type 0} (last : List ℕ) (tests : List (List ℕ)) (file : File A) → IsSettledBut tests file → IsSettledBut (tests ++ last ∷ []) file
-file_with_more last tests file settled = record {
-  index = λ e. absurd (not_empty tests last e);
+file_with_more {A} last tests file settled = record {
+  index = λ all. settled.index
+      (All-weaker (λ (pair : Vec ℕ A × Test A). among pair.0.items (tests ++ last ∷ []) ≡ false) (λ (pair : Vec ℕ A × Test A). among pair.0.items tests ≡ false) file.tests.entries (λ pair e. among_fewer pair.0.items last tests e) all);
   points = test_with_more last tests file.tests.entries settled.points;
 }
 

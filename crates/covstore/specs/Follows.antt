@@ -33,18 +33,6 @@ pub record StillFollows {A : Type 0} (before : FileIndex A) (test : Test A) (aft
   pub follows : Follows test after
   pub counts : CountsAll before → CountsAll after
 
--- the index follows the same points as before
-pub record FollowsTheSame {A : Type 0} (before after : FileIndex A) : Type 0 where
-  pub lines : after.lines.follows ≡ before.lines.follows
-  pub functions : after.functions.follows ≡ before.functions.follows
-  pub branches : after.branches.follows ≡ before.branches.follows
-
--- nothing is staged in the test that the index follows
-pub record FollowsSettled {A : Type 0} (index : FileIndex A) : Type 0 where
-  pub lines : IfSome index.lines.follows (λ seen. seen.staged ≡ seen.committed)
-  pub functions : IfSome index.functions.follows (λ seen. seen.staged ≡ seen.committed)
-  pub branches : IfSome index.branches.follows (λ seen. seen.staged ≡ seen.committed)
-
 -- a test without points
 abbrev pub no_test : {A : Type 0} → Test A
 no_test = record { lines = no_points; functions = no_points; branches = no_points }

@@ -1,5 +1,5 @@
 -- The store's maps, seen as plain data; what always holds for them; and which tests have something staged.
-use Rattle.std.specs.Prelude.{◌≡◌, ℕ, ◌≤◌, false, List, [], length, map, filter}
+use Rattle.std.specs.Prelude.{◌≡◌, ℕ, ◌≤◌, false, List, length, map, filter}
 use Rattle.std.specs.List.{AllByRecursion, list_any}
 use Rattle.std.specs.Str.{bytes_eq}
 use Rattle.covdata.specs.Lawful.{max_items}
@@ -41,10 +41,14 @@ touched_data touched = map (λ t. (t.file.items, t.test.items)) touched
 abbrev pub tests_of : List ℕ → List (List ℕ × List ℕ) → List (List ℕ)
 tests_of file touched = map (λ t. t.1) (filter (λ t. bytes_eq t.0 file) touched)
 
--- nothing is staged in the file's tests, except in those that `tests` names. If `tests` is empty, nothing is staged in the file's
--- index either
+-- `tests` names none of the file's tests
+abbrev pub AreUntouched : {A : Type 0} → List (List ℕ) → File A → Type 0
+AreUntouched tests file = AllByRecursion (λ pair. list_any (λ test. bytes_eq test pair.0.items) tests ≡ false) file.tests.entries
+
+-- nothing is staged in the file's tests, except in those that `tests` names. If it names none of them, nothing is staged in the
+-- file's index either
 pub record IsSettledBut {A : Type 0} (tests : List (List ℕ)) (file : File A) : Type 0 where
-  pub index : tests ≡ [] → index_staged file.index ≡ index_committed file.index
+  pub index : AreUntouched tests file → index_staged file.index ≡ index_committed file.index
   pub points : AllByRecursion (λ pair. list_any (λ test. bytes_eq test pair.0.items) tests ≡ false → test_staged pair.1 ≡ test_committed pair.1) file.tests.entries
 
 -- nothing is staged in the files, except in the tests that `touched` lists

@@ -1,6 +1,6 @@
 //! A file of the store: its tests, and its index.
 
-ghost use Rattle.std.specs.Prelude.{◌≡◌, ℕ, List, [], ◌∷◌, ◌++◌, map, IfErr, IfOk, OnErr, OnOk};
+ghost use Rattle.std.specs.Prelude.{◌≡◌, ℕ, List, [], ◌∷◌, ◌++◌, IfErr, IfOk, OnErr, OnOk};
 
 use crate::boxed::Boxed;
 use crate::content::FileSections;
@@ -222,13 +222,12 @@ impl<A: Allocator + Copy> File<A> {
         added
     }
 
-    /// Commits the staged values of `test` and of the file's index.
+    /// Commits the staged values of `test` and of the file's index, if the file has the test.
     pub(crate) fn commit(&mut self, test: &[u8])
         ensures staged { file_staged self.new ≡ file_staged self.old }
         ensures settled { (tests : List (List ℕ)) → IsSettledBut (tests ++ test.now ∷ []) self.old → IsSettledBut tests self.new }
     {
         let Some(points) = self.tests.get_mut(test) else {
-            self.index.commit_counts();
             return;
         };
         let points = points.get_mut();
@@ -236,13 +235,12 @@ impl<A: Allocator + Copy> File<A> {
         self.index.commit(points);
     }
 
-    /// Discards the staged values of `test` and of the file's index.
+    /// Discards the staged values of `test` and of the file's index, if the file has the test.
     pub(crate) fn rollback(&mut self, test: &[u8])
         ensures committed { file_committed self.new ≡ file_committed self.old }
         ensures settled { (tests : List (List ℕ)) → IsSettledBut (tests ++ test.now ∷ []) self.old → IsSettledBut tests self.new }
     {
         let Some(points) = self.tests.get_mut(test) else {
-            self.index.rollback_counts();
             return;
         };
         let points = points.get_mut();

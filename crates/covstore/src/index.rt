@@ -36,7 +36,7 @@ impl<A: Allocator + Copy> FileIndex<A> {
     ghost use Rattle.covstore.specs.FileIndex.{FileIndexData, index_totals};
     ghost use Rattle.covstore.specs.Sums.{TestData};
     ghost use Rattle.covstore.specs.TestView.{test_committed};
-    ghost use Rattle.covstore.specs.Follows.{CountsAll, Follows, FollowsCommitted, FollowsRolledBack, FollowsSettled, FollowsTheSame, StillFollows, no_test};
+    ghost use Rattle.covstore.specs.Follows.{CountsAll, Follows, FollowsCommitted, FollowsRolledBack, StillFollows, no_test};
 
     /// The index of a file without tests.
     pub(crate) fn new() -> FileIndex<A>
@@ -92,30 +92,6 @@ impl<A: Allocator + Copy> FileIndex<A> {
         self.lines.rollback(&test.lines);
         self.functions.rollback(&test.functions);
         self.branches.rollback(&test.branches);
-        self.checksums.rollback();
-    }
-
-    /// Commits the staged checksums. For each kind of points whose counts don't follow a test, also commits the staged counts.
-    pub(crate) fn commit_counts(&mut self)
-        ensures staged { index_staged self.new ≡ index_staged self.old }
-        ensures same { FollowsTheSame self.old self.new }
-        ensures settled { FollowsSettled self.old → index_staged self.new ≡ index_committed self.new }
-    {
-        self.lines.commit_counts();
-        self.functions.commit_counts();
-        self.branches.commit_counts();
-        self.checksums.commit();
-    }
-
-    /// Discards the staged checksums. For each kind of points whose counts don't follow a test, also discards the staged counts.
-    pub(crate) fn rollback_counts(&mut self)
-        ensures committed { index_committed self.new ≡ index_committed self.old }
-        ensures same { FollowsTheSame self.old self.new }
-        ensures settled { FollowsSettled self.old → index_staged self.new ≡ index_committed self.new }
-    {
-        self.lines.rollback_counts();
-        self.functions.rollback_counts();
-        self.branches.rollback_counts();
         self.checksums.rollback();
     }
 

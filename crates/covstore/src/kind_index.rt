@@ -100,28 +100,6 @@ impl<K: Key + Drop, S: PointSum, A: Allocator + Copy> KindIndex<K, S, A> {
             Counts::OfTests(counts) => counts.get_mut().rollback(),
         }
     }
-
-    /// Commits the staged values, unless the counts follow a test.
-    pub(crate) fn commit_counts(&mut self)
-        ensures staged { self.new.staged ≡ self.old.staged }
-        ensures same { self.new.follows ≡ self.old.follows }
-        ensures settled { IfSome self.old.follows (λ seen. seen.staged ≡ seen.committed) → self.new.staged ≡ self.new.committed }
-    {
-        if let Counts::OfTests(counts) = &mut self.counts {
-            counts.get_mut().commit();
-        }
-    }
-
-    /// Discards the staged values, unless the counts follow a test.
-    pub(crate) fn rollback_counts(&mut self)
-        ensures committed { self.new.committed ≡ self.old.committed }
-        ensures same { self.new.follows ≡ self.old.follows }
-        ensures settled { IfSome self.old.follows (λ seen. seen.staged ≡ seen.committed) → self.new.staged ≡ self.new.committed }
-    {
-        if let Counts::OfTests(counts) = &mut self.counts {
-            counts.get_mut().rollback();
-        }
-    }
 }
 
 impl<K: CopyKey<A> + Drop, S: PointSum, A: Allocator + Copy> KindIndex<K, S, A> {

@@ -1,12 +1,11 @@
-use Rattle.std.proofs.Common.{ℕ, Some, [], ◌∷◌, ◌++◌, sym, ap, ◌∙◌, subst, Vec, BTreeMap}
+use Rattle.std.proofs.Common.{Some, [], ◌∷◌, ◌++◌, refl, sym, ap, ◌∙◌, subst}
 use Rattle.covstore.specs.declared.file.File.{File}
 use Rattle.covstore.specs.FileParts.{FileTests}
-use Rattle.covstore.specs.declared.test.Test.{Test}
 use Rattle.covstore.specs.StoreView.{IsSettledBut}
 use Rattle.covstore.specs.TestView.{test_staged}
-use Rattle.covstore.proofs.FollowsSole.{sole_settled, sole_written}
+use Rattle.covstore.proofs.FollowsSole.{sole_written}
 use Rattle.covstore.proofs.MapNames.{has_name}
-use Rattle.covstore.proofs.Settled.{all_unfound, file_name, same_file, settled_found, settled_unfound, tests_written}
+use Rattle.covstore.proofs.Settled.{file_name, same_file, settled_found, settled_unfound, tests_written}
 use Rattle.covstore.proofs.file.File.commit.Goals as goal
 
 -- the file doesn't have the test
@@ -14,12 +13,9 @@ use Rattle.covstore.proofs.file.File.commit.Goals as goal
 pub returns-in_default-clause-settled : goal.returns-in_default-clause-settled
 returns-in_default-clause-settled g c = λ tests was.
     let file : File g.row.A.Denot = record { tests = record { entries = c.self.inside.tests.entries }; index = c.self.inside.index } in
-    let later : File g.row.A.Denot = record { tests = record { entries = c.get_mut.follows.lender-at-none.entries }; index = c.commit_counts.new.self } in
+    let later : File g.row.A.Denot = record { tests = record { entries = c.get_mut.follows.lender-at-none.entries }; index = c.self.inside.index } in
     let settled = subst (λ (f : File g.row.A.Denot). IsSettledBut (tests ++ c.args.test.now ∷ []) f) (sym c.self.view_is) was in
-    let none = sym c.in_default.ensures.value in
-    settled_unfound tests c.args.test.now file later settled
-    (λ all. c.commit_counts.ensures.settled (sole_settled c.self.inside.tests.entries c.self.inside.index (all_unfound tests c.args.test.now file settled all none) c.self.invariant))
-    none (ap (λ (m : FileTests g.row.A.Denot). m.entries) c.get_mut.follows.holds-at-none)
+    settled_unfound tests c.args.test.now file later settled (sym c.in_default.ensures.value) (ap (λ (m : FileTests g.row.A.Denot). m.entries) c.get_mut.follows.holds-at-none) refl
 
 -- the file has the test
 
@@ -42,5 +38,5 @@ returns-clause-settled g c = λ tests was.
     let file : File g.row.A.Denot = record { tests = record { entries = c.self.inside.tests.entries }; index = c.self.inside.index } in
     let later : File g.row.A.Denot = record { tests = record { entries = (c.get_mut.follows.lender c.commit.new.self).entries }; index = c.commit-2.new.self } in
     let settled = subst (λ (f : File g.row.A.Denot). IsSettledBut (tests ++ c.args.test.now ∷ []) f) (sym c.self.view_is) was in
-    settled_found tests c.args.test.now file later settled (λ all. c.commit-2.ensures.staged ∙ sym c.commit-2.ensures.committed) c.get_mut-points.result.now c.commit.new.self c.get_mut.ensures.ordered (c.get_mut.follows.holds c.commit.new.self)
-    (sym c.in-Some.ensures.value ∙ ap Some (sym c.get_mut-points.ensures.value)) (c.commit.ensures.staged ∙ sym c.commit.ensures.committed)
+    settled_found tests c.args.test.now file later settled c.get_mut-points.result.now c.commit.new.self c.get_mut.ensures.ordered (c.get_mut.follows.holds c.commit.new.self)
+    (sym c.in-Some.ensures.value ∙ ap Some (sym c.get_mut-points.ensures.value)) (c.commit.ensures.staged ∙ sym c.commit.ensures.committed) (c.commit-2.ensures.staged ∙ sym c.commit-2.ensures.committed)

@@ -135,5 +135,5 @@ returns-clause-settled g c = λ tests among settled.
     let file : File g.row.A.Denot = record { tests = record { entries = c.self.inside.tests.entries }; index = c.self.inside.index } in
     let middle : File g.row.A.Denot = record { tests = record { entries = (c.get_mut.follows.lender empty).entries }; index = c.stage_points-added.new.index } in
     let after : File g.row.A.Denot = record { tests = record { entries = (c.get_mut-3.follows.lender points).entries }; index = c.stage_points-added.new.index } in
-    test_settled tests new among middle after points (c.get_mut-3.follows.holds points)
-    (test_settled tests new among file middle empty (c.get_mut.follows.holds empty) (subst (λ (f : File g.row.A.Denot). IsSettledBut tests f) (sym c.self.view_is) settled))
+    test_settled tests new among middle after c.in-Some-get_mut.place.now points (sym c.in-Some-get_mut.ensures.value) (c.get_mut-3.follows.holds points)
+    (test_settled tests new among file middle c.replace-points.result empty (sym c.in-Some.ensures.value ∙ ap Some (sym c.replace-points.ensures.value)) (c.get_mut.follows.holds empty) (subst (λ (f : File g.row.A.Denot). IsSettledBut tests f) (sym c.self.view_is) settled))

@@ -1,4 +1,4 @@
-use Rattle.std.proofs.Common.{◌≡◌, ℕ, ◌≤◌, ◌^◌, true, List, Some, length, map, sym, ap, ◌∙◌, subst, arith}
+use Rattle.std.proofs.Common.{◌≡◌, ℕ, ◌≤◌, ◌^◌, true, List, Some, length, sym, ap, ◌∙◌, subst, arith}
 use Rattle.std.specs.Cmp.Lexicographic.{slice_cmp}
 use Rattle.std.specs.Option.{is_some}
 use Rattle.std.specs.Ordering.{nat_cmp}
@@ -97,4 +97,4 @@ returns-clause-settled g c = λ tests among settled.
     let after = c.stage_items.new.test in
     let file : File g.row.A.Denot = record { tests = record { entries = c.self.inside.tests.entries }; index = c.self.inside.index } in
     let later : File g.row.A.Denot = record { tests = record { entries = (c.get_mut.follows.lender after).entries }; index = c.stage_items.new.index } in
-    test_settled tests c.args.test.now among file later after (c.get_mut.follows.holds after) (subst (λ (f : File g.row.A.Denot). IsSettledBut tests f) (sym c.self.view_is) settled)
+    test_settled tests c.args.test.now among file later c.get_mut-2.result.now after (sym c.in-Some.ensures.value ∙ ap Some (sym c.get_mut-2.ensures.value)) (c.get_mut.follows.holds after) (subst (λ (f : File g.row.A.Denot). IsSettledBut tests f) (sym c.self.view_is) settled)

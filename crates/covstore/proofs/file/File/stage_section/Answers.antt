@@ -1,4 +1,4 @@
-use Rattle.std.proofs.Common.{map, subst}
+use Rattle.std.proofs.Common.{subst}
 use Rattle.covstore.specs.FileSection.{ClashesIn}
 use Rattle.covstore.specs.FileView.{file_staged}
 use Rattle.covstore.proofs.file.File.stage_section.Goals as goal
