@@ -1,4 +1,4 @@
-use Rattle.std.proofs.Common.{get_or, sym, ap, ◌∙◌}
+use Rattle.std.proofs.Common.{sym, ap, ◌∙◌}
 use Rattle.std.specs.Prelude.{option_map}
 use Rattle.covpacked.specs.ItemRefs.{item_ref_data}
 use Rattle.covstore.specs.RunsView.{runs_seen}

@@ -1,4 +1,4 @@
-use Rattle.std.proofs.Common.{◌≡◌, ◌<◌, ap, arith, length, sym, ◌∙◌}
+use Rattle.std.proofs.Common.{◌<◌, ap, arith, length, sym, ◌∙◌}
 use Rattle.std.specs.Prelude.{option_map}
 use Rattle.covpacked.specs.ItemRefs.{item_ref_data}
 use Rattle.covstore.specs.Order.{at_spots}

@@ -1,4 +1,4 @@
-use Rattle.std.proofs.Common.{ℕ, List, [], ◌∷◌, ◌++◌, map, sym, ap, ◌∙◌, subst}
+use Rattle.std.proofs.Common.{ℕ, List, [], ◌∷◌, ◌++◌, sym, ap, ◌∙◌, subst}
 use Rattle.std.proofs.lemmas.Result.{err_from_is_err_and}
 use Rattle.covstore.specs.Store.{AddsTo, ClashesAmong, SameCommitted, StoreData}
 use Rattle.covstore.specs.StoreSection.{HasRoomAmong, rows_of_items}
