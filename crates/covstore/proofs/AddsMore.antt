@@ -9,12 +9,14 @@ use Rattle.std.proofs.lemmas.List.{append-nil, map-append}
 use Rattle.std.proofs.lemmas.List.Concat.{flat_map-append}
 use Rattle.std.proofs.lemmas.Slice.Eq.{bytes_eq-Decides}
 use Rattle.covdata.specs.Row.{ItemData, LineItem, FuncItem, BranchItem, Row, rows_of_sect}
-use Rattle.covstore.specs.Section.{Adds, ClashesAt, IsIn, clash_in_file, files_with, section_of_items}
+use Rattle.covstore.specs.Section.{Adds, Clashes, ClashesAt, IsIn, clash_in_file, files_with, section_of_items}
 use Rattle.covtable.specs.Clash.{Agree, Checksum, checksum_of_row, checksums_in, clash_of, differs, first_clash}
 use Rattle.covstore.specs.FileIndex.{FileIndexData}
 use Rattle.covmap.specs.Puts.{put}
 use Rattle.covstore.specs.State.{FileData, file_with}
-use Rattle.covstore.specs.Items.{IsClashAt, IsOtherText}
+use Rattle.covstore.specs.declared.stage.fault.StageFault.{StageFault}
+use Rattle.covstore.specs.declared.stage.fault.StageFault.TheVariants.{Clash, Memory}
+use Rattle.covstore.specs.Items.{IsClashAt, IsClashOf, IsOtherText}
 use Rattle.covstore.specs.Sums.{TestData}
 use Rattle.covstore.proofs.AddsLists.{clash_before, clash_after, put_there, put_twice}
 use Rattle.covstore.proofs.AddsPlace.{held_text, its_whole}
@@ -136,3 +138,7 @@ item_clashes (LineItem line count (Some checksum)) test index told held given cl
 item_clashes (LineItem line count None) test index told held given clash rows files file name tests is = absurd clash
 item_clashes (FuncItem function line count) test index told held given clash rows files file name tests is = absurd clash
 item_clashes (BranchItem line block branch taken) test index told held given clash rows files file name tests is = absurd clash
+
+pub one_clashes : {A : Type 0} (item : ItemData) (test : TestData) (index : FileIndexData) (stop : StageFault A) → IsClashOf item index stop → Clashes (item ∷ []) test index stop
+one_clashes item test index Memory clash = tt
+one_clashes item test index (Clash line held given) clash = item_clashes item test index line held given clash

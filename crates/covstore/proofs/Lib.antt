@@ -40,7 +40,6 @@ pub mod StateFiles
 pub mod StateTotals
 pub mod FilesTotals
 pub mod AddsLists
-pub mod AddsLoop
 pub mod AddsPlace
 pub mod AddsItem
 pub mod AddsMore

@@ -1,9 +1,9 @@
 -- A rename is prepared: the old test's values are copied file by file, until all are copied.
-use Rattle.std.proofs.Common.{◌≡◌, ℕ, ◌+◌, ◌*◌, ◌≤◌, ◌^◌, Bool, true, false, cond, not, Option, Some, List, [], ◌∷◌, ◌++◌, length, filter, refl, sym, ap, ◌∙◌, subst, append_assoc, inl, inr, arith}
+use Rattle.std.proofs.Common.{◌≡◌, ℕ, ◌+◌, ◌*◌, ◌<◌, ◌≤◌, ◌^◌, Bool, true, false, cond, not, Option, Some, List, [], ◌∷◌, ◌++◌, drop, get_or, length, filter, map, take, refl, sym, ap, ◌∙◌, subst, append_assoc, inl, inr, arith}
 use Rattle.std.specs.Cmp.Lexicographic.{slice_cmp}
 use Rattle.std.specs.Ordering.{nat_cmp}
 use Rattle.std.specs.Str.{bytes_eq}
-use Rattle.std.proofs.lemmas.List.{append-nil}
+use Rattle.std.proofs.lemmas.List.{append-nil, drop_more, map_more}
 use Rattle.std.proofs.lemmas.List.Concat.{flat_map-append}
 use Rattle.covdata.specs.Row.{ItemData, Row}
 use Rattle.covtable.specs.declared.totals.Totals.{Totals}
@@ -151,3 +151,12 @@ module _ (old new : List ℕ) (apart : old ≡ new → ⊥) (some : List (List �
         apart = apart;
         moves = λ rows committed. moved_too old new copied.rows rows now.committed (copied.committed.committed.states copied.rows copied.first) committed now.staged state;
       }
+
+-- ---- files left and copied, by the index of the next one
+
+module _ {D E : Type 0} (f : D → E) (items : List D) (i : ℕ) (d : D) (within : i < length items) (is : d ≡ get_or items i d) where
+  pub left_at : map f (drop i items) ≡ f d ∷ map f (drop (i + 1) items)
+  left_at = ap (map f) (drop_more items i d within) ∙ ap (λ (x : D). f x ∷ map f (drop (i + 1) items)) (sym is)
+
+  pub taken_at : map f (take (i + 1) items) ≡ map f (take i items) ++ f d ∷ []
+  taken_at = map_more f items i d within ∙ ap (λ (x : D). map f (take i items) ++ f x ∷ []) (sym is)

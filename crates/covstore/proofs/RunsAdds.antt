@@ -15,10 +15,13 @@ use Rattle.covstore.specs.Runs.{HasRoomForRuns, KeepsCountsOfKinds, KeepsHeld, R
 use Rattle.covstore.specs.Section.{Adds, Clashes, ClashesAt, HasRoomFor}
 use Rattle.covstore.specs.Sums.{TestData}
 use Rattle.covstore.proofs.AddsItem.{items_add}
-use Rattle.covstore.proofs.AddsMore.{clash_front, clash_later}
+use Rattle.covstore.proofs.AddsMore.{adds_more, adds_none, clash_front, clash_later}
 use Rattle.covtable.proofs.Members.{Contains-from, In, In-joined}
-use Rattle.covstore.proofs.AddsLoop.{HasTaken, none_taken, some_have_room, some_taken}
+use Rattle.covstore.proofs.AddsRoom.{room_later, room_of_some}
+use Rattle.covstore.proofs.FollowsSteps.{follows_both}
+use Rattle.covstore.proofs.StepsMore.{held_both}
 use Rattle.covstore.specs.FileIndexView.{KeepsCommitted, index_staged}
+use Rattle.covstore.specs.Follows.{Follows, StillFollows}
 use Rattle.covstore.specs.TestView.{test_staged, test_committed}
 use Rattle.covstore.specs.declared.index.FileIndex.{FileIndex}
 use Rattle.covstore.specs.declared.stage.fault.StageFault.{StageFault}
@@ -57,32 +60,40 @@ all_plain items others there plain item i = All-contains HasNoChecksum items ite
 
 -- ---- some items at a time
 
--- this part of a list is left, and the items of everything before it are staged
+-- this part of a list is left, and there is room for its items. Those of everything before it are staged
 pub record HasTakenTo {A X : Type 0} (say : List X → List ItemData) (all left : List X) (test : Test A) (index : FileIndex A) (test_now : Test A) (index_now : FileIndex A) : Type 0 where
   pub taken : List X
   pub parts : all ≡ taken ++ left
-  pub so_far : HasTaken (say taken) (say left) test index test_now index_now
+  pub adds : Adds (say taken) (test_staged test) (index_staged index) (test_staged test_now) (index_staged index_now)
+  pub room : HasRoomFor (say left) (test_staged test_now) (index_staged index_now)
+  pub same_test : test_committed test_now ≡ test_committed test
+  pub same_index : KeepsCommitted index index_now
+  pub follows : StillFollows index test_now index_now
 
 module _ {A X : Type 0} (say : List X → List ItemData) (joins : (xs ys : List X) → say (xs ++ ys) ≡ say xs ++ say ys) (all : List X) (test : Test A) (index : FileIndex A) where
-  pub none_to : say [] ≡ [] → HasRoomFor (say all) (test_staged test) (index_staged index) → HasTakenTo say all all test index test index
-  none_to nothing room = record {
+  pub none_to : say [] ≡ [] → HasRoomFor (say all) (test_staged test) (index_staged index) → Follows test index → (left : List X) → left ≡ all → HasTakenTo say all left test index test index
+  none_to nothing room follows left same = record {
     taken = [];
-    parts = refl;
-    so_far = subst (λ (some : List ItemData). HasTaken some (say all) test index test index) (sym nothing) (none_taken (say all) test index room);
+    parts = sym same;
+    adds = subst (λ (some : List ItemData). Adds some (test_staged test) (index_staged index) (test_staged test) (index_staged index)) (sym nothing) (adds_none (test_staged test) (index_staged index));
+    room = subst (λ (xs : List X). HasRoomFor (say xs) (test_staged test) (index_staged index)) (sym same) room;
+    same_test = refl;
+    same_index = record { counts = refl; holders = refl; texts = λ line committed. refl };
+    follows = record { follows = follows; counts = λ counts. counts };
   }
 
   pub taken_to_end : (left : List X) (test_now : Test A) (index_now : FileIndex A) → length left ≡ 0 → HasTakenTo say all left test index test_now index_now
       → Adds (say all) (test_staged test) (index_staged index) (test_staged test_now) (index_staged index_now)
   taken_to_end left test_now index_now none is =
       let same : is.taken ≡ all = sym (is.parts ∙ ap (λ (xs : List X). is.taken ++ xs) (nil_from_length left none) ∙ append-nil is.taken) in
-      subst (λ (xs : List X). Adds (say xs) (test_staged test) (index_staged index) (test_staged test_now) (index_staged index_now)) same is.so_far.adds
+      subst (λ (xs : List X). Adds (say xs) (test_staged test) (index_staged index) (test_staged test_now) (index_staged index_now)) same is.adds
 
   module _ (left some later : List X) (cut : left ≡ some ++ later) (test_now : Test A) (index_now : FileIndex A) (is : HasTakenTo say all left test index test_now index_now) where
-    before_some : HasTaken (say is.taken) (say some ++ say later) test index test_now index_now
-    before_some = subst (λ (items : List ItemData). HasTaken (say is.taken) items test index test_now index_now) (ap say cut ∙ joins some later) is.so_far
+    both_have_room : HasRoomFor (say some ++ say later) (test_staged test_now) (index_staged index_now)
+    both_have_room = subst (λ (items : List ItemData). HasRoomFor items (test_staged test_now) (index_staged index_now)) (ap say cut ∙ joins some later) is.room
 
     pub next_have_room : HasRoomFor (say some) (test_staged test_now) (index_staged index_now)
-    next_have_room = some_have_room (say is.taken) (say some) (say later) test index test_now index_now before_some
+    next_have_room = room_of_some (say some) (say later) (test_staged test_now) (index_staged index_now) both_have_room
 
     all_parts : all ≡ (is.taken ++ some) ++ later
     all_parts = is.parts ∙ ap (λ (xs : List X). is.taken ++ xs) cut ∙ sym (append_assoc is.taken some later)
@@ -90,13 +101,17 @@ module _ {A X : Type 0} (say : List X → List ItemData) (joins : (xs ys : List 
     all_said : say all ≡ (say is.taken ++ say some) ++ say later
     all_said = ap say all_parts ∙ joins (is.taken ++ some) later ∙ ap (λ (items : List ItemData). items ++ say later) (joins is.taken some)
 
-    pub next_added : (test_later : Test A) (index_later : FileIndex A) → test_committed test_later ≡ test_committed test_now → KeepsCommitted index_now index_later
+    pub next_added : (test_later : Test A) (index_later : FileIndex A) → test_committed test_later ≡ test_committed test_now → KeepsCommitted index_now index_later → StillFollows index_now test_later index_later
         → Adds (say some) (test_staged test_now) (index_staged index_now) (test_staged test_later) (index_staged index_later) → HasTakenTo say all later test index test_later index_later
-    next_added test_later index_later same keeps adds = record {
+    next_added test_later index_later same keeps follows adds = record {
       taken = is.taken ++ some;
       parts = all_parts;
-      so_far = subst (λ (items : List ItemData). HasTaken items (say later) test index test_later index_later) (sym (joins is.taken some))
-          (some_taken (say is.taken) (say some) (say later) test index test_now index_now before_some test_later index_later same keeps adds);
+      adds = subst (λ (items : List ItemData). Adds items (test_staged test) (index_staged index) (test_staged test_later) (index_staged index_later)) (sym (joins is.taken some))
+          (adds_more (say is.taken) (say some) (test_staged test) (test_staged test_now) (test_staged test_later) (index_staged index) (index_staged index_now) (index_staged index_later) is.adds adds);
+      room = room_later (say some) (say later) (test_staged test_now) (index_staged index_now) both_have_room (test_staged test_later) (index_staged index_later) adds;
+      same_test = same ∙ is.same_test;
+      same_index = held_both index index_now index_later is.same_index keeps;
+      follows = follows_both index index_now index_later test_now test_later is.follows follows;
     }
 
     -- a clash of the next items is the clash of all
@@ -105,7 +120,7 @@ module _ {A X : Type 0} (say : List X → List ItemData) (joins : (xs ys : List 
     next_clash (Clash line held given) clash =
         subst (λ (items : List ItemData). ClashesAt items (test_staged test) (index_staged index) line held given) (sym all_said)
         (clash_front (say is.taken ++ say some) (say later) (test_staged test) (index_staged index) line held given
-        (clash_later (say is.taken) (say some) (test_staged test) (test_staged test_now) (index_staged index) (index_staged index_now) line held given is.so_far.adds clash))
+        (clash_later (say is.taken) (say some) (test_staged test) (test_staged test_now) (index_staged index) (index_staged index_now) line held given is.adds clash))
 
     -- an item of the next ones is one of all
     said : (item : ItemData) → In item (say some) → In item (say all)
@@ -116,8 +131,9 @@ module _ {A X : Type 0} (say : List X → List ItemData) (joins : (xs ys : List 
       next_runs_have_room = room_of_runs (say some) runs are (test_staged test_now) (index_staged index_now) next_have_room
 
       pub next_taken : ((item : ItemData) → In item (say all) → HasNoChecksum item) → (test_later : Test A) (index_later : FileIndex A) → test_committed test_later ≡ test_committed test_now → KeepsCommitted index_now index_later
-          → test_staged test_later ≡ with_runs runs (test_staged test_now) → KeepsCountsOfKinds (test_staged test_now) (test_staged test_later) (index_staged index_now) (index_staged index_later)
-          → KeepsHeld (index_staged index_now) (index_staged index_later) → HasTakenTo say all later test index test_later index_later
-      next_taken plain test_later index_later same keeps more counts held =
-          next_added test_later index_later same keeps
+          → StillFollows index_now test_later index_later → test_staged test_later ≡ with_runs runs (test_staged test_now)
+          → KeepsCountsOfKinds (test_staged test_now) (test_staged test_later) (index_staged index_now) (index_staged index_later) → KeepsHeld (index_staged index_now) (index_staged index_later)
+          → HasTakenTo say all later test index test_later index_later
+      next_taken plain test_later index_later same keeps follows more counts held =
+          next_added test_later index_later same keeps follows
           (runs_add (say some) runs are (test_staged test_now) (index_staged index_now) (λ item i. plain item (said item i)) (test_staged test_later) (index_staged index_later) more counts held)

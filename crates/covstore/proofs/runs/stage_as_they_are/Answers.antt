@@ -1,50 +1,43 @@
-use Rattle.std.proofs.Common.{map, refl, sym, ap, ◌∙◌, subst}
+use Rattle.std.proofs.Common.{refl}
 use Rattle.covstore.proofs.Parted.{none_left, parted}
 use Rattle.covstore.proofs.RunsAdds.{all_plain}
 use Rattle.covstore.specs.RunsView.{runs_seen}
-use Rattle.covstore.proofs.RunsAdds.{HasTakenTo, next_runs_have_room, next_taken, none_to, taken_to_end}
+use Rattle.covstore.proofs.RunsAdds.{next_runs_have_room, next_taken, none_to, taken_to_end}
 use Rattle.covstore.proofs.StepsMore.{held_both}
-use Rattle.covstore.proofs.FollowsSteps.{follows_both, follows_first}
+use Rattle.covstore.proofs.FollowsSteps.{follows_both}
 use Rattle.covstore.proofs.runs.stage_as_they_are.Goals as goal
 
 pub loop-rest-init : goal.loop-rest-init
 loop-rest-init g c =
-    let items = c.args.items.now in
-    let test = c.args.test.now in
-    let index = c.args.index.now in (
-      subst (λ rest. HasTakenTo (λ xs. xs) items rest test index test index) (sym c.copy-rest.ensures) (none_to (λ xs. xs) (λ xs ys. refl) items test index refl c.requires.room),
-      follows_first c.args.test.now c.args.index.now c.requires.follows,
-    )
+    none_to (λ xs. xs) (λ xs ys. refl) c.args.items.now c.args.test.now c.args.index.now refl c.requires.room c.requires.follows _ c.copy-rest.ensures
 
 pub stage_runs-requires : goal.stage_runs-requires
 stage_runs-requires g c =
     let items = c.args.items.now in
     let l = c.loop-rest in
     record {
-      room = next_runs_have_room (λ xs. xs) (λ xs ys. refl) items c.args.test.now c.args.index.now l.rest c.split_at-some.result.0 c.split_at-some.result.1 (parted l.rest _ _ _ c.split_at-some.ensures.first c.split_at-some.ensures.others) l.test l.index l.invariant.0
+      room = next_runs_have_room (λ xs. xs) (λ xs ys. refl) items c.args.test.now c.args.index.now l.rest c.split_at-some.result.0 c.split_at-some.result.1 (parted l.rest _ _ _ c.split_at-some.ensures.first c.split_at-some.ensures.others) l.test l.index l.invariant
           (runs_seen c.in_ok-runs.runs) c.in_ok-runs.ensures;
-      follows = c.loop-rest.invariant.1.follows;
+      follows = l.invariant.follows.follows;
     }
 
 pub returns-in_err-stage_runs-clause-index_committed : goal.returns-in_err-stage_runs-clause-index_committed
-returns-in_err-stage_runs-clause-index_committed g c = held_both c.args.index.now c.loop-rest.index c.stage_runs.new.index c.loop-rest.invariant.0.so_far.same_index c.stage_runs.ensures.index_committed
+returns-in_err-stage_runs-clause-index_committed g c = held_both c.args.index.now c.loop-rest.index c.stage_runs.new.index c.loop-rest.invariant.same_index c.stage_runs.ensures.index_committed
 
 pub loop-rest-preserved : goal.loop-rest-preserved
 loop-rest-preserved g c =
     let items = c.args.items.now in
     let l = c.loop-rest in
-    let e = c.in_ok-stage_runs.ensures in (
-      next_taken (λ xs. xs) (λ xs ys. refl) items c.args.test.now c.args.index.now l.rest c.split_at-some.result.0 c.split_at-some.result.1 (parted l.rest _ _ _ c.split_at-some.ensures.first c.split_at-some.ensures.others) l.test l.index l.invariant.0
-          (runs_seen c.in_ok-runs.runs) c.in_ok-runs.ensures (all_plain items items (λ item i. i) c.requires.plain) c.stage_runs.new.test c.stage_runs.new.index c.stage_runs.ensures.test_committed c.stage_runs.ensures.index_committed e.test e.counts e.held,
-      follows_both c.args.index.now c.loop-rest.index c.stage_runs.new.index c.loop-rest.test c.stage_runs.new.test c.loop-rest.invariant.1 c.stage_runs.ensures.follows,
-    )
+    let e = c.in_ok-stage_runs.ensures in
+    next_taken (λ xs. xs) (λ xs ys. refl) items c.args.test.now c.args.index.now l.rest c.split_at-some.result.0 c.split_at-some.result.1 (parted l.rest _ _ _ c.split_at-some.ensures.first c.split_at-some.ensures.others) l.test l.index l.invariant
+    (runs_seen c.in_ok-runs.runs) c.in_ok-runs.ensures (all_plain items items (λ item i. i) c.requires.plain) c.stage_runs.new.test c.stage_runs.new.index c.stage_runs.ensures.test_committed c.stage_runs.ensures.index_committed c.stage_runs.ensures.follows e.test e.counts e.held
 
 pub returns-clause-ok : goal.returns-clause-ok
 returns-clause-ok g c =
     let items = c.args.items.now in
     let l = c.loop-rest in
-    taken_to_end (λ xs. xs) (λ xs ys. refl) items c.args.test.now c.args.index.now l.rest l.test l.index (none_left l.rest _ c.is_empty.ensures c.loop-rest-test.false) l.invariant.0
+    taken_to_end (λ xs. xs) (λ xs ys. refl) items c.args.test.now c.args.index.now l.rest l.test l.index (none_left l.rest _ c.is_empty.ensures c.loop-rest-test.false) l.invariant
 
 pub returns-in_err-stage_runs-clause-follows : goal.returns-in_err-stage_runs-clause-follows
 returns-in_err-stage_runs-clause-follows g c =
-    follows_both c.args.index.now c.loop-rest.index c.stage_runs.new.index c.loop-rest.test c.stage_runs.new.test c.loop-rest.invariant.1 c.stage_runs.ensures.follows
+    follows_both c.args.index.now c.loop-rest.index c.stage_runs.new.index c.loop-rest.test c.stage_runs.new.test c.loop-rest.invariant.follows c.stage_runs.ensures.follows
