@@ -1,29 +1,11 @@
 -- The index of a file has at most as many points of a kind as there are rows: each of these points is in some row, and the index
 -- has it once.
-use Rattle.std.proofs.Common.{◌≡◌, ℕ, ◌≤◌, Bool, Option, Some, List, [], ◌∷◌, length, filter, map, refl, sym, ap, ◌∙◌, subst, inl, inr, ⊎_elim, arith}
+use Rattle.covstore.proofs.Words.{◌≡◌, ℕ, ◌≤◌, Bool, Option, Some, List, [], ◌∷◌, length, filter, map, refl, sym, ap, ◌∙◌, subst, inl, inr, ⊎_elim, arith, slice_cmp, Ordering, Less, flat_map, nat_cmp, length-map, ItemData, Row, TestCounts, AreCounts, value_of, FileData, IsStateOf, IsConsistentFile, points_in, tests_in, TestData, sum_at, test_of, Key, has_key, items_at, KeyOf, Kind, PointsOf, SumOf, at, cmp_of, point_of, In-ascending, In-to_ascending, IsExactOrder, ascending_sorted, length-ascending, not_itself, In-flat, In-unfilter, In-unflat, In, All-in, In-unmap, names_order}
 use Rattle.std.specs.Cmp.{IsTotalOrder}
-use Rattle.std.specs.Cmp.Lexicographic.{slice_cmp}
-use Rattle.std.specs.declared.cmp.Ordering.{Ordering}
-use Rattle.std.specs.declared.cmp.Ordering.TheVariants.{Less}
-use Rattle.std.specs.List.{flat_map}
 use Rattle.std.specs.List.Sorted.{IsStrictlySortedBy}
-use Rattle.std.specs.Ordering.{nat_cmp}
-use Rattle.std.proofs.lemmas.List.{length-map}
-use Rattle.covdata.specs.Row.{ItemData, Row}
-use Rattle.covstore.specs.declared.sums.TestCounts.{TestCounts}
 use Rattle.covtable.specs.Ascending.{ascending}
-use Rattle.covstore.specs.PointIndexCounts.{AreCounts}
-use Rattle.covmap.specs.Puts.{value_of}
-use Rattle.covstore.specs.State.{FileData, IsStateOf, IsConsistentFile, points_in, tests_in}
-use Rattle.covstore.specs.Sums.{TestData, sum_at, test_of}
-use Rattle.covtable.specs.Value.{Key, has_key, items_at}
-use Rattle.covstore.specs.Kinds.{KeyOf, Kind, PointsOf, SumOf, at, cmp_of, point_of}
-use Rattle.covtable.proofs.Ascend.{In-ascending, In-to_ascending, IsExactOrder, ascending_sorted, length-ascending, not_itself}
-use Rattle.covtable.proofs.ContentsLists.{In-flat, In-unfilter, In-unflat}
 use Rattle.covstore.proofs.CountsFound.{points_kept, points_of, sorted_keys}
 use Rattle.covtable.proofs.Few.{few_parts, one_branch, one_function, one_line}
-use Rattle.covtable.proofs.Members.{In, All-in, In-unmap}
-use Rattle.covtable.proofs.Orders.{names_order}
 use Rattle.covstore.proofs.Puts.{pair_in, value_of_pair}
 use Rattle.covstore.proofs.StateSections.{points_there}
 use Rattle.covstore.proofs.EachKind.{each_kind, of_all, order_of}

@@ -1,24 +1,12 @@
 -- Items are added to a test. What this needs and does, said of the file that has the test.
-use Rattle.std.proofs.Common.{◌≡◌, ℕ, ◌≤◌, ◌^◌, true, false, Some, None, List, length, option_map, sym, ap, ◌∙◌}
-use Rattle.std.specs.BTreeMap.{is_at}
-use Rattle.std.specs.Cmp.Lexicographic.{slice_cmp}
+use Rattle.covstore.proofs.Words.{◌≡◌, ℕ, ◌≤◌, ◌^◌, true, false, Some, None, List, length, option_map, sym, ap, ◌∙◌, is_at, slice_cmp, lookup, set_value, nat_cmp, false≢true, ItemData, Row, Adds, Clashes, HasRoomFor, IsIn, AddsItems, ClashesIn, HasFile, HasRoomIn, FileIndexData, put, value_of, FileData, file_with, TestData, names_order}
 use Rattle.std.specs.List.Sorted.{IsStrictlySortedBy}
-use Rattle.std.specs.Map.{keys_of, lookup, set_value}
+use Rattle.std.specs.Map.{keys_of}
 use Rattle.std.specs.Option.{is_some}
-use Rattle.std.specs.Ordering.{nat_cmp}
-use Rattle.std.proofs.lemmas.Bool.{false≢true}
-use Rattle.covdata.specs.Row.{ItemData, Row}
 use Rattle.covstore.specs.declared.stage.fault.StageFault.{StageFault}
 use Rattle.covstore.specs.declared.stage.fault.StageFault.TheVariants.{Clash, Memory}
-use Rattle.covstore.specs.Section.{Adds, Clashes, HasRoomFor, IsIn}
-use Rattle.covstore.specs.FileSection.{AddsItems, ClashesIn, HasFile, HasRoomIn}
-use Rattle.covstore.specs.FileIndex.{FileIndexData}
-use Rattle.covmap.specs.Puts.{put, value_of}
-use Rattle.covstore.specs.State.{FileData, file_with}
-use Rattle.covstore.specs.Sums.{TestData}
 use Rattle.covstore.proofs.AddsLists.{put_there}
 use Rattle.covstore.proofs.MapKeys.{seen, seen_ascend, seen_set, seen_value}
-use Rattle.covtable.proofs.Orders.{names_order}
 
 -- ---- a test of a file
 

@@ -1,23 +1,7 @@
 -- What items do to their test and to the index of its file.
-use Rattle.std.proofs.Common.{◌≡◌, ℕ, Some, None, List, [], ◌∷◌, ◌++◌, sym, ap, ◌∙◌, subst, inl, inr, ⊎_elim}
-use Rattle.std.specs.Prelude.{Contains}
-use Rattle.std.specs.Cmp.Lexicographic.{slice_cmp}
-use Rattle.std.specs.Ordering.{nat_cmp}
-use Rattle.std.proofs.lemmas.List.Concat.{flat_map-append}
-use Rattle.covdata.specs.Row.{ItemData, LineItem, FuncItem, BranchItem, Row, rows_of_sect}
-use Rattle.covstore.specs.Section.{Adds, IsIn, section_of_items}
-use Rattle.covstore.specs.Runs.{with_items}
-use Rattle.covtable.specs.Clash.{Agree, Checksum, checksum_of, checksum_of_row, checksums_in, first_clash}
-use Rattle.covstore.specs.FileIndex.{FileIndexData}
-use Rattle.covmap.specs.Puts.{put, value_of}
-use Rattle.covstore.specs.State.{FileData, IsStateOf, file_with}
-use Rattle.covstore.specs.Items.{IsTextOf, KeepsCounts, KeepsTextsOf}
-use Rattle.covstore.specs.Sums.{TestData, with_item}
+use Rattle.covstore.proofs.Words.{◌≡◌, ℕ, Some, None, List, [], ◌∷◌, ◌++◌, sym, ap, ◌∙◌, subst, inl, inr, ⊎_elim, Contains, slice_cmp, nat_cmp, flat_map-append, ItemData, LineItem, FuncItem, BranchItem, Row, rows_of_sect, Adds, IsIn, section_of_items, with_items, Agree, Checksum, checksum_of, checksum_of_row, checksums_in, first_clash, FileIndexData, put, value_of, FileData, IsStateOf, file_with, IsTextOf, KeepsCounts, KeepsTextsOf, TestData, with_item, In-unflat, In, In-from, In-parts, In-unmap, names_order}
 use Rattle.covstore.proofs.AddsPlace.{checksum_held, state_agrees, text_kept, whole_after}
 use Rattle.covtable.proofs.Clashes.{agree_none}
-use Rattle.covtable.proofs.ContentsLists.{In-unflat}
-use Rattle.covtable.proofs.Members.{In, In-from, In-parts, In-unmap}
-use Rattle.covtable.proofs.Orders.{names_order}
 use Rattle.covstore.proofs.Puts.{value_of-put}
 use Rattle.covstore.proofs.StateRows.{rows_more}
 

@@ -1,16 +1,6 @@
 -- Ascending keys with values: the position of a key, and a value that replaces another one. And first clashes of joined lists.
-use Rattle.std.proofs.Common.{◌≡◌, cond, Option, Some, None, List, [], ◌∷◌, ◌++◌, length, refl, sym, ap, ◌∙◌, append_assoc, arith}
-use Rattle.std.specs.declared.cmp.Ordering.{Ordering}
-use Rattle.std.specs.declared.cmp.Ordering.TheVariants.{Less, Equal, Greater}
-use Rattle.std.specs.List.{AllByRecursion, find}
-use Rattle.std.specs.Ordering.{is_eq, match_ordering}
-use Rattle.std.proofs.lemmas.Cmp.{tied_itself}
+use Rattle.covstore.proofs.Words.{◌≡◌, cond, Option, Some, None, List, [], ◌∷◌, ◌++◌, length, refl, sym, ap, ◌∙◌, append_assoc, arith, Ordering, Less, Equal, Greater, AllByRecursion, find, is_eq, match_ordering, tied_itself, none-some, same_Some, Checksum, ClashData, clash_with, differs, first_clash, or_later, is_new, one_if, ArePairs, put, value_of, IsExactOrder, All-weaker, flips}
 use Rattle.std.proofs.lemmas.List.{append-nil}
-use Rattle.std.proofs.lemmas.Option.{none-some, same_Some}
-use Rattle.covtable.specs.Clash.{Checksum, ClashData, clash_with, differs, first_clash, or_later}
-use Rattle.covstore.specs.PointIndexCounts.{is_new, one_if}
-use Rattle.covmap.specs.Puts.{ArePairs, put, value_of}
-use Rattle.covtable.proofs.Ascend.{IsExactOrder, All-weaker, flips}
 use Rattle.covstore.proofs.Puts.{length-put, same_pair, value_of_before}
 
 -- ---- the position of a key

@@ -1,25 +1,10 @@
 -- A store's map of files after one of the files is replaced: what a look-up finds, what contracts see, and what stays.
-use Rattle.std.proofs.Common.{◌≡◌, ℕ, true, Option, Some, None, option_map, List, [], ◌∷◌, ◌++◌, Vec, sym, ap, ◌∙◌, subst}
-use Rattle.std.specs.BTreeMap.{insert_entry, is_at}
-use Rattle.std.specs.Cmp.Lexicographic.{slice_cmp}
-use Rattle.std.specs.List.{list_any}
+use Rattle.covstore.proofs.Words.{◌≡◌, ℕ, true, Option, Some, None, option_map, List, [], ◌∷◌, ◌++◌, Vec, sym, ap, ◌∙◌, subst, insert_entry, is_at, slice_cmp, list_any, lookup, set_value, nat_cmp, bytes_eq, false≢true, none-some, File, KeepsIn, KeepsState, AreSettledBut, IsSettledBut, tests_of, ArePairs, put, value_of, FileData, TestData, names_order}
 use Rattle.std.specs.List.Sorted.{IsStrictlySortedBy}
-use Rattle.std.specs.Map.{keys_of, lookup, set_value}
+use Rattle.std.specs.Map.{keys_of}
 use Rattle.std.specs.Option.{is_some}
-use Rattle.std.specs.Ordering.{nat_cmp}
-use Rattle.std.specs.Str.{bytes_eq}
-use Rattle.std.proofs.lemmas.Bool.{false≢true}
-use Rattle.std.proofs.lemmas.Option.{none-some}
-use Rattle.covstore.specs.declared.file.File.{File}
-use Rattle.covstore.specs.FileSection.{KeepsIn}
-use Rattle.covstore.specs.Store.{KeepsState}
-use Rattle.covstore.specs.StoreView.{AreSettledBut, IsSettledBut, tests_of}
-use Rattle.covmap.specs.Puts.{ArePairs, put, value_of}
-use Rattle.covstore.specs.State.{FileData}
-use Rattle.covstore.specs.Sums.{TestData}
 use Rattle.covstore.proofs.AddsSettled.{file_settled, touched_among}
 use Rattle.covstore.proofs.MapKeys.{seen, seen_ascend, seen_set, seen_value}
-use Rattle.covtable.proofs.Orders.{names_order}
 use Rattle.covstore.proofs.Settled.{file_name, files_with_more}
 use Rattle.covstore.proofs.StoreKept.{All-inserted}
 

@@ -1,28 +1,11 @@
 -- Items that are added one after another: what they do together, and when they clash.
-use Rattle.std.proofs.Common.{◌≡◌, ℕ, Bool, true, false, ◌&&◌, ◌==◌, not, Some, None, List, [], ◌∷◌, ◌++◌, refl, sym, ap, ◌∙◌, subst, append_assoc}
-use Rattle.std.specs.Prelude.{Contains}
-use Rattle.std.specs.Cmp.Lexicographic.{slice_cmp}
-use Rattle.std.specs.Ordering.{nat_cmp}
-use Rattle.std.specs.Str.{bytes_eq}
-use Rattle.std.proofs.lemmas.Bool.{eq-eqb}
-use Rattle.std.proofs.lemmas.List.{append-nil, map-append}
-use Rattle.std.proofs.lemmas.List.Concat.{flat_map-append}
-use Rattle.std.proofs.lemmas.Slice.Eq.{bytes_eq-Decides}
-use Rattle.covdata.specs.Row.{ItemData, LineItem, FuncItem, BranchItem, Row, rows_of_sect}
-use Rattle.covstore.specs.Section.{Adds, Clashes, ClashesAt, IsIn, clash_in_file, files_with, section_of_items}
-use Rattle.covtable.specs.Clash.{Agree, Checksum, checksum_of_row, checksums_in, clash_of, differs, first_clash}
-use Rattle.covstore.specs.FileIndex.{FileIndexData}
-use Rattle.covmap.specs.Puts.{put}
-use Rattle.covstore.specs.State.{FileData, file_with}
+use Rattle.covstore.proofs.Words.{◌≡◌, ℕ, Bool, true, false, ◌&&◌, ◌==◌, not, Some, None, List, [], ◌∷◌, ◌++◌, refl, sym, ap, ◌∙◌, subst, append_assoc, Contains, slice_cmp, nat_cmp, bytes_eq, eq-eqb, map-append, flat_map-append, bytes_eq-Decides, ItemData, LineItem, FuncItem, BranchItem, Row, rows_of_sect, Adds, Clashes, ClashesAt, IsIn, clash_in_file, files_with, section_of_items, Agree, Checksum, checksum_of_row, checksums_in, clash_of, differs, first_clash, FileIndexData, put, FileData, file_with, IsClashAt, IsClashOf, IsOtherText, TestData, Contains-from, names_order}
+use Rattle.std.proofs.lemmas.List.{append-nil}
 use Rattle.covstore.specs.declared.stage.fault.StageFault.{StageFault}
 use Rattle.covstore.specs.declared.stage.fault.StageFault.TheVariants.{Clash, Memory}
-use Rattle.covstore.specs.Items.{IsClashAt, IsClashOf, IsOtherText}
-use Rattle.covstore.specs.Sums.{TestData}
 use Rattle.covstore.proofs.AddsLists.{clash_before, clash_after, put_there, put_twice}
 use Rattle.covstore.proofs.AddsPlace.{held_text, its_whole}
 use Rattle.covtable.proofs.Clashes.{told_first}
-use Rattle.covtable.proofs.Members.{Contains-from}
-use Rattle.covtable.proofs.Orders.{names_order}
 
 -- ---- no items
 

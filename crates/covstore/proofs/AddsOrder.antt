@@ -1,30 +1,13 @@
 -- Items that are staged by their spots, in any order. The result is the same as in the order of the section.
-use Rattle.std.proofs.Common.{◌≡◌, ℕ, ◌+◌, ◌<◌, ◌≤◌, ◌^◌, Option, Some, None, List, [], ◌∷◌, ◌++◌, get_or, length, map, take, sym, ap, ◌∙◌, subst, inl, inr, refl, arith}
-use Rattle.std.specs.List.{sum_by}
-use Rattle.std.specs.Option.{option_to_list}
-use Rattle.std.specs.Prelude.{◌⊎◌, slice_get}
-use Rattle.std.proofs.lemmas.List.{append-nil, take_more}
-use Rattle.std.proofs.lemmas.Option.{get_or_from_slice_get, slice_get-get_or, slice_get_within}
-use Rattle.std.proofs.lemmas.List.Concat.{flat_map-append, length-flat_map}
+use Rattle.covstore.proofs.Words.{◌≡◌, ℕ, ◌+◌, ◌<◌, ◌≤◌, ◌^◌, Option, Some, None, List, [], ◌∷◌, ◌++◌, get_or, length, map, take, sym, ap, ◌∙◌, subst, inl, inr, refl, arith, sum_by, option_to_list, ◌⊎◌, slice_get, take_more, get_or_from_slice_get, slice_get-get_or, slice_get_within, flat_map-append, length-flat_map, sum_by-append, All, ItemData, Row, rows_of_sect, Agree, checksum_of_row, checksums_in, FileIndexData, Each, AreSpotsOf, HasNoChecksum, at_spots, RunOf, runs_of, runs_with, Adds, HasRoomFor, files_with, section_of_items, TestData, In, In-from, In-joined, In-parts, In-unflat}
+use Rattle.std.proofs.lemmas.List.{append-nil}
 use Rattle.std.proofs.lemmas.List.Sorted.{IsPermutation-sym, sum_by-IsPermutation}
-use Rattle.std.proofs.lemmas.List.Sums.{sum_by-append}
-use Rattle.std.specs.List.{All}
-use Rattle.covdata.specs.Row.{ItemData, Row, rows_of_sect}
 use Rattle.covstore.specs.declared.stage.by_line.Spot.{Spot}
-use Rattle.covtable.specs.Clash.{Agree, checksum_of_row, checksums_in}
-use Rattle.covstore.specs.FileIndex.{FileIndexData}
-use Rattle.covstore.specs.Kinds.{Each}
-use Rattle.covstore.specs.Order.{AreSpotsOf, HasNoChecksum, at_spots}
-use Rattle.covstore.specs.Runs.{RunOf, runs_of, runs_with}
-use Rattle.covstore.specs.Section.{Adds, HasRoomFor, files_with, section_of_items}
-use Rattle.covstore.specs.Sums.{TestData}
 use Rattle.covstore.proofs.RunsAdds.{all_plain}
 use Rattle.covstore.proofs.RunsSums.{runs_more}
 use Rattle.covtable.proofs.Alike.{AreAlike, alike_mapped, alike_permuted, alike_said}
 use Rattle.covtable.proofs.AlikeContents.{agree_alike}
 use Rattle.covtable.proofs.Clashes.{agree_none}
-use Rattle.covtable.proofs.Members.{In, In-from, In-joined, In-parts}
-use Rattle.covtable.proofs.ContentsLists.{In-unflat}
 use Rattle.covstore.proofs.RenamedTablesState.{state_alike}
 
 -- ---- alike items

@@ -1,34 +1,10 @@
 -- What is known of a test and the index of its file, in a state: the file is consistent, its tests are what their items add up
 -- to, and each checksum of the file is held, with its text.
-use Rattle.std.proofs.Common.{◌≡◌, ℕ, Bool, true, false, ◌&&◌, not, eqb, if◌then◌else◌, nat_lt, Option, Some, None, List, [], ◌∷◌, ◌++◌, length, filter, map, refl, sym, ap, ◌∙◌, subst, inl}
-use Rattle.std.specs.Prelude.{Contains}
-use Rattle.std.specs.Cmp.Lexicographic.{slice_cmp}
-use Rattle.std.specs.List.{flat_map}
+use Rattle.covstore.proofs.Words.{◌≡◌, ℕ, Bool, true, false, ◌&&◌, not, eqb, if◌then◌else◌, nat_lt, Option, Some, None, List, [], ◌∷◌, ◌++◌, length, filter, map, refl, sym, ap, ◌∙◌, subst, inl, Contains, slice_cmp, flat_map, nat_cmp, bytes_eq, eqb-true, false≢true, length-map, map-append, none-some, same_Some, bytes_eq-Decides, line_point, line_points, ItemData, LineItem, FuncItem, BranchItem, Row, LineSum, IsIn, Agree, Checksum, checksum_of_row, checksums_in, is_above_at, FileIndexData, put, value_of, FileData, IsIndexOf, IsStateOf, IsConsistentFile, file_with, has_checksum, holders_at, holding, points_in, tests_in, text_in, KeepsCounts, TestData, line_sum, test_of, Key, checksum_said, first_of, items_at, key_of_row, has_key, line_checksum, In-filter, In-flat, In-unflat, any_from_in, in_from_any, In, Contains-from, All-in, In-map, In-unmap, names_order}
 use Rattle.std.specs.Option.{is_some}
-use Rattle.std.specs.Ordering.{nat_cmp}
-use Rattle.std.specs.Str.{bytes_eq}
-use Rattle.std.proofs.lemmas.Bool.{eqb-true, false≢true}
-use Rattle.std.proofs.lemmas.List.{length-map, map-append}
-use Rattle.std.proofs.lemmas.Option.{none-some, same_Some}
-use Rattle.std.proofs.lemmas.Slice.Eq.{bytes_eq-Decides}
-use Rattle.covdata.specs.Points.{line_point, line_points}
-use Rattle.covdata.specs.Row.{ItemData, LineItem, FuncItem, BranchItem, Row}
-use Rattle.covstore.specs.declared.sums.LineSum.{LineSum}
-use Rattle.covstore.specs.Section.{IsIn}
-use Rattle.covtable.specs.Clash.{Agree, Checksum, checksum_of_row, checksums_in}
-use Rattle.covstore.specs.PointIndexCounts.{is_above_at}
-use Rattle.covstore.specs.FileIndex.{FileIndexData}
-use Rattle.covmap.specs.Puts.{put, value_of}
-use Rattle.covstore.specs.State.{FileData, IsIndexOf, IsStateOf, IsConsistentFile, file_with, has_checksum, holders_at, holding, points_in, tests_in, text_in}
-use Rattle.covstore.specs.Items.{KeepsCounts}
-use Rattle.covstore.specs.Sums.{TestData, line_sum, test_of}
-use Rattle.covtable.specs.Value.{Key, checksum_said, first_of, items_at, key_of_row, has_key, line_checksum}
 use Rattle.covstore.proofs.AddsLists.{IsPlaceOf, place_of}
 use Rattle.covtable.proofs.ContentsChecksums.{line_checksum_held, line_of_said, own_row}
-use Rattle.covtable.proofs.ContentsLists.{In-filter, In-flat, In-unflat, any_from_in, in_from_any}
 use Rattle.covstore.proofs.CountsFound.{any_counted, some_value}
-use Rattle.covtable.proofs.Members.{In, Contains-from, All-in, In-map, In-unmap}
-use Rattle.covtable.proofs.Orders.{names_order}
 use Rattle.covstore.proofs.Puts.{ArePairs-put, pair_in, value_of_pair}
 use Rattle.covstore.proofs.StateSections.{points_none, points_there}
 use Rattle.covstore.proofs.SumsMembers.{line_has_checksum, line_known}

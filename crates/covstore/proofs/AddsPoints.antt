@@ -1,18 +1,6 @@
 -- The points of a test are added to another test of its file: the room for them, and the index afterwards.
-use Rattle.std.proofs.Common.{◌≡◌, ℕ, Bool, true, false, ◌||◌, Option, Some, None, List, length, refl, ap, ◌∙◌}
+use Rattle.covstore.proofs.Words.{◌≡◌, ℕ, Bool, true, false, ◌||◌, Option, Some, None, List, length, refl, ap, ◌∙◌, nat_cmp, ArePairs, value_of, LineSum, FileIndexData, HasRoomForRun, Kind, Line, above_of, at, cmp_of, is_above_at, AddsPoints, HasRoomForPoints, held_again, merged, KeepsCountsOfKinds, addend_of, sum_of, has_checksum, TestData, lines_order}
 use Rattle.std.specs.Option.{is_some}
-use Rattle.std.specs.Ordering.{nat_cmp}
-use Rattle.covmap.specs.Puts.{ArePairs, value_of}
-use Rattle.covstore.specs.declared.sums.LineSum.{LineSum}
-use Rattle.covstore.specs.FileIndex.{FileIndexData}
-use Rattle.covstore.specs.Items.{HasRoomForRun}
-use Rattle.covstore.specs.Kinds.{Kind, Line, above_of, at, cmp_of}
-use Rattle.covstore.specs.PointIndexCounts.{is_above_at}
-use Rattle.covstore.specs.Renaming.{AddsPoints, HasRoomForPoints, held_again, merged}
-use Rattle.covstore.specs.Runs.{KeepsCountsOfKinds, addend_of, sum_of}
-use Rattle.covstore.specs.State.{has_checksum}
-use Rattle.covstore.specs.Sums.{TestData}
-use Rattle.covtable.proofs.Orders.{lines_order}
 use Rattle.covstore.proofs.EachKind.{room_in}
 use Rattle.covstore.proofs.HoldsAgain.{again_keeps, again_still}
 use Rattle.covstore.proofs.Merges.{added, added_at}

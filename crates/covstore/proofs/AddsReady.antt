@@ -1,19 +1,8 @@
 -- The items of a section in files that were prepared for them: the committed files stay, and the items are added to the staged
 -- ones.
-use Rattle.std.proofs.Common.{◌≡◌, ℕ, Some, List, refl, sym, ap, ◌∙◌, subst}
-use Rattle.std.specs.Cmp.Lexicographic.{slice_cmp}
-use Rattle.std.specs.Ordering.{nat_cmp}
-use Rattle.covdata.specs.Row.{ItemData, Row}
-use Rattle.covtable.specs.declared.totals.Totals.{Totals}
-use Rattle.covtable.specs.TotalsExchanged.{FitTogether, IsAmong, IsExchange, exchanged}
-use Rattle.covstore.specs.FileSection.{AddsItems, HasRoomIn}
-use Rattle.covstore.specs.Store.{AddsTo, ClashesAmong, HasRoomForRows, KeepsState, SameCommitted, StoreData}
+use Rattle.covstore.proofs.Words.{◌≡◌, ℕ, Some, List, refl, sym, ap, ◌∙◌, subst, slice_cmp, nat_cmp, ItemData, Row, Totals, FitTogether, IsAmong, IsExchange, exchanged, AddsItems, HasRoomIn, AddsTo, ClashesAmong, HasRoomForRows, KeepsState, SameCommitted, StoreData, IsStore, put, value_of, FileData, file_totals, totals_in, all_rows}
 use Rattle.covtable.specs.Refuse.{RefuseData, ClashRefuse, MemoryRefuse}
-use Rattle.covstore.specs.StoreView.{IsStore}
-use Rattle.covmap.specs.Puts.{put, value_of}
 use Rattle.covstore.specs.StoreSection.{HasRoomAmong, RefusedIn, rows_of_items}
-use Rattle.covstore.specs.State.{FileData, file_totals, totals_in}
-use Rattle.covtable.specs.Table.{all_rows}
 use Rattle.covstore.proofs.AddsSection.{room_in, section_adds, section_fits, section_totals}
 use Rattle.covstore.proofs.ExchangedFiles.{file_among}
 use Rattle.covstore.proofs.StateSections.{sections_are}

@@ -1,19 +1,8 @@
 -- If there is room for items, there is room for the first ones, and then for the others.
-use Rattle.std.proofs.Common.{List, ◌++◌, arith}
-use Rattle.std.specs.Cmp.Lexicographic.{slice_cmp}
-use Rattle.std.specs.Ordering.{nat_cmp}
-use Rattle.std.proofs.lemmas.List.{length-append, length-map}
-use Rattle.covdata.specs.Row.{ItemData, Row, rows_of_sect}
-use Rattle.covstore.specs.State.{file_with}
-use Rattle.covstore.specs.Section.{Adds, HasRoomFor, files_with, section_of_items}
-use Rattle.covstore.specs.FileIndex.{FileIndexData}
-use Rattle.covmap.specs.Puts.{put}
-use Rattle.covstore.specs.Items.{HasRoom}
-use Rattle.covstore.specs.Sums.{TestData}
+use Rattle.covstore.proofs.Words.{List, ◌++◌, arith, slice_cmp, nat_cmp, length-append, length-map, ItemData, Row, rows_of_sect, file_with, Adds, HasRoomFor, files_with, section_of_items, FileIndexData, put, HasRoom, TestData, names_order}
 use Rattle.covstore.proofs.AddsFew.{kept_few}
 use Rattle.covstore.proofs.AddsLists.{length-put_there}
 use Rattle.covstore.proofs.AddsPlace.{as_many, its_back, its_front, its_kept, its_whole}
-use Rattle.covtable.proofs.Orders.{names_order}
 
 pub has_room : (items : List ItemData) (test : TestData) (index : FileIndexData) → HasRoomFor items test index → HasRoom test index
 has_room items test index room =

@@ -1,17 +1,5 @@
 -- The items of a section are added to their file. What this needs and does, said of the files of the store.
-use Rattle.std.proofs.Common.{◌≡◌, ℕ, ◌≤◌, ◌^◌, ◌+◌, Some, List, ◌++◌, length, ap, ◌∙◌, arith}
-use Rattle.std.specs.Cmp.Lexicographic.{slice_cmp}
-use Rattle.std.specs.Ordering.{nat_cmp}
-use Rattle.std.proofs.lemmas.List.{length-append, length-map}
-use Rattle.covdata.specs.Row.{ItemData, Row, rows_of_sect}
-use Rattle.covtable.specs.declared.totals.Totals.{Totals}
-use Rattle.covstore.specs.Section.{section_of_items}
-use Rattle.covtable.specs.Clash.{Agree, checksums_in}
-use Rattle.covtable.specs.TotalsExchanged.{FitTogether, exchanged}
-use Rattle.covstore.specs.FileSection.{AddsItems, HasFile, HasRoomIn}
-use Rattle.covstore.specs.Store.{AddsTo}
-use Rattle.covmap.specs.Puts.{put, value_of}
-use Rattle.covstore.specs.State.{FileData, IsStateOf, file_totals, totals_in}
+use Rattle.covstore.proofs.Words.{◌≡◌, ℕ, ◌≤◌, ◌^◌, ◌+◌, Some, List, ◌++◌, length, ap, ◌∙◌, arith, slice_cmp, nat_cmp, length-append, length-map, ItemData, Row, rows_of_sect, Totals, section_of_items, Agree, checksums_in, FitTogether, exchanged, AddsItems, HasFile, HasRoomIn, AddsTo, put, value_of, FileData, IsStateOf, file_totals, totals_in}
 use Rattle.covstore.proofs.ExchangedFiles.{exchanged_fits, files_exchanged}
 
 module _ (items : List ItemData) (name test : List ℕ) (file : FileData) (files : List (List ℕ × FileData)) (there : value_of (slice_cmp nat_cmp) name files ≡ Some file) where

@@ -1,24 +1,6 @@
 -- Nothing is staged in a file but in some of its tests. This stays true after items of one of these tests are staged, and after
 -- one of them is prepared.
-use Rattle.std.proofs.Common.{◌≡◌, ℕ, Bool, true, false, cond, ◌||◌, Some, List, [], ◌∷◌, ◌++◌, Vec, filter, map, refl, sym, ap, ◌∙◌, subst}
-use Rattle.std.specs.BTreeMap.{insert_entry, is_at}
-use Rattle.std.specs.Cmp.Lexicographic.{slice_cmp}
-use Rattle.std.specs.declared.cmp.Ordering.{Ordering}
-use Rattle.std.specs.declared.cmp.Ordering.TheVariants.{Less, Equal, Greater}
-use Rattle.std.specs.List.{AllByRecursion, list_any}
-use Rattle.std.specs.Map.{lookup, set_value}
-use Rattle.std.specs.Ordering.{match_ordering, nat_cmp}
-use Rattle.std.specs.Str.{bytes_eq}
-use Rattle.std.proofs.lemmas.Bool.{false≢true}
-use Rattle.std.proofs.lemmas.Map.Views.{tells_apart}
-use Rattle.std.proofs.lemmas.Option.{none-some, same_Some}
-use Rattle.std.proofs.lemmas.Slice.Eq.{bytes_eq-Decides}
-use Rattle.covstore.specs.declared.file.File.{File}
-use Rattle.covstore.specs.declared.test.Test.{Test}
-use Rattle.covstore.specs.StoreView.{AreSettledBut, IsSettledBut, tests_of}
-use Rattle.covstore.specs.FileIndexView.{index_staged, index_committed}
-use Rattle.covstore.specs.TestView.{test_staged, test_committed}
-use Rattle.covtable.proofs.Orders.{names_order}
+use Rattle.covstore.proofs.Words.{◌≡◌, ℕ, Bool, true, false, cond, ◌||◌, Some, List, [], ◌∷◌, ◌++◌, Vec, filter, map, refl, sym, ap, ◌∙◌, subst, insert_entry, is_at, slice_cmp, Ordering, Less, Equal, Greater, AllByRecursion, list_any, lookup, set_value, match_ordering, nat_cmp, bytes_eq, false≢true, tells_apart, none-some, same_Some, bytes_eq-Decides, File, Test, AreSettledBut, IsSettledBut, tests_of, index_staged, index_committed, test_staged, test_committed, names_order}
 use Rattle.covstore.proofs.StoreKept.{All-inserted}
 
 -- if all entries satisfy `P`, they still do after a value is replaced by one that satisfies it

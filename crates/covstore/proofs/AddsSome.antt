@@ -1,9 +1,5 @@
 -- Sections that have a row: one with items, and several of which one has a row.
-use Rattle.std.proofs.Common.{◌≢◌, List, [], ◌∷◌, ◌++◌, length, sym, ap, ◌∙◌, arith}
-use Rattle.std.specs.List.{flat_map}
-use Rattle.std.proofs.lemmas.List.{length-append, nil_from_length}
-use Rattle.std.proofs.lemmas.List.Concat.{flat_map-append}
-use Rattle.covdata.specs.Row.{SectData, rows_of_sect}
+use Rattle.covstore.proofs.Words.{◌≢◌, List, [], ◌∷◌, ◌++◌, length, sym, ap, ◌∙◌, arith, flat_map, length-append, nil_from_length, flat_map-append, SectData, rows_of_sect}
 
 -- one section with a row is enough, whatever is before and after it
 pub some_of_them : (before : List SectData) (sect : SectData) (after : List SectData) → rows_of_sect sect ≢ [] → flat_map rows_of_sect (before ++ sect ∷ after) ≢ []

@@ -1,13 +1,7 @@
 -- Rows that are staged in a store, one section after another.
-use Rattle.std.proofs.Common.{◌≡◌, None, List, [], ◌∷◌, ◌++◌, refl, sym, ap, ◌∙◌, subst, append_assoc, arith}
-use Rattle.std.specs.List.{flat_map}
-use Rattle.std.proofs.lemmas.List.{append-nil, length-append}
-use Rattle.std.proofs.lemmas.List.Concat.{flat_map-append}
-use Rattle.covdata.specs.Row.{Row, SectData, rows_of_sect}
-use Rattle.covtable.specs.Clash.{Agree, Checksum, checksum_of_row, checksums_in, clash_of, first_clash}
-use Rattle.covstore.specs.Store.{AddsRows, ClashesWith, HasRoomForRows, SameCommitted, StoreData}
+use Rattle.covstore.proofs.Words.{◌≡◌, None, List, [], ◌∷◌, ◌++◌, refl, sym, ap, ◌∙◌, subst, append_assoc, arith, flat_map, length-append, flat_map-append, Row, SectData, rows_of_sect, Agree, Checksum, checksum_of_row, checksums_in, clash_of, first_clash, AddsRows, ClashesWith, HasRoomForRows, SameCommitted, StoreData, IsStateOf}
+use Rattle.std.proofs.lemmas.List.{append-nil}
 use Rattle.covtable.specs.Refuse.{RefuseData, ClashRefuse, MemoryRefuse}
-use Rattle.covstore.specs.State.{IsStateOf}
 use Rattle.covstore.proofs.AddsLists.{clash_before, clash_after}
 
 -- ---- rows, and then others

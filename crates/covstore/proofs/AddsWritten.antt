@@ -1,30 +1,16 @@
 -- The items of a section in the store's map of files: their file is found and replaced, or made and inserted.
-use Rattle.std.proofs.Common.{◌≡◌, ℕ, Some, None, List, Vec, option_map, refl, sym, ap, ◌∙◌, subst}
-use Rattle.std.specs.Prelude.{Result, Ok, Err, IfOk, OnOk}
-use Rattle.std.specs.BTreeMap.{insert_entry, is_at}
-use Rattle.std.specs.Cmp.Lexicographic.{slice_cmp}
+use Rattle.covstore.proofs.Words.{◌≡◌, ℕ, Some, None, List, Vec, option_map, refl, sym, ap, ◌∙◌, subst, IfOk, OnOk, insert_entry, is_at, slice_cmp, lookup, set_value, nat_cmp, ItemData, File, Totals, IsExchange, AddsItems, HasRoomIn, KeepsIn, file_staged, file_committed, no_file, AddsTo, ClashesAmong, KeepsState, files_staged, files_committed, ArePairs, put, value_of, FileData, file_totals, totals_in, names_order}
+use Rattle.std.specs.Prelude.{Result, Ok, Err}
 use Rattle.std.specs.List.Sorted.{IsStrictlySortedBy}
-use Rattle.std.specs.Map.{keys_of, lookup, set_value}
-use Rattle.std.specs.Ordering.{nat_cmp}
-use Rattle.covdata.specs.Row.{ItemData}
-use Rattle.covstore.specs.declared.file.File.{File}
-use Rattle.covtable.specs.declared.totals.Totals.{Totals}
-use Rattle.covtable.specs.TotalsExchanged.{IsExchange}
-use Rattle.covstore.specs.FileSection.{AddsItems, HasRoomIn, KeepsIn}
-use Rattle.covstore.specs.FileView.{file_staged, file_committed, no_file}
-use Rattle.covstore.specs.Store.{AddsTo, ClashesAmong, KeepsState}
+use Rattle.std.specs.Map.{keys_of}
 use Rattle.covtable.specs.Refuse.{RefuseData}
-use Rattle.covstore.specs.StoreView.{files_staged, files_committed}
-use Rattle.covmap.specs.Puts.{ArePairs, put, value_of}
 use Rattle.covstore.specs.StoreSection.{HasRoomAmong, RefusedIn, rows_of_items}
-use Rattle.covstore.specs.State.{FileData, file_totals, totals_in}
 use Rattle.covstore.proofs.AddsLists.{put_twice}
 use Rattle.covstore.proofs.AddsMaps.{file_value, file_written}
 use Rattle.covstore.proofs.AddsReady.{file_room, refused, rows_added, totals_exchanged}
 use Rattle.covstore.proofs.Keeps.{no_file_keeps}
 use Rattle.covstore.proofs.KeepsMore.{keeps_then}
 use Rattle.covstore.proofs.MapKeys.{seen, seen_ascend, seen_insert, seen_value}
-use Rattle.covtable.proofs.Orders.{names_order}
 use Rattle.covstore.proofs.Puts.{ArePairs-put, value_of-put}
 use Rattle.covstore.proofs.Settled.{file_name}
 

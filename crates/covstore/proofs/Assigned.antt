@@ -1,15 +1,6 @@
 -- A key loses its value, or gets another one: the value of each key, the order of the keys, and sums over the pairs.
-use Rattle.std.proofs.Common.{◌≡◌, ℕ, ◌+◌, Bool, true, false, cond, Option, Some, None, List, [], ◌∷◌, refl, sym, ap, ◌∙◌, subst, ⊎_elim, arith}
-use Rattle.std.specs.declared.cmp.Ordering.{Ordering}
-use Rattle.std.specs.declared.cmp.Ordering.TheVariants.{Less, Equal, Greater}
-use Rattle.std.specs.List.{AllByRecursion, sum_by}
-use Rattle.std.specs.Ordering.{is_eq}
-use Rattle.std.proofs.lemmas.Bool.{cases_Bool}
-use Rattle.std.proofs.lemmas.List.Sums.{sum_by-cons}
-use Rattle.std.proofs.lemmas.Map.Views.{tells_apart}
+use Rattle.covstore.proofs.Words.{◌≡◌, ℕ, ◌+◌, Bool, true, false, cond, Option, Some, None, List, [], ◌∷◌, refl, sym, ap, ◌∙◌, subst, ⊎_elim, arith, Ordering, Less, Equal, Greater, AllByRecursion, sum_by, is_eq, cases_Bool, sum_by-cons, tells_apart, ArePairs, value_of, IsExactOrder}
 use Rattle.covmap.specs.Assigned.{assigned, without}
-use Rattle.covmap.specs.Puts.{ArePairs, value_of}
-use Rattle.covtable.proofs.Ascend.{IsExactOrder}
 use Rattle.covstore.proofs.Puts.{ArePairs-put, at_before, sum_by-put, value_of-put, value_of-put_apart, value_of_before, value_of_later}
 
 -- what is true of one key, and of all that compare as different from it, is true of each key

@@ -1,23 +1,6 @@
 -- The points of a test are added to another test of its file: the room for this, and the file afterwards.
-use Rattle.std.proofs.Common.{◌≡◌, ℕ, ◌≤◌, ◌^◌, Some, None, List, [], length, filter, refl, sym, ap, ◌∙◌, subst, inl, arith}
-use Rattle.std.specs.Cmp.Lexicographic.{slice_cmp}
-use Rattle.std.specs.Ordering.{nat_cmp}
-use Rattle.covdata.specs.Row.{ItemData, LineItem, FuncItem, BranchItem, Row}
-use Rattle.covmap.specs.Puts.{ArePairs, put, value_of}
-use Rattle.covstore.specs.FileIndex.{FileIndexData}
-use Rattle.covstore.specs.FileSection.{HasFile}
-use Rattle.covstore.specs.Items.{HasRoom, IsTextOf}
-use Rattle.covstore.specs.Kinds.{Kind, at, cmp_of}
-use Rattle.covstore.specs.Renaming.{AddsPoints, CopiesIn, HasRoomForPoints, HasRoomToCopyIn, key_of, merged}
-use Rattle.covstore.specs.Runs.{with_items}
-use Rattle.covstore.specs.Section.{IsIn}
-use Rattle.covstore.specs.State.{FileData, file_with}
-use Rattle.covstore.specs.Sums.{TestData, test_of}
-use Rattle.covtable.specs.Clash.{Checksum, checksum_of, checksum_of_row, checksums_in}
-use Rattle.covtable.specs.Value.{Key, has_key, items_at}
-use Rattle.covtable.proofs.ContentsLists.{In-flat, In-unfilter}
+use Rattle.covstore.proofs.Words.{◌≡◌, ℕ, ◌≤◌, ◌^◌, Some, None, List, [], length, filter, refl, sym, ap, ◌∙◌, subst, inl, arith, slice_cmp, nat_cmp, ItemData, LineItem, FuncItem, BranchItem, Row, ArePairs, put, value_of, FileIndexData, HasFile, HasRoom, IsTextOf, Kind, at, cmp_of, AddsPoints, CopiesIn, HasRoomForPoints, HasRoomToCopyIn, key_of, merged, with_items, IsIn, FileData, file_with, TestData, test_of, Checksum, checksum_of, checksum_of_row, checksums_in, Key, has_key, items_at, In-flat, In-unfilter, In, In-unmap}
 use Rattle.covtable.proofs.ContentsSections.{own_key}
-use Rattle.covtable.proofs.Members.{In, In-unmap}
 use Rattle.covstore.proofs.AddsFew.{kept_few}
 use Rattle.covstore.proofs.AddsItem.{items_add}
 use Rattle.covstore.proofs.AddsPlace.{checksum_held, test_at, text_kept}

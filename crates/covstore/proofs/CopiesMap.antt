@@ -1,16 +1,10 @@
 -- The entries of a map while the value of one name is taken out, and after another value is put in instead.
-use Rattle.std.proofs.Common.{◌≡◌, ◌≢◌, ℕ, Some, None, List, sym, ap, ◌∙◌}
-use Rattle.std.specs.BTreeMap.{is_at}
-use Rattle.std.specs.Cmp.Lexicographic.{slice_cmp}
+use Rattle.covstore.proofs.Words.{◌≡◌, ◌≢◌, ℕ, Some, None, List, sym, ap, ◌∙◌, is_at, slice_cmp, lookup, set_value, nat_cmp, put, value_of, TestData, names_order}
 use Rattle.std.specs.List.Sorted.{IsStrictlySortedBy}
-use Rattle.std.specs.Map.{keys_of, lookup, set_value}
-use Rattle.std.specs.Ordering.{nat_cmp}
-use Rattle.covmap.specs.Puts.{put, value_of}
-use Rattle.covstore.specs.Sums.{TestData}
+use Rattle.std.specs.Map.{keys_of}
 use Rattle.covstore.proofs.AddsFile.{no_test, test_value, test_written}
 use Rattle.covstore.proofs.AddsLists.{put_there, put_twice}
 use Rattle.covstore.proofs.MapKeys.{seen, seen_ascend}
-use Rattle.covtable.proofs.Orders.{names_order}
 use Rattle.covstore.proofs.Puts.{value_of-put, value_of-put_other}
 
 module _ {K V : Type 0} (name : K → List ℕ) (f : V → TestData) (new : List ℕ) (pairs mid : List (K × V)) (target empty : V)

@@ -1,14 +1,7 @@
 -- The numbers of a point: over all tests, over no tests, with one more empty test, and how large they can be.
-use Rattle.std.proofs.Common.{◌≡◌, ℕ, ◌+◌, ◌<◌, ◌≤◌, Bool, true, false, cond, if◌then◌else◌, nat_lt, Option, Some, None, List, [], ◌∷◌, ◌++◌, length, refl, sym, ap, ◌∙◌, arith}
-use Rattle.std.specs.declared.cmp.Ordering.{Ordering}
-use Rattle.std.specs.List.{count_by, sum_by}
+use Rattle.covstore.proofs.Words.{◌≡◌, ℕ, ◌+◌, ◌<◌, ◌≤◌, Bool, true, false, cond, if◌then◌else◌, nat_lt, Option, Some, None, List, [], ◌∷◌, ◌++◌, length, refl, sym, ap, ◌∙◌, arith, Ordering, sum_by, ltb-true, count_by-le-length, sum_by-append, sum_by-cons, sum_by-le-sum_by, none-some, same_Some, TestCounts, AreCounts, count_above, count_with, is_above_at, one_if, tests_at, value_of}
+use Rattle.std.specs.List.{count_by}
 use Rattle.std.specs.Option.{is_some}
-use Rattle.std.proofs.lemmas.Bool.{ltb-true}
-use Rattle.std.proofs.lemmas.List.Sums.{count_by-le-length, sum_by-append, sum_by-cons, sum_by-le-sum_by}
-use Rattle.std.proofs.lemmas.Option.{none-some, same_Some}
-use Rattle.covstore.specs.declared.sums.TestCounts.{TestCounts}
-use Rattle.covstore.specs.PointIndexCounts.{AreCounts, count_above, count_with, is_above_at, one_if, tests_at}
-use Rattle.covmap.specs.Puts.{value_of}
 use Rattle.covstore.proofs.Puts.{counted_one}
 
 -- the numbers of a point, if this many tests have it, and this many have it above 0

@@ -1,25 +1,12 @@
 -- The counts of a file's points give what is found and hit in its tests: the points that some test has, and those that some test
 -- has above 0.
-use Rattle.std.proofs.Common.{◌≡◌, ℕ, Bool, true, false, ◌&&◌, ◌||◌, cond, nat_lt, Option, Some, None, List, [], ◌∷◌, ◌++◌, length, map, refl, sym, ap, ◌∙◌, subst, inl, inr, arith}
-use Rattle.std.specs.declared.cmp.Ordering.{Ordering}
-use Rattle.std.specs.declared.cmp.Ordering.TheVariants.{Less, Equal, Greater}
-use Rattle.std.specs.List.{AllByRecursion, count_by, flat_map, list_any}
+use Rattle.covstore.proofs.Words.{◌≡◌, ℕ, Bool, true, false, ◌&&◌, ◌||◌, cond, nat_lt, Option, Some, None, List, [], ◌∷◌, ◌++◌, length, map, refl, sym, ap, ◌∙◌, subst, inl, inr, arith, Ordering, Less, Equal, Greater, AllByRecursion, flat_map, list_any, is_eq, cond-true, false≢true, length-map, sum_by-cons, cond_some, TestCounts, AreCounts, count_above, count_with, found_of, hit_of, is_above_at, ArePairs, value_of, IsExactOrder, In-ascending, In-to_ascending, ascending_sorted, one_sorted, In, In-map, In-unmap, In-flat, In-unflat, any_from_in, in_from_any}
+use Rattle.std.specs.List.{count_by}
 use Rattle.std.specs.List.Sorted.{IsStrictlySortedBy}
 use Rattle.std.specs.Option.{is_some}
-use Rattle.std.specs.Ordering.{is_eq}
-use Rattle.std.proofs.lemmas.Bool.{cond-true, false≢true}
-use Rattle.std.proofs.lemmas.List.{length-map}
-use Rattle.std.proofs.lemmas.List.Sums.{sum_by-cons}
-use Rattle.std.proofs.lemmas.Option.{cond_some}
-use Rattle.covstore.specs.declared.sums.TestCounts.{TestCounts}
 use Rattle.covtable.specs.Ascending.{ascending}
-use Rattle.covstore.specs.PointIndexCounts.{AreCounts, count_above, count_with, found_of, hit_of, is_above_at}
-use Rattle.covmap.specs.Puts.{ArePairs, value_of}
-use Rattle.covtable.proofs.Ascend.{IsExactOrder, In-ascending, In-to_ascending, ascending_sorted, one_sorted}
 use Rattle.covstore.proofs.CountsMapped.{count_by-map}
-use Rattle.covtable.proofs.Members.{In, In-map, In-unmap}
 use Rattle.covstore.proofs.Puts.{pair_in, some_in, value_of_before, value_of_pair}
-use Rattle.covtable.proofs.ContentsLists.{In-flat, In-unflat, any_from_in, in_from_any}
 use Rattle.covtable.proofs.TotalsRows.{any_agree, sum_above}
 
 -- ---- a count is above 0 exactly if the condition is true of some element

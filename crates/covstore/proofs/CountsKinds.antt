@@ -1,31 +1,11 @@
 -- For each kind of points, the counts of a file give what is found and hit in its sections.
-use Rattle.std.proofs.Common.{◌≡◌, ℕ, Bool, true, false, ◌==◌, ◌&&◌, nat_lt, List, [], ◌∷◌, length, map, filter, cond, refl, sym, ap, subst}
-use Rattle.std.specs.declared.cmp.Ordering.{Ordering}
-use Rattle.std.specs.declared.cmp.Ordering.TheVariants.{Less}
-use Rattle.std.specs.Cmp.Lexicographic.{slice_cmp}
-use Rattle.std.specs.List.{AllByRecursion, count_by, flat_map, list_any}
+use Rattle.covstore.proofs.Words.{◌≡◌, ℕ, Bool, true, false, ◌==◌, ◌&&◌, nat_lt, List, [], ◌∷◌, length, map, filter, cond, refl, sym, ap, subst, Ordering, Less, slice_cmp, AllByRecursion, flat_map, list_any, is_eq, nat_cmp, bytes_eq, eqb-true, eq-eqb, tied_itself, tells_apart, bytes_eq-Decides, branch_points, func_points, line_points, ItemData, Row, BranchValueData, FunctionValueData, LineValueData, SectionData, branch_at, content_of, function_at, line_at, section_of, section_with, AreCounts, found_of, hit_of, ArePairs, own_sections, Key, branch_cmp, branches_in, is_branch, is_taken, items_at, keys_of, lines_in, names_in, Branch, CountsOf, Function, KeyOf, Kind, Line, cmp_of, IsExactOrder, ascending_sorted, branches_order, lines_order, names_order, same_truth}
+use Rattle.std.specs.List.{count_by}
 use Rattle.std.specs.List.Sorted.{IsStrictlySortedBy}
-use Rattle.std.specs.Ordering.{is_eq, nat_cmp}
-use Rattle.std.specs.Str.{bytes_eq}
-use Rattle.std.proofs.lemmas.Bool.{eqb-true, eq-eqb}
-use Rattle.std.proofs.lemmas.Cmp.{tied_itself}
-use Rattle.std.proofs.lemmas.Map.Views.{tells_apart}
-use Rattle.std.proofs.lemmas.Slice.Eq.{bytes_eq-Decides}
-use Rattle.covdata.specs.Points.{branch_points, func_points, line_points}
-use Rattle.covdata.specs.Row.{ItemData, Row}
 use Rattle.covtable.specs.Ascending.{ascending}
-use Rattle.covtable.specs.Content.{BranchValueData, FunctionValueData, LineValueData, SectionData, branch_at, content_of, function_at, line_at, section_of, section_with}
-use Rattle.covstore.specs.PointIndexCounts.{AreCounts, found_of, hit_of}
-use Rattle.covmap.specs.Puts.{ArePairs}
-use Rattle.covtable.specs.Totals.{own_sections}
-use Rattle.covtable.specs.Value.{Key, branch_cmp, branches_in, is_branch, is_taken, items_at, keys_of, lines_in, names_in}
-use Rattle.covstore.specs.Kinds.{Branch, CountsOf, Function, KeyOf, Kind, Line, cmp_of}
-use Rattle.covtable.proofs.Ascend.{IsExactOrder, ascending_sorted}
 use Rattle.covstore.proofs.CountsFound.{section_points_found, section_points_hit}
-use Rattle.covtable.proofs.Orders.{branches_order, lines_order, names_order}
 use Rattle.covtable.proofs.TotalsKinds.{itself, same_branch}
 use Rattle.covstore.proofs.EachKind.{order_of}
-use Rattle.covtable.proofs.ContentsLists.{same_truth}
 
 -- ---- what sections show of a kind
 

@@ -1,13 +1,7 @@
 -- If the values are replaced by values of another type that are above 0 for the same points, the counts stay.
-use Rattle.std.proofs.Common.{◌≡◌, ℕ, Bool, true, false, cond, Option, Some, List, [], ◌∷◌, map, refl, sym, ap, ◌∙◌, arith}
-use Rattle.std.specs.declared.cmp.Ordering.{Ordering}
+use Rattle.covstore.proofs.Words.{◌≡◌, ℕ, Bool, true, false, cond, Option, Some, List, [], ◌∷◌, map, refl, sym, ap, ◌∙◌, arith, Ordering, is_eq, sum_by-cons, TestCounts, AreCounts, is_above_at, tests_at, value_of}
 use Rattle.std.specs.List.{count_by}
 use Rattle.std.specs.Option.{is_some}
-use Rattle.std.specs.Ordering.{is_eq}
-use Rattle.std.proofs.lemmas.List.Sums.{sum_by-cons}
-use Rattle.covstore.specs.declared.sums.TestCounts.{TestCounts}
-use Rattle.covstore.specs.PointIndexCounts.{AreCounts, is_above_at, tests_at}
-use Rattle.covmap.specs.Puts.{value_of}
 use Rattle.covstore.proofs.Counts.{same_tests}
 
 pub count_by-map : {X Y : Type 0} (p : X → Bool) (q : Y → Bool) (f : X → Y) → ((x : X) → q (f x) ≡ p x) → (xs : List X) → count_by q (map f xs) ≡ count_by p xs

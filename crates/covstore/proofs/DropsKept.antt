@@ -1,17 +1,5 @@
 -- The index of a file counts its tests, whatever their order. And a file without one of its tests.
-use Rattle.std.proofs.Common.{◌≡◌, ℕ, Bool, nat_lt, if◌then◌else◌, Some, None, List, [], ◌∷◌, ◌++◌, map, refl, sym, ap, ◌∙◌, subst}
-use Rattle.std.specs.Cmp.Lexicographic.{slice_cmp}
-use Rattle.std.specs.declared.cmp.Ordering.{Ordering}
-use Rattle.std.specs.Ordering.{nat_cmp}
-use Rattle.std.proofs.lemmas.List.{map-append}
-use Rattle.covstore.specs.declared.sums.TestCounts.{TestCounts}
-use Rattle.covstore.specs.Kinds.{PointsOf, above_of, at, cmp_of}
-use Rattle.covstore.specs.PointIndexCounts.{AreCounts, is_above_at}
-use Rattle.covstore.specs.FileDrops.{IsWithoutTest, tests_without}
-use Rattle.covstore.specs.FileIndex.{FileIndexData, counts_totals, index_totals}
-use Rattle.covmap.specs.Puts.{value_of}
-use Rattle.covstore.specs.State.{FileData, IsIndexOf, IsConsistentFile, file_totals, file_with, has_checksum, holders_at, tests_in}
-use Rattle.covstore.specs.Sums.{TestData}
+use Rattle.covstore.proofs.Words.{◌≡◌, ℕ, Bool, nat_lt, if◌then◌else◌, Some, None, List, [], ◌∷◌, ◌++◌, map, refl, sym, ap, ◌∙◌, subst, slice_cmp, Ordering, nat_cmp, map-append, TestCounts, PointsOf, above_of, at, cmp_of, AreCounts, is_above_at, IsWithoutTest, tests_without, FileIndexData, counts_totals, index_totals, value_of, FileData, IsIndexOf, IsConsistentFile, file_totals, file_with, has_checksum, holders_at, tests_in, TestData}
 use Rattle.covstore.proofs.Counts.{count_by-between, tests_at-between}
 use Rattle.covstore.proofs.DropsTests.{IsBetween, between, others_ascend, others_of_none}
 use Rattle.covstore.proofs.EachKind.{map_between, order_of, same_each}

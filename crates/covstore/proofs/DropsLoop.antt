@@ -1,12 +1,6 @@
 -- Totals and sections of files without a test, counted one file after another.
-use Rattle.std.proofs.Common.{◌≡◌, ℕ, ◌+◌, ◌<◌, ◌^◌, Bool, cond, List, [], ◌∷◌, length, sym, ap, ◌∙◌, arith}
-use Rattle.std.specs.List.{AllByRecursion, count_by, sum_by}
-use Rattle.std.proofs.lemmas.List.Sums.{count_by-le-length, sum_by-cons}
-use Rattle.covtable.specs.declared.totals.Totals.{Totals}
-use Rattle.covstore.specs.FileDrops.{AreWithoutTest, IsWithoutTest}
-use Rattle.covtable.specs.TotalsExchanged.{FitTogether, FitTotals, no_totals, together}
-use Rattle.covstore.specs.State.{FileData, IsConsistentFile, file_totals, found_at, has_points_of, hit_at, totals_in}
-use Rattle.covstore.specs.Kinds.{Branch, Function, Line}
+use Rattle.covstore.proofs.Words.{◌≡◌, ℕ, ◌+◌, ◌<◌, ◌^◌, Bool, cond, List, [], ◌∷◌, length, sym, ap, ◌∙◌, arith, AllByRecursion, sum_by, count_by-le-length, sum_by-cons, Totals, AreWithoutTest, IsWithoutTest, FitTogether, FitTotals, no_totals, together, FileData, IsConsistentFile, file_totals, found_at, has_points_of, hit_at, totals_in, Branch, Function, Line}
+use Rattle.std.specs.List.{count_by}
 use Rattle.covtable.proofs.TotalsKinds.{same_totals}
 
 -- ---- totals of files

@@ -1,14 +1,6 @@
 -- The store's maps after a test is dropped from their files.
-use Rattle.std.proofs.Common.{◌≡◌, ℕ, Bool, true, false, cond, List, [], ◌∷◌, ◌++◌, refl, sym, ap, subst, inl, inr, Vec}
-use Rattle.std.specs.List.{AllByRecursion}
-use Rattle.std.specs.Map.{remove_entry}
-use Rattle.covstore.specs.declared.file.File.{File}
-use Rattle.covstore.specs.FileDrops.{AreWithoutTest, IsWithoutTest}
-use Rattle.covstore.specs.FileView.{file_committed}
-use Rattle.covstore.specs.StoreView.{AreSettledBut, IsSettledBut, files_committed, tests_of}
-use Rattle.covstore.specs.FileIndexView.{index_staged, index_committed}
+use Rattle.covstore.proofs.Words.{◌≡◌, ℕ, Bool, true, false, cond, List, [], ◌∷◌, ◌++◌, refl, sym, ap, subst, inl, inr, Vec, AllByRecursion, remove_entry, File, AreWithoutTest, IsWithoutTest, file_committed, AreSettledBut, IsSettledBut, files_committed, tests_of, index_staged, index_committed, All-in, In-joined}
 use Rattle.covstore.proofs.DropsRetain.{AreWritten}
-use Rattle.covtable.proofs.Members.{All-in, In-joined}
 use Rattle.covstore.proofs.AddsSettled.{IsSettledTest}
 
 -- what is committed of the second file is that of the first one without the test. Where nothing was staged in the first file,

@@ -1,26 +1,8 @@
 -- The index of a file without a test can be made from the index with it: the points of the other tests are counted again.
-use Rattle.std.proofs.Common.{◌≡◌, ℕ, ◌≤◌, Bool, true, false, cond, nat_lt, if◌then◌else◌, Option, Some, None, List, [], ◌∷◌, ◌++◌, map, refl, sym, ap, ◌∙◌, ⊎_elim, arith}
-use Rattle.std.specs.Cmp.Lexicographic.{slice_cmp}
-use Rattle.std.specs.declared.cmp.Ordering.{Ordering}
-use Rattle.std.specs.declared.cmp.Ordering.TheVariants.{Less}
-use Rattle.std.specs.List.{AllByRecursion, count_by, flat_map}
+use Rattle.covstore.proofs.Words.{◌≡◌, ℕ, ◌≤◌, Bool, true, false, cond, nat_lt, if◌then◌else◌, Option, Some, None, List, [], ◌∷◌, ◌++◌, map, refl, sym, ap, ◌∙◌, ⊎_elim, arith, slice_cmp, Ordering, Less, AllByRecursion, flat_map, is_eq, nat_cmp, cases_Bool, cond-false, cond-true, le-ltb, ltb-false, sum_by-cons, tells_apart, none-some, TestCounts, CountsOf, Kind, above_of, at, cmp_of, of_each, AreCounts, count_above, count_with, is_above_at, tests_at, AreWithoutTest, IsWithoutTest, tests_without, FileIndexData, ArePairs, value_of, FileData, IsIndexOf, IsConsistentFile, file_with, has_checksum, holders_at, holding, TestData, IsExactOrder, lines_order}
+use Rattle.std.specs.List.{count_by}
 use Rattle.std.specs.Option.{is_some}
-use Rattle.std.specs.Ordering.{is_eq, nat_cmp}
-use Rattle.std.proofs.lemmas.Bool.{cases_Bool, cond-false, cond-true, le-ltb, ltb-false}
-use Rattle.std.proofs.lemmas.List.Sums.{sum_by-cons}
-use Rattle.std.proofs.lemmas.Map.Views.{tells_apart}
-use Rattle.std.proofs.lemmas.Option.{none-some}
-use Rattle.covstore.specs.declared.sums.TestCounts.{TestCounts}
-use Rattle.covstore.specs.Kinds.{CountsOf, Kind, above_of, at, cmp_of, of_each}
-use Rattle.covstore.specs.PointIndexCounts.{AreCounts, count_above, count_with, is_above_at, tests_at}
-use Rattle.covstore.specs.FileDrops.{AreWithoutTest, IsWithoutTest, tests_without}
-use Rattle.covstore.specs.FileIndex.{FileIndexData}
-use Rattle.covmap.specs.Puts.{ArePairs, value_of}
-use Rattle.covstore.specs.State.{FileData, IsIndexOf, IsConsistentFile, file_with, has_checksum, holders_at, holding}
-use Rattle.covstore.specs.Sums.{TestData}
-use Rattle.covtable.proofs.Ascend.{IsExactOrder}
 use Rattle.covstore.proofs.DropsKept.{index_first, points_of_all, without_found, without_unfound}
-use Rattle.covtable.proofs.Orders.{lines_order}
 use Rattle.covstore.proofs.Puts.{value_of_first, value_of_later}
 use Rattle.covstore.proofs.EachKind.{of_all, order_of}
 

@@ -1,6 +1,5 @@
 -- What `retain` leaves if its closure keeps every entry, may change each value, and keeps its own state.
-use Rattle.std.proofs.Common.{◌≡◌, Bool, true, cond, List, [], ◌∷◌, refl, sym, ap, ◌∙◌, subst}
-use Rattle.std.specs.List.{AllByRecursion}
+use Rattle.covstore.proofs.Words.{◌≡◌, Bool, true, cond, List, [], ◌∷◌, refl, sym, ap, ◌∙◌, subst, AllByRecursion}
 use Rattle.std.specs.Map.Calls.{RetainsPairs}
 
 -- the same keys, each with its replaced value

@@ -1,18 +1,7 @@
 -- Pairs by name, without the pair of one name: what is found of the others, and where the removed one was.
-use Rattle.std.proofs.Common.{◌≡◌, ℕ, Bool, true, false, cond, not, Option, Some, None, List, [], ◌∷◌, ◌++◌, filter, refl, sym, ap, ◌∙◌, subst}
-use Rattle.std.specs.Cmp.Lexicographic.{slice_cmp}
-use Rattle.std.specs.declared.cmp.Ordering.TheVariants.{Less}
-use Rattle.std.specs.List.{AllByRecursion}
-use Rattle.std.specs.Map.{remove_entry}
-use Rattle.std.specs.Ordering.{is_eq, nat_cmp}
-use Rattle.std.specs.Str.{bytes_eq}
-use Rattle.std.proofs.lemmas.Bool.{cond-true, cond-false, false≢true}
+use Rattle.covstore.proofs.Words.{◌≡◌, ℕ, Bool, true, false, cond, not, Option, Some, None, List, [], ◌∷◌, ◌++◌, filter, refl, sym, ap, ◌∙◌, subst, slice_cmp, Less, AllByRecursion, remove_entry, is_eq, nat_cmp, bytes_eq, cond-true, cond-false, false≢true, none-some, same_Some, bytes_eq-Decides, ArePairs, value_of, names_order}
 use Rattle.std.proofs.lemmas.Map.Text.{is_eq-slice_cmp}
-use Rattle.std.proofs.lemmas.Option.{none-some, same_Some}
-use Rattle.std.proofs.lemmas.Slice.Eq.{bytes_eq-Decides}
-use Rattle.covmap.specs.Puts.{ArePairs, value_of}
 use Rattle.covstore.proofs.MapNames.{bytes_apart, has_name, is_eq-flipped, names_with}
-use Rattle.covtable.proofs.Orders.{names_order}
 use Rattle.covstore.proofs.Puts.{value_of_before, value_of_later}
 
 -- different names compare as different

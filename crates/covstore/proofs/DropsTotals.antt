@@ -1,10 +1,6 @@
 -- Totals of files, and the number of files in which a test has points, counted one file after another.
-use Rattle.std.proofs.Common.{◌≡◌, ℕ, ◌+◌, ◌<◌, ◌^◌, Bool, cond, List, [], ◌∷◌, length, sym, ◌∙◌, arith}
+use Rattle.covstore.proofs.Words.{◌≡◌, ℕ, ◌+◌, ◌<◌, ◌^◌, Bool, cond, List, [], ◌∷◌, length, sym, ◌∙◌, arith, count_by-le-length, sum_by-cons, Totals, FitTogether, FitTotals, no_totals, together, FileData, file_totals, has_points_of, totals_in}
 use Rattle.std.specs.List.{count_by}
-use Rattle.std.proofs.lemmas.List.Sums.{count_by-le-length, sum_by-cons}
-use Rattle.covtable.specs.declared.totals.Totals.{Totals}
-use Rattle.covtable.specs.TotalsExchanged.{FitTogether, FitTotals, no_totals, together}
-use Rattle.covstore.specs.State.{FileData, file_totals, has_points_of, totals_in}
 use Rattle.covstore.proofs.DropsLoop.{no_totals_after, no_totals_more, part_fits, totals_taken}
 
 -- ---- totals

@@ -1,18 +1,6 @@
 -- Statements about each kind of points, and what stays when the points of one kind change.
-use Rattle.std.proofs.Common.{◌≡◌, List, ◌∷◌, ◌++◌, length, map, sym, ap, subst, arith, ℕ}
-use Rattle.std.proofs.lemmas.List.{length-map, map-append}
-use Rattle.covstore.specs.FileIndex.{FileIndexData, counts_totals}
-use Rattle.covstore.specs.Items.{HasRoom, HasRoomOfKind, KeepsCountsOfKind}
-use Rattle.covstore.specs.PointIndexCounts.{AreCounts}
-use Rattle.covstore.specs.Kinds.{Branch, CountsOf, Each, Function, Kind, Line, PointsOf, above_of, at, cmp_of, of_each, with_at}
-use Rattle.covstore.specs.State.{FileData, IsIndexOf, found_at, hit_at, totals_in}
-use Rattle.covstore.specs.Sums.{TestData}
+use Rattle.covstore.proofs.Words.{◌≡◌, List, ◌∷◌, ◌++◌, length, map, sym, ap, subst, arith, ℕ, length-map, map-append, FileIndexData, counts_totals, HasRoom, HasRoomOfKind, KeepsCountsOfKind, AreCounts, Branch, CountsOf, Each, Function, Kind, Line, PointsOf, above_of, at, cmp_of, of_each, with_at, FileData, IsIndexOf, found_at, hit_at, totals_in, TestData, IsTallyOf, totals_by, IsExactOrder, branches_order, lines_order, names_order, sum_by}
 use Rattle.covstore.specs.declared.point_index.KindTally.{KindTally}
-use Rattle.covstore.specs.PointIndex.{IsTallyOf}
-use Rattle.covstore.specs.PointIndexDrops.{totals_by}
-use Rattle.covtable.proofs.Ascend.{IsExactOrder}
-use Rattle.covtable.proofs.Orders.{branches_order, lines_order, names_order}
-use Rattle.std.specs.List.{sum_by}
 
 -- ---- by cases, for each kind. Other files state and prove things of any kind at once
 

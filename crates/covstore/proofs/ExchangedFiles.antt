@@ -1,24 +1,9 @@
 -- The totals of all files after one of them is replaced: they fit in 64 bits, and `exchanged` gives them.
-use Rattle.std.proofs.Common.{◌≡◌, ℕ, ◌+◌, ◌-◌, ◌≤◌, ◌^◌, Some, List, [], ◌∷◌, length, map, sym, ap, ◌∙◌, subst, arith, inl, inr}
-use Rattle.std.specs.Cmp.Lexicographic.{slice_cmp}
-use Rattle.std.specs.List.{sum_by}
-use Rattle.std.specs.Ordering.{nat_cmp}
-use Rattle.std.proofs.lemmas.List.{length-map}
-use Rattle.std.proofs.lemmas.List.Sums.{sum_by-cons}
+use Rattle.covstore.proofs.Words.{◌≡◌, ℕ, ◌+◌, ◌-◌, ◌≤◌, ◌^◌, Some, List, [], ◌∷◌, length, map, sym, ap, ◌∙◌, subst, arith, inl, inr, slice_cmp, sum_by, nat_cmp, length-map, sum_by-cons, ItemData, Row, Totals, content_of, FitTogether, IsAmong, exchanged, ArePairs, put, value_of, FileData, IsStateOf, file_totals, found_at, hit_at, totals_in, totals_of, Branch, Function, Line, In, names_order}
 use Rattle.std.proofs.lemmas.Map.Made.{distinct_count-le}
-use Rattle.covdata.specs.Row.{ItemData, Row}
-use Rattle.covtable.specs.declared.totals.Totals.{Totals}
-use Rattle.covtable.specs.Content.{content_of}
 use Rattle.covtable.specs.Counted.{Kind, branches, found, functions, in_file, is_same, lines, points_of}
-use Rattle.covtable.specs.TotalsExchanged.{FitTogether, IsAmong, exchanged}
-use Rattle.covmap.specs.Puts.{ArePairs, put, value_of}
-use Rattle.covstore.specs.State.{FileData, IsStateOf, file_totals, found_at, hit_at, totals_in}
-use Rattle.covtable.specs.Totals.{totals_of}
-use Rattle.covstore.specs.Kinds.{Branch, Function, Line}
 use Rattle.covstore.proofs.AddsPlace.{state_agrees}
 use Rattle.covtable.proofs.Few.{few_parts, one_branch, one_function, one_line}
-use Rattle.covtable.proofs.Members.{In}
-use Rattle.covtable.proofs.Orders.{names_order}
 use Rattle.covstore.proofs.Puts.{at_before, pair_in, sum_by-put}
 use Rattle.covstore.proofs.StateSections.{sections_are}
 use Rattle.covstore.proofs.StateTotals.{totals_are}

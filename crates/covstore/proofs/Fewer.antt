@@ -1,13 +1,5 @@
 -- One test loses a point: the new counts are those of the other tests.
-use Rattle.std.proofs.Common.{◌≡◌, ℕ, ◌+◌, ◌-◌, ◌<◌, ◌≤◌, Bool, true, false, nat_lt, Option, Some, None, List, [], ◌∷◌, refl, sym, ap, ◌∙◌, subst, arith}
-use Rattle.std.specs.declared.cmp.Ordering.{Ordering}
-use Rattle.std.specs.Ordering.{is_eq}
-use Rattle.std.proofs.lemmas.Bool.{cond-true, cond-false, lt-ltb, ltb-true, ltb-false}
-use Rattle.covstore.specs.declared.sums.TestCounts.{TestCounts}
-use Rattle.covstore.specs.PointIndexCounts.{AreCounts, count_above, count_with, one_if, tests_at}
-use Rattle.covstore.specs.PointIndexDrops.{CanLose, counts_without, fewer_of, fewer_tests}
-use Rattle.covmap.specs.Puts.{ArePairs, value_of}
-use Rattle.covtable.proofs.Ascend.{IsExactOrder}
+use Rattle.covstore.proofs.Words.{◌≡◌, ℕ, ◌+◌, ◌-◌, ◌<◌, ◌≤◌, Bool, true, false, nat_lt, Option, Some, None, List, [], ◌∷◌, refl, sym, ap, ◌∙◌, subst, arith, Ordering, is_eq, cond-true, cond-false, lt-ltb, ltb-true, ltb-false, TestCounts, AreCounts, count_above, count_with, one_if, tests_at, CanLose, counts_without, fewer_of, fewer_tests, ArePairs, value_of, IsExactOrder}
 use Rattle.covstore.proofs.Assigned.{ArePairs-assigned, any_key, apart_assigned, own_assigned}
 use Rattle.covstore.proofs.Counts.{above_le_with, same_tests, tests_among, tests_at-between, test_counts_of}
 use Rattle.covstore.proofs.Puts.{same_pairs, value_of_before, value_of_first, value_of_later}

@@ -1,18 +1,9 @@
 -- A test that holds checksums of lines is dropped: how many tests hold them afterwards.
-use Rattle.std.proofs.Common.{◌≡◌, ℕ, ◌+◌, ◌-◌, ◌<◌, Bool, true, false, cond, nat_lt, Option, Some, None, List, [], ◌∷◌, refl, sym, ap, ◌∙◌, subst, arith}
+use Rattle.covstore.proofs.Words.{◌≡◌, ℕ, ◌+◌, ◌-◌, ◌<◌, Bool, true, false, cond, nat_lt, Option, Some, None, List, [], ◌∷◌, refl, sym, ap, ◌∙◌, subst, arith, is_eq, nat_cmp, cond-true, cond-false, lt-ltb, ltb-true, ltb-false, LineSum, is_above_at, one_if, AreHolders, AreHoldersWith, LosesHolders, held_less, less_of, one_less, with_lines, ArePairs, value_of, has_checksum, holders_at, holding, TestData, lines_order}
 use Rattle.std.specs.Option.{is_some}
-use Rattle.std.specs.Ordering.{is_eq, nat_cmp}
-use Rattle.std.proofs.lemmas.Bool.{cond-true, cond-false, lt-ltb, ltb-true, ltb-false}
-use Rattle.covstore.specs.declared.sums.LineSum.{LineSum}
 use Rattle.covmap.specs.Assigned.{assigned}
-use Rattle.covstore.specs.PointIndexCounts.{is_above_at, one_if}
-use Rattle.covstore.specs.PointIndexDrops.{AreHolders, AreHoldersWith, LosesHolders, held_less, less_of, one_less, with_lines}
-use Rattle.covmap.specs.Puts.{ArePairs, value_of}
-use Rattle.covstore.specs.State.{has_checksum, holders_at, holding}
-use Rattle.covstore.specs.Sums.{TestData}
 use Rattle.covstore.proofs.Assigned.{any_key, apart_assigned, own_assigned}
 use Rattle.covstore.proofs.Counts.{count_by-between}
-use Rattle.covtable.proofs.Orders.{lines_order}
 use Rattle.covstore.proofs.Puts.{value_of_before, value_of_first, value_of_later}
 use Rattle.covstore.proofs.StepsKept.{is_holding}
 

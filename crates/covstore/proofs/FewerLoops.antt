@@ -1,14 +1,6 @@
 -- The points of a test are removed one by one: the counts after each step, and their tally.
-use Rattle.std.proofs.Common.{◌≡◌, Bool, Some, List, [], ◌∷◌, sym, ap, ◌∙◌, subst}
-use Rattle.std.specs.declared.cmp.Ordering.{Ordering}
-use Rattle.std.proofs.lemmas.Option.{none-some}
+use Rattle.covstore.proofs.Words.{◌≡◌, Bool, Some, List, [], ◌∷◌, sym, ap, ◌∙◌, subst, Ordering, none-some, TestCounts, IsTallyOf, AreCounts, AreWith, CanLose, IsTallyAt, IsTallyWithout, LosesTest, counts_without, ArePairs, value_of, IsExactOrder}
 use Rattle.covstore.specs.declared.point_index.KindTally.{KindTally}
-use Rattle.covstore.specs.declared.sums.TestCounts.{TestCounts}
-use Rattle.covstore.specs.PointIndex.{IsTallyOf}
-use Rattle.covstore.specs.PointIndexCounts.{AreCounts}
-use Rattle.covstore.specs.PointIndexDrops.{AreWith, CanLose, IsTallyAt, IsTallyWithout, LosesTest, counts_without}
-use Rattle.covmap.specs.Puts.{ArePairs, value_of}
-use Rattle.covtable.proofs.Ascend.{IsExactOrder}
 use Rattle.covstore.proofs.Assigned.{any_key}
 use Rattle.covstore.proofs.Counts.{counts_unempty}
 use Rattle.covstore.proofs.Fewer.{can_lose, counts_fewer, one_rest, same_numbers}

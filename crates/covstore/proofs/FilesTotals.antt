@@ -1,27 +1,11 @@
 -- The files of a state's sections are the files with points, each with the totals that its index keeps.
-use Rattle.std.proofs.Common.{◌≡◌, ℕ, ◌==◌, ◌&&◌, true, List, [], ◌∷◌, ◌++◌, length, map, refl, sym, ap, ◌∙◌, subst, inl, inr, ⊎_elim, arith}
-use Rattle.std.specs.List.{count_by, flat_map, sum_by}
-use Rattle.std.proofs.lemmas.Bool.{and_from, and_parts, cond-true, cond-false, eq-eqb, eqb-true, false_from_ne_true}
-use Rattle.std.proofs.lemmas.List.{append-nil, map-append}
-use Rattle.std.proofs.lemmas.List.Sums.{sum_by-cons}
-use Rattle.covdata.specs.Row.{Row}
-use Rattle.covtable.specs.declared.totals.Totals.{Totals}
-use Rattle.covtable.specs.Content.{SectionData}
+use Rattle.covstore.proofs.Words.{◌≡◌, ℕ, ◌==◌, ◌&&◌, true, List, [], ◌∷◌, ◌++◌, length, map, refl, sym, ap, ◌∙◌, subst, inl, inr, ⊎_elim, arith, flat_map, sum_by, and_from, and_parts, cond-true, cond-false, eq-eqb, eqb-true, false_from_ne_true, map-append, sum_by-cons, Row, Totals, SectionData, finds_nothing, Branch, Function, Kind, Line, at, found_of, hit_of, FileData, IsStateOf, branch_seen, file_totals, found_at, function_seen, line_seen, section_seen, section_with_points, sections_of, sections_of_file, IsStore, TestData, all_rows, over_files, totals_of, In-to_ascending, In-flat, In, In-map}
+use Rattle.std.specs.List.{count_by}
+use Rattle.std.proofs.lemmas.List.{append-nil}
 use Rattle.covtable.specs.Files.{FileTotalsData, file_with_totals, files_with_totals}
 use Rattle.covstore.specs.FilesView.{file_if_found, file_seen, files_with_points}
-use Rattle.covtable.specs.TotalsExchanged.{finds_nothing}
-use Rattle.covstore.specs.Kinds.{Branch, Function, Kind, Line, at}
-use Rattle.covstore.specs.PointIndexCounts.{found_of, hit_of}
-use Rattle.covstore.specs.State.{FileData, IsStateOf, branch_seen, file_totals, found_at, function_seen, line_seen, section_seen, section_with_points, sections_of, sections_of_file}
-use Rattle.covstore.specs.StoreView.{IsStore}
-use Rattle.covstore.specs.Sums.{TestData}
-use Rattle.covtable.specs.Table.{all_rows}
-use Rattle.covtable.specs.Totals.{over_files, totals_of}
-use Rattle.covtable.proofs.Ascend.{In-to_ascending}
-use Rattle.covtable.proofs.ContentsLists.{In-flat}
 use Rattle.covstore.proofs.CountsKinds.{ValueOf, found_in, is_hit_in, key_in, values_in}
 use Rattle.covstore.proofs.EachKind.{order_of}
-use Rattle.covtable.proofs.Members.{In, In-map}
 use Rattle.covstore.proofs.StateFiles.{name_if, name_seen, names_seen, over_all, own_seen}
 use Rattle.covstore.proofs.StateOrder.{section_of_test}
 use Rattle.covstore.proofs.StateSeen.{HasNone, seen_or_not}

@@ -1,13 +1,6 @@
 -- Nothing is staged in a file but in some of its tests. This stays true while the tests and what is seen of the index stay.
-use Rattle.std.proofs.Common.{◌≡◌, ℕ, false, List, sym, ◌∙◌, subst, Vec}
-use Rattle.std.specs.List.{AllByRecursion, list_any}
-use Rattle.std.specs.Str.{bytes_eq}
-use Rattle.covstore.specs.declared.file.File.{File}
-use Rattle.covstore.specs.declared.test.Test.{Test}
-use Rattle.covstore.specs.FileIndexView.{index_committed, index_staged}
+use Rattle.covstore.proofs.Words.{◌≡◌, ℕ, false, List, sym, ◌∙◌, subst, Vec, AllByRecursion, list_any, bytes_eq, File, Test, index_committed, index_staged, IsSettledBut, test_committed, test_staged}
 use Rattle.covstore.specs.FileParts.{FileTests}
-use Rattle.covstore.specs.StoreView.{IsSettledBut}
-use Rattle.covstore.specs.TestView.{test_committed, test_staged}
 
 pub settled_same : {A : Type 0} (tests : List (List ℕ)) (before after : File A) → after.tests ≡ before.tests → index_committed after.index ≡ index_committed before.index
     → index_staged after.index ≡ index_staged before.index → IsSettledBut tests before → IsSettledBut tests after

@@ -1,18 +1,8 @@
 -- The index of a file follows the only test of the file. What this gives for one test, and how it stays so when a test is
 -- written, inserted or removed.
-use Rattle.std.proofs.Common.{◌≡◌, Bool, true, false, cond, Option, Some, None, List, [], ◌∷◌, refl, sym, ap, ◌∙◌, subst}
-use Rattle.std.specs.BTreeMap.{insert_entry}
-use Rattle.std.specs.declared.cmp.Ordering.{Ordering}
-use Rattle.std.specs.Map.{lookup, remove_entry, set_value}
-use Rattle.std.specs.Option.{IfSome}
-use Rattle.std.proofs.lemmas.Bool.{cond-false, cond-true}
-use Rattle.std.proofs.lemmas.Option.{none-some, same_Some}
-use Rattle.covmap.specs.MapData.{MapData}
+use Rattle.covstore.proofs.Words.{◌≡◌, Bool, true, false, cond, Option, Some, None, List, [], ◌∷◌, refl, sym, ap, ◌∙◌, subst, insert_entry, Ordering, lookup, remove_entry, set_value, IfSome, cond-false, cond-true, none-some, same_Some, MapData, Test, TestData, test_of, test_committed, test_staged}
 use Rattle.covstore.specs.declared.index.FileIndex.{FileIndex}
-use Rattle.covstore.specs.declared.test.Test.{Test}
 use Rattle.covstore.specs.Follows.{CanFollow, CountsAll, Follows, FollowsSole, StillFollows, no_test}
-use Rattle.covstore.specs.Sums.{TestData, test_of}
-use Rattle.covstore.specs.TestView.{test_committed, test_staged}
 
 -- ---- one test
 

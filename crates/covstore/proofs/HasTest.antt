@@ -1,24 +1,10 @@
 -- The tests that have sections: those that have points in some file.
-use Rattle.std.proofs.Common.{◌≡◌, ℕ, Bool, true, false, cond, not, ◌&&◌, ◌||◌, Option, Some, None, List, [], ◌∷◌, length, arith, refl, sym, ap, ◌∙◌, subst}
-use Rattle.std.specs.Prelude.{IsTrue, ◌↔◌}
-use Rattle.std.specs.Cmp.Lexicographic.{slice_cmp}
-use Rattle.std.specs.List.{AllByRecursion, flat_map, list_any}
-use Rattle.std.specs.Map.{values_of}
-use Rattle.std.specs.Ordering.{is_eq, nat_cmp}
-use Rattle.std.specs.Str.{bytes_eq}
+use Rattle.covstore.proofs.Words.{◌≡◌, ℕ, Bool, true, false, cond, not, ◌&&◌, ◌||◌, Option, Some, None, List, [], ◌∷◌, length, arith, refl, sym, ap, ◌∙◌, subst, IsTrue, ◌↔◌, slice_cmp, AllByRecursion, flat_map, list_any, values_of, is_eq, nat_cmp, bytes_eq, tells_apart, BranchPoint, LineSum, SectionData, ArePairs, value_of, FileData, IsConsistentFile, has_no_points, is_empty_list, has_points_of, points_or_none, section_seen, section_with_points, sections_of, sections_of_file, TestData, names_order}
 use Rattle.std.proofs.lemmas.List.Folds.{list_any-append}
 use Rattle.std.proofs.lemmas.Map.Text.{is_eq-slice_cmp}
-use Rattle.std.proofs.lemmas.Map.Views.{tells_apart}
-use Rattle.covdata.specs.Points.{BranchPoint}
 use Rattle.covstore.specs.declared.sums.FunctionSum.{FunctionSum}
-use Rattle.covstore.specs.declared.sums.LineSum.{LineSum}
 use Rattle.covstore.specs.declared.sums.BranchSum.{BranchSum}
-use Rattle.covtable.specs.Content.{SectionData}
-use Rattle.covmap.specs.Puts.{ArePairs, value_of}
-use Rattle.covstore.specs.State.{FileData, IsConsistentFile, has_no_points, is_empty_list, has_points_of, points_or_none, section_seen, section_with_points, sections_of, sections_of_file}
-use Rattle.covstore.specs.Sums.{TestData}
 use Rattle.covstore.proofs.MapNames.{names_with}
-use Rattle.covtable.proofs.Orders.{names_order}
 use Rattle.covstore.proofs.Puts.{value_of_before}
 
 abbrev of_test : List ℕ → SectionData → Bool

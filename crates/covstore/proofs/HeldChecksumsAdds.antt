@@ -1,40 +1,17 @@
 -- Items are added in two steps: first their checksums are held, then their runs are staged. The first item whose checksum
 -- differs from the held one is the clash.
-use Rattle.std.proofs.Common.{◌≡◌, ℕ, true, false, Option, Some, None, List, ◌∷◌, ◌++◌, length, map, refl, sym, ap, ◌∙◌, subst, inl, ⊎_elim}
-use Rattle.std.specs.Prelude.{Contains}
-use Rattle.std.specs.Cmp.Lexicographic.{slice_cmp}
+use Rattle.covstore.proofs.Words.{◌≡◌, ℕ, true, false, Option, Some, None, List, ◌∷◌, ◌++◌, length, map, refl, sym, ap, ◌∙◌, subst, inl, ⊎_elim, Contains, slice_cmp, is_eq, nat_cmp, false≢true, tied_itself, flat_map-append, ItemData, LineItem, FuncItem, BranchItem, Row, rows_of_sect, put, value_of, Agree, Checksum, checksum_of_row, checksums_in, clash_of, FileIndexData, HasRoomForRun, IsClashAt, IsClashOf, IsOtherText, KeepsCounts, AreCounts, CountsOf, Each, above_of, at, cmp_of, HasRoomForRuns, KeepsCountsOfKinds, KeepsHeld, RunOf, runs_of, with_runs, Adds, Clashes, ClashesAt, HasRoomFor, IsIn, clash_in_file, section_of_items, FileData, file_with, holders_at, text_in, TestData, index_staged, test_staged, Test, In-unflat, Contains-from, In, In-from, In-joined, In-parts, In-unmap, names_order}
 use Rattle.std.specs.Option.{is_some}
-use Rattle.std.specs.Ordering.{is_eq, nat_cmp}
-use Rattle.std.proofs.lemmas.Bool.{false≢true}
-use Rattle.std.proofs.lemmas.Cmp.{tied_itself}
-use Rattle.std.proofs.lemmas.List.Concat.{flat_map-append}
-use Rattle.covdata.specs.Row.{ItemData, LineItem, FuncItem, BranchItem, Row, rows_of_sect}
-use Rattle.covmap.specs.Puts.{put, value_of}
 use Rattle.covstore.specs.declared.stage.fault.StageFault.{StageFault}
 use Rattle.covstore.specs.declared.stage.fault.StageFault.TheVariants.{Clash, Memory}
-use Rattle.covtable.specs.Clash.{Agree, Checksum, checksum_of_row, checksums_in, clash_of}
-use Rattle.covstore.specs.FileIndex.{FileIndexData}
-use Rattle.covstore.specs.Items.{HasRoomForRun, IsClashAt, IsClashOf, IsOtherText, KeepsCounts}
-use Rattle.covstore.specs.PointIndexCounts.{AreCounts}
-use Rattle.covstore.specs.Kinds.{CountsOf, Each, above_of, at, cmp_of}
-use Rattle.covstore.specs.Runs.{HasRoomForRuns, KeepsCountsOfKinds, KeepsHeld, RunOf, runs_of, with_runs}
-use Rattle.covstore.specs.Section.{Adds, Clashes, ClashesAt, HasRoomFor, IsIn, clash_in_file, section_of_items}
-use Rattle.covstore.specs.State.{FileData, file_with, holders_at, text_in}
-use Rattle.covstore.specs.Sums.{TestData}
 use Rattle.covstore.specs.HeldChecksums.{HoldsTexts}
-use Rattle.covstore.specs.FileIndexView.{index_staged}
-use Rattle.covstore.specs.TestView.{test_staged}
 use Rattle.covstore.specs.declared.index.FileIndex.{FileIndex}
-use Rattle.covstore.specs.declared.test.Test.{Test}
 use Rattle.covstore.proofs.AddsItem.{items_add, texts_after}
 use Rattle.covstore.proofs.AddsMore.{checksums_joined, two_checksums}
 use Rattle.covstore.proofs.AddsPlace.{agree_by_text, held_text}
 use Rattle.covstore.proofs.Assigned.{any_key}
 use Rattle.covtable.proofs.Clashes.{told_first}
 use Rattle.covtable.proofs.ContentsChecksums.{line_of_said}
-use Rattle.covtable.proofs.ContentsLists.{In-unflat}
-use Rattle.covtable.proofs.Members.{Contains-from, In, In-from, In-joined, In-parts, In-unmap}
-use Rattle.covtable.proofs.Orders.{names_order}
 use Rattle.covstore.proofs.Puts.{value_of-put, value_of-put_apart}
 use Rattle.covstore.proofs.RunsAdds.{room_of_runs, texts_kept}
 use Rattle.covstore.proofs.RunsKept.{counts_between}

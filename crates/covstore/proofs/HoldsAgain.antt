@@ -1,17 +1,7 @@
 -- The checksums of a test's lines are held by one more test: how many tests then hold a checksum of each line.
-use Rattle.std.proofs.Common.{◌≡◌, ℕ, ◌≤◌, ◌^◌, Bool, true, false, ◌||◌, Option, Some, List, [], ◌∷◌, ◌++◌, refl, sym, ap, ◌∙◌, subst}
-use Rattle.std.specs.Option.{IfSome, is_some}
-use Rattle.std.specs.Ordering.{is_eq, nat_cmp}
-use Rattle.std.proofs.lemmas.Bool.{false≢true}
-use Rattle.covmap.specs.Puts.{ArePairs, value_of}
-use Rattle.covstore.specs.declared.sums.LineSum.{LineSum}
-use Rattle.covstore.specs.Checksums.{one_more}
+use Rattle.covstore.proofs.Words.{◌≡◌, ℕ, ◌≤◌, ◌^◌, Bool, true, false, ◌||◌, Option, Some, List, [], ◌∷◌, ◌++◌, refl, sym, ap, ◌∙◌, subst, IfSome, is_eq, nat_cmp, false≢true, ArePairs, value_of, LineSum, one_more, is_above_at, HasHolders, held_again, held_if, has_checksum, holders_at, TestData, lines_order}
+use Rattle.std.specs.Option.{is_some}
 use Rattle.covstore.specs.HeldChecksums.{KeepsHolders}
-use Rattle.covstore.specs.PointIndexCounts.{is_above_at}
-use Rattle.covstore.specs.Renaming.{HasHolders, held_again, held_if}
-use Rattle.covstore.specs.State.{has_checksum, holders_at}
-use Rattle.covstore.specs.Sums.{TestData}
-use Rattle.covtable.proofs.Orders.{lines_order}
 use Rattle.covstore.proofs.Assigned.{any_key}
 use Rattle.covstore.proofs.Puts.{value_of-put, value_of-put_apart, value_of_before, value_of_first, value_of_later}
 use Rattle.covstore.proofs.StepsKept.{holding_same, is_holding, own_more}

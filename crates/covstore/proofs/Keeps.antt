@@ -1,14 +1,5 @@
 -- Adding a file without tests leaves the state as it is.
-use Rattle.std.proofs.Common.{◌≡◌, ℕ, ◌+◌, None, List, refl, ap, arith}
-use Rattle.std.specs.Cmp.Lexicographic.{slice_cmp}
-use Rattle.std.specs.List.{sum_by}
-use Rattle.std.specs.Ordering.{nat_cmp}
-use Rattle.covstore.specs.FileView.{no_file}
-use Rattle.covstore.specs.Store.{KeepsState}
-use Rattle.covmap.specs.Puts.{ArePairs, put, value_of}
-use Rattle.covstore.specs.Kinds.{Kind}
-use Rattle.covstore.specs.State.{FileData, found_at, hit_at}
-use Rattle.covtable.proofs.Orders.{names_order}
+use Rattle.covstore.proofs.Words.{◌≡◌, ℕ, ◌+◌, None, List, refl, ap, arith, slice_cmp, sum_by, nat_cmp, no_file, KeepsState, ArePairs, put, value_of, Kind, FileData, found_at, hit_at, names_order}
 use Rattle.covstore.proofs.Puts.{at_before, sum_by-put}
 use Rattle.covstore.proofs.StateMore.{file_more}
 use Rattle.covstore.proofs.EachKind.{each_kind, totals_same}

@@ -1,27 +1,10 @@
 -- Changes of one file that leave the state as it is. Either a test without points is added, or texts are added to lines of which
 -- no test holds a checksum.
+use Rattle.covstore.proofs.Words.{◌≡◌, ℕ, true, false, Option, Some, None, List, [], map, refl, sym, ap, ◌∙◌, subst, arith, ⊎_elim, slice_cmp, sum_by, nat_cmp, cases_Bool, cond-false, cond-true, false≢true, Row, CountsOf, Each, Kind, above_of, at, cmp_of, IsIn, checksums_in, AreCounts, found_of, hit_of, KeepsIn, KeepsFile, tests_with, with_test, KeepsState, ArePairs, put, value_of, FileData, IsIndexOf, IsStateOf, IsConsistentFile, file_with, found_at, hit_at, points_in, tests_in, totals_in, TestData, test_of, In-from, names_order}
 use Rattle.std.specs.Prelude.{if◌then◌else◌}
-use Rattle.std.proofs.Common.{◌≡◌, ℕ, true, false, Option, Some, None, List, [], map, refl, sym, ap, ◌∙◌, subst, arith, ⊎_elim}
-use Rattle.std.specs.Cmp.Lexicographic.{slice_cmp}
-use Rattle.std.specs.List.{sum_by}
 use Rattle.std.specs.Option.{is_some}
-use Rattle.std.specs.Ordering.{nat_cmp}
-use Rattle.std.proofs.lemmas.Bool.{cases_Bool, cond-false, cond-true, false≢true}
-use Rattle.covdata.specs.Row.{Row}
-use Rattle.covstore.specs.Kinds.{CountsOf, Each, Kind, above_of, at, cmp_of}
-use Rattle.covstore.specs.Section.{IsIn}
-use Rattle.covtable.specs.Clash.{checksums_in}
-use Rattle.covstore.specs.PointIndexCounts.{AreCounts, found_of, hit_of}
-use Rattle.covstore.specs.FileSection.{KeepsIn}
-use Rattle.covstore.specs.FileView.{KeepsFile, tests_with, with_test}
-use Rattle.covstore.specs.Store.{KeepsState}
-use Rattle.covmap.specs.Puts.{ArePairs, put, value_of}
-use Rattle.covstore.specs.State.{FileData, IsIndexOf, IsStateOf, IsConsistentFile, file_with, found_at, hit_at, points_in, tests_in, totals_in}
-use Rattle.covstore.specs.Sums.{TestData, test_of}
 use Rattle.covstore.proofs.AddsLists.{put_there, put_twice}
 use Rattle.covstore.proofs.AddsPlace.{checksum_held, state_agrees, text_kept}
-use Rattle.covtable.proofs.Members.{In-from}
-use Rattle.covtable.proofs.Orders.{names_order}
 use Rattle.covstore.proofs.Puts.{ArePairs-put, at_before, sum_by-put, value_of-put}
 use Rattle.covstore.proofs.StateMore.{test_more}
 use Rattle.covstore.proofs.StateRows.{file_whole, state_changed}

@@ -1,21 +1,9 @@
 -- The texts of a file's checksums at their indexes: what changes with a new text, and with a text that replaces another.
-use Rattle.std.proofs.Common.{◌≡◌, ℕ, ◌+◌, ◌<◌, ◌≤◌, Bool, true, false, cond, Option, Some, None, List, [], ◌∷◌, ◌++◌, length, take, get_or, refl, sym, ap, ◌∙◌, subst, arith}
-use Rattle.std.specs.Prelude.{option_map, slice_set}
-use Rattle.std.specs.declared.cmp.Ordering.{Ordering}
-use Rattle.std.specs.declared.cmp.Ordering.TheVariants.{Less, Equal, Greater}
-use Rattle.std.specs.List.{AllByRecursion}
+use Rattle.covstore.proofs.Words.{◌≡◌, ℕ, ◌+◌, ◌<◌, ◌≤◌, Bool, true, false, cond, Option, Some, None, List, [], ◌∷◌, ◌++◌, length, take, get_or, refl, sym, ap, ◌∙◌, subst, arith, slice_set, Ordering, Less, Equal, Greater, AllByRecursion, is_eq, match_ordering, nat_cmp, false≢true, tied_itself, get_or_append_left, get_or_push, get_or-set_other, get_or-set_same, get_or-take, length_push, tells_apart, MapData, ArePairs, put, value_of, All-weaker, All-in, lines_order}
+use Rattle.std.specs.Prelude.{option_map}
 use Rattle.std.specs.Option.{is_some}
-use Rattle.std.specs.Ordering.{is_eq, match_ordering, nat_cmp}
-use Rattle.std.proofs.lemmas.Bool.{false≢true}
-use Rattle.std.proofs.lemmas.Cmp.{tied_itself}
-use Rattle.std.proofs.lemmas.List.{get_or_append_left, get_or_push, get_or-set_other, get_or-set_same, get_or-take, length-take-le, length_push}
-use Rattle.std.proofs.lemmas.Map.Views.{tells_apart}
-use Rattle.covmap.specs.MapData.{MapData}
-use Rattle.covmap.specs.Puts.{ArePairs, put, value_of}
+use Rattle.std.proofs.lemmas.List.{length-take-le}
 use Rattle.covstore.specs.KeptTexts.{AreApart, AreBelow, AreCommitted, ArePlaced, StayAt, StillHave, kept_texts, texts_at}
-use Rattle.covtable.proofs.Ascend.{All-weaker}
-use Rattle.covtable.proofs.Members.{All-in}
-use Rattle.covtable.proofs.Orders.{lines_order}
 use Rattle.covstore.proofs.Puts.{All-put, ArePairs-put, pair_in, same_pairs, value_of-put_any, value_of-put_other}
 
 -- the text at an index

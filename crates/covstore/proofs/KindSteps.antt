@@ -1,18 +1,11 @@
 -- The index of a kind of points follows the only test, or counts the points of all tests: what a step in one of these forms gives.
-use Rattle.std.proofs.Common.{◌≡◌, ◌+◌, ◌≤◌, Bool, Some, List, [], length, sym, ap, ◌∙◌, subst}
-use Rattle.std.specs.declared.cmp.Ordering.{Ordering}
-use Rattle.std.specs.Option.{IfSome}
-use Rattle.covmap.specs.MapData.{MapData}
+use Rattle.covstore.proofs.Words.{◌≡◌, ◌+◌, ◌≤◌, Bool, Some, List, [], length, sym, ap, ◌∙◌, subst, Ordering, IfSome, MapData, TestCounts, KeepsCountsOfKind, IsTallyWithout, LosesTest, IsExactOrder}
 use Rattle.covstore.specs.declared.kind_index.Counts.{Counts}
 use Rattle.covstore.specs.declared.kind_index.Counts.TheVariants.{OfOneTest, OfTests}
 use Rattle.covstore.specs.declared.point_index.KindTally.{KindTally}
-use Rattle.covstore.specs.declared.sums.TestCounts.{TestCounts}
-use Rattle.covstore.specs.Items.{KeepsCountsOfKind}
 use Rattle.covstore.specs.KindData.{KindData}
 use Rattle.covstore.specs.KindIndex.{kind_data}
-use Rattle.covstore.specs.PointIndexDrops.{IsTallyWithout, LosesTest}
 use Rattle.covstore.specs.SoleTest.{counts_of}
-use Rattle.covtable.proofs.Ascend.{IsExactOrder}
 use Rattle.covstore.proofs.SoleCounts.{sole_loses, sole_tally}
 
 -- the index follows the test with these points

@@ -1,3 +1,4 @@
+pub mod Words
 pub mod Nothing
 pub mod Parted
 pub mod TotalsCounts

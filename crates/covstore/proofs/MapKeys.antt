@@ -1,16 +1,8 @@
 -- The entries of a map, seen by their names: what is found at a name, and the entries after one is inserted or replaced.
-use Rattle.std.proofs.Common.{◌≡◌, Bool, true, false, cond, Option, Some, None, List, [], ◌∷◌, map, option_map, refl, sym, ap, ◌∙◌}
-use Rattle.std.specs.BTreeMap.{insert_entry, is_at}
-use Rattle.std.specs.declared.cmp.Ordering.{Ordering}
-use Rattle.std.specs.declared.cmp.Ordering.TheVariants.{Less, Equal, Greater}
-use Rattle.std.specs.List.{AllByRecursion}
+use Rattle.covstore.proofs.Words.{◌≡◌, Bool, true, false, cond, Option, Some, None, List, [], ◌∷◌, map, option_map, refl, sym, ap, ◌∙◌, insert_entry, is_at, Ordering, Less, Equal, Greater, AllByRecursion, lookup, set_value, is_eq, match_ordering, ordering_reverse, false≢true, value_of, put, ArePairs, IsExactOrder, All-weaker}
 use Rattle.std.specs.List.Sorted.{IsStrictlySortedBy}
-use Rattle.std.specs.Map.{lookup, set_value, keys_of}
+use Rattle.std.specs.Map.{keys_of}
 use Rattle.std.specs.Option.{is_some}
-use Rattle.std.specs.Ordering.{is_eq, match_ordering, ordering_reverse}
-use Rattle.std.proofs.lemmas.Bool.{false≢true}
-use Rattle.covmap.specs.Puts.{value_of, put, ArePairs}
-use Rattle.covtable.proofs.Ascend.{IsExactOrder, All-weaker}
 use Rattle.covstore.proofs.Puts.{value_of_before}
 
 -- two keys are equal in either order

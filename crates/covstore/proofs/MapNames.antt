@@ -1,20 +1,8 @@
 -- The entries of a map whose keys are names, before and after the value at one name is replaced.
-use Rattle.std.proofs.Common.{◌≡◌, ℕ, Bool, true, false, cond, Some, None, option_map, List, [], ◌∷◌, map, refl, sym, ap, ◌∙◌, subst}
-use Rattle.std.specs.Cmp.Lexicographic.{slice_cmp}
-use Rattle.std.specs.declared.cmp.Ordering.TheVariants.{Less}
-use Rattle.std.specs.List.{AllByRecursion}
+use Rattle.covstore.proofs.Words.{◌≡◌, ℕ, Bool, true, false, cond, Some, None, option_map, List, [], ◌∷◌, map, refl, sym, ap, ◌∙◌, subst, slice_cmp, Less, AllByRecursion, lookup, set_value, is_eq, nat_cmp, bytes_eq, false_from_ne_true, false≢true, nat_list_cmp_total, tied_itself, tells_apart, same_Some, bytes_eq-Decides, value_of, names_order}
 use Rattle.std.specs.List.Sorted.{IsStrictlySortedBy}
-use Rattle.std.specs.Map.{keys_of, lookup, set_value}
-use Rattle.std.specs.Ordering.{is_eq, nat_cmp}
-use Rattle.std.specs.Str.{bytes_eq}
-use Rattle.std.proofs.lemmas.Bool.{false_from_ne_true, false≢true}
-use Rattle.std.proofs.lemmas.Cmp.{nat_list_cmp_total, tied_itself}
+use Rattle.std.specs.Map.{keys_of}
 use Rattle.std.proofs.lemmas.Map.{NonePasses, none_passes_from_lookup}
-use Rattle.std.proofs.lemmas.Map.Views.{tells_apart}
-use Rattle.std.proofs.lemmas.Option.{same_Some}
-use Rattle.std.proofs.lemmas.Slice.Eq.{bytes_eq-Decides}
-use Rattle.covmap.specs.Puts.{value_of}
-use Rattle.covtable.proofs.Orders.{names_order}
 use Rattle.covstore.proofs.MapKeys.{reverse_eq, seen_value}
 
 -- `bytes_eq` is false of different names

@@ -1,21 +1,5 @@
 -- Adding the points of a test to another test gives the same as adding the items that add up to these points.
-use Rattle.std.proofs.Common.{◌≡◌, ℕ, ◌+◌, ◌≤◌, min, Bool, true, false, ◌||◌, cond, Option, Some, None, List, [], ◌∷◌, length, refl, sym, ap, ◌∙◌, subst, arith}
-use Rattle.std.specs.Cmp.Lexicographic.{slice_cmp}
-use Rattle.std.specs.List.{flat_map}
-use Rattle.std.specs.Ordering.{is_eq, nat_cmp}
-use Rattle.std.specs.declared.cmp.Ordering.{Ordering}
-use Rattle.std.proofs.lemmas.Cmp.{tied_itself}
-use Rattle.std.proofs.lemmas.List.{length-map}
-use Rattle.covdata.specs.Points.{branch_point, branch_points, func_point, func_points, line_point, line_points}
-use Rattle.covdata.specs.Row.{ItemData}
-use Rattle.covmap.specs.Puts.{ArePairs, put, value_of}
-use Rattle.covmap.specs.Run.{sum_put, summed}
-use Rattle.covstore.specs.Kinds.{Branch, Function, Kind, Line, PointsOf, SumOf, at, cmp_of}
-use Rattle.covstore.specs.Renaming.{merged}
-use Rattle.covstore.specs.Runs.{AddendOf, RunOf, addend_of, as_run, points_with, run_of, sum_of, with_items}
-use Rattle.covstore.specs.Sums.{TestData, branch_sum, function_sum, line_sum, sum_taken, test_of}
-use Rattle.covtable.specs.Value.{bounded, branch_cmp, branches_in, lines_in, names_in}
-use Rattle.covtable.proofs.Ascend.{IsExactOrder, length-ascending}
+use Rattle.covstore.proofs.Words.{◌≡◌, ℕ, ◌+◌, ◌≤◌, min, Bool, true, false, ◌||◌, cond, Option, Some, None, List, [], ◌∷◌, length, refl, sym, ap, ◌∙◌, subst, arith, slice_cmp, flat_map, is_eq, nat_cmp, Ordering, tied_itself, length-map, branch_point, branch_points, func_point, func_points, line_point, line_points, ItemData, ArePairs, put, value_of, sum_put, summed, Branch, Function, Kind, Line, PointsOf, SumOf, at, cmp_of, merged, AddendOf, RunOf, addend_of, as_run, points_with, run_of, sum_of, with_items, TestData, branch_sum, function_sum, line_sum, sum_taken, test_of, bounded, branch_cmp, branches_in, lines_in, names_in, IsExactOrder, length-ascending}
 use Rattle.covtable.proofs.Few.{few_parts, one_branch, one_function, one_line}
 use Rattle.covstore.proofs.Assigned.{any_key}
 use Rattle.covstore.proofs.EachKind.{order_of, same_each}

@@ -1,8 +1,5 @@
 -- The names of the files in which a test has points, one after another.
-use Rattle.std.proofs.Common.{◌≡◌, ◌≢◌, ℕ, Bool, true, false, cond, List, [], ◌∷◌, ◌++◌, length, map, filter, sym, ap, ◌∙◌, arith}
-use Rattle.std.proofs.lemmas.List.{length-append}
-use Rattle.covstore.specs.Renaming.{names_with}
-use Rattle.covstore.specs.State.{FileData, has_points_of}
+use Rattle.covstore.proofs.Words.{◌≡◌, ◌≢◌, ℕ, Bool, true, false, cond, List, [], ◌∷◌, ◌++◌, length, map, filter, sym, ap, ◌∙◌, arith, length-append, names_with, FileData, has_points_of}
 
 -- a file in which the test has no points adds no name
 module _ (test : List ℕ) (pair : List ℕ × FileData) (files : List (List ℕ × FileData)) where

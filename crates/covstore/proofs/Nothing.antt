@@ -1,8 +1,5 @@
 -- A submission without rows is prepared as the empty one.
-use Rattle.std.proofs.Common.{◌≡◌, ◌≢◌, [], length, Result, Ok, Err, ap, sym, ◌∙◌}
-use Rattle.std.specs.Prelude.{IfOk}
-use Rattle.std.proofs.lemmas.List.{nil_from_length}
-use Rattle.covdata.specs.Row.{SubmissionData, items_in, rows_of}
+use Rattle.covstore.proofs.Words.{◌≡◌, ◌≢◌, [], length, Result, Ok, Err, ap, sym, ◌∙◌, IfOk, nil_from_length, SubmissionData, items_in, rows_of}
 use Rattle.covtable.proofs.Bounds.{length-rows_of_sects}
 
 -- without items there are no rows

@@ -1,9 +1,6 @@
 -- A list of no entry or of one: it is in order, and what is found in it and written to it.
-use Rattle.std.proofs.Common.{◌≡◌, Bool, true, false, cond, Option, Some, None, is_some, List, [], ◌∷◌, refl, sym}
-use Rattle.std.specs.declared.cmp.Ordering.{Ordering}
+use Rattle.covstore.proofs.Words.{◌≡◌, Bool, true, false, cond, Option, Some, None, is_some, List, [], ◌∷◌, refl, sym, Ordering, lookup, set_value, false≢true}
 use Rattle.std.specs.List.Sorted.{IsStrictlySortedBy}
-use Rattle.std.specs.Map.{lookup, set_value}
-use Rattle.std.proofs.lemmas.Bool.{false≢true}
 
 module _ {K : Type 0} (cmp : K → K → Ordering) where
   pub none_sorted : IsStrictlySortedBy cmp []

@@ -1,11 +1,7 @@
 -- The order of byte lists, compared eight bytes at a time as numbers, and the rest byte by byte.
-use Rattle.std.proofs.Common.{◌≡◌, ℕ, zero, suc, ◌+◌, ◌*◌, ◌≤◌, ◌<◌, List, [], ◌∷◌, ◌++◌, length, take, drop, get_or, refl, sym, ap, ◌∙◌, subst, arith, take-append-drop, length-take-le, length-drop, get_or-drop, drop-drop, min}
-use Rattle.std.specs.declared.cmp.Ordering.{Ordering}
-use Rattle.std.specs.declared.cmp.Ordering.TheVariants.{Less, Equal, Greater}
+use Rattle.covstore.proofs.Words.{◌≡◌, ℕ, zero, suc, ◌+◌, ◌*◌, ◌≤◌, ◌<◌, List, [], ◌∷◌, ◌++◌, length, take, drop, get_or, refl, sym, ap, ◌∙◌, subst, arith, take-append-drop, length-take-le, length-drop, get_or-drop, drop-drop, min, Ordering, Less, Equal, Greater, slice_cmp, MatchOrdering, nat_cmp, ordering_then}
 use Rattle.std.specs.Cmp.{nat_cmp_is, ranks}
-use Rattle.std.specs.Cmp.Lexicographic.{slice_cmp}
 use Rattle.std.specs.Int.{from_be_bytes, w64}
-use Rattle.std.specs.Ordering.{MatchOrdering, nat_cmp, ordering_then}
 
 -- each number of the list is below 256
 abbrev pub AreBytes : List ℕ → Type 0

@@ -1,18 +1,8 @@
 -- What `prepare` gives is right for any table that the store represents: the plan, its totals, or the clash.
-use Rattle.std.proofs.Common.{◌≡◌, ◌+◌, ◌*◌, ◌<◌, ◌≤◌, ◌^◌, None, [], ◌∷◌, ◌++◌, length, sym, ap, ◌∙◌, subst, arith}
-use Rattle.std.specs.List.{AllByRecursion}
-use Rattle.std.proofs.lemmas.List.{length-append}
-use Rattle.covdata.specs.Row.{SubmissionData, rows_of}
+use Rattle.covstore.proofs.Words.{◌≡◌, ◌+◌, ◌*◌, ◌<◌, ◌≤◌, ◌^◌, None, [], ◌∷◌, ◌++◌, length, sym, ap, ◌∙◌, subst, arith, AllByRecursion, length-append, SubmissionData, rows_of, Totals, Agree, checksums_in, clash_of, content_at, content_of, AddsRows, ClashesWith, HasRoomForRows, IsPlanOf, PlanData, SameCommitted, StandsFor, StoreData, max_members, IsStateOf, sections_of, totals_in, Table, all_rows, clash_at, AreTotals, totals_of}
 use Rattle.covdata.specs.Lawful.{IsLawful, max_items}
-use Rattle.covtable.specs.declared.totals.Totals.{Totals}
-use Rattle.covtable.specs.Clash.{Agree, checksums_in, clash_of}
-use Rattle.covtable.specs.Content.{content_at, content_of}
-use Rattle.covstore.specs.Store.{AddsRows, ClashesWith, HasRoomForRows, IsPlanOf, PlanData, SameCommitted, StandsFor, StoreData, max_members}
 use Rattle.covtable.specs.Refuse.{IsRefusedAt, RefuseData, ClashRefuse, MemoryRefuse}
-use Rattle.covstore.specs.State.{IsStateOf, sections_of, totals_in}
 use Rattle.covstore.specs.StoreKept.{IsKept}
-use Rattle.covtable.specs.Table.{Table, all_rows, clash_at}
-use Rattle.covtable.specs.Totals.{AreTotals, totals_of}
 use Rattle.covtable.proofs.Contents.{clash_by_content, content-append}
 use Rattle.covstore.proofs.StateSame.{same_clash, same_state}
 use Rattle.covstore.proofs.AddsPlace.{state_agrees}

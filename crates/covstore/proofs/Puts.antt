@@ -1,21 +1,9 @@
 -- Ascending keys with values: the value of a key, what putting in a value changes, and that the values of all keys decide the
 -- list.
-use Rattle.std.proofs.Common.{◌≡◌, ℕ, ◌+◌, Bool, true, false, cond, Option, Some, None, List, [], ◌∷◌, length, refl, sym, ap, ◌∙◌, subst, inl, inr, ⊎_elim, arith}
-use Rattle.std.specs.declared.cmp.Ordering.{Ordering}
-use Rattle.std.specs.declared.cmp.Ordering.TheVariants.{Less, Equal, Greater}
-use Rattle.std.specs.List.{AllByRecursion, sum_by, count_by}
+use Rattle.covstore.proofs.Words.{◌≡◌, ℕ, ◌+◌, Bool, true, false, cond, Option, Some, None, List, [], ◌∷◌, length, refl, sym, ap, ◌∙◌, subst, inl, inr, ⊎_elim, arith, Ordering, Less, Equal, Greater, AllByRecursion, sum_by, is_eq, match_ordering, ordering_reverse, cases_Bool, cond-true, cond-false, false_from_ne_true, on_total, tied_itself, sum_by-cons, tells_apart, none-some, same_Some, is_above_at, is_new, one_if, value_of, put, ArePairs, IsExactOrder, All-match, All-weaker, flips, one_sorted, In, All-in}
+use Rattle.std.specs.List.{count_by}
 use Rattle.std.specs.List.Sorted.{IsStrictlySortedBy}
 use Rattle.std.specs.Option.{is_some}
-use Rattle.std.specs.Ordering.{is_eq, match_ordering, ordering_reverse}
-use Rattle.std.proofs.lemmas.Bool.{cases_Bool, cond-true, cond-false, false_from_ne_true}
-use Rattle.std.proofs.lemmas.Cmp.{on_total, tied_itself}
-use Rattle.std.proofs.lemmas.List.Sums.{sum_by-cons}
-use Rattle.std.proofs.lemmas.Map.Views.{tells_apart}
-use Rattle.std.proofs.lemmas.Option.{none-some, same_Some}
-use Rattle.covstore.specs.PointIndexCounts.{is_above_at, is_new, one_if}
-use Rattle.covmap.specs.Puts.{value_of, put, ArePairs}
-use Rattle.covtable.proofs.Ascend.{IsExactOrder, All-match, All-weaker, flips, one_sorted}
-use Rattle.covtable.proofs.Members.{In, All-in}
 use Rattle.covstore.proofs.TotalsCounts.{one_each}
 
 -- what a key with this value, if any, adds to a sum over pairs; 0 if it has no value

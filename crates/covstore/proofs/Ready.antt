@@ -1,21 +1,10 @@
 -- A file that is prepared before rows are added to it. What is added to the prepared file is added to the file as it was.
-use Rattle.std.proofs.Common.{◌≡◌, ℕ, Bool, true, false, List, [], ◌++◌, refl, ◌∙◌, subst}
+use Rattle.covstore.proofs.Words.{◌≡◌, ℕ, Bool, true, false, List, [], ◌++◌, refl, ◌∙◌, subst, slice_cmp, nat_cmp, ItemData, Row, rows_of_sect, AddsItems, ClashesIn, HasFile, HasRoomIn, KeepsIn, tests_with, put, value_of, CopiesIn, HasRoomToCopyIn, copied_rows, section_of_items, FileData, TestData, test_of, names_order}
 use Rattle.std.specs.Prelude.{if◌then◌else◌}
-use Rattle.std.specs.Cmp.Lexicographic.{slice_cmp}
 use Rattle.std.specs.Option.{is_some}
-use Rattle.std.specs.Ordering.{nat_cmp}
-use Rattle.covdata.specs.Row.{ItemData, Row, rows_of_sect}
 use Rattle.covstore.specs.declared.stage.fault.StageFault.{StageFault}
 use Rattle.covstore.specs.declared.stage.fault.StageFault.TheVariants.{Clash, Memory}
-use Rattle.covstore.specs.FileSection.{AddsItems, ClashesIn, HasFile, HasRoomIn, KeepsIn}
-use Rattle.covstore.specs.FileView.{tests_with}
-use Rattle.covmap.specs.Puts.{put, value_of}
-use Rattle.covstore.specs.Renaming.{CopiesIn, HasRoomToCopyIn, copied_rows}
-use Rattle.covstore.specs.Section.{section_of_items}
-use Rattle.covstore.specs.State.{FileData}
-use Rattle.covstore.specs.Sums.{TestData, test_of}
 use Rattle.covstore.proofs.AddsLists.{put_twice}
-use Rattle.covtable.proofs.Orders.{names_order}
 use Rattle.covstore.proofs.Puts.{value_of-put, value_of-put_other}
 
 module _ (file ready : FileData) (keeps : KeepsIn file ready) where

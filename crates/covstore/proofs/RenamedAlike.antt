@@ -1,16 +1,8 @@
 -- Alike items add up to the same.
-use Rattle.std.proofs.Common.{◌≡◌, ℕ, Option, unwrap_or, List, [], ◌∷◌, ◌++◌, map, refl, ap, inl}
-use Rattle.std.specs.Cmp.Lexicographic.{slice_cmp}
-use Rattle.std.specs.List.{flat_map}
+use Rattle.covstore.proofs.Words.{◌≡◌, ℕ, Option, unwrap_or, List, [], ◌∷◌, ◌++◌, map, refl, ap, inl, slice_cmp, flat_map, nat_cmp, BranchPoint, line_point, func_point, branch_point, line_points, func_points, branch_points, ItemData, branch_sum, function_sum, line_sum, test_of, lines_in, names_in, branches_in, bounded, branch_cmp, line_added, line_value, checksum_said, line_checksum, first_of, start_said, function_start, function_added, function_count, taken_said, branch_value, lines_order, names_order, branches_order}
 use Rattle.std.specs.Option.{is_some}
-use Rattle.std.specs.Ordering.{nat_cmp}
 use Rattle.std.proofs.lemmas.List.Sorted.{IsPermutation-append_comm}
-use Rattle.covdata.specs.Points.{BranchPoint, line_point, func_point, branch_point, line_points, func_points, branch_points}
-use Rattle.covdata.specs.Row.{ItemData}
-use Rattle.covstore.specs.Sums.{branch_sum, function_sum, line_sum, test_of}
-use Rattle.covtable.specs.Value.{lines_in, names_in, branches_in, bounded, branch_cmp, line_added, line_value, checksum_said, line_checksum, first_of, start_said, function_start, function_added, function_count, taken_said, branch_value}
 use Rattle.covtable.proofs.Alike.{AreAlike, alike_permuted, alike_said, sum_alike, least_alike, same_mapped}
-use Rattle.covtable.proofs.Orders.{lines_order, names_order, branches_order}
 use Rattle.covstore.proofs.EachKind.{same_test}
 
 -- two lists of items add up to the same if they do for each kind

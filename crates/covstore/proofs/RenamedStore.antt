@@ -1,25 +1,8 @@
 -- A test's values are copied under another name in a store's maps: the file that has the test is found and replaced.
-use Rattle.std.proofs.Common.{◌≡◌, ℕ, true, false, Option, Some, None, List, [], ◌∷◌, ◌++◌, Vec, refl, sym, ap, ◌∙◌, subst}
-use Rattle.std.specs.BTreeMap.{is_at}
-use Rattle.std.specs.Cmp.Lexicographic.{slice_cmp}
-use Rattle.std.specs.List.{list_any}
+use Rattle.covstore.proofs.Words.{◌≡◌, ℕ, true, false, Option, Some, None, List, [], ◌∷◌, ◌++◌, Vec, refl, sym, ap, ◌∙◌, subst, is_at, slice_cmp, list_any, lookup, set_value, nat_cmp, bytes_eq, false≢true, File, Totals, KeepsIn, file_staged, file_committed, AreSettledBut, IsSettledBut, IsStore, files_staged, files_committed, value_of, Copies, CopiesIn, HasRoomToCopy, HasRoomToCopyIn, copied_rows, FileData, IsStateOf, has_no_points, points_in, points_or_none, KeepsState, SameCommitted, StoreData, TestData, test_staged, test_committed}
 use Rattle.std.specs.List.Sorted.{IsStrictlySortedBy}
-use Rattle.std.specs.Map.{keys_of, lookup, set_value}
+use Rattle.std.specs.Map.{keys_of}
 use Rattle.std.specs.Option.{is_some}
-use Rattle.std.specs.Ordering.{nat_cmp}
-use Rattle.std.specs.Str.{bytes_eq}
-use Rattle.std.proofs.lemmas.Bool.{false≢true}
-use Rattle.covstore.specs.declared.file.File.{File}
-use Rattle.covtable.specs.declared.totals.Totals.{Totals}
-use Rattle.covstore.specs.FileSection.{KeepsIn}
-use Rattle.covstore.specs.FileView.{file_staged, file_committed}
-use Rattle.covstore.specs.StoreView.{AreSettledBut, IsSettledBut, IsStore, files_staged, files_committed}
-use Rattle.covmap.specs.Puts.{value_of}
-use Rattle.covstore.specs.Renaming.{Copies, CopiesIn, HasRoomToCopy, HasRoomToCopyIn, copied_rows}
-use Rattle.covstore.specs.State.{FileData, IsStateOf, has_no_points, points_in, points_or_none}
-use Rattle.covstore.specs.Store.{KeepsState, SameCommitted, StoreData}
-use Rattle.covstore.specs.Sums.{TestData}
-use Rattle.covstore.specs.TestView.{test_staged, test_committed}
 use Rattle.covstore.proofs.AddsMaps.{file_value, file_written, kept_written, no_place, test_too, written_settled}
 use Rattle.covstore.proofs.AddsPlace.{state_agrees}
 use Rattle.covstore.proofs.AddsReady.{held_kept}

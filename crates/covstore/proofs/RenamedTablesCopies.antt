@@ -1,29 +1,12 @@
 -- The rows of a test are copied under a new name, file by file. Copies don't change what is still to be copied. With all of them,
 -- the state is that of the rows and the moved rows.
-use Rattle.std.proofs.Common.{◌≡◌, ℕ, Bool, true, false, cond, not, ◌&&◌, Option, Some, None, List, [], ◌∷◌, ◌++◌, map, filter, refl, sym, ap, ◌∙◌, subst, append_assoc, inl, ⊎_elim}
-use Rattle.std.specs.Cmp.Lexicographic.{slice_cmp}
-use Rattle.std.specs.List.{flat_map}
-use Rattle.std.specs.Ordering.{nat_cmp}
-use Rattle.std.specs.Str.{bytes_eq}
-use Rattle.std.proofs.lemmas.Bool.{false≢true}
+use Rattle.covstore.proofs.Words.{◌≡◌, ℕ, Bool, true, false, cond, not, ◌&&◌, Option, Some, None, List, [], ◌∷◌, ◌++◌, map, filter, refl, sym, ap, ◌∙◌, subst, append_assoc, inl, ⊎_elim, slice_cmp, flat_map, nat_cmp, bytes_eq, false≢true, flat_map-append, bytes_eq-Decides, ItemData, Row, Checksum, checksum_of_row, checksums_in, ArePairs, value_of, Copies, copied_rows, key_of, names_with, FileData, IsStateOf, has_no_points, is_empty_list, has_points_of, points_at, points_in, TestData, test_of, Key, has_key, items_at, In-flat, In-unflat, In-unfilter, Contains-from, In, In-from, In-joined, In-parts, names_order}
 use Rattle.std.proofs.lemmas.List.{append-nil}
-use Rattle.std.proofs.lemmas.List.Concat.{flat_map-append}
 use Rattle.std.proofs.lemmas.Map.Text.{is_eq-slice_cmp}
-use Rattle.std.proofs.lemmas.Slice.Eq.{bytes_eq-Decides}
-use Rattle.covdata.specs.Row.{ItemData, Row}
-use Rattle.covtable.specs.Clash.{Checksum, checksum_of_row, checksums_in}
-use Rattle.covmap.specs.Puts.{ArePairs, value_of}
 use Rattle.covtable.specs.Renamed.{moved_rows, renamed_row}
-use Rattle.covstore.specs.Renaming.{Copies, copied_rows, key_of, names_with}
 use Rattle.covstore.specs.StoreSection.{rows_of_items}
-use Rattle.covstore.specs.State.{FileData, IsStateOf, has_no_points, is_empty_list, has_points_of, points_at, points_in}
-use Rattle.covstore.specs.Sums.{TestData, test_of}
-use Rattle.covtable.specs.Value.{Key, has_key, items_at}
 use Rattle.covtable.specs.Without.{is_of_test}
-use Rattle.covtable.proofs.ContentsLists.{In-flat, In-unflat, In-unfilter}
 use Rattle.covtable.proofs.ContentsSections.{both, items_at-append}
-use Rattle.covtable.proofs.Members.{Contains-from, In, In-from, In-joined, In-parts}
-use Rattle.covtable.proofs.Orders.{names_order}
 use Rattle.covstore.proofs.Puts.{value_of_before}
 use Rattle.covtable.proofs.RenamedTables.{agree_renamed, items_picked}
 use Rattle.covstore.proofs.StateSeen.{HasNone, some_points_of}

@@ -1,21 +1,6 @@
 -- At most as many rows of a test are copied under a new name as there are rows.
-use Rattle.std.proofs.Common.{◌≡◌, ℕ, ◌+◌, ◌*◌, ◌≤◌, suc, Bool, true, false, cond, not, ◌&&◌, List, [], ◌∷◌, ◌++◌, length, map, filter, refl, sym, ap, ◌∙◌, subst, arith}
-use Rattle.std.specs.Cmp.Lexicographic.{slice_cmp}
-use Rattle.std.specs.declared.cmp.Ordering.TheVariants.{Less}
-use Rattle.std.specs.List.{AllByRecursion}
-use Rattle.std.specs.Ordering.{nat_cmp}
-use Rattle.std.specs.Str.{bytes_eq}
-use Rattle.std.proofs.lemmas.Cmp.{tied_itself}
-use Rattle.std.proofs.lemmas.List.{length-append, length-map}
-use Rattle.std.proofs.lemmas.List.Concat.{flat_map-append}
-use Rattle.std.proofs.lemmas.Slice.Eq.{bytes_eq-Decides}
-use Rattle.covdata.specs.Row.{ItemData, Row}
-use Rattle.covmap.specs.Puts.{ArePairs}
-use Rattle.covstore.specs.Renaming.{copied_rows, key_of, names_with}
+use Rattle.covstore.proofs.Words.{◌≡◌, ℕ, ◌+◌, ◌*◌, ◌≤◌, suc, Bool, true, false, cond, not, ◌&&◌, List, [], ◌∷◌, ◌++◌, length, map, filter, refl, sym, ap, ◌∙◌, subst, arith, slice_cmp, Less, AllByRecursion, nat_cmp, bytes_eq, tied_itself, length-append, length-map, flat_map-append, bytes_eq-Decides, ItemData, Row, ArePairs, copied_rows, key_of, names_with, FileData, has_points_of, has_key, items_at, names_order}
 use Rattle.covstore.specs.StoreSection.{rows_of_items}
-use Rattle.covstore.specs.State.{FileData, has_points_of}
-use Rattle.covtable.specs.Value.{has_key, items_at}
-use Rattle.covtable.proofs.Orders.{names_order}
 use Rattle.covstore.proofs.RenamedTablesCopies.{copies_of, picked_both, same_picked}
 
 -- ---- different names

@@ -1,29 +1,12 @@
 -- A rename is prepared: the old test's values are copied file by file, until all are copied.
-use Rattle.std.proofs.Common.{◌≡◌, ℕ, ◌+◌, ◌*◌, ◌<◌, ◌≤◌, ◌^◌, Bool, true, false, cond, not, Option, Some, List, [], ◌∷◌, ◌++◌, drop, get_or, length, filter, map, take, refl, sym, ap, ◌∙◌, subst, append_assoc, inl, inr, arith}
-use Rattle.std.specs.Cmp.Lexicographic.{slice_cmp}
-use Rattle.std.specs.Ordering.{nat_cmp}
-use Rattle.std.specs.Str.{bytes_eq}
-use Rattle.std.proofs.lemmas.List.{append-nil, drop_more, map_more}
-use Rattle.std.proofs.lemmas.List.Concat.{flat_map-append}
-use Rattle.covdata.specs.Row.{ItemData, Row}
-use Rattle.covtable.specs.declared.totals.Totals.{Totals}
-use Rattle.covtable.specs.Clash.{checksum_of_row, checksums_in}
-use Rattle.covmap.specs.Puts.{ArePairs, value_of}
+use Rattle.covstore.proofs.Words.{◌≡◌, ℕ, ◌+◌, ◌*◌, ◌<◌, ◌≤◌, ◌^◌, Bool, true, false, cond, not, Option, Some, List, [], ◌∷◌, ◌++◌, drop, get_or, length, filter, map, take, refl, sym, ap, ◌∙◌, subst, append_assoc, inl, inr, arith, slice_cmp, nat_cmp, bytes_eq, drop_more, map_more, flat_map-append, ItemData, Row, Totals, checksum_of_row, checksums_in, ArePairs, value_of, Copies, HasRoomToCopy, IsMoving, key_of, names_with, FileData, IsStateOf, has_no_points, has_points_of, points_at, points_in, SameCommitted, StoreData, test_of, all_rows, items_at, In-unfilter, Contains-from, In, In-from, In-joined, In-unmap, names_order}
+use Rattle.std.proofs.lemmas.List.{append-nil}
 use Rattle.covtable.specs.Renamed.{moved_rows}
-use Rattle.covstore.specs.Renaming.{Copies, HasRoomToCopy, IsMoving, key_of, names_with}
-use Rattle.covstore.specs.State.{FileData, IsStateOf, has_no_points, has_points_of, points_at, points_in}
-use Rattle.covstore.specs.Store.{SameCommitted, StoreData}
 use Rattle.covstore.specs.StoreKept.{IsKept}
-use Rattle.covstore.specs.Sums.{test_of}
-use Rattle.covtable.specs.Table.{all_rows}
-use Rattle.covtable.specs.Value.{items_at}
 use Rattle.covstore.proofs.AddsPlace.{state_agrees}
 use Rattle.covstore.proofs.AddsStore.{held_by_both, same_committed}
 use Rattle.covtable.proofs.ContentsChecksums.{checksums_there}
-use Rattle.covtable.proofs.ContentsLists.{In-unfilter}
 use Rattle.covtable.proofs.ContentsSections.{items_at-append}
-use Rattle.covtable.proofs.Members.{Contains-from, In, In-from, In-joined, In-unmap}
-use Rattle.covtable.proofs.Orders.{names_order}
 use Rattle.covstore.proofs.Prepares.{rows_in_table}
 use Rattle.covstore.proofs.Puts.{value_of_pair}
 use Rattle.covstore.proofs.RenamedAlike.{tests_swapped}

@@ -1,37 +1,16 @@
 -- The state after a test is renamed: the staged values are there under the new name, and the old test is gone.
-use Rattle.std.proofs.Common.{◌≡◌, ℕ, Bool, true, false, cond, not, List, [], ◌∷◌, ◌++◌, map, filter, refl, sym, ap, ◌∙◌, subst, arith}
+use Rattle.covstore.proofs.Words.{◌≡◌, ℕ, Bool, true, false, cond, not, List, [], ◌∷◌, ◌++◌, map, filter, refl, sym, ap, ◌∙◌, subst, arith, IsPermutation, bytes_eq, false≢true, length-map, map-append, bytes_eq-Decides, BranchPoint, ItemData, Row, LineSum, Totals, Agree, checksum_of_row, checksums_in, BranchValueData, FunctionValueData, LineValueData, SectionData, branch_at, content_of, function_at, line_at, section_with, AreWithoutTest, IsStore, IsMoving, FileData, IsStateOf, totals_in, StandsFor, branch_sum, function_sum, line_sum, test_of, Table, all_rows, totals_of, Key, branches_in, has_key, items_at, lines_in, names_in, Contains-from, In-from}
 use Rattle.std.specs.Option.{is_some}
-use Rattle.std.specs.List.Sorted.{IsPermutation}
-use Rattle.std.specs.Str.{bytes_eq}
-use Rattle.std.proofs.lemmas.Bool.{false≢true}
-use Rattle.std.proofs.lemmas.List.{length-map, map-append}
 use Rattle.std.proofs.lemmas.List.Elements.{filter-append}
 use Rattle.std.proofs.lemmas.List.Sorted.{IsPermutation-filter_both, IsPermutation-sym}
-use Rattle.std.proofs.lemmas.Slice.Eq.{bytes_eq-Decides}
-use Rattle.covdata.specs.Points.{BranchPoint}
-use Rattle.covdata.specs.Row.{ItemData, Row}
 use Rattle.covstore.specs.declared.sums.FunctionSum.{FunctionSum}
-use Rattle.covstore.specs.declared.sums.LineSum.{LineSum}
 use Rattle.covstore.specs.declared.sums.BranchSum.{BranchSum}
-use Rattle.covtable.specs.declared.totals.Totals.{Totals}
-use Rattle.covtable.specs.Clash.{Agree, checksum_of_row, checksums_in}
-use Rattle.covtable.specs.Content.{BranchValueData, FunctionValueData, LineValueData, SectionData, branch_at, content_of, function_at, line_at, section_with}
-use Rattle.covstore.specs.FileDrops.{AreWithoutTest}
-use Rattle.covstore.specs.StoreView.{IsStore}
 use Rattle.covtable.specs.Renamed.{moved_rows, renamed, renamed_row}
-use Rattle.covstore.specs.Renaming.{IsMoving}
-use Rattle.covstore.specs.State.{FileData, IsStateOf, totals_in}
-use Rattle.covstore.specs.Store.{StandsFor}
-use Rattle.covstore.specs.Sums.{branch_sum, function_sum, line_sum, test_of}
-use Rattle.covtable.specs.Table.{Table, all_rows}
-use Rattle.covtable.specs.Totals.{totals_of}
-use Rattle.covtable.specs.Value.{Key, branches_in, has_key, items_at, lines_in, names_in}
 use Rattle.covtable.specs.Without.{is_of_test}
 use Rattle.covstore.proofs.AddsPlace.{state_agrees}
 use Rattle.covtable.proofs.Alike.{AreAlike, alike_mapped, alike_permuted, alike_picked, alike_said}
 use Rattle.covtable.proofs.ContentsChecksums.{checksums_there}
 use Rattle.covtable.proofs.ContentsSections.{sections_same}
-use Rattle.covtable.proofs.Members.{Contains-from, In-from}
 use Rattle.covstore.proofs.RenamedAlike.{same_sums, test_alike}
 use Rattle.covtable.proofs.RenamedTables.{agree_in_renamed, content_totals_renamed, row_stays, rows_renamed, small_renamed}
 use Rattle.covstore.proofs.StateSections.{sections_are}

@@ -1,33 +1,18 @@
 -- Items without a checksum are split by kind into runs. Once the runs are staged, the items are added. This can be done with
 -- some of the items at a time.
-use Rattle.std.proofs.Common.{◌≡◌, ℕ, Some, None, List, [], ◌++◌, length, refl, sym, ap, ◌∙◌, subst, inl, inr}
-use Rattle.std.specs.List.{All}
+use Rattle.covstore.proofs.Words.{◌≡◌, ℕ, Some, None, List, [], ◌++◌, length, refl, sym, ap, ◌∙◌, subst, inl, inr, All, nat_cmp, ItemData, LineItem, FuncItem, BranchItem, value_of, FileIndexData, IsTextOf, KeepsTextsOf, Each, HasNoChecksum, HasRoomForRuns, KeepsCountsOfKinds, KeepsHeld, RunOf, runs_of, with_runs, Adds, Clashes, ClashesAt, HasRoomFor, TestData, Contains-from, In, In-joined, KeepsCommitted, index_staged, test_staged, test_committed, Test, nil_from_length}
 use Rattle.std.specs.Option.{is_some}
-use Rattle.std.specs.Ordering.{nat_cmp}
 use Rattle.std.proofs.lemmas.List.Elements.{All-contains}
-use Rattle.covdata.specs.Row.{ItemData, LineItem, FuncItem, BranchItem}
-use Rattle.covmap.specs.Puts.{value_of}
-use Rattle.covstore.specs.FileIndex.{FileIndexData}
-use Rattle.covstore.specs.Items.{IsTextOf, KeepsTextsOf}
-use Rattle.covstore.specs.Kinds.{Each}
-use Rattle.covstore.specs.Order.{HasNoChecksum}
-use Rattle.covstore.specs.Runs.{HasRoomForRuns, KeepsCountsOfKinds, KeepsHeld, RunOf, runs_of, with_runs}
-use Rattle.covstore.specs.Section.{Adds, Clashes, ClashesAt, HasRoomFor}
-use Rattle.covstore.specs.Sums.{TestData}
 use Rattle.covstore.proofs.AddsItem.{items_add}
 use Rattle.covstore.proofs.AddsMore.{adds_more, adds_none, clash_front, clash_later}
-use Rattle.covtable.proofs.Members.{Contains-from, In, In-joined}
 use Rattle.covstore.proofs.AddsRoom.{room_later, room_of_some}
 use Rattle.covstore.proofs.FollowsSteps.{follows_both}
 use Rattle.covstore.proofs.StepsMore.{held_both}
-use Rattle.covstore.specs.FileIndexView.{KeepsCommitted, index_staged}
 use Rattle.covstore.specs.Follows.{Follows, StillFollows}
-use Rattle.covstore.specs.TestView.{test_staged, test_committed}
 use Rattle.covstore.specs.declared.index.FileIndex.{FileIndex}
 use Rattle.covstore.specs.declared.stage.fault.StageFault.{StageFault}
 use Rattle.covstore.specs.declared.stage.fault.StageFault.TheVariants.{Clash, Memory}
-use Rattle.covstore.specs.declared.test.Test.{Test}
-use Rattle.std.proofs.lemmas.List.{append-nil, append_assoc, nil_from_length}
+use Rattle.std.proofs.lemmas.List.{append-nil, append_assoc}
 use Rattle.covstore.proofs.RunsKept.{plain_keep, runs_have_room}
 use Rattle.covstore.proofs.RunsSums.{runs_sum}
 

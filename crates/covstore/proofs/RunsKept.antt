@@ -1,32 +1,13 @@
 -- Items without a checksum are added. If the counts of each kind stay right, the index still counts its tests.
-use Rattle.std.proofs.Common.{◌≡◌, ℕ, Bool, false, Some, None, inl, inr, List, [], ◌∷◌, ◌++◌, length, map, refl, sym, ap, ◌∙◌, subst, arith}
-use Rattle.std.specs.declared.cmp.Ordering.{Ordering}
-use Rattle.covstore.specs.declared.sums.TestCounts.{TestCounts}
-use Rattle.std.specs.Ordering.{nat_cmp}
-use Rattle.std.specs.List.{flat_map}
-use Rattle.covdata.specs.Row.{ItemData, LineItem, FuncItem, BranchItem}
-use Rattle.covmap.specs.Puts.{value_of}
-use Rattle.covstore.specs.FileIndex.{FileIndexData}
-use Rattle.covstore.specs.Items.{HasRoomForRun, KeepsCounts}
-use Rattle.covstore.specs.PointIndexCounts.{AreCounts, is_above_at}
-use Rattle.covstore.specs.Kinds.{Branch, Function, Kind, Line, PointsOf, above_of, at, cmp_of}
-use Rattle.covstore.specs.Order.{HasNoChecksum}
-use Rattle.covstore.specs.Runs.{HasRoomForRuns, KeepsCountsOfKinds, KeepsHeld, run_of, runs_of, with_items}
-use Rattle.covstore.specs.Section.{HasRoomFor}
-use Rattle.covstore.specs.State.{file_with, has_checksum}
-use Rattle.covstore.specs.Sums.{TestData, line_with, with_item}
-use Rattle.covstore.specs.declared.sums.LineSum.{LineSum}
+use Rattle.covstore.proofs.Words.{◌≡◌, ℕ, Bool, false, Some, None, inl, inr, List, [], ◌∷◌, ◌++◌, length, map, refl, sym, ap, ◌∙◌, subst, arith, Ordering, TestCounts, nat_cmp, flat_map, ItemData, LineItem, FuncItem, BranchItem, value_of, FileIndexData, HasRoomForRun, KeepsCounts, AreCounts, is_above_at, Branch, Function, Kind, Line, PointsOf, above_of, at, cmp_of, HasNoChecksum, HasRoomForRuns, KeepsCountsOfKinds, KeepsHeld, run_of, runs_of, with_items, HasRoomFor, file_with, has_checksum, TestData, line_with, with_item, LineSum, In, lines_order, length-map}
 use Rattle.covstore.proofs.AddsFew.{kept_few}
 use Rattle.covstore.proofs.AddsPlace.{as_many, its_back, its_front, its_kept}
 use Rattle.covstore.proofs.Assigned.{any_key}
 use Rattle.covstore.proofs.EachKind.{map_between}
-use Rattle.covtable.proofs.Members.{In}
-use Rattle.covtable.proofs.Orders.{lines_order}
 use Rattle.covstore.proofs.Puts.{value_of-put, value_of-put_apart}
 use Rattle.covstore.proofs.RunsSums.{run_few}
 use Rattle.covstore.proofs.StepsCounts.{line_bare}
 use Rattle.covstore.proofs.StepsKept.{holders_same, is_holding}
-use Rattle.std.proofs.lemmas.List.{length-map}
 
 -- ---- a test holds the same checksums
 

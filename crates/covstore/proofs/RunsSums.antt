@@ -1,17 +1,6 @@
 -- Adding the runs of items to a test gives the same as adding the items one after another.
-use Rattle.std.proofs.Common.{◌≡◌, ◌≤◌, Option, List, [], ◌∷◌, ◌++◌, length, map, refl, sym, ap, ◌∙◌, arith}
-use Rattle.std.specs.List.{flat_map}
-use Rattle.std.specs.Cmp.Lexicographic.{slice_cmp}
-use Rattle.std.specs.Ordering.{nat_cmp}
-use Rattle.std.specs.declared.cmp.Ordering.{Ordering}
-use Rattle.std.proofs.lemmas.List.{append-nil, append_assoc, length-append}
-use Rattle.std.proofs.lemmas.List.Concat.{flat_map-append}
-use Rattle.covdata.specs.Row.{ItemData, LineItem, FuncItem, BranchItem}
-use Rattle.covmap.specs.Run.{summed}
-use Rattle.covstore.specs.Kinds.{Branch, Function, Kind, Line, at}
-use Rattle.covstore.specs.Runs.{RunOf, points_with, run_of, runs_of, runs_with, sum_of, with_items, with_runs}
-use Rattle.covtable.specs.Value.{branch_cmp}
-use Rattle.covstore.specs.Sums.{TestData, test_of, with_item}
+use Rattle.covstore.proofs.Words.{◌≡◌, ◌≤◌, Option, List, [], ◌∷◌, ◌++◌, length, map, refl, sym, ap, ◌∙◌, arith, flat_map, slice_cmp, nat_cmp, Ordering, length-append, flat_map-append, ItemData, LineItem, FuncItem, BranchItem, summed, Branch, Function, Kind, Line, at, RunOf, points_with, run_of, runs_of, runs_with, sum_of, with_items, with_runs, branch_cmp, TestData, test_of, with_item}
+use Rattle.std.proofs.lemmas.List.{append-nil, append_assoc}
 use Rattle.covstore.proofs.EachKind.{same_each}
 use Rattle.covstore.proofs.SumsMore.{sums_more}
 

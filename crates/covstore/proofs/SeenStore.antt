@@ -1,16 +1,7 @@
 -- Each section of a store has fewer than 2^64 points of each kind.
-use Rattle.std.proofs.Common.{ℕ, ◌*◌, ◌^◌, ◌<◌, ◌≤◌, List, [], ◌∷◌, length, map, sym, subst, arith}
-use Rattle.std.specs.List.{AllByRecursion}
-use Rattle.std.proofs.lemmas.List.{length-append}
+use Rattle.covstore.proofs.Words.{ℕ, ◌*◌, ◌^◌, ◌<◌, ◌≤◌, List, [], ◌∷◌, length, map, sym, subst, arith, AllByRecursion, length-append, Row, Totals, section_of, IsStore, FileData, sections_of, Table, all_rows, Key, keys_of}
 use Rattle.covdata.specs.Lawful.{max_items}
-use Rattle.covdata.specs.Row.{Row}
-use Rattle.covtable.specs.declared.totals.Totals.{Totals}
-use Rattle.covtable.specs.Content.{section_of}
-use Rattle.covstore.specs.StoreView.{IsStore}
 use Rattle.covstore.specs.ContentView.{IsFewOf}
-use Rattle.covstore.specs.State.{FileData, sections_of}
-use Rattle.covtable.specs.Table.{Table, all_rows}
-use Rattle.covtable.specs.Value.{Key, keys_of}
 use Rattle.covtable.proofs.Contents.{points_few}
 use Rattle.covstore.proofs.StateSections.{sections_are}
 

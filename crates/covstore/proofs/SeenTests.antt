@@ -1,20 +1,9 @@
 -- The sections of a file's tests, one test after another.
-use Rattle.std.proofs.Common.{◌≡◌, ℕ, Bool, false, Option, Some, None, List, [], ◌∷◌, ◌++◌, map, sym, ap, ◌∙◌, subst}
+use Rattle.covstore.proofs.Words.{◌≡◌, ℕ, Bool, false, Option, Some, None, List, [], ◌∷◌, ◌++◌, map, sym, ap, ◌∙◌, subst, flat_map, AllByRecursion, false≢true, File, Test, SectionData, All-back, All-front, file_committed, files_committed, TestData, FileData, section_seen, sections_of, sections_of_file, test_committed}
 use Rattle.std.specs.Iterator.{YieldsFirstBy}
-use Rattle.std.specs.List.{flat_map, AllByRecursion}
 use Rattle.std.specs.Option.{is_some}
-use Rattle.std.proofs.lemmas.Bool.{false≢true}
 use Rattle.std.proofs.lemmas.List.Folds.{flat_map-map}
-use Rattle.covstore.specs.declared.file.File.{File}
-use Rattle.covstore.specs.declared.test.Test.{Test}
-use Rattle.covtable.specs.Content.{SectionData}
-use Rattle.covtable.proofs.Members.{All-back, All-front}
-use Rattle.covstore.specs.FileView.{file_committed}
-use Rattle.covstore.specs.StoreView.{files_committed}
 use Rattle.covstore.specs.ContentView.{or_none, sections_left, tests_seen}
-use Rattle.covstore.specs.Sums.{TestData}
-use Rattle.covstore.specs.State.{FileData, section_seen, sections_of, sections_of_file}
-use Rattle.covstore.specs.TestView.{test_committed}
 
 -- ---- the sections of a file
 

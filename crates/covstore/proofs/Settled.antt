@@ -1,27 +1,11 @@
 -- Nothing is staged in a file but in some of its tests, and nothing in all files but in some of their tests.
-use Rattle.std.proofs.Common.{◌≡◌, ℕ, Bool, true, false, cond, ◌||◌, length, arith, Some, None, List, [], ◌∷◌, ◌++◌, map, filter, refl, sym, ap, ◌∙◌, subst, Vec}
-use Rattle.std.specs.Cmp.Lexicographic.{slice_cmp}
-use Rattle.std.specs.List.{AllByRecursion, list_any}
+use Rattle.covstore.proofs.Words.{◌≡◌, ℕ, Bool, true, false, cond, ◌||◌, length, arith, Some, None, List, [], ◌∷◌, ◌++◌, map, filter, refl, sym, ap, ◌∙◌, subst, Vec, slice_cmp, AllByRecursion, list_any, lookup, set_value, is_eq, nat_cmp, bytes_eq, length_push, map-append, map_push, bytes_eq-Decides, File, Test, FileIndexData, FileData, file_with, TestData, file_staged, file_committed, AreSettledBut, IsSettledBut, files_staged, files_committed, tests_of, touched_data, index_staged, index_committed, test_staged, test_committed, All-weaker, All-from}
 use Rattle.std.specs.List.Sorted.{IsStrictlySortedBy}
-use Rattle.std.specs.Map.{keys_of, lookup, set_value}
-use Rattle.std.specs.Ordering.{is_eq, nat_cmp}
-use Rattle.std.specs.Str.{bytes_eq}
-use Rattle.std.proofs.lemmas.List.{append-nil, length_push, map-append, map_push}
+use Rattle.std.specs.Map.{keys_of}
+use Rattle.std.proofs.lemmas.List.{append-nil}
 use Rattle.std.proofs.lemmas.List.Elements.{filter-append}
 use Rattle.std.proofs.lemmas.List.Folds.{list_any-append}
-use Rattle.std.proofs.lemmas.Slice.Eq.{bytes_eq-Decides}
-use Rattle.covstore.specs.declared.file.File.{File}
 use Rattle.covstore.specs.declared.store.Touched.{Touched}
-use Rattle.covstore.specs.declared.test.Test.{Test}
-use Rattle.covstore.specs.FileIndex.{FileIndexData}
-use Rattle.covstore.specs.State.{FileData, file_with}
-use Rattle.covstore.specs.Sums.{TestData}
-use Rattle.covstore.specs.FileView.{file_staged, file_committed}
-use Rattle.covstore.specs.StoreView.{AreSettledBut, IsSettledBut, files_staged, files_committed, tests_of, touched_data}
-use Rattle.covstore.specs.FileIndexView.{index_staged, index_committed}
-use Rattle.covstore.specs.TestView.{test_staged, test_committed}
-use Rattle.covtable.proofs.Ascend.{All-weaker}
-use Rattle.covtable.proofs.Members.{All-from}
 use Rattle.covstore.proofs.MapNames.{All-unfound, All-written, bytes_apart, map_written, names_with}
 use Rattle.covstore.proofs.AddsSettled.{IsSettledTest}
 

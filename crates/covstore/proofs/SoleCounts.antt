@@ -1,19 +1,7 @@
 -- The counts of the only test of a file: no other test has a point, and each of its points counts once.
-use Rattle.std.proofs.Common.{◌≡◌, ℕ, ◌+◌, ◌≤◌, Bool, true, false, cond, nat_lt, Option, Some, None, option_map, List, [], ◌∷◌, ◌++◌, refl, sym, ap, ◌∙◌, subst, arith}
-use Rattle.std.specs.declared.cmp.Ordering.{Ordering}
-use Rattle.std.specs.declared.cmp.Ordering.TheVariants.{Less}
-use Rattle.std.specs.List.{AllByRecursion}
-use Rattle.std.specs.Ordering.{is_eq}
-use Rattle.std.proofs.lemmas.Bool.{ltb-false}
-use Rattle.std.proofs.lemmas.Option.{none-some, same_Some}
-use Rattle.covmap.specs.Puts.{ArePairs, value_of}
+use Rattle.covstore.proofs.Words.{◌≡◌, ℕ, ◌+◌, ◌≤◌, Bool, true, false, cond, nat_lt, Option, Some, None, option_map, List, [], ◌∷◌, ◌++◌, refl, sym, ap, ◌∙◌, subst, arith, Ordering, Less, AllByRecursion, is_eq, ltb-false, none-some, same_Some, ArePairs, value_of, TestCounts, IsTallyOf, AreCounts, count_above, count_with, one_if, IsTallyWithout, LosesTest, IsExactOrder}
 use Rattle.covstore.specs.declared.point_index.KindTally.{KindTally}
-use Rattle.covstore.specs.declared.sums.TestCounts.{TestCounts}
-use Rattle.covstore.specs.PointIndex.{IsTallyOf}
-use Rattle.covstore.specs.PointIndexCounts.{AreCounts, count_above, count_with, one_if}
-use Rattle.covstore.specs.PointIndexDrops.{IsTallyWithout, LosesTest}
 use Rattle.covstore.specs.SoleTest.{count_of_one, counts_of}
-use Rattle.covtable.proofs.Ascend.{IsExactOrder}
 use Rattle.covstore.proofs.Counts.{above_le_with, same_tests, tests_among, tests_at-between}
 use Rattle.covstore.proofs.Fewer.{one_rest}
 

@@ -1,17 +1,8 @@
 -- How many points of the only test of a file are found, and how many are hit, after items are staged there.
-use Rattle.std.proofs.Common.{◌≡◌, ◌+◌, ◌≤◌, Bool, true, false, cond, nat_lt, Option, List, [], ◌∷◌, length, refl, ap, ◌∙◌, arith}
-use Rattle.std.specs.declared.cmp.Ordering.{Ordering}
+use Rattle.covstore.proofs.Words.{◌≡◌, ◌+◌, ◌≤◌, Bool, true, false, cond, nat_lt, Option, List, [], ◌∷◌, length, refl, ap, ◌∙◌, arith, Ordering, length-map, sum_by-append, ArePairs, put, value_of, sum_put, summed, reports_one, reports_run, TestCounts, KeepsCountsOfKind, change_by, change_of, found_of, hit_of, is_above_at, is_new, is_newly_hit, one_if, IsExactOrder}
 use Rattle.std.specs.List.{count_by}
-use Rattle.std.proofs.lemmas.List.{length-map}
-use Rattle.std.proofs.lemmas.List.Sums.{sum_by-append}
-use Rattle.covmap.specs.Puts.{ArePairs, put, value_of}
-use Rattle.covmap.specs.Run.{sum_put, summed, reports_one, reports_run}
-use Rattle.covstore.specs.declared.sums.TestCounts.{TestCounts}
 use Rattle.covstore.specs.declared.sums.TestsAddend.{TestsAddend}
-use Rattle.covstore.specs.Items.{KeepsCountsOfKind}
-use Rattle.covstore.specs.PointIndexCounts.{change_by, change_of, found_of, hit_of, is_above_at, is_new, is_newly_hit, one_if}
 use Rattle.covstore.specs.SoleTest.{count_of_one, counts_of, found_by, hit_by}
-use Rattle.covtable.proofs.Ascend.{IsExactOrder}
 use Rattle.covstore.proofs.CountsMapped.{count_by-map}
 use Rattle.covstore.proofs.Puts.{ArePairs-put, count_by-put, length-put}
 use Rattle.covstore.proofs.SoleCounts.{points_ascend, still_alone}

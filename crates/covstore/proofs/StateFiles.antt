@@ -1,24 +1,8 @@
 -- What is counted in the sections of a state, file by file: each file with sections is counted once.
-use Rattle.std.proofs.Common.{◌≡◌, ℕ, Bool, true, false, List, [], ◌∷◌, ◌++◌, map, filter, refl, sym, ap, ◌∙◌, subst, inl, inr, arith}
-use Rattle.std.specs.Cmp.Lexicographic.{slice_cmp}
-use Rattle.std.specs.declared.cmp.Ordering.TheVariants.{Less}
-use Rattle.std.specs.List.{flat_map, sum_by}
+use Rattle.covstore.proofs.Words.{◌≡◌, ℕ, Bool, true, false, List, [], ◌∷◌, ◌++◌, map, filter, refl, sym, ap, ◌∙◌, subst, inl, inr, arith, slice_cmp, Less, flat_map, sum_by, nat_cmp, bytes_eq, cond-true, cond-false, false_from_ne_true, sum_by-cons, sum_by-append, bytes_eq-Decides, SectionData, ArePairs, FileData, sections_of, sections_of_file, files_in, over_files, own_sections, In-ascending, In-to_ascending, ascending_sorted, one_sorted, sorted_none, sorted_one, In-flat, In-unflat, All-in, In, In-map, In-unmap, names_order}
 use Rattle.std.specs.List.Sorted.{IsStrictlySortedBy}
-use Rattle.std.specs.Ordering.{nat_cmp}
-use Rattle.std.specs.Str.{bytes_eq}
-use Rattle.std.proofs.lemmas.Bool.{cond-true, cond-false, false_from_ne_true}
 use Rattle.std.proofs.lemmas.List.{append-nil}
 use Rattle.std.proofs.lemmas.List.Elements.{filter-append}
-use Rattle.std.proofs.lemmas.List.Sums.{sum_by-cons, sum_by-append}
-use Rattle.std.proofs.lemmas.Slice.Eq.{bytes_eq-Decides}
-use Rattle.covtable.specs.Content.{SectionData}
-use Rattle.covmap.specs.Puts.{ArePairs}
-use Rattle.covstore.specs.State.{FileData, sections_of, sections_of_file}
-use Rattle.covtable.specs.Totals.{files_in, over_files, own_sections}
-use Rattle.covtable.proofs.Ascend.{In-ascending, In-to_ascending, ascending_sorted, one_sorted, sorted_none, sorted_one}
-use Rattle.covtable.proofs.ContentsLists.{In-flat, In-unflat}
-use Rattle.covtable.proofs.Members.{All-in, In, In-map, In-unmap}
-use Rattle.covtable.proofs.Orders.{names_order}
 use Rattle.covstore.proofs.StateOrder.{key_of_section, sorted_parts}
 use Rattle.covtable.proofs.TotalsDifferent.{not_less}
 

@@ -1,24 +1,6 @@
 -- One more file without tests, or one more test without points in a file: the state of the same rows.
-use Rattle.std.proofs.Common.{◌≡◌, ℕ, cond, if◌then◌else◌, nat_lt, Option, Some, None, List, [], ◌∷◌, ◌++◌, map, refl, sym, ap, ◌∙◌, subst, inl, inr, arith}
-use Rattle.std.specs.Prelude.{◌⊎◌}
-use Rattle.std.specs.Cmp.Lexicographic.{slice_cmp}
-use Rattle.std.specs.declared.cmp.Ordering.{Ordering}
-use Rattle.std.specs.declared.cmp.Ordering.TheVariants.{Less, Equal, Greater}
-use Rattle.std.specs.Ordering.{is_eq, match_ordering, nat_cmp}
-use Rattle.std.proofs.lemmas.List.{map-append}
-use Rattle.std.proofs.lemmas.Option.{none-some}
-use Rattle.covdata.specs.Row.{Row}
-use Rattle.covstore.specs.Kinds.{Kind, PointsOf, above_of, at, branch_above, cmp_of, function_above, line_above}
-use Rattle.covstore.specs.PointIndexCounts.{AreCounts, is_above_at}
-use Rattle.covmap.specs.Puts.{put, value_of}
-use Rattle.covstore.specs.State.{FileData, IsIndexOf, IsStateOf, IsConsistentFile, file_with, has_checksum, holders_at, holding, points_in, tests_in, text_in}
-use Rattle.covstore.specs.Sums.{TestData, test_of}
-use Rattle.covtable.specs.Value.{branch_cmp}
-use Rattle.covstore.specs.FileIndex.{FileIndexData}
-use Rattle.covstore.specs.FileIndexView.{empty_index}
-use Rattle.covstore.specs.FileView.{no_file}
+use Rattle.covstore.proofs.Words.{◌≡◌, ℕ, cond, if◌then◌else◌, nat_lt, Option, Some, None, List, [], ◌∷◌, ◌++◌, map, refl, sym, ap, ◌∙◌, subst, inl, inr, arith, ◌⊎◌, slice_cmp, Ordering, Less, Equal, Greater, is_eq, match_ordering, nat_cmp, map-append, none-some, Row, Kind, PointsOf, above_of, at, branch_above, cmp_of, function_above, line_above, AreCounts, is_above_at, put, value_of, FileData, IsIndexOf, IsStateOf, IsConsistentFile, file_with, has_checksum, holders_at, holding, points_in, tests_in, text_in, TestData, test_of, branch_cmp, FileIndexData, empty_index, no_file, names_order}
 use Rattle.covstore.proofs.Counts.{count_by-between, counts_empty, counts_none}
-use Rattle.covtable.proofs.Orders.{names_order}
 use Rattle.covstore.proofs.Puts.{ArePairs-put, value_of-put, value_of-put_other}
 use Rattle.covstore.proofs.StateRows.{file_whole, name_or_not, same_rows}
 use Rattle.covstore.proofs.StateSections.{points_none, points_same, points_there}

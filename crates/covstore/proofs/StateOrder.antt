@@ -1,21 +1,6 @@
 -- The sections of ascending files with ascending tests are in ascending order.
-use Rattle.std.proofs.Common.{◌≡◌, ℕ, List, [], ◌∷◌, ◌++◌, map, refl, sym, ap, ◌∙◌, subst, inl, inr, ⊎_elim}
-use Rattle.std.specs.Cmp.Lexicographic.{slice_cmp}
-use Rattle.std.specs.declared.cmp.Ordering.{Ordering}
-use Rattle.std.specs.declared.cmp.Ordering.TheVariants.{Less}
-use Rattle.std.specs.List.{AllByRecursion, flat_map}
+use Rattle.covstore.proofs.Words.{◌≡◌, ℕ, List, [], ◌∷◌, ◌++◌, map, refl, sym, ap, ◌∙◌, subst, inl, inr, ⊎_elim, slice_cmp, Ordering, Less, AllByRecursion, flat_map, nat_cmp, ordering_then, tied_itself, SectionData, ArePairs, FileData, IsConsistentFile, section_seen, section_with_points, sections_of, sections_of_file, TestData, Key, key_cmp, sorted_none, sorted_one, In-unflat, In, All-in, All-from, All-joined, names_order}
 use Rattle.std.specs.List.Sorted.{IsStrictlySortedBy}
-use Rattle.std.specs.Ordering.{nat_cmp, ordering_then}
-use Rattle.std.proofs.lemmas.Cmp.{tied_itself}
-use Rattle.covtable.specs.Content.{SectionData}
-use Rattle.covmap.specs.Puts.{ArePairs}
-use Rattle.covstore.specs.State.{FileData, IsConsistentFile, section_seen, section_with_points, sections_of, sections_of_file}
-use Rattle.covstore.specs.Sums.{TestData}
-use Rattle.covtable.specs.Value.{Key, key_cmp}
-use Rattle.covtable.proofs.Ascend.{sorted_none, sorted_one}
-use Rattle.covtable.proofs.ContentsLists.{In-unflat}
-use Rattle.covtable.proofs.Members.{In, All-in, All-from, All-joined}
-use Rattle.covtable.proofs.Orders.{names_order}
 use Rattle.covstore.proofs.StateSeen.{seen_or_not, seen_key}
 
 -- ---- lists joined

@@ -1,26 +1,8 @@
 -- A state after one file changes: with the same points and texts, or with more rows of one of its tests.
-use Rattle.std.proofs.Common.{◌≡◌, ℕ, false, Option, Some, List, [], ◌∷◌, ◌++◌, filter, map, refl, sym, ap, ◌∙◌, subst, inl, inr, ⊎_elim}
-use Rattle.std.specs.Prelude.{◌⊎◌, Contains}
-use Rattle.std.specs.Cmp.Lexicographic.{slice_cmp}
-use Rattle.std.specs.Ordering.{nat_cmp}
-use Rattle.std.specs.Str.{bytes_eq}
-use Rattle.std.proofs.lemmas.Bool.{cond-true, cond-false, false_from_ne_true}
+use Rattle.covstore.proofs.Words.{◌≡◌, ℕ, false, Option, Some, List, [], ◌∷◌, ◌++◌, filter, map, refl, sym, ap, ◌∙◌, subst, inl, inr, ⊎_elim, ◌⊎◌, Contains, slice_cmp, nat_cmp, bytes_eq, cond-true, cond-false, false_from_ne_true, flat_map-append, bytes_eq-Decides, ItemData, Row, rows_of_sect, Checksum, checksum_of_row, checksums_in, put, value_of, with_items, section_of_items, FileData, IsStateOf, IsConsistentFile, points_at, points_in, text_in, TestData, test_of, Key, has_key, items_at, same_or_not, In-unflat, All-in, In, In-from, In-unmap, Contains-from, In-parts, names_order}
 use Rattle.std.proofs.lemmas.List.{append-nil}
-use Rattle.std.proofs.lemmas.List.Concat.{flat_map-append}
-use Rattle.std.proofs.lemmas.Slice.Eq.{bytes_eq-Decides}
-use Rattle.covdata.specs.Row.{ItemData, Row, rows_of_sect}
-use Rattle.covtable.specs.Clash.{Checksum, checksum_of_row, checksums_in}
-use Rattle.covmap.specs.Puts.{put, value_of}
-use Rattle.covstore.specs.Runs.{with_items}
-use Rattle.covstore.specs.Section.{section_of_items}
-use Rattle.covstore.specs.State.{FileData, IsStateOf, IsConsistentFile, points_at, points_in, text_in}
-use Rattle.covstore.specs.Sums.{TestData, test_of}
-use Rattle.covtable.specs.Value.{Key, has_key, items_at}
 use Rattle.covtable.proofs.ContentsChecksums.{line_of_said, own_row}
-use Rattle.covtable.proofs.ContentsLists.{same_or_not, In-unflat}
 use Rattle.covtable.proofs.ContentsSections.{both, items_at-append}
-use Rattle.covtable.proofs.Members.{All-in, In, In-from, In-unmap, Contains-from, In-parts}
-use Rattle.covtable.proofs.Orders.{names_order}
 use Rattle.covstore.proofs.Puts.{All-put, ArePairs-put, pair_in, value_of-put, value_of-put_other}
 use Rattle.covstore.proofs.RunsSums.{sums_more_items}
 use Rattle.covstore.proofs.StateSections.{points_same, points_there}

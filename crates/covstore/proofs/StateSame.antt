@@ -1,18 +1,10 @@
 -- Two lists of rows with the same state: they have the same content and the same clashes, and again the same state after the same
 -- rows are added to both.
-use Rattle.std.proofs.Common.{◌≡◌, ℕ, List, [], ◌∷◌, ◌++◌, sym, ap, ◌∙◌, subst, append_assoc, inl, inr, ⊎_elim}
+use Rattle.covstore.proofs.Words.{◌≡◌, ℕ, List, [], ◌∷◌, ◌++◌, sym, ap, ◌∙◌, subst, append_assoc, inl, inr, ⊎_elim, flat_map-append, ItemData, Row, checksum_of_row, checksums_in, clash_of, content_of, FileData, IsStateOf, test_of, with_item, items_at, Contains-from, In, In-from, In-joined, In-parts}
 use Rattle.std.proofs.lemmas.List.{append-nil}
-use Rattle.std.proofs.lemmas.List.Concat.{flat_map-append}
-use Rattle.covdata.specs.Row.{ItemData, Row}
-use Rattle.covtable.specs.Clash.{checksum_of_row, checksums_in, clash_of}
-use Rattle.covtable.specs.Content.{content_of}
-use Rattle.covstore.specs.State.{FileData, IsStateOf}
-use Rattle.covstore.specs.Sums.{test_of, with_item}
-use Rattle.covtable.specs.Value.{items_at}
 use Rattle.covstore.proofs.AddsPlace.{state_agrees}
 use Rattle.covtable.proofs.Contents.{clash_by_content}
 use Rattle.covtable.proofs.ContentsChecksums.{checksums_there}
-use Rattle.covtable.proofs.Members.{Contains-from, In, In-from, In-joined, In-parts}
 use Rattle.covstore.proofs.StateSections.{sections_are}
 use Rattle.covstore.proofs.SumsMore.{sums_more}
 use Rattle.covtable.proofs.ContentsSections.{items_at-append}

@@ -1,21 +1,7 @@
 -- The sections of a state are what its rows add up to.
-use Rattle.std.proofs.Common.{◌≡◌, ℕ, true, Option, Some, None, List, [], ◌∷◌, map, filter, refl, sym, ap, ◌∙◌, subst, inl}
-use Rattle.std.specs.Cmp.Lexicographic.{slice_cmp}
-use Rattle.std.specs.Ordering.{nat_cmp}
-use Rattle.std.proofs.lemmas.Cmp.{on_total}
-use Rattle.covdata.specs.Row.{ItemData, Row}
-use Rattle.covtable.specs.Clash.{Agree, Checksum, checksums_in}
-use Rattle.covtable.specs.Content.{SectionData, section_of, content_of}
-use Rattle.covmap.specs.Puts.{value_of}
-use Rattle.covstore.specs.State.{FileData, IsStateOf, IsConsistentFile, points_in, points_or_none, section_seen, sections_of, sections_of_file, text_in}
-use Rattle.covstore.specs.Sums.{TestData, test_of}
-use Rattle.covtable.specs.Value.{Key, key_cmp, key_of_row, keys_of, has_key, items_at}
-use Rattle.covtable.proofs.Ascend.{In-ascending, In-to_ascending, ascending_sorted, one_sorted}
+use Rattle.covstore.proofs.Words.{◌≡◌, ℕ, true, Option, Some, None, List, [], ◌∷◌, map, filter, refl, sym, ap, ◌∙◌, subst, inl, slice_cmp, nat_cmp, on_total, ItemData, Row, Agree, Checksum, checksums_in, SectionData, section_of, content_of, value_of, FileData, IsStateOf, IsConsistentFile, points_in, points_or_none, section_seen, sections_of, sections_of_file, text_in, TestData, test_of, Key, key_cmp, key_of_row, keys_of, has_key, items_at, In-ascending, In-to_ascending, ascending_sorted, one_sorted, In-flat, In-unflat, In-filter, In-unfilter, In, In-from, Contains-from, All-in, In-map, In-unmap, keys_order, names_order}
 use Rattle.covtable.proofs.ContentsChecksums.{line_checksum_held, own_row}
-use Rattle.covtable.proofs.ContentsLists.{In-flat, In-unflat, In-filter, In-unfilter}
 use Rattle.covtable.proofs.ContentsSections.{own_key}
-use Rattle.covtable.proofs.Members.{In, In-from, Contains-from, All-in, In-map, In-unmap}
-use Rattle.covtable.proofs.Orders.{keys_order, names_order}
 use Rattle.covstore.proofs.Puts.{pair_in, value_of_pair}
 use Rattle.covstore.proofs.StateOrder.{made_sorted, section_of_test, state_sorted}
 use Rattle.covstore.proofs.StateSeen.{HasChecksums, HasNone, seen_as, seen_is, some_points_of}

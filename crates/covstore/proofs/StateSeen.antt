@@ -1,23 +1,10 @@
 -- What contracts see of a test whose points are what items add up to: the section of these items, or no section if there are no
 -- items.
-use Rattle.std.proofs.Common.{◌≡◌, ℕ, Option, Some, None, List, [], ◌∷◌, map, refl, sym, ap, ◌∙◌, subst, inl, inr, ⊎_elim}
-use Rattle.std.specs.Prelude.{◌⊎◌}
+use Rattle.covstore.proofs.Words.{◌≡◌, ℕ, Option, Some, None, List, [], ◌∷◌, map, refl, sym, ap, ◌∙◌, subst, inl, inr, ⊎_elim, ◌⊎◌, nat_cmp, BranchPoint, line_points, func_points, branch_points, ItemData, LineItem, FuncItem, BranchItem, LineSum, LineValueData, SectionData, branch_at, function_at, line_at, section_with, value_of, text_at, line_seen, function_seen, branch_seen, section_with_points, section_seen, TestData, test_of, line_sum, function_sum, branch_sum, Key, lines_in, line_checksum, names_in, branches_in, In-to_ascending, In, In-map, lines_order, names_order, branches_order}
 use Rattle.std.specs.Option.{is_some}
-use Rattle.std.specs.Ordering.{nat_cmp}
-use Rattle.covdata.specs.Points.{BranchPoint, line_points, func_points, branch_points}
-use Rattle.covdata.specs.Row.{ItemData, LineItem, FuncItem, BranchItem}
 use Rattle.covstore.specs.declared.sums.FunctionSum.{FunctionSum}
-use Rattle.covstore.specs.declared.sums.LineSum.{LineSum}
 use Rattle.covstore.specs.declared.sums.BranchSum.{BranchSum}
-use Rattle.covtable.specs.Content.{LineValueData, SectionData, branch_at, function_at, line_at, section_with}
-use Rattle.covmap.specs.Puts.{value_of}
-use Rattle.covstore.specs.State.{text_at, line_seen, function_seen, branch_seen, section_with_points, section_seen}
-use Rattle.covstore.specs.Sums.{TestData, test_of, line_sum, function_sum, branch_sum}
-use Rattle.covtable.specs.Value.{Key, lines_in, line_checksum, names_in, branches_in}
-use Rattle.covtable.proofs.Ascend.{In-to_ascending}
 use Rattle.covtable.proofs.ContentsKinds.{map_of_map}
-use Rattle.covtable.proofs.Members.{In, In-map}
-use Rattle.covtable.proofs.Orders.{lines_order, names_order, branches_order}
 
 -- ---- a test with points
 

@@ -1,25 +1,11 @@
 -- The totals of a state's sections are the numbers that its indexes keep.
-use Rattle.std.proofs.Common.{◌≡◌, ℕ, Bool, List, [], ◌∷◌, ◌++◌, length, map, refl, sym, ap, subst, ⊎_elim, append_assoc}
-use Rattle.std.specs.declared.cmp.Ordering.{Ordering}
-use Rattle.std.specs.List.{AllByRecursion, count_by, flat_map, sum_by}
-use Rattle.covdata.specs.Points.{BranchPoint}
-use Rattle.covdata.specs.Row.{Row}
+use Rattle.covstore.proofs.Words.{◌≡◌, ℕ, Bool, List, [], ◌∷◌, ◌++◌, length, map, refl, sym, ap, subst, ⊎_elim, append_assoc, Ordering, AllByRecursion, flat_map, sum_by, BranchPoint, Row, LineSum, TestCounts, Branch, Function, KeyOf, Kind, Line, SumOf, above_of, at, cmp_of, Agree, checksums_in, BranchValueData, FunctionValueData, LineValueData, SectionData, content_of, AreCounts, found_of, hit_of, ArePairs, FileData, IsStateOf, IsConsistentFile, branch_seen, found_at, function_seen, hit_at, line_seen, section_seen, section_with_points, sections_of, sections_of_file, totals_in, TestData, over_files, own_sections, totals_of, All-in, In}
+use Rattle.std.specs.List.{count_by}
 use Rattle.covstore.specs.declared.sums.FunctionSum.{FunctionSum}
-use Rattle.covstore.specs.declared.sums.LineSum.{LineSum}
 use Rattle.covstore.specs.declared.sums.BranchSum.{BranchSum}
-use Rattle.covstore.specs.declared.sums.TestCounts.{TestCounts}
-use Rattle.covstore.specs.Kinds.{Branch, Function, KeyOf, Kind, Line, SumOf, above_of, at, cmp_of}
-use Rattle.covtable.specs.Clash.{Agree, checksums_in}
-use Rattle.covtable.specs.Content.{BranchValueData, FunctionValueData, LineValueData, SectionData, content_of}
-use Rattle.covstore.specs.PointIndexCounts.{AreCounts, found_of, hit_of}
-use Rattle.covmap.specs.Puts.{ArePairs}
-use Rattle.covstore.specs.State.{FileData, IsStateOf, IsConsistentFile, branch_seen, found_at, function_seen, hit_at, line_seen, section_seen, section_with_points, sections_of, sections_of_file, totals_in}
-use Rattle.covstore.specs.Sums.{TestData}
-use Rattle.covtable.specs.Totals.{over_files, own_sections, totals_of}
 use Rattle.covstore.proofs.Counts.{counts_unempty}
 use Rattle.covstore.proofs.CountsKinds.{ValueOf, above_in, ascend, counted, found_in, is_hit_in, valued}
 use Rattle.covstore.proofs.CountsMapped.{counts_mapped_at}
-use Rattle.covtable.proofs.Members.{All-in, In}
 use Rattle.covstore.proofs.StateFiles.{over_all, own_seen}
 use Rattle.covstore.proofs.StateSections.{sections_as}
 use Rattle.covstore.proofs.StateSeen.{HasNone, seen_or_not}

@@ -1,13 +1,5 @@
 -- The numbers change in the program as the definitions say for one more item.
-use Rattle.std.proofs.Common.{◌≡◌, ℕ, Bool, true, false, ◌||◌, if◌then◌else◌, Option, Some, None, List, refl}
-use Rattle.std.specs.declared.cmp.Ordering.{Ordering}
-use Rattle.covstore.specs.declared.sums.LineSum.{LineSum}
-use Rattle.covstore.specs.declared.sums.TestCounts.{TestCounts}
-use Rattle.covstore.specs.PointIndex.{changed}
-use Rattle.covstore.specs.PointIndexCounts.{change_by, change_of, counts_with, is_above_at, is_new, is_newly_hit, tests_more}
-use Rattle.covmap.specs.Puts.{put, value_of}
-use Rattle.covstore.specs.State.{has_checksum}
-use Rattle.covstore.specs.Sums.{line_with}
+use Rattle.covstore.proofs.Words.{◌≡◌, ℕ, Bool, true, false, ◌||◌, if◌then◌else◌, Option, Some, None, List, refl, Ordering, LineSum, TestCounts, changed, change_by, change_of, counts_with, is_above_at, is_new, is_newly_hit, tests_more, put, value_of, has_checksum, line_with}
 
 -- ---- the change of a point's numbers
 

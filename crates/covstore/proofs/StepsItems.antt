@@ -1,16 +1,7 @@
 -- What staging an item with a checksum requires: a checksum that its test holds is held in the index, and one test more can be
 -- counted.
-use Rattle.std.proofs.Common.{◌≡◌, ℕ, ◌+◌, ◌≤◌, ◌^◌, Bool, true, false, cond, nat_lt, Some, None, List, ◌∷◌, ◌++◌, sym, ap, ◌∙◌, subst, arith}
-use Rattle.std.specs.Option.{IfSome, is_some}
-use Rattle.std.specs.Ordering.{nat_cmp}
-use Rattle.std.proofs.lemmas.Bool.{cond-true, lt-ltb}
-use Rattle.std.proofs.lemmas.List.Sums.{count_by-le-length}
-use Rattle.covstore.specs.PointIndexCounts.{one_if}
-use Rattle.covstore.specs.FileIndex.{FileIndexData}
-use Rattle.covmap.specs.Puts.{value_of}
-use Rattle.covstore.specs.State.{holding}
-use Rattle.covstore.specs.Items.{HasRoom}
-use Rattle.covstore.specs.Sums.{TestData}
+use Rattle.covstore.proofs.Words.{◌≡◌, ℕ, ◌+◌, ◌≤◌, ◌^◌, Bool, true, false, cond, nat_lt, Some, None, List, ◌∷◌, ◌++◌, sym, ap, ◌∙◌, subst, arith, IfSome, nat_cmp, cond-true, lt-ltb, count_by-le-length, one_if, FileIndexData, value_of, holding, HasRoom, TestData}
+use Rattle.std.specs.Option.{is_some}
 use Rattle.covstore.proofs.Counts.{count_by-between}
 use Rattle.covstore.proofs.StepsKept.{is_holding}
 

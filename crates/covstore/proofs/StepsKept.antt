@@ -1,24 +1,7 @@
 -- The index of a file still counts its tests after one more item is added to one of them.
-use Rattle.std.proofs.Common.{◌≡◌, ℕ, ◌+◌, ◌≤◌, ◌^◌, Bool, true, false, cond, if◌then◌else◌, nat_lt, Option, Some, None, List, ◌∷◌, ◌++◌, length, map, refl, sym, ap, ◌∙◌, subst, ⊎_elim, arith}
-use Rattle.std.specs.declared.cmp.Ordering.{Ordering}
-use Rattle.std.specs.Option.{IfSome}
-use Rattle.std.specs.Ordering.{is_eq, nat_cmp}
-use Rattle.std.proofs.lemmas.Bool.{cases_Bool, cond-true, lt-ltb, ltb-false}
-use Rattle.std.proofs.lemmas.Map.Views.{tells_apart}
-use Rattle.covstore.specs.declared.sums.LineSum.{LineSum}
-use Rattle.covstore.specs.declared.sums.TestCounts.{TestCounts}
-use Rattle.covstore.specs.Kinds.{CountsOf, Each, Kind, Line, PointsOf, above_of, at, cmp_of, line_above, with_at}
-use Rattle.covstore.specs.Checksums.{held_more, one_more}
-use Rattle.covstore.specs.PointIndexCounts.{AreCounts, counts_with, is_above_at, one_if}
-use Rattle.covstore.specs.FileIndex.{FileIndexData}
-use Rattle.covmap.specs.Puts.{put, value_of}
-use Rattle.covstore.specs.State.{has_checksum, holders_at, holding}
-use Rattle.covstore.specs.Items.{HasRoomOfKind, KeepsCounts, KeepsCountsOfKind}
-use Rattle.covstore.specs.Sums.{TestData}
-use Rattle.covtable.proofs.Ascend.{IsExactOrder}
+use Rattle.covstore.proofs.Words.{◌≡◌, ℕ, ◌+◌, ◌≤◌, ◌^◌, Bool, true, false, cond, if◌then◌else◌, nat_lt, Option, Some, None, List, ◌∷◌, ◌++◌, length, map, refl, sym, ap, ◌∙◌, subst, ⊎_elim, arith, Ordering, IfSome, is_eq, nat_cmp, cases_Bool, cond-true, lt-ltb, ltb-false, tells_apart, LineSum, TestCounts, CountsOf, Each, Kind, Line, PointsOf, above_of, at, cmp_of, line_above, with_at, held_more, one_more, AreCounts, counts_with, is_above_at, one_if, FileIndexData, put, value_of, has_checksum, holders_at, holding, HasRoomOfKind, KeepsCounts, KeepsCountsOfKind, TestData, IsExactOrder, lines_order}
 use Rattle.covstore.proofs.Counts.{IsWithin, count_by-between, counts_within}
 use Rattle.covstore.proofs.CountsPut.{counts_put}
-use Rattle.covtable.proofs.Orders.{lines_order}
 use Rattle.covstore.proofs.Puts.{value_of-put, value_of-put_apart}
 use Rattle.covstore.proofs.Assigned.{any_key}
 use Rattle.covstore.proofs.EachKind.{keeps_added}

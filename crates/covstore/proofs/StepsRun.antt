@@ -1,17 +1,7 @@
 -- A run of addends is added to a test's points. What these report is a run for the file's counts. After it is added there, the
 -- counts are again those of the tests.
-use Rattle.std.proofs.Common.{◌≡◌, ◌+◌, ◌≤◌, ◌^◌, Bool, true, false, Option, Some, None, List, [], ◌∷◌, ◌++◌, length, refl, sym, ap, ◌∙◌, subst, arith}
-use Rattle.std.specs.declared.cmp.Ordering.{Ordering}
-use Rattle.std.specs.Option.{IfSome}
-use Rattle.std.proofs.lemmas.List.{length-append}
-use Rattle.covmap.specs.Puts.{ArePairs, value_of}
-use Rattle.covmap.specs.Run.{FitRun, sum_put, summed, reports_one, reports_run}
-use Rattle.covstore.specs.declared.sums.TestCounts.{TestCounts}
+use Rattle.covstore.proofs.Words.{◌≡◌, ◌+◌, ◌≤◌, ◌^◌, Bool, true, false, Option, Some, None, List, [], ◌∷◌, ◌++◌, length, refl, sym, ap, ◌∙◌, subst, arith, Ordering, IfSome, length-append, ArePairs, value_of, FitRun, sum_put, summed, reports_one, reports_run, TestCounts, HasRoomForRun, KeepsCountsOfKind, changed, AreCounts, change_of, is_above_at, is_new, one_if, tests_fit, test_counts_with, IsExactOrder}
 use Rattle.covstore.specs.declared.sums.TestsAddend.{TestsAddend}
-use Rattle.covstore.specs.Items.{HasRoomForRun, KeepsCountsOfKind}
-use Rattle.covstore.specs.PointIndex.{changed}
-use Rattle.covstore.specs.PointIndexCounts.{AreCounts, change_of, is_above_at, is_new, one_if, tests_fit, test_counts_with}
-use Rattle.covtable.proofs.Ascend.{IsExactOrder}
 use Rattle.covstore.proofs.Puts.{length-put}
 use Rattle.covstore.proofs.StepsCounts.{changed_is}
 use Rattle.covstore.proofs.StepsKept.{numbers_few, put_keeps}

@@ -1,18 +1,8 @@
 -- How many points are found, and how many of them are hit, after the numbers of one point change.
-use Rattle.std.proofs.Common.{◌≡◌, ℕ, ◌+◌, ◌≤◌, Bool, true, false, ◌&&◌, not, cond, nat_lt, Option, Some, None, List, [], ◌∷◌, ◌++◌, length, refl, sym, ap, ◌∙◌, subst, arith}
-use Rattle.std.specs.declared.cmp.Ordering.{Ordering}
+use Rattle.covstore.proofs.Words.{◌≡◌, ℕ, ◌+◌, ◌≤◌, Bool, true, false, ◌&&◌, not, cond, nat_lt, Option, Some, None, List, [], ◌∷◌, ◌++◌, length, refl, sym, ap, ◌∙◌, subst, arith, Ordering, false≢true, lt-ltb, ltb-true, sum_by-append, TestCounts, IsTallyOf, change_by, change_of, found_of, hit_of, is_above_at, is_hit_by_some, is_new, is_newly_hit, one_if, test_counts_with, MapData, ArePairs, put, value_of, sum_put, summed, reports_one, reports_run, IsExactOrder}
 use Rattle.std.specs.List.{count_by}
-use Rattle.std.proofs.lemmas.Bool.{false≢true, lt-ltb, ltb-true}
-use Rattle.std.proofs.lemmas.List.Sums.{sum_by-append}
 use Rattle.covstore.specs.declared.point_index.KindTally.{KindTally}
-use Rattle.covstore.specs.declared.sums.TestCounts.{TestCounts}
 use Rattle.covstore.specs.declared.sums.TestsAddend.{TestsAddend}
-use Rattle.covstore.specs.PointIndex.{IsTallyOf}
-use Rattle.covstore.specs.PointIndexCounts.{change_by, change_of, found_of, hit_of, is_above_at, is_hit_by_some, is_new, is_newly_hit, one_if, test_counts_with}
-use Rattle.covmap.specs.MapData.{MapData}
-use Rattle.covmap.specs.Puts.{ArePairs, put, value_of}
-use Rattle.covmap.specs.Run.{sum_put, summed, reports_one, reports_run}
-use Rattle.covtable.proofs.Ascend.{IsExactOrder}
 use Rattle.covstore.proofs.Puts.{ArePairs-put, count_by-put, length-put}
 
 module _ {K : Type 0} {cmp : K → K → Ordering} (o : IsExactOrder cmp) (key : K) (after : TestCounts) (counts : List (K × TestCounts)) (sorted : ArePairs cmp counts) where

@@ -1,15 +1,5 @@
 -- What stays true of the store when its maps change in a way that keeps the state.
-use Rattle.std.proofs.Common.{◌≡◌, ℕ, List, [], ◌∷◌, refl, sym, ◌∙◌}
-use Rattle.std.specs.BTreeMap.{insert_entry}
-use Rattle.std.specs.declared.cmp.Ordering.{Ordering}
-use Rattle.std.specs.declared.cmp.Ordering.TheVariants.{Less, Equal, Greater}
-use Rattle.std.specs.List.{AllByRecursion}
-use Rattle.std.specs.Ordering.{match_ordering}
-use Rattle.covtable.specs.declared.totals.Totals.{Totals}
-use Rattle.covstore.specs.Store.{KeepsState}
-use Rattle.covstore.specs.StoreView.{IsStore}
-use Rattle.covstore.specs.State.{FileData}
-use Rattle.covtable.specs.Table.{all_rows}
+use Rattle.covstore.proofs.Words.{◌≡◌, ℕ, List, [], ◌∷◌, refl, sym, ◌∙◌, insert_entry, Ordering, Less, Equal, Greater, AllByRecursion, match_ordering, Totals, KeepsState, IsStore, FileData, all_rows}
 
 pub store_kept : (members : ℕ) (committed : Totals) (before after : List (List ℕ × FileData)) → KeepsState before after → IsStore members committed before → IsStore members committed after
 store_kept members committed before after keeps is = record {

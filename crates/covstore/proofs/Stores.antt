@@ -1,24 +1,13 @@
 -- A store over maps: what it represents, also after one more submission.
-use Rattle.std.proofs.Common.{◌≡◌, ℕ, ◌+◌, ◌≤◌, List, [], ◌∷◌, ◌++◌, length, refl, sym, ap, ◌∙◌, subst, arith}
+use Rattle.covstore.proofs.Words.{◌≡◌, ℕ, ◌+◌, ◌≤◌, List, [], ◌∷◌, ◌++◌, length, refl, sym, ap, ◌∙◌, subst, arith, length_push, Row, SubmissionData, rows_of, Totals, Agree, checksums_in, clash_of, content_of, IsPlanOf, PlanData, StandsFor, StoreData, IsStore, FileData, IsStateOf, sections_of, Table, all_rows, clash_at, AreTotals, totals_of, All-joined}
 use Rattle.std.specs.Prelude.{None}
-use Rattle.std.proofs.lemmas.List.{length_push}
-use Rattle.covdata.specs.Row.{Row, SubmissionData, rows_of}
 use Rattle.covdata.specs.Lawful.{IsLawful, max_items}
-use Rattle.covtable.specs.declared.totals.Totals.{Totals}
-use Rattle.covtable.specs.Clash.{Agree, checksums_in, clash_of}
-use Rattle.covtable.specs.Content.{content_of}
-use Rattle.covstore.specs.Store.{IsPlanOf, PlanData, StandsFor, StoreData}
-use Rattle.covstore.specs.StoreView.{IsStore}
-use Rattle.covstore.specs.State.{FileData, IsStateOf, sections_of}
-use Rattle.covtable.specs.Table.{Table, all_rows, clash_at}
-use Rattle.covtable.specs.Totals.{AreTotals, totals_of}
 use Rattle.covtable.proofs.Bounds.{length-rows_of_sects}
 use Rattle.covtable.proofs.Clashes.{agree_empty, agree_submitted, rows_accepted}
 use Rattle.covtable.proofs.Contents.{clash_by_content, content-append}
 use Rattle.covstore.proofs.StateSections.{no_rows, sections_are}
 use Rattle.covstore.proofs.StateTotals.{totals_are}
 use Rattle.covtable.proofs.TotalsDifferent.{are_totals}
-use Rattle.covtable.proofs.Members.{All-joined}
 
 -- ---- rows of a submission
 

@@ -1,11 +1,5 @@
 -- The items of a run are added to a test's points one after another, and the counts of the file's points stay right.
-use Rattle.std.proofs.Common.{◌≡◌, ◌+◌, ◌≤◌, Bool, Option, List, [], ◌∷◌, length, sym, ap, ◌∙◌, subst, arith}
-use Rattle.std.specs.declared.cmp.Ordering.{Ordering}
-use Rattle.std.proofs.lemmas.List.{length-append}
-use Rattle.covmap.specs.Puts.{put, value_of}
-use Rattle.covmap.specs.Run.{sum_put, summed}
-use Rattle.covstore.specs.declared.sums.TestCounts.{TestCounts}
-use Rattle.covstore.specs.Items.{HasRoomForRun, HasRoomOfKind, KeepsCountsOfKind}
+use Rattle.covstore.proofs.Words.{◌≡◌, ◌+◌, ◌≤◌, Bool, Option, List, [], ◌∷◌, length, sym, ap, ◌∙◌, subst, arith, Ordering, length-append, put, value_of, sum_put, summed, TestCounts, HasRoomForRun, HasRoomOfKind, KeepsCountsOfKind}
 
 module _ {K V Q M : Type 0} (cmp : K → K → Ordering) (is_above : V → Bool) (named : Q → K) (sum : M → Option V → V) (all : List (Q × M)) (points : List (K × V)) (counts : List (K × TestCounts)) where
   -- the items that are left are still to be added. So far the counts are right

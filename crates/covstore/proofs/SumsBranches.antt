@@ -1,19 +1,9 @@
 -- The sums of branches after one more item.
-use Rattle.std.proofs.Common.{◌≡◌, ℕ, ◌+◌, Bool, true, ◌&&◌, eqb, Option, Some, None, List, [], ◌∷◌, ◌++◌, refl, ap, ◌∙◌, arith}
-use Rattle.std.specs.List.{flat_map, sum_by}
-use Rattle.std.proofs.lemmas.Bool.{cond-true, eq-eqb}
+use Rattle.covstore.proofs.Words.{◌≡◌, ℕ, ◌+◌, Bool, true, ◌&&◌, eqb, Option, Some, None, List, [], ◌∷◌, ◌++◌, refl, ap, ◌∙◌, arith, flat_map, sum_by, cond-true, eq-eqb, sum_by-append, sum_by-cons, BranchPoint, branch_point, branch_points, ItemData, BranchItem, put, value_of, branch_sum, branch_with, sum_taken, bounded, branch_cmp, branch_value, is_branch, sum_if_any, taken_said, In, branches_order}
 use Rattle.std.proofs.lemmas.List.{append-nil}
-use Rattle.std.proofs.lemmas.List.Sums.{sum_by-append, sum_by-cons}
-use Rattle.covdata.specs.Points.{BranchPoint, branch_point, branch_points}
-use Rattle.covdata.specs.Row.{ItemData, BranchItem}
 use Rattle.covstore.specs.declared.sums.BranchSum.{BranchSum}
-use Rattle.covmap.specs.Puts.{put, value_of}
-use Rattle.covstore.specs.Sums.{branch_sum, branch_with, sum_taken}
-use Rattle.covtable.specs.Value.{bounded, branch_cmp, branch_value, is_branch, sum_if_any, taken_said}
 use Rattle.covtable.proofs.Bounds.{bounded_sum}
 use Rattle.covtable.proofs.ContentsPoints.{nothing_said, taken_unsaid}
-use Rattle.covtable.proofs.Members.{In}
-use Rattle.covtable.proofs.Orders.{branches_order}
 use Rattle.covstore.proofs.SumsKinds.{sums, sums_put, sums_same}
 use Rattle.covstore.proofs.SumsLast.{last_said, none_said}
 

@@ -1,22 +1,8 @@
 -- The sums of functions after one more item.
-use Rattle.std.proofs.Common.{◌≡◌, ℕ, true, min, Some, None, unwrap_or, List, [], ◌∷◌, ◌++◌, refl, ap, ◌∙◌}
-use Rattle.std.specs.Cmp.Lexicographic.{slice_cmp}
-use Rattle.std.specs.List.{flat_map}
+use Rattle.covstore.proofs.Words.{◌≡◌, ℕ, true, min, Some, None, unwrap_or, List, [], ◌∷◌, ◌++◌, refl, ap, ◌∙◌, slice_cmp, flat_map, nat_cmp, bytes_eq, cond-true, false≢true, fold-append, bytes_eq-Decides, func_point, func_points, least, ItemData, FuncItem, put, value_of, function_sum, function_with, bounded, function_added, function_start, start_said, In, names_order}
 use Rattle.std.specs.Option.{is_some}
-use Rattle.std.specs.Ordering.{nat_cmp}
-use Rattle.std.specs.Str.{bytes_eq}
-use Rattle.std.proofs.lemmas.Bool.{cond-true, false≢true}
-use Rattle.std.proofs.lemmas.List.Sums.{fold-append}
-use Rattle.std.proofs.lemmas.Slice.Eq.{bytes_eq-Decides}
-use Rattle.covdata.specs.Points.{func_point, func_points, least}
-use Rattle.covdata.specs.Row.{ItemData, FuncItem}
 use Rattle.covstore.specs.declared.sums.FunctionSum.{FunctionSum}
-use Rattle.covmap.specs.Puts.{put, value_of}
-use Rattle.covstore.specs.Sums.{function_sum, function_with}
-use Rattle.covtable.specs.Value.{bounded, function_added, function_start, start_said}
 use Rattle.covtable.proofs.ContentsPoints.{count_unadded, has_start, nothing_added, nothing_said, start_unsaid}
-use Rattle.covtable.proofs.Members.{In}
-use Rattle.covtable.proofs.Orders.{names_order}
 use Rattle.covstore.proofs.SumsKinds.{sums, sums_put, sums_same}
 use Rattle.covstore.proofs.SumsLast.{last_said, none_added, none_said, sum_first, sum_last}
 

@@ -1,20 +1,7 @@
 -- The sums of one kind of points (lines, functions or branches): each point of the items once, ascending, with its value.
-use Rattle.std.proofs.Common.{◌≡◌, cond, Option, Some, None, List, [], ◌∷◌, ◌++◌, map, refl, sym, ap, ◌∙◌, subst, inl, inr, ⊎_elim}
-use Rattle.std.specs.Prelude.{◌⊎◌, Contains}
-use Rattle.std.specs.declared.cmp.Ordering.{Ordering}
-use Rattle.std.specs.declared.cmp.Ordering.TheVariants.{Less, Equal, Greater}
-use Rattle.std.specs.List.{AllByRecursion, flat_map}
+use Rattle.covstore.proofs.Words.{◌≡◌, cond, Option, Some, None, List, [], ◌∷◌, ◌++◌, map, refl, sym, ap, ◌∙◌, subst, inl, inr, ⊎_elim, ◌⊎◌, Contains, Ordering, Less, Equal, Greater, AllByRecursion, flat_map, is_eq, tied_itself, flat_map-append, same_Some, none-some, ItemData, ArePairs, put, value_of, IsExactOrder, ascending_sorted, In-ascending, In-to_ascending, In-or_not, In, In-from, In-joined, In-parts}
 use Rattle.std.specs.List.Sorted.{IsStrictlySortedBy}
-use Rattle.std.specs.Ordering.{is_eq}
-use Rattle.std.proofs.lemmas.Cmp.{tied_itself}
-use Rattle.std.proofs.lemmas.List.Concat.{flat_map-append}
-use Rattle.std.proofs.lemmas.Option.{same_Some, none-some}
-use Rattle.covdata.specs.Row.{ItemData}
 use Rattle.covtable.specs.Ascending.{ascending}
-use Rattle.covmap.specs.Puts.{ArePairs, put, value_of}
-use Rattle.covtable.proofs.Ascend.{IsExactOrder, ascending_sorted, In-ascending, In-to_ascending}
-use Rattle.covtable.proofs.ContentsLists.{In-or_not}
-use Rattle.covtable.proofs.Members.{In, In-from, In-joined, In-parts}
 use Rattle.covstore.proofs.Puts.{ArePairs-put, same_pairs, value_of-put, value_of-put_other}
 
 -- ---- points with their values

@@ -1,11 +1,6 @@
 -- What items give a point after one more item at their end.
-use Rattle.std.proofs.Common.{◌≡◌, ℕ, ◌+◌, List, [], ◌∷◌, ◌++◌, refl, ap, ◌∙◌, arith}
-use Rattle.std.specs.List.{flat_map, sum_by}
+use Rattle.covstore.proofs.Words.{◌≡◌, ℕ, ◌+◌, List, [], ◌∷◌, ◌++◌, refl, ap, ◌∙◌, arith, flat_map, sum_by, flat_map-append, sum_by-cons, sum_by-append, ItemData, bounded}
 use Rattle.std.proofs.lemmas.List.{append-nil}
-use Rattle.std.proofs.lemmas.List.Concat.{flat_map-append}
-use Rattle.std.proofs.lemmas.List.Sums.{sum_by-cons, sum_by-append}
-use Rattle.covdata.specs.Row.{ItemData}
-use Rattle.covtable.specs.Value.{bounded}
 use Rattle.covtable.proofs.Bounds.{bounded_sum}
 
 last_added : (added : ItemData → ℕ) (items : List ItemData) (item : ItemData) → sum_by added (items ++ item ∷ []) ≡ sum_by added items + added item

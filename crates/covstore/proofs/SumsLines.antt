@@ -1,18 +1,7 @@
 -- The sums of lines after one more item.
-use Rattle.std.proofs.Common.{◌≡◌, ℕ, Bool, ◌||◌, eqb, Option, Some, None, List, [], ◌∷◌, ◌++◌, refl, ap, ◌∙◌}
-use Rattle.std.specs.List.{flat_map}
+use Rattle.covstore.proofs.Words.{◌≡◌, ℕ, Bool, ◌||◌, eqb, Option, Some, None, List, [], ◌∷◌, ◌++◌, refl, ap, ◌∙◌, flat_map, nat_cmp, cond-true, eq-eqb, line_point, line_points, ItemData, LineItem, LineSum, put, value_of, line_sum, line_with, bounded, checksum_said, first_of, line_added, line_checksum, In, lines_order}
 use Rattle.std.specs.Option.{is_some}
-use Rattle.std.specs.Ordering.{nat_cmp}
-use Rattle.std.proofs.lemmas.Bool.{cond-true, eq-eqb}
-use Rattle.covdata.specs.Points.{line_point, line_points}
-use Rattle.covdata.specs.Row.{ItemData, LineItem}
-use Rattle.covstore.specs.declared.sums.LineSum.{LineSum}
-use Rattle.covmap.specs.Puts.{put, value_of}
-use Rattle.covstore.specs.Sums.{line_sum, line_with}
-use Rattle.covtable.specs.Value.{bounded, checksum_said, first_of, line_added, line_checksum}
 use Rattle.covtable.proofs.ContentsPoints.{checksum_unsaid, line_unadded, nothing_added, nothing_said}
-use Rattle.covtable.proofs.Members.{In}
-use Rattle.covtable.proofs.Orders.{lines_order}
 use Rattle.covstore.proofs.SumsKinds.{sums, sums_put, sums_same}
 use Rattle.covstore.proofs.SumsLast.{last_said, none_added, none_said, sum_first, sum_last}
 

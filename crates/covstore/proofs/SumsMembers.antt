@@ -1,16 +1,7 @@
 -- The sum of a line in what items add up to: it is there if the items have the line, and it has a checksum exactly if an item
 -- gives one.
-use Rattle.std.proofs.Common.{◌≡◌, ℕ, Some, List, sym, ap}
-use Rattle.std.specs.Prelude.{Contains}
+use Rattle.covstore.proofs.Words.{◌≡◌, ℕ, Some, List, sym, ap, Contains, nat_cmp, line_point, line_points, ItemData, LineSum, value_of, test_of, line_sum, line_checksum, lines_order}
 use Rattle.std.specs.Option.{is_some}
-use Rattle.std.specs.Ordering.{nat_cmp}
-use Rattle.covdata.specs.Points.{line_point, line_points}
-use Rattle.covdata.specs.Row.{ItemData}
-use Rattle.covstore.specs.declared.sums.LineSum.{LineSum}
-use Rattle.covmap.specs.Puts.{value_of}
-use Rattle.covstore.specs.Sums.{test_of, line_sum}
-use Rattle.covtable.specs.Value.{line_checksum}
-use Rattle.covtable.proofs.Orders.{lines_order}
 use Rattle.covstore.proofs.SumsKinds.{sums_held, sums_known}
 use Rattle.covstore.proofs.SumsLines.{line_held}
 

@@ -1,7 +1,5 @@
 -- What items add up to after one more item.
-use Rattle.std.proofs.Common.{◌≡◌, List, [], ◌∷◌, ◌++◌, refl}
-use Rattle.covdata.specs.Row.{ItemData, LineItem, FuncItem, BranchItem}
-use Rattle.covstore.specs.Sums.{test_of, with_item}
+use Rattle.covstore.proofs.Words.{◌≡◌, List, [], ◌∷◌, ◌++◌, refl, ItemData, LineItem, FuncItem, BranchItem, test_of, with_item}
 use Rattle.covstore.proofs.SumsBranches.{branches_put, branches_same}
 use Rattle.covstore.proofs.SumsFunctions.{functions_put, functions_same}
 use Rattle.covstore.proofs.SumsLines.{lines_put, lines_same}

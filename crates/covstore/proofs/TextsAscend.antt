@@ -1,12 +1,7 @@
 -- Lines that ascend from a least one.
-use Rattle.std.proofs.Common.{◌≡◌, ℕ, ◌+◌, ◌≤◌, ◌<◌, List, [], ◌∷◌, sym, subst, arith}
-use Rattle.std.specs.declared.cmp.Ordering.TheVariants.{Less}
+use Rattle.covstore.proofs.Words.{◌≡◌, ℕ, ◌+◌, ◌≤◌, ◌<◌, List, [], ◌∷◌, sym, subst, arith, Less, nat_cmp, cond-true, lt-ltb, ItemData, All-weaker}
 use Rattle.std.specs.List.Sorted.{IsStrictlySortedBy}
-use Rattle.std.specs.Ordering.{nat_cmp}
-use Rattle.std.proofs.lemmas.Bool.{cond-true, lt-ltb}
-use Rattle.covdata.specs.Row.{ItemData}
 use Rattle.covstore.specs.HeldChecksums.{AscendFrom, checked_lines}
-use Rattle.covtable.proofs.Ascend.{All-weaker}
 
 less_of : (x y : ℕ) → x < y → nat_cmp x y ≡ Less
 less_of x y lt = cond-true _ Less _ (lt-ltb x y lt)

@@ -1,29 +1,10 @@
 -- The checksums of items are held one after another: how many tests then hold a checksum of each line, and that other lines stay.
-use Rattle.std.proofs.Common.{◌≡◌, ℕ, Bool, true, false, Some, None, List, [], ◌∷◌, ◌++◌, refl, sym, ap, ◌∙◌, subst, inl, inr}
-use Rattle.std.specs.Prelude.{◌⊎◌, ◌≤◌, ◌^◌}
-use Rattle.std.specs.declared.cmp.Ordering.TheVariants.{Less}
-use Rattle.std.specs.List.{AllByRecursion}
+use Rattle.covstore.proofs.Words.{◌≡◌, ℕ, Bool, true, false, Some, None, List, [], ◌∷◌, ◌++◌, refl, sym, ap, ◌∙◌, subst, inl, inr, ◌⊎◌, Less, AllByRecursion, IfSome, is_eq, nat_cmp, flat_map-append, ItemData, LineItem, FuncItem, BranchItem, value_of, held_more, one_more, FileIndexData, HasRoom, IsTextOf, KeepsTextsOf, is_above_at, with_items, has_checksum, holders_at, TestData, line_with, with_item, test_staged, KeepsCommitted, index_staged, LineSum, Test, Contains-from, In, In-from, In-joined, In-parts, lines_order}
+use Rattle.std.specs.Prelude.{◌≤◌, ◌^◌}
 use Rattle.std.specs.List.Sorted.{IsStrictlySortedBy}
-use Rattle.std.specs.Option.{IfSome, is_some}
-use Rattle.std.specs.Ordering.{is_eq, nat_cmp}
-use Rattle.std.proofs.lemmas.List.Concat.{flat_map-append}
-use Rattle.covdata.specs.Row.{ItemData, LineItem, FuncItem, BranchItem}
-use Rattle.covmap.specs.Puts.{value_of}
-use Rattle.covstore.specs.Checksums.{held_more, one_more}
-use Rattle.covstore.specs.FileIndex.{FileIndexData}
-use Rattle.covstore.specs.Items.{HasRoom, IsTextOf, KeepsTextsOf}
-use Rattle.covstore.specs.PointIndexCounts.{is_above_at}
-use Rattle.covstore.specs.Runs.{with_items}
-use Rattle.covstore.specs.State.{has_checksum, holders_at}
-use Rattle.covstore.specs.Sums.{TestData, line_with, with_item}
+use Rattle.std.specs.Option.{is_some}
 use Rattle.covstore.specs.HeldChecksums.{HasRoomToHold, HoldsText, HoldsTexts, KeepsHolders, checked_line, checked_lines, holders_with}
-use Rattle.covstore.specs.TestView.{test_staged}
-use Rattle.covstore.specs.FileIndexView.{KeepsCommitted, index_staged}
 use Rattle.covstore.specs.declared.index.FileIndex.{FileIndex}
-use Rattle.covstore.specs.declared.sums.LineSum.{LineSum}
-use Rattle.covstore.specs.declared.test.Test.{Test}
-use Rattle.covtable.proofs.Members.{Contains-from, In, In-from, In-joined, In-parts}
-use Rattle.covtable.proofs.Orders.{lines_order}
 use Rattle.covstore.proofs.Puts.{value_of-put, value_of-put_apart}
 use Rattle.covstore.proofs.RunsKept.{plain_holds}
 use Rattle.covstore.proofs.StepsCounts.{line_checked}

@@ -1,7 +1,5 @@
 -- The length of a list as a sum.
-use Rattle.std.proofs.Common.{◌≡◌, List, [], ◌∷◌, length, refl, arith}
-use Rattle.std.specs.List.{sum_by}
-use Rattle.std.proofs.lemmas.List.Sums.{sum_by-cons}
+use Rattle.covstore.proofs.Words.{◌≡◌, List, [], ◌∷◌, length, refl, arith, sum_by, sum_by-cons}
 
 -- a sum of 1 for each element is the length of the list
 pub one_each : {X : Type 0} (xs : List X) → sum_by (λ (x : X). 1) xs ≡ length xs

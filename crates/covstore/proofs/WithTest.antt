@@ -1,17 +1,7 @@
 -- A file with an empty test added: the file as it is if a look-up finds the test, else the file with an empty test inserted.
-use Rattle.std.proofs.Common.{◌≡◌, ℕ, Bool, true, false, List, [], sym, ap, ◌∙◌}
-use Rattle.std.specs.BTreeMap.{insert_entry, is_at}
-use Rattle.std.specs.Cmp.Lexicographic.{slice_cmp}
-use Rattle.std.specs.Map.{lookup}
+use Rattle.covstore.proofs.Words.{◌≡◌, ℕ, Bool, true, false, List, [], sym, ap, ◌∙◌, insert_entry, is_at, slice_cmp, lookup, nat_cmp, cond-true, cond-false, false≢true, with_test, put, value_of, FileData, file_with, TestData, test_of, names_order}
 use Rattle.std.specs.Option.{is_some}
-use Rattle.std.specs.Ordering.{nat_cmp}
-use Rattle.std.proofs.lemmas.Bool.{cond-true, cond-false, false≢true}
-use Rattle.covstore.specs.FileView.{with_test}
-use Rattle.covmap.specs.Puts.{put, value_of}
-use Rattle.covstore.specs.State.{FileData, file_with}
-use Rattle.covstore.specs.Sums.{TestData, test_of}
 use Rattle.covstore.proofs.MapKeys.{seen, seen_insert, seen_there}
-use Rattle.covtable.proofs.Orders.{names_order}
 
 module _ {K V : Type 0} (name : K → List ℕ) (f : V → TestData) (file : FileData) (pairs : List (K × V)) (is : seen names_order name f pairs ≡ file.tests) (test : List ℕ) where
   found : (b : Bool) → b ≡ is_some (lookup (is_at (λ other. slice_cmp nat_cmp test (name other))) pairs) → is_some (value_of (slice_cmp nat_cmp) test file.tests) ≡ b

@@ -1,17 +1,7 @@
 -- How many sections a test has: as many as there are files in which it has points.
-use Rattle.std.proofs.Common.{◌≡◌, ℕ, ◌+◌, Bool, true, false, cond, not, ◌&&◌, Option, Some, None, List, [], ◌∷◌, refl, sym, ap, ◌∙◌, subst, arith}
-use Rattle.std.specs.Cmp.Lexicographic.{slice_cmp}
-use Rattle.std.specs.List.{AllByRecursion, count_by, flat_map}
-use Rattle.std.specs.Ordering.{is_eq, nat_cmp}
-use Rattle.std.specs.Str.{bytes_eq}
-use Rattle.std.proofs.lemmas.List.Sums.{sum_by-append, sum_by-cons}
+use Rattle.covstore.proofs.Words.{◌≡◌, ℕ, ◌+◌, Bool, true, false, cond, not, ◌&&◌, Option, Some, None, List, [], ◌∷◌, refl, sym, ap, ◌∙◌, subst, arith, slice_cmp, AllByRecursion, flat_map, is_eq, nat_cmp, bytes_eq, sum_by-append, sum_by-cons, tells_apart, SectionData, ArePairs, value_of, FileData, IsConsistentFile, has_no_points, has_points_of, points_or_none, section_seen, section_with_points, sections_of, sections_of_file, TestData, names_order}
+use Rattle.std.specs.List.{count_by}
 use Rattle.std.proofs.lemmas.Map.Text.{is_eq-slice_cmp}
-use Rattle.std.proofs.lemmas.Map.Views.{tells_apart}
-use Rattle.covtable.specs.Content.{SectionData}
-use Rattle.covmap.specs.Puts.{ArePairs, value_of}
-use Rattle.covstore.specs.State.{FileData, IsConsistentFile, has_no_points, has_points_of, points_or_none, section_seen, section_with_points, sections_of, sections_of_file}
-use Rattle.covstore.specs.Sums.{TestData}
-use Rattle.covtable.proofs.Orders.{names_order}
 use Rattle.covstore.proofs.Puts.{value_of_before}
 
 abbrev of_test : List ℕ → SectionData → Bool

@@ -1,24 +1,6 @@
 -- The state of rows without those of a test: each file is without the test.
-use Rattle.std.proofs.Common.{◌≡◌, ℕ, ◌≤◌, Bool, true, false, not, Option, Some, None, List, [], ◌∷◌, length, filter, refl, sym, ap, ◌∙◌, subst, cond, arith}
-use Rattle.std.specs.Cmp.Lexicographic.{slice_cmp}
-use Rattle.std.specs.declared.cmp.Ordering.TheVariants.{Less}
-use Rattle.std.specs.List.{AllByRecursion}
-use Rattle.std.specs.Ordering.{is_eq, nat_cmp}
-use Rattle.std.specs.Str.{bytes_eq}
-use Rattle.std.proofs.lemmas.Bool.{false≢true}
-use Rattle.std.proofs.lemmas.List.{length-map}
-use Rattle.std.proofs.lemmas.List.Sums.{count_by-le-length, length-filter}
-use Rattle.std.proofs.lemmas.Slice.Eq.{bytes_eq-Decides}
+use Rattle.covstore.proofs.Words.{◌≡◌, ℕ, ◌≤◌, Bool, true, false, not, Option, Some, None, List, [], ◌∷◌, length, filter, refl, sym, ap, ◌∙◌, subst, cond, arith, slice_cmp, Less, AllByRecursion, is_eq, nat_cmp, bytes_eq, false≢true, length-map, count_by-le-length, length-filter, bytes_eq-Decides, Row, Totals, AreWithoutTest, IsWithoutTest, IsStore, ArePairs, value_of, FileData, IsStateOf, IsConsistentFile, points_at, points_in, points_or_none, text_in, totals_in, TestData, test_of, Table, all_rows, Key, items_at}
 use Rattle.covdata.specs.Lawful.{max_items}
-use Rattle.covdata.specs.Row.{Row}
-use Rattle.covtable.specs.declared.totals.Totals.{Totals}
-use Rattle.covstore.specs.FileDrops.{AreWithoutTest, IsWithoutTest}
-use Rattle.covstore.specs.StoreView.{IsStore}
-use Rattle.covmap.specs.Puts.{ArePairs, value_of}
-use Rattle.covstore.specs.State.{FileData, IsStateOf, IsConsistentFile, points_at, points_in, points_or_none, text_in, totals_in}
-use Rattle.covstore.specs.Sums.{TestData, test_of}
-use Rattle.covtable.specs.Table.{Table, all_rows}
-use Rattle.covtable.specs.Value.{Key, items_at}
 use Rattle.covtable.specs.Without.{is_of_test, without_test}
 use Rattle.covstore.proofs.AddsPlace.{state_agrees}
 use Rattle.covstore.proofs.DropsTests.{none_of_others, value_of_others}

@@ -1,21 +1,6 @@
 -- A store after a test is dropped: what it represents, and its totals.
-use Rattle.std.proofs.Common.{◌≡◌, ℕ, ◌≤◌, ◌^◌, not, List, [], ◌∷◌, length, filter, map, refl, sym, ap, ◌∙◌, arith}
-use Rattle.std.specs.List.{AllByRecursion, count_by}
-use Rattle.std.specs.Str.{bytes_eq}
-use Rattle.std.proofs.lemmas.List.{length-map}
-use Rattle.std.proofs.lemmas.List.Sums.{length-filter}
-use Rattle.covstore.specs.declared.file.File.{File}
-use Rattle.covtable.specs.declared.totals.Totals.{Totals}
-use Rattle.covtable.specs.Content.{SectionData, content_at}
-use Rattle.covstore.specs.FileDrops.{AreWithoutTest}
-use Rattle.covtable.specs.TotalsExchanged.{FitTotals}
-use Rattle.covstore.specs.FileView.{file_committed}
-use Rattle.covstore.specs.Renaming.{names_with}
-use Rattle.covstore.specs.StoreView.{IsStore, files_committed}
-use Rattle.covstore.specs.State.{FileData, IsConsistentFile, has_points_of, sections_of, totals_in}
-use Rattle.covstore.specs.Store.{StandsFor, StoreData}
-use Rattle.covtable.specs.Table.{Table, all_rows}
-use Rattle.covtable.specs.Totals.{AreTotals, totals_of}
+use Rattle.covstore.proofs.Words.{◌≡◌, ℕ, ◌≤◌, ◌^◌, not, List, [], ◌∷◌, length, filter, map, refl, sym, ap, ◌∙◌, arith, AllByRecursion, bytes_eq, length-map, length-filter, File, Totals, SectionData, content_at, AreWithoutTest, FitTotals, file_committed, names_with, IsStore, files_committed, FileData, IsConsistentFile, has_points_of, sections_of, totals_in, StandsFor, StoreData, Table, all_rows, AreTotals, totals_of}
+use Rattle.std.specs.List.{count_by}
 use Rattle.covtable.specs.Without.{is_of_test, sections_of_test, without_test}
 use Rattle.covstore.proofs.AddsPlace.{state_agrees}
 use Rattle.covstore.proofs.DropsRest.{files_without}

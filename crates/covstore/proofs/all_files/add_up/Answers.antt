@@ -1,9 +1,4 @@
-use Rattle.std.proofs.Common.{ℕ, Vec, List, ◌∷◌, sym, ap, ◌∙◌, subst}
-use Rattle.covstore.specs.declared.file.File.{File}
-use Rattle.covtable.specs.declared.totals.Totals.{Totals}
-use Rattle.covtable.specs.TotalsExchanged.{FitTogether, together}
-use Rattle.covstore.specs.FileView.{file_committed}
-use Rattle.covstore.specs.StoreView.{files_committed}
+use Rattle.covstore.proofs.Words.{ℕ, Vec, List, ◌∷◌, sym, ap, ◌∙◌, subst, File, Totals, FitTogether, together, file_committed, files_committed}
 use Rattle.covstore.proofs.DropsTotals.{IsAddedUp, all_added, none_added, one_added, one_fits}
 use Rattle.covstore.proofs.Settled.{file_name}
 use Rattle.covstore.proofs.all_files.add_up.Goals as goal

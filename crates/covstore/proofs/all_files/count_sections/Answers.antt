@@ -1,11 +1,6 @@
-use Rattle.std.proofs.Common.{ℕ, ◌+◌, ◌<◌, ◌^◌, Bool, true, false, cond, Vec, List, ◌∷◌, length, refl, sym, ap, ◌∙◌, subst, arith}
+use Rattle.covstore.proofs.Words.{ℕ, ◌+◌, ◌<◌, ◌^◌, Bool, true, false, cond, Vec, List, ◌∷◌, length, refl, sym, ap, ◌∙◌, subst, arith, length-map, File, file_committed, files_committed, FileData}
 use Rattle.std.specs.Prelude.{◌≡◌}
 use Rattle.std.specs.Int.{from_bool}
-use Rattle.std.proofs.lemmas.List.{length-map}
-use Rattle.covstore.specs.declared.file.File.{File}
-use Rattle.covstore.specs.FileView.{file_committed}
-use Rattle.covstore.specs.StoreView.{files_committed}
-use Rattle.covstore.specs.State.{FileData}
 use Rattle.covstore.proofs.DropsTotals.{AreCounted, all_counted, none_counted, one_counted, one_section_fits}
 use Rattle.covstore.proofs.Settled.{file_name}
 use Rattle.covstore.proofs.all_files.count_sections.Goals as goal

@@ -1,11 +1,6 @@
-use Rattle.std.proofs.Common.{ℕ, ◌+◌, ◌<◌, ◌^◌, Bool, true, false, cond, Vec, List, [], ◌∷◌, length, refl, sym, ap, ◌∙◌, subst, arith}
+use Rattle.covstore.proofs.Words.{ℕ, ◌+◌, ◌<◌, ◌^◌, Bool, true, false, cond, Vec, List, [], ◌∷◌, length, refl, sym, ap, ◌∙◌, subst, arith, length-map, File, file_committed, files_committed, FileData, has_points_of}
 use Rattle.std.specs.Prelude.{◌≡◌}
 use Rattle.std.specs.Int.{from_bool}
-use Rattle.std.proofs.lemmas.List.{length-map}
-use Rattle.covstore.specs.declared.file.File.{File}
-use Rattle.covstore.specs.FileView.{file_committed}
-use Rattle.covstore.specs.StoreView.{files_committed}
-use Rattle.covstore.specs.State.{FileData, has_points_of}
 use Rattle.covstore.proofs.DropsLoop.{IsCounted, all_sections, all_totals, next_fits, next_section_fits, next_whole, none_counted, one_counted}
 use Rattle.covstore.proofs.Settled.{file_name}
 use Rattle.covstore.proofs.all_files.count_without.Goals as goal

@@ -1,7 +1,4 @@
-use Rattle.std.proofs.Common.{rules, sym, subst}
-use Rattle.covstore.specs.declared.file.File.{File}
-use Rattle.covstore.specs.FileView.{file_committed}
-use Rattle.covstore.specs.State.{IsConsistentFile}
+use Rattle.covstore.proofs.Words.{rules, sym, subst, File, file_committed, IsConsistentFile}
 use Rattle.covstore.proofs.DropsMaps.{All-between, IsWritten, written_committed, written_settled}
 use Rattle.covstore.proofs.DropsRetain.{AreWritten, all_written}
 use Rattle.covstore.proofs.all_files.drop_from_files.Goals as goal

@@ -1,9 +1,5 @@
-use Rattle.std.proofs.Common.{ℕ, ◌++◌, ◌∷◌, List, Vec, map, sym, ap, ◌∙◌}
+use Rattle.covstore.proofs.Words.{ℕ, ◌++◌, ◌∷◌, List, Vec, map, sym, ap, ◌∙◌, File, file_committed, files_committed, names_with}
 use Rattle.std.proofs.lemmas.List.{append-nil}
-use Rattle.covstore.specs.declared.file.File.{File}
-use Rattle.covstore.specs.FileView.{file_committed}
-use Rattle.covstore.specs.StoreView.{files_committed}
-use Rattle.covstore.specs.Renaming.{names_with}
 use Rattle.covstore.proofs.NamedFiles.{none_named, some_named}
 use Rattle.covstore.proofs.Settled.{file_name}
 use Rattle.covmap.proofs.SlotWrites.{on_err}

@@ -1,6 +1,5 @@
+use Rattle.covstore.proofs.Words.{files_committed, names_with}
 use Rattle.std.specs.Prelude.{◌≡◌, ◌++◌, map}
-use Rattle.covstore.specs.StoreView.{files_committed}
-use Rattle.covstore.specs.Renaming.{names_with}
 use Rattle.covstore.proofs.Settled.{file_name}
 use Rattle.covstore.proofs.all_files.names_with.Given as goal
 

@@ -1,11 +1,6 @@
-use Rattle.std.proofs.Common.{[], ◌∷◌, ◌++◌, List, sym, ap, subst, ◌∙◌, append-nil, append_assoc}
-use Rattle.std.proofs.lemmas.Result.{err_from_is_err_and}
-use Rattle.covdata.specs.Row.{ItemData}
+use Rattle.covstore.proofs.Words.{[], ◌∷◌, ◌++◌, List, sym, ap, subst, ◌∙◌, append-nil, append_assoc, err_from_is_err_and, ItemData, Clashes, index_staged, test_staged}
 use Rattle.covpacked.specs.ItemRefs.{item_ref_data}
-use Rattle.covstore.specs.Section.{Clashes}
 use Rattle.covstore.specs.HeldChecksums.{HoldsTexts}
-use Rattle.covstore.specs.FileIndexView.{index_staged}
-use Rattle.covstore.specs.TestView.{test_staged}
 use Rattle.covstore.proofs.StepsMore.{held_both}
 use Rattle.covstore.proofs.HeldChecksumsAdds.{held_clashes}
 use Rattle.covstore.proofs.TextsHeld.{its_apart, next_held_in, next_room_in, none_held_in}

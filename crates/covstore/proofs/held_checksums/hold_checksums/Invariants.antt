@@ -1,5 +1,4 @@
-use Rattle.std.proofs.Common.{◌≡◌, ◌++◌, List}
-use Rattle.covdata.specs.Row.{ItemData}
+use Rattle.covstore.proofs.Words.{◌≡◌, ◌++◌, List, ItemData}
 use Rattle.covstore.proofs.TextsHeld.{HasHeldIn}
 use Rattle.covstore.specs.Follows.{StillFollows}
 use Rattle.covstore.proofs.held_checksums.hold_checksums.Given as goal

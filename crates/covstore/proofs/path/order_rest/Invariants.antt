@@ -1,6 +1,4 @@
-use Rattle.std.proofs.Common.{◌-◌, ◌≡◌, ◌≤◌, drop}
-use Rattle.std.specs.Cmp.Lexicographic.{slice_cmp}
-use Rattle.std.specs.Ordering.{nat_cmp}
+use Rattle.covstore.proofs.Words.{◌-◌, ◌≡◌, ◌≤◌, drop, slice_cmp, nat_cmp}
 use Rattle.covstore.proofs.path.order_rest.Given as goal
 
 -- the bytes between the start and this index are equal, so the bytes from here on decide the order

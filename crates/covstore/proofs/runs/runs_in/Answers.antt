@@ -1,7 +1,5 @@
-use Rattle.std.proofs.Common.{◌∷◌, [], ◌++◌, List, sym, ap, ◌∙◌, append_assoc}
-use Rattle.covdata.specs.Row.{ItemData}
+use Rattle.covstore.proofs.Words.{◌∷◌, [], ◌++◌, List, sym, ap, ◌∙◌, append_assoc, ItemData, runs_with}
 use Rattle.covpacked.specs.ItemRefs.{item_ref_data}
-use Rattle.covstore.specs.Runs.{runs_with}
 use Rattle.covstore.proofs.RunsSums.{runs_more}
 use Rattle.covstore.proofs.runs.runs_in.Goals as goal
 

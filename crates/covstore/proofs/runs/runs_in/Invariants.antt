@@ -1,6 +1,4 @@
-use Rattle.std.proofs.Common.{◌≡◌, ◌++◌, List}
-use Rattle.covdata.specs.Row.{ItemData}
-use Rattle.covstore.specs.Runs.{runs_of}
+use Rattle.covstore.proofs.Words.{◌≡◌, ◌++◌, List, ItemData, runs_of}
 use Rattle.covstore.specs.RunsView.{runs_seen}
 use Rattle.covstore.proofs.runs.runs_in.Given as goal
 

@@ -1,15 +1,6 @@
-use Rattle.std.proofs.Common.{length, ap, ◌∙◌, sym}
-use Rattle.std.proofs.lemmas.List.{length-map}
-use Rattle.std.specs.Cmp.Lexicographic.{slice_cmp}
-use Rattle.std.specs.Ordering.{nat_cmp}
+use Rattle.covstore.proofs.Words.{length, ap, ◌∙◌, sym, length-map, slice_cmp, nat_cmp, index_staged, KeepsCountsOfKind, Branch, CountsOf, Function, Kind, Line, PointsOf, above_of, at, cmp_of, points_with, sum_of, with_runs, test_staged, branch_cmp}
 use Rattle.covdata.specs.PointView.{branch_point_data}
-use Rattle.covstore.specs.FileIndexView.{index_staged}
-use Rattle.covstore.specs.Items.{KeepsCountsOfKind}
-use Rattle.covstore.specs.Kinds.{Branch, CountsOf, Function, Kind, Line, PointsOf, above_of, at, cmp_of}
-use Rattle.covstore.specs.Runs.{points_with, sum_of, with_runs}
 use Rattle.covstore.specs.RunsView.{runs_seen}
-use Rattle.covstore.specs.TestView.{test_staged}
-use Rattle.covtable.specs.Value.{branch_cmp}
 use Rattle.covstore.proofs.EachKind.{each_kind, same_test}
 use Rattle.covstore.proofs.RunsKept.{room_as_long}
 use Rattle.covstore.proofs.RunsSums.{summed_as}

@@ -1,8 +1,4 @@
-use Rattle.std.proofs.Common.{◌≡◌, ℕ, [], length, refl, sym, ap, ◌∙◌, subst, Vec, BTreeMap, Some}
-use Rattle.std.proofs.lemmas.List.{nil_from_length}
-use Rattle.covstore.specs.declared.file.File.{File}
-use Rattle.covstore.specs.FileView.{file_staged}
-use Rattle.covstore.specs.StoreView.{AreSettledBut}
+use Rattle.covstore.proofs.Words.{◌≡◌, ℕ, [], length, refl, sym, ap, ◌∙◌, subst, Vec, BTreeMap, Some, nil_from_length, File, file_staged, AreSettledBut}
 use Rattle.covstore.proofs.Settled.{IsSettling, all_settled, file_name, none_left, popped_as, settling_found, settling_unfound}
 use Rattle.covstore.proofs.store.commit_staged.Goals as goal
 use Rattle.covstore.proofs.store.commit_staged.Goals.{in-Some-get_mut, in_default-get_mut}

@@ -1,5 +1,4 @@
-use Rattle.std.proofs.Common.{length}
-use Rattle.covstore.specs.FileView.{file_staged}
+use Rattle.covstore.proofs.Words.{length, file_staged}
 use Rattle.covstore.proofs.Settled.{IsSettling}
 use Rattle.covstore.proofs.store.commit_staged.Given as goal
 

@@ -1,18 +1,6 @@
-use Rattle.std.proofs.Common.{◌≡◌, ℕ, None, Some, BTreeMap, List, [], ◌∷◌, ◌++◌, Vec, sym, ap, ◌∙◌, subst}
-use Rattle.std.specs.Prelude.{IfErr, IfOk, OnOk}
-use Rattle.std.specs.BTreeMap.{is_at}
-use Rattle.std.specs.Cmp.Lexicographic.{slice_cmp}
-use Rattle.std.specs.Map.{lookup}
-use Rattle.std.specs.Ordering.{nat_cmp}
-use Rattle.std.proofs.lemmas.Result.{IfErr-weaker, on_ok_weaker}
-use Rattle.covstore.specs.declared.file.File.{File}
-use Rattle.covstore.specs.FileView.{file_staged, file_committed}
+use Rattle.covstore.proofs.Words.{◌≡◌, ℕ, None, Some, BTreeMap, List, [], ◌∷◌, ◌++◌, Vec, sym, ap, ◌∙◌, subst, IfErr, IfOk, OnOk, is_at, slice_cmp, lookup, nat_cmp, IfErr-weaker, on_ok_weaker, File, file_staged, file_committed, totals_in, AddsTo, ClashesAmong, KeepsState, AreSettledBut, files_committed, files_staged, IsExchange}
 use Rattle.covtable.specs.RefuseView.{refuse_data}
-use Rattle.covstore.specs.State.{totals_in}
-use Rattle.covstore.specs.Store.{AddsTo, ClashesAmong, KeepsState}
 use Rattle.covstore.specs.StoreSection.{HasRoomAmong, RefusedIn, rows_of_items}
-use Rattle.covstore.specs.StoreView.{AreSettledBut, files_committed, files_staged}
-use Rattle.covtable.specs.TotalsExchanged.{IsExchange}
 use Rattle.covstore.proofs.AddsMaps.{kept_written, written_settled}
 use Rattle.covstore.proofs.AddsWritten.{found_adds, found_refused, found_room, found_totals, totals_of_both}
 use Rattle.covstore.proofs.Settled.{file_name}

@@ -1,10 +1,5 @@
-use Rattle.std.proofs.Common.{◌≡◌, ℕ, List, [], ◌∷◌, ◌++◌, Vec, sym, ap, ◌∙◌, subst}
-use Rattle.std.proofs.lemmas.Result.{err_from_is_err_and}
-use Rattle.covstore.specs.declared.file.File.{File}
-use Rattle.covstore.specs.FileView.{file_staged, file_committed, no_file}
+use Rattle.covstore.proofs.Words.{◌≡◌, ℕ, List, [], ◌∷◌, ◌++◌, Vec, sym, ap, ◌∙◌, subst, err_from_is_err_and, File, file_staged, file_committed, no_file, KeepsState, AreSettledBut, IsSettledBut, files_committed}
 use Rattle.covtable.specs.RefuseView.{refuse_data}
-use Rattle.covstore.specs.Store.{KeepsState}
-use Rattle.covstore.specs.StoreView.{AreSettledBut, IsSettledBut, files_committed}
 use Rattle.covstore.proofs.AddsMaps.{inserted_settled}
 use Rattle.covstore.proofs.AddsWritten.{new_adds, new_keeps, new_refused, new_room, new_totals}
 use Rattle.covstore.proofs.KeepsMore.{state_stays}

@@ -1,11 +1,5 @@
-use Rattle.std.proofs.Common.{◌≡◌, false, None, ℕ, ◌+◌, sym, ap, ◌∙◌, subst}
+use Rattle.covstore.proofs.Words.{◌≡◌, false, None, ℕ, ◌+◌, sym, ap, ◌∙◌, subst, nat_cmp, false≢true, on_ok_weaker, ChecksumsData, KeepsTexts, put, value_of, MapData}
 use Rattle.std.specs.Option.{is_some}
-use Rattle.std.specs.Ordering.{nat_cmp}
-use Rattle.std.proofs.lemmas.Bool.{false≢true}
-use Rattle.std.proofs.lemmas.Result.{on_ok_weaker}
-use Rattle.covstore.specs.Checksums.{ChecksumsData, KeepsTexts}
-use Rattle.covmap.specs.Puts.{put, value_of}
-use Rattle.covmap.specs.MapData.{MapData}
 use Rattle.covstore.proofs.StepsTexts.{held_is, inserted_is, keeps_first, keeps_committed, on_ok_both}
 use Rattle.covstore.proofs.checksums.Checksums.hold.Goals as goal
 

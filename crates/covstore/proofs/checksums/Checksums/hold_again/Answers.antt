@@ -1,9 +1,5 @@
-use Rattle.std.proofs.Common.{◌≡◌, None, ◌∙◌, ap, sym}
+use Rattle.covstore.proofs.Words.{◌≡◌, None, ◌∙◌, ap, sym, nat_cmp, false≢true, value_of, ChecksumsData}
 use Rattle.std.specs.Option.{is_some}
-use Rattle.std.specs.Ordering.{nat_cmp}
-use Rattle.std.proofs.lemmas.Bool.{false≢true}
-use Rattle.covmap.specs.Puts.{value_of}
-use Rattle.covstore.specs.Checksums.{ChecksumsData}
 use Rattle.covstore.proofs.checksums.Checksums.hold_again.Goals as goal
 
 pub unreachable-requires : goal.unreachable-requires

@@ -1,8 +1,5 @@
-use Rattle.std.proofs.Common.{◌≡◌, ◌∙◌, None, ap, sym, subst}
+use Rattle.covstore.proofs.Words.{◌≡◌, ◌∙◌, None, ap, sym, subst, nat_cmp, value_of, ChecksumsData, StayTexts}
 use Rattle.std.specs.Option.{is_some}
-use Rattle.std.specs.Ordering.{nat_cmp}
-use Rattle.covmap.specs.Puts.{value_of}
-use Rattle.covstore.specs.Checksums.{ChecksumsData, StayTexts}
 use Rattle.covstore.proofs.StepsTexts.{have_inserted, inserted_is, ok_unless, stay_inserted}
 use Rattle.covstore.proofs.checksums.Checksums.hold_first.Goals as goal
 

@@ -1,8 +1,5 @@
-use Rattle.std.proofs.Common.{◌≡◌, not, Bool, true, false, List, ℕ, Some, refl, sym, ap, ◌∙◌}
+use Rattle.covstore.proofs.Words.{◌≡◌, not, Bool, true, false, List, ℕ, Some, refl, sym, ap, ◌∙◌, bytes_eq, false≢true, bytes_eq-Decides}
 use Rattle.std.specs.Option.{is_some}
-use Rattle.std.specs.Str.{bytes_eq}
-use Rattle.std.proofs.lemmas.Bool.{false≢true}
-use Rattle.std.proofs.lemmas.Slice.Eq.{bytes_eq-Decides}
 use Rattle.covstore.proofs.checksums.Checksums.refuse_clash.Goals as goal
 
 -- a copy of a text that differs is another one

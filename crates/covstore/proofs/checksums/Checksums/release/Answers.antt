@@ -1,10 +1,6 @@
-use Rattle.std.proofs.Common.{◌≡◌, ◌∙◌, List, true, ap, sym, ℕ}
+use Rattle.covstore.proofs.Words.{◌≡◌, ◌∙◌, List, true, ap, sym, ℕ, nat_cmp, HaveTexts, MapData, value_of}
 use Rattle.std.specs.Option.{is_some}
-use Rattle.std.specs.Ordering.{nat_cmp}
 use Rattle.covmap.specs.Assigned.{assigned}
-use Rattle.covstore.specs.Checksums.{HaveTexts}
-use Rattle.covmap.specs.MapData.{MapData}
-use Rattle.covmap.specs.Puts.{value_of}
 use Rattle.covstore.proofs.FewerHolders.{some_before}
 use Rattle.covstore.proofs.checksums.Checksums.release.Goals as goal
 

@@ -1,8 +1,5 @@
-use Rattle.std.proofs.Common.{List, ℕ, sym, ap, ◌∙◌, subst}
+use Rattle.covstore.proofs.Words.{List, ℕ, sym, ap, ◌∙◌, subst, nat_cmp, AreAmong, ChecksumsData, HaveTexts, value_of}
 use Rattle.std.specs.Option.{is_some}
-use Rattle.std.specs.Ordering.{nat_cmp}
-use Rattle.covstore.specs.Checksums.{AreAmong, ChecksumsData, HaveTexts}
-use Rattle.covmap.specs.Puts.{value_of}
 use Rattle.covstore.proofs.StepsTexts.{among_held, have_held, ok_unless}
 use Rattle.covstore.proofs.checksums.Checksums.set_holders.Goals as goal
 

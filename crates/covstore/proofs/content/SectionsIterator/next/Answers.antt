@@ -1,8 +1,4 @@
-use Rattle.std.proofs.Common.{Vec, ℕ, List, ◌∷◌, sym, ap, ◌∙◌, subst}
-use Rattle.std.specs.List.{AllByRecursion}
-use Rattle.covstore.specs.declared.file.File.{File}
-use Rattle.covstore.specs.FileView.{file_committed}
-use Rattle.covstore.specs.State.{sections_of_file}
+use Rattle.covstore.proofs.Words.{Vec, ℕ, List, ◌∷◌, sym, ap, ◌∙◌, subst, AllByRecursion, File, file_committed, sections_of_file}
 use Rattle.covstore.specs.ContentView.{IsFewOf, sections_left}
 use Rattle.covstore.proofs.SeenTests.{all_of_next, next_at_hand, none_at_hand}
 use Rattle.covstore.proofs.content.SectionsIterator.next.Goals as goal

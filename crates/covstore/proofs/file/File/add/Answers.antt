@@ -1,13 +1,5 @@
-use Rattle.std.proofs.Common.{[], sym, ap, ◌∙◌, subst}
-use Rattle.std.specs.Cmp.Lexicographic.{slice_cmp}
+use Rattle.covstore.proofs.Words.{[], sym, ap, ◌∙◌, subst, slice_cmp, nat_cmp, IfErr-weaker, on_ok_weaker, value_of, AddsItems, ClashesIn, HasRoomIn, KeepsIn, file_staged, file_committed, with_test, FileData, test_of}
 use Rattle.std.specs.Option.{is_some}
-use Rattle.std.specs.Ordering.{nat_cmp}
-use Rattle.std.proofs.lemmas.Result.{IfErr-weaker, on_ok_weaker}
-use Rattle.covmap.specs.Puts.{value_of}
-use Rattle.covstore.specs.FileSection.{AddsItems, ClashesIn, HasRoomIn, KeepsIn}
-use Rattle.covstore.specs.FileView.{file_staged, file_committed, with_test}
-use Rattle.covstore.specs.State.{FileData}
-use Rattle.covstore.specs.Sums.{test_of}
 use Rattle.covstore.proofs.KeepsMore.{keeps_both, keeps_same, made_ready, test_keeps}
 use Rattle.covstore.proofs.Ready.{adds_ready, clashes_ready, room_ready}
 use Rattle.covstore.proofs.file.File.add.Goals as goal

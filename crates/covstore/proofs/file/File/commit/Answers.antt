@@ -1,8 +1,5 @@
-use Rattle.std.proofs.Common.{Some, [], ◌∷◌, ◌++◌, refl, sym, ap, ◌∙◌, subst}
-use Rattle.covstore.specs.declared.file.File.{File}
+use Rattle.covstore.proofs.Words.{Some, [], ◌∷◌, ◌++◌, refl, sym, ap, ◌∙◌, subst, File, IsSettledBut, test_staged}
 use Rattle.covstore.specs.FileParts.{FileTests}
-use Rattle.covstore.specs.StoreView.{IsSettledBut}
-use Rattle.covstore.specs.TestView.{test_staged}
 use Rattle.covstore.proofs.FollowsSole.{sole_written}
 use Rattle.covstore.proofs.MapNames.{has_name}
 use Rattle.covstore.proofs.Settled.{file_name, same_file, settled_found, settled_unfound, tests_written}

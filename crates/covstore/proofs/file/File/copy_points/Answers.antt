@@ -1,18 +1,5 @@
-use Rattle.std.specs.Cmp.Lexicographic.{slice_cmp}
+use Rattle.covstore.proofs.Words.{slice_cmp, nat_cmp, value_of, ◌≡◌, ℕ, true, ◌≤◌, ◌^◌, Some, Vec, List, length, refl, sym, ap, ◌∙◌, subst, arith, length-map, on_ok_weaker, File, file_committed, file_staged, index_staged, CopiesIn, HasRoomToCopyIn, FileData, IsSettledBut, TestData, test_staged, test_committed, names_order}
 use Rattle.std.specs.Option.{is_some}
-use Rattle.std.specs.Ordering.{nat_cmp}
-use Rattle.covmap.specs.Puts.{value_of}
-use Rattle.std.proofs.Common.{◌≡◌, ℕ, true, ◌≤◌, ◌^◌, Some, Vec, List, length, refl, sym, ap, ◌∙◌, subst, arith}
-use Rattle.std.proofs.lemmas.List.{length-map}
-use Rattle.std.proofs.lemmas.Result.{on_ok_weaker}
-use Rattle.covstore.specs.declared.file.File.{File}
-use Rattle.covstore.specs.FileView.{file_committed, file_staged}
-use Rattle.covstore.specs.FileIndexView.{index_staged}
-use Rattle.covstore.specs.Renaming.{CopiesIn, HasRoomToCopyIn}
-use Rattle.covstore.specs.State.{FileData}
-use Rattle.covstore.specs.StoreView.{IsSettledBut}
-use Rattle.covstore.specs.Sums.{TestData}
-use Rattle.covstore.specs.TestView.{test_staged, test_committed}
 use Rattle.covstore.proofs.AddsFile.{not_there, test_value}
 use Rattle.covstore.proofs.AddsSettled.{test_settled}
 use Rattle.covstore.proofs.CopiesFile.{copies_in, copies_room}
@@ -20,7 +7,6 @@ use Rattle.covstore.proofs.CopiesMap.{other_found, other_there, place_there, put
 use Rattle.covstore.proofs.FollowsSole.{sole_found, sole_written, written_again}
 use Rattle.covstore.proofs.MapKeys.{seen}
 use Rattle.covstore.proofs.MapNames.{has_name}
-use Rattle.covtable.proofs.Orders.{names_order}
 use Rattle.covstore.proofs.Settled.{file_name, same_file}
 use Rattle.covstore.proofs.file.File.copy_points.Goals as goal
 

@@ -1,14 +1,5 @@
-use Rattle.std.proofs.Common.{◌≡◌, [], sym, ap, ◌∙◌, subst}
+use Rattle.covstore.proofs.Words.{◌≡◌, [], sym, ap, ◌∙◌, subst, on_ok_weaker, KeepsIn, file_staged, file_committed, with_test, CopiesIn, HasRoomToCopyIn, FileData, test_of, value_of, slice_cmp, nat_cmp}
 use Rattle.std.specs.Option.{is_some}
-use Rattle.std.proofs.lemmas.Result.{on_ok_weaker}
-use Rattle.covstore.specs.FileSection.{KeepsIn}
-use Rattle.covstore.specs.FileView.{file_staged, file_committed, with_test}
-use Rattle.covstore.specs.Renaming.{CopiesIn, HasRoomToCopyIn}
-use Rattle.covstore.specs.State.{FileData}
-use Rattle.covstore.specs.Sums.{test_of}
-use Rattle.covmap.specs.Puts.{value_of}
-use Rattle.std.specs.Cmp.Lexicographic.{slice_cmp}
-use Rattle.std.specs.Ordering.{nat_cmp}
 use Rattle.covstore.proofs.KeepsMore.{file_keeps, keeps_both, keeps_same, made_ready, test_keeps}
 use Rattle.covstore.proofs.Ready.{copies_ready, other_test, room_to_copy}
 use Rattle.covstore.proofs.file.File.copy_test.Goals as goal

@@ -1,12 +1,4 @@
-use Rattle.std.proofs.Common.{◌≡◌, ℕ, option_map, List, sym, ap, ◌∙◌, subst}
-use Rattle.covstore.specs.State.{IsConsistentFile, file_with}
-use Rattle.covstore.specs.declared.file.File.{File}
-use Rattle.covstore.specs.StoreView.{IsSettledBut}
-use Rattle.covstore.specs.FileDrops.{IsWithoutTest, tests_without}
-use Rattle.covstore.specs.FileView.{file_committed}
-use Rattle.covstore.specs.FileIndexView.{index_committed}
-use Rattle.covstore.specs.Sums.{TestData}
-use Rattle.covstore.specs.TestView.{test_committed}
+use Rattle.covstore.proofs.Words.{◌≡◌, ℕ, option_map, List, sym, ap, ◌∙◌, subst, IsConsistentFile, file_with, File, IsSettledBut, IsWithoutTest, tests_without, file_committed, index_committed, TestData, test_committed}
 use Rattle.covstore.proofs.DropsKept.{index_first, points_of_all, without_found, without_unfound}
 use Rattle.covstore.proofs.DropsMaps.{removed_settled}
 use Rattle.covstore.proofs.DropsTests.{others_of_none, removed}

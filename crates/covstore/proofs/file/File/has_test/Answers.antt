@@ -1,7 +1,4 @@
-use Rattle.std.proofs.Common.{not, Option, Some, option_map, sym, ap, ◌∙◌}
-use Rattle.covstore.specs.State.{has_no_points, points_or_none}
-use Rattle.covstore.specs.Sums.{TestData}
-use Rattle.covstore.specs.TestView.{test_committed}
+use Rattle.covstore.proofs.Words.{not, Option, Some, option_map, sym, ap, ◌∙◌, has_no_points, points_or_none, TestData, test_committed}
 use Rattle.covstore.proofs.MapNames.{value_of_named}
 use Rattle.covstore.proofs.Settled.{file_name}
 use Rattle.covstore.proofs.file.File.has_test.Goals as goal

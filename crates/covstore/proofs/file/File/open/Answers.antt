@@ -1,16 +1,7 @@
-use Rattle.std.proofs.Common.{◌≡◌, Vec, ℕ, List, refl, sym, ap, ◌∙◌, subst}
-use Rattle.std.specs.Cmp.Lexicographic.{slice_cmp}
-use Rattle.std.specs.Ordering.{nat_cmp}
+use Rattle.covstore.proofs.Words.{◌≡◌, Vec, ℕ, List, refl, sym, ap, ◌∙◌, subst, slice_cmp, nat_cmp, File, Test, index_committed, index_staged, file_staged, file_committed, FileData, IsSettledBut, test_staged, test_committed}
 use Rattle.covmap.proofs.SlotWrites.{on_err}
-use Rattle.covstore.specs.declared.file.File.{File}
-use Rattle.covstore.specs.declared.test.Test.{Test}
-use Rattle.covstore.specs.FileIndexView.{index_committed, index_staged}
 use Rattle.covstore.specs.FileParts.{FileTests}
-use Rattle.covstore.specs.FileView.{file_staged, file_committed}
 use Rattle.covstore.specs.Follows.{CanFollow}
-use Rattle.covstore.specs.State.{FileData}
-use Rattle.covstore.specs.StoreView.{IsSettledBut}
-use Rattle.covstore.specs.TestView.{test_staged, test_committed}
 use Rattle.covstore.proofs.AddsSettled.{test_inserted}
 use Rattle.covstore.proofs.FollowsSettled.{settled_same}
 use Rattle.covstore.proofs.FollowsSole.{is_no_test, sole_inserted}

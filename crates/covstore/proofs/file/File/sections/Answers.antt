@@ -1,8 +1,4 @@
-use Rattle.std.proofs.Common.{Vec, ℕ, refl, sym, ap, ◌∙◌, subst}
-use Rattle.std.specs.List.{AllByRecursion}
-use Rattle.covstore.specs.declared.file.File.{File}
-use Rattle.covstore.specs.FileView.{file_committed}
-use Rattle.covstore.specs.State.{sections_of_file}
+use Rattle.covstore.proofs.Words.{Vec, ℕ, refl, sym, ap, ◌∙◌, subst, AllByRecursion, File, file_committed, sections_of_file}
 use Rattle.covstore.specs.ContentView.{IsFewOf, tests_seen}
 use Rattle.covstore.proofs.SeenTests.{tests_of_pairs}
 use Rattle.covstore.proofs.file.File.sections.Goals as goal

@@ -1,26 +1,11 @@
-use Rattle.std.proofs.Common.{◌≡◌, ℕ, ◌≤◌, ◌^◌, true, List, Some, length, sym, ap, ◌∙◌, subst, arith}
-use Rattle.std.specs.Cmp.Lexicographic.{slice_cmp}
+use Rattle.covstore.proofs.Words.{◌≡◌, ℕ, ◌≤◌, ◌^◌, true, List, Some, length, sym, ap, ◌∙◌, subst, arith, slice_cmp, nat_cmp, length-map, IfErr-weaker, on_ok_weaker, value_of, File, Clashes, AddsItems, ClashesIn, HasRoomIn, index_staged, file_staged, file_committed, file_with, IsSettledBut, TestData, test_staged, test_committed, names_order}
 use Rattle.std.specs.Option.{is_some}
-use Rattle.std.specs.Ordering.{nat_cmp}
-use Rattle.std.proofs.lemmas.List.{length-map}
-use Rattle.std.proofs.lemmas.Result.{IfErr-weaker, on_ok_weaker}
-use Rattle.covmap.specs.Puts.{value_of}
-use Rattle.covstore.specs.declared.file.File.{File}
-use Rattle.covstore.specs.Section.{Clashes}
-use Rattle.covstore.specs.FileSection.{AddsItems, ClashesIn, HasRoomIn}
-use Rattle.covstore.specs.FileIndexView.{index_staged}
-use Rattle.covstore.specs.FileView.{file_staged, file_committed}
-use Rattle.covstore.specs.State.{file_with}
-use Rattle.covstore.specs.StoreView.{IsSettledBut}
-use Rattle.covstore.specs.Sums.{TestData}
-use Rattle.covstore.specs.TestView.{test_staged, test_committed}
 use Rattle.covstore.proofs.AddsFile.{adds_in, clashes_in, not_there, room_for, test_kept, test_value, test_written}
 use Rattle.covstore.proofs.AddsSettled.{test_settled}
 use Rattle.covstore.proofs.FollowsSole.{sole_found, sole_written}
 use Rattle.covstore.proofs.KeepsMore.{file_keeps}
 use Rattle.covstore.proofs.MapKeys.{seen}
 use Rattle.covstore.proofs.MapNames.{has_name}
-use Rattle.covtable.proofs.Orders.{names_order}
 use Rattle.covstore.proofs.Settled.{file_name}
 use Rattle.covstore.proofs.file.File.stage_in.Goals as goal
 

@@ -1,6 +1,4 @@
-use Rattle.std.proofs.Common.{subst}
-use Rattle.covstore.specs.FileSection.{ClashesIn}
-use Rattle.covstore.specs.FileView.{file_staged}
+use Rattle.covstore.proofs.Words.{subst, ClashesIn, file_staged}
 use Rattle.covstore.proofs.file.File.stage_section.Goals as goal
 
 pub returns-in_ok-of-in-Err-Clash-clause-clash : goal.returns-in_ok-of-in-Err-Clash-clause-clash

@@ -1,11 +1,4 @@
-use Rattle.std.proofs.Common.{◌≡◌, not, Option, Some, option_map, sym, ap, ◌∙◌, subst}
-use Rattle.covstore.specs.declared.file.File.{File}
-use Rattle.covstore.specs.FileDrops.{IsWithoutTest, tests_without}
-use Rattle.covstore.specs.FileView.{file_committed}
-use Rattle.covstore.specs.FileIndexView.{index_committed}
-use Rattle.covstore.specs.State.{IsConsistentFile, has_no_points, points_or_none}
-use Rattle.covstore.specs.Sums.{TestData}
-use Rattle.covstore.specs.TestView.{test_committed}
+use Rattle.covstore.proofs.Words.{◌≡◌, not, Option, Some, option_map, sym, ap, ◌∙◌, subst, File, IsWithoutTest, tests_without, file_committed, index_committed, IsConsistentFile, has_no_points, points_or_none, TestData, test_committed}
 use Rattle.covstore.proofs.DropsKept.{index_after, index_first, points_of_all, totals_unfound}
 use Rattle.covstore.proofs.FollowsSole.{sole_found}
 use Rattle.covstore.proofs.MapNames.{has_name, names_with, value_of_named}

@@ -1,6 +1,5 @@
-use Rattle.std.proofs.Common.{◌≡◌, length}
+use Rattle.covstore.proofs.Words.{◌≡◌, length, files_committed}
 use Rattle.covstore.specs.FilesView.{files_with_points}
-use Rattle.covstore.specs.StoreView.{files_committed}
 use Rattle.covstore.proofs.files.FilesIterator.next.Given as goal
 
 -- the files that are left to give stay the same

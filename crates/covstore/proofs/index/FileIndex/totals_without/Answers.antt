@@ -1,5 +1,4 @@
-use Rattle.std.proofs.Common.{map, ◌∙◌}
-use Rattle.covstore.specs.Kinds.{Branch, Function, Line, at}
+use Rattle.covstore.proofs.Words.{map, ◌∙◌, Branch, Function, Line, at}
 use Rattle.covstore.proofs.EachKind.{totals_of_tallies}
 use Rattle.covstore.proofs.index.FileIndex.totals_without.Goals as goal
 

@@ -1,7 +1,4 @@
-use Rattle.std.proofs.Common.{map}
-use Rattle.covstore.specs.PointIndexCounts.{AreCounts}
-use Rattle.covstore.specs.Kinds.{Branch, CountsOf, Each, Function, Kind, Line, above_of, at, cmp_of}
-use Rattle.covstore.specs.TestView.{test_committed}
+use Rattle.covstore.proofs.Words.{map, AreCounts, Branch, CountsOf, Each, Function, Kind, Line, above_of, at, cmp_of, test_committed}
 use Rattle.covstore.proofs.EachKind.{each_kind}
 use Rattle.covstore.proofs.FewerHolders.{holders_of_lines}
 use Rattle.covstore.proofs.index.FileIndex.uncount_test.Goals as goal

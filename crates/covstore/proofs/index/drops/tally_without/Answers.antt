@@ -1,7 +1,4 @@
-use Rattle.std.proofs.Common.{◌∙◌, List, ap, refl, subst}
-use Rattle.covmap.specs.MapData.{MapData}
-use Rattle.covstore.specs.declared.sums.TestCounts.{TestCounts}
-use Rattle.covstore.specs.PointIndexDrops.{IsTallyWithout}
+use Rattle.covstore.proofs.Words.{◌∙◌, List, ap, refl, subst, MapData, TestCounts, IsTallyWithout}
 use Rattle.covstore.proofs.KindSteps.{counted_committed, sole_without}
 use Rattle.covstore.proofs.index.drops.tally_without.Goals as goal
 

@@ -1,7 +1,4 @@
-use Rattle.std.proofs.Common.{◌∙◌, List, ap, subst}
-use Rattle.covmap.specs.MapData.{MapData}
-use Rattle.covstore.specs.declared.sums.TestCounts.{TestCounts}
-use Rattle.covstore.specs.PointIndexDrops.{LosesTest}
+use Rattle.covstore.proofs.Words.{◌∙◌, List, ap, subst, MapData, TestCounts, LosesTest}
 use Rattle.covstore.proofs.KindSteps.{counted_committed, sole_dropped}
 use Rattle.covstore.proofs.index.drops.uncount_kind.Goals as goal
 use Rattle.covstore.proofs.index.drops.uncount_kind.Goals.{in-OfOneTest+in-Some-1, in-OfOneTest+in-None-1, in-OfTests}

@@ -1,6 +1,4 @@
-use Rattle.std.proofs.Common.{◌≡◌, ◌∙◌, List, None, ap, sym, subst, ℕ, length}
-use Rattle.std.specs.Ordering.{nat_cmp}
-use Rattle.covmap.specs.Puts.{put, value_of}
+use Rattle.covstore.proofs.Words.{◌≡◌, ◌∙◌, List, None, ap, sym, subst, ℕ, length, nat_cmp, put, value_of}
 use Rattle.covstore.specs.KeptTexts.{ArePlaced, KeptTextsData, texts_at}
 use Rattle.covstore.proofs.KeptTexts.{dropped, no_place, placed_dropped, placed_pushed, pushed, pushed_committed}
 use Rattle.covstore.proofs.kept_texts.KeptTexts.add.Goals as goal

@@ -1,9 +1,5 @@
-use Rattle.std.proofs.Common.{◌≡◌, ◌≤◌, ◌∙◌, Some, ap, sym, subst, ℕ, arith, length}
+use Rattle.covstore.proofs.Words.{◌≡◌, ◌≤◌, ◌∙◌, Some, ap, sym, subst, ℕ, arith, length, slice_set, nat_cmp, MapData, put, value_of}
 use Rattle.std.proofs.Math.ListN.{length-set}
-use Rattle.std.specs.Prelude.{slice_set}
-use Rattle.std.specs.Ordering.{nat_cmp}
-use Rattle.covmap.specs.MapData.{MapData}
-use Rattle.covmap.specs.Puts.{put, value_of}
 use Rattle.covstore.specs.KeptTexts.{AreBelow, AreCommitted, ArePlaced, KeptTextsData, StillHave, texts_at}
 use Rattle.covstore.proofs.KeptTexts.{are_committed, below_found, no_text, replaced, still_have}
 use Rattle.covstore.proofs.kept_texts.KeptTexts.set.Goals as goal

@@ -1,7 +1,4 @@
-use Rattle.std.proofs.Common.{◌∙◌, [], ap, sym, Some, arith, length}
-use Rattle.std.specs.Ordering.{nat_cmp}
-use Rattle.std.proofs.lemmas.List.{get_or_read}
-use Rattle.covmap.specs.Puts.{value_of}
+use Rattle.covstore.proofs.Words.{◌∙◌, [], ap, sym, Some, arith, length, nat_cmp, get_or_read, value_of}
 use Rattle.covstore.specs.KeptTexts.{KeptTextsData}
 use Rattle.covstore.proofs.KeptTexts.{below_found, no_text, text_found}
 use Rattle.covstore.proofs.kept_texts.KeptTexts.text_at.Goals as goal

@@ -1,7 +1,4 @@
-use Rattle.std.proofs.Common.{◌≡◌, ℕ, true, false, is_some, Vec, [], ◌∷◌, refl, sym, ap, ◌∙◌}
-use Rattle.std.specs.Cmp.Lexicographic.{slice_cmp}
-use Rattle.std.specs.Map.{lookup}
-use Rattle.std.specs.Ordering.{nat_cmp}
+use Rattle.covstore.proofs.Words.{◌≡◌, ℕ, true, false, is_some, Vec, [], ◌∷◌, refl, sym, ap, ◌∙◌, slice_cmp, lookup, nat_cmp}
 use Rattle.covstore.specs.FileParts.{FileTests}
 use Rattle.covstore.proofs.MapNames.{has_name}
 use Rattle.covstore.proofs.OneTest.{one_found, one_missing, one_sorted, one_unwritten, one_written}

@@ -1,11 +1,5 @@
-use Rattle.std.proofs.Common.{◌≡◌, ◌∙◌, ◌+◌, ◌++◌, List, ap, arith, count_by, length, nat_lt, subst, sym}
-use Rattle.std.proofs.lemmas.List.Sums.{count_by-le-length}
-use Rattle.covmap.specs.MapData.{MapData}
-use Rattle.covmap.specs.Puts.{ArePairs}
-use Rattle.covstore.specs.declared.sums.TestCounts.{TestCounts}
+use Rattle.covstore.proofs.Words.{◌≡◌, ◌∙◌, ◌+◌, ◌++◌, List, ap, arith, count_by, length, nat_lt, subst, sym, count_by-le-length, MapData, ArePairs, TestCounts, IsTallyOf, change_of, is_hit_by_some, test_counts_with}
 use Rattle.covstore.specs.declared.sums.TestsAddend.{TestsAddend}
-use Rattle.covstore.specs.PointIndex.{IsTallyOf}
-use Rattle.covstore.specs.PointIndexCounts.{change_of, is_hit_by_some, test_counts_with}
 use Rattle.covstore.proofs.StepsTally.{length_reports, tally_run, reports_of_counts}
 use Rattle.covstore.proofs.point_index.PointIndex.add_run.Goals as goal
 

@@ -1,10 +1,5 @@
-use Rattle.std.proofs.Common.{◌≡◌, ◌∙◌, List, Some, ap, refl, subst, sym}
-use Rattle.covstore.specs.declared.sums.TestCounts.{TestCounts}
+use Rattle.covstore.proofs.Words.{◌≡◌, ◌∙◌, List, Some, ap, refl, subst, sym, TestCounts, IsTallyOf, counts_without, fewer_of, MapData, value_of}
 use Rattle.covmap.specs.Assigned.{assigned}
-use Rattle.covstore.specs.PointIndex.{IsTallyOf}
-use Rattle.covstore.specs.PointIndexDrops.{counts_without, fewer_of}
-use Rattle.covmap.specs.MapData.{MapData}
-use Rattle.covmap.specs.Puts.{value_of}
 use Rattle.covstore.proofs.FewerTally.{can_be_less_at, tally_less_at}
 use Rattle.covstore.proofs.point_index.PointIndex.take_test_off.Goals as goal
 

@@ -1,7 +1,4 @@
-use Rattle.std.proofs.Common.{◌≡◌, ◌∙◌, Some, ap, sym}
-use Rattle.covstore.specs.declared.sums.TestCounts.{TestCounts}
-use Rattle.covmap.specs.MapData.{MapData}
-use Rattle.covmap.specs.Puts.{value_of}
+use Rattle.covstore.proofs.Words.{◌≡◌, ◌∙◌, Some, ap, sym, TestCounts, MapData, value_of}
 use Rattle.covstore.proofs.FewerTally.{can_be_less_at, tally_less_at}
 use Rattle.covstore.proofs.point_index.PointIndex.walk_without.Goals as goal
 

@@ -1,7 +1,4 @@
-use Rattle.std.proofs.Common.{List, ap, sym, subst, ◌∙◌}
-use Rattle.covmap.specs.MapData.{MapData}
-use Rattle.covstore.specs.declared.sums.TestCounts.{TestCounts}
-use Rattle.covstore.specs.PointIndex.{IsTallyOf}
+use Rattle.covstore.proofs.Words.{List, ap, sym, subst, ◌∙◌, MapData, TestCounts, IsTallyOf}
 use Rattle.covstore.specs.SoleTest.{counts_of}
 use Rattle.covstore.proofs.sole_test.SoleTest.counted.Goals as goal
 

@@ -1,6 +1,4 @@
-use Rattle.std.proofs.Common.{◌≡◌, take}
-use Rattle.covstore.specs.Order.{at_spots}
-use Rattle.covstore.specs.Runs.{runs_of}
+use Rattle.covstore.proofs.Words.{◌≡◌, take, at_spots, runs_of}
 use Rattle.covstore.specs.RunsView.{runs_seen}
 use Rattle.covstore.proofs.stage.by_line.runs_at.Given as goal
 

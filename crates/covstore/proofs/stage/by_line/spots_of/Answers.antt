@@ -1,7 +1,6 @@
-use Rattle.std.proofs.Common.{◌<◌, ap, arith, length, sym, ◌∙◌}
+use Rattle.covstore.proofs.Words.{◌<◌, ap, arith, length, sym, ◌∙◌, at_spots}
 use Rattle.std.specs.Prelude.{option_map}
 use Rattle.covpacked.specs.ItemRefs.{item_ref_data}
-use Rattle.covstore.specs.Order.{at_spots}
 use Rattle.covstore.proofs.AddsOrder.{got_within, spot_got}
 use Rattle.covstore.proofs.stage.by_line.spots_of.Goals as goal
 use Rattle.covstore.proofs.stage.by_line.spots_of.Goals.{in-Some+in_ok-push, in_default}

@@ -1,5 +1,4 @@
-use Rattle.std.proofs.Common.{◌≡◌, take}
-use Rattle.covstore.specs.Order.{at_spots}
+use Rattle.covstore.proofs.Words.{◌≡◌, take, at_spots}
 use Rattle.covstore.proofs.stage.by_line.spots_of.Given as goal
 
 abbrev pub invariant-loop-index : goal.invariant-loop-index

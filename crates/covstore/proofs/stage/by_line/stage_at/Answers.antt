@@ -1,6 +1,5 @@
-use Rattle.std.proofs.Common.{refl, ap, ◌∙◌}
+use Rattle.covstore.proofs.Words.{refl, ap, ◌∙◌, at_spots}
 use Rattle.std.specs.Slice.Iter.{chunks_rest}
-use Rattle.covstore.specs.Order.{at_spots}
 use Rattle.covstore.proofs.AddsOrder.{spots_joined, spots_plain}
 use Rattle.covstore.specs.RunsView.{runs_seen}
 use Rattle.covstore.proofs.RunsAdds.{next_runs_have_room, next_taken, none_to, taken_to_end}

@@ -1,9 +1,5 @@
-use Rattle.std.proofs.Common.{List, sym, subst}
-use Rattle.covstore.specs.FileIndexView.{index_staged}
-use Rattle.covstore.specs.Section.{Adds, HasRoomFor}
-use Rattle.covstore.specs.TestView.{test_staged}
+use Rattle.covstore.proofs.Words.{List, sym, subst, index_staged, Adds, HasRoomFor, test_staged, at_spots}
 use Rattle.covstore.specs.declared.stage.by_line.Spot.{Spot}
-use Rattle.covstore.specs.Order.{at_spots}
 use Rattle.covstore.proofs.AddsOrder.{spots_add, spots_have_room}
 use Rattle.covstore.proofs.stage.by_line.stage_in_order.Goals as goal
 

@@ -1,6 +1,4 @@
-use Rattle.std.proofs.Common.{◌∙◌, ap, length, refl}
-use Rattle.std.proofs.lemmas.List.{length-map}
-use Rattle.covstore.specs.Runs.{as_run}
+use Rattle.covstore.proofs.Words.{◌∙◌, ap, length, refl, length-map, as_run}
 use Rattle.covstore.proofs.RunsKept.{room_as_long}
 use Rattle.covstore.proofs.Summing.{put_item, summing_all, summing_first, summing_next, summing_room}
 use Rattle.covstore.proofs.stage.copied.add_points.Goals as goal

@@ -1,6 +1,5 @@
-use Rattle.std.proofs.Common.{◌≡◌, None}
+use Rattle.covstore.proofs.Words.{◌≡◌, None, as_run}
 use Rattle.std.specs.Prelude.{IfSome}
-use Rattle.covstore.specs.Runs.{as_run}
 use Rattle.covstore.proofs.Summing.{IsSumming}
 use Rattle.covstore.proofs.stage.copied.add_points.Given as goal
 

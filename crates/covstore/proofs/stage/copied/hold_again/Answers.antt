@@ -1,10 +1,4 @@
-use Rattle.std.proofs.Common.{Bool, ◌∙◌, ap, refl, sym}
-use Rattle.std.specs.Ordering.{nat_cmp}
-use Rattle.covmap.specs.Puts.{value_of}
-use Rattle.covstore.specs.Checksums.{held_more}
-use Rattle.covstore.specs.PointIndexCounts.{is_above_at}
-use Rattle.covstore.specs.Renaming.{held_if}
-use Rattle.covstore.specs.State.{has_checksum}
+use Rattle.covstore.proofs.Words.{Bool, ◌∙◌, ap, refl, sym, held_more, is_above_at, held_if, has_checksum, nat_cmp, value_of}
 use Rattle.covstore.proofs.HoldsAgain.{holding_all, holding_can, holding_first, holding_next}
 use Rattle.covstore.proofs.stage.copied.hold_again.Goals as goal
 

@@ -1,10 +1,4 @@
-use Rattle.std.proofs.Common.{refl}
-use Rattle.covstore.specs.FileIndexView.{index_staged}
-use Rattle.covstore.specs.Items.{KeepsCountsOfKind}
-use Rattle.covstore.specs.Kinds.{Branch, CountsOf, Function, Kind, Line, PointsOf, above_of, at, cmp_of}
-use Rattle.covstore.specs.Renaming.{merged}
-use Rattle.covstore.specs.Sums.{TestData}
-use Rattle.covstore.specs.TestView.{test_committed, test_staged}
+use Rattle.covstore.proofs.Words.{refl, index_staged, KeepsCountsOfKind, Branch, CountsOf, Function, Kind, Line, PointsOf, above_of, at, cmp_of, merged, TestData, test_committed, test_staged}
 use Rattle.covstore.proofs.AddsPoints.{points_added, points_room}
 use Rattle.covstore.proofs.EachKind.{each_kind, same_test}
 use Rattle.covstore.proofs.stage.copied.stage_points.Goals as goal

@@ -1,11 +1,7 @@
-use Rattle.std.proofs.Common.{Option, List, ◌+◌, ◌≤◌, ap, length, subst, sym, ◌∙◌}
-use Rattle.covmap.specs.Puts.{put, value_of}
-use Rattle.covstore.specs.PointIndex.{changed}
-use Rattle.covstore.specs.PointIndexCounts.{counts_with}
+use Rattle.covstore.proofs.Words.{Option, List, ◌+◌, ◌≤◌, ap, length, subst, sym, ◌∙◌, put, value_of, changed, counts_with, TestCounts}
 use Rattle.covstore.proofs.StepsCounts.{changed_is}
 use Rattle.covstore.proofs.StepsKept.{put_keeps, room_at}
 use Rattle.covstore.proofs.StepsRun.{length_changed}
-use Rattle.covstore.specs.declared.sums.TestCounts.{TestCounts}
 use Rattle.covstore.proofs.stage.counted.stage_counted_addend.Goals as goal
 
 pub add-requires-clause-room : goal.add-requires-clause-room

@@ -1,10 +1,7 @@
-use Rattle.std.proofs.Common.{◌≡◌, ◌∙◌, ◌++◌, List, ap, arith, length, subst, sym}
-use Rattle.covmap.specs.Run.{FitRun, summed, reports_run}
+use Rattle.covstore.proofs.Words.{◌≡◌, ◌∙◌, ◌++◌, List, ap, arith, length, subst, sym, FitRun, summed, reports_run, KeepsCountsOfKind, tests_fit, test_counts_with}
 use Rattle.covmap.proofs.Run.{fit_always}
 use Rattle.covmap.proofs.SlotWrites.{on_ok_more}
 use Rattle.covstore.specs.declared.sums.TestsAddend.{TestsAddend}
-use Rattle.covstore.specs.Items.{KeepsCountsOfKind}
-use Rattle.covstore.specs.PointIndexCounts.{tests_fit, test_counts_with}
 use Rattle.covstore.proofs.StepsRun.{run_fits, run_keeps}
 use Rattle.covstore.proofs.StepsTally.{length_reports}
 use Rattle.covstore.proofs.stage.counted.stage_counted_run.Goals as goal

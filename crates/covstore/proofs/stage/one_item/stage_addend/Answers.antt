@@ -1,8 +1,4 @@
-use Rattle.std.proofs.Common.{◌+◌, ◌≤◌, ◌∙◌, List, ap, length, subst}
-use Rattle.std.proofs.lemmas.Result.{on_ok_weaker}
-use Rattle.covmap.specs.MapData.{MapData}
-use Rattle.covstore.specs.declared.sums.TestCounts.{TestCounts}
-use Rattle.covstore.specs.Items.{KeepsCountsOfKind}
+use Rattle.covstore.proofs.Words.{◌+◌, ◌≤◌, ◌∙◌, List, ap, length, subst, on_ok_weaker, MapData, TestCounts, KeepsCountsOfKind}
 use Rattle.covstore.proofs.KindSteps.{counted_staged, sole_few, sole_keeps}
 use Rattle.covstore.proofs.stage.one_item.stage_addend.Goals as goal
 use Rattle.covstore.proofs.stage.one_item.stage_addend.Goals.{in-OfOneTest, in-OfTests}

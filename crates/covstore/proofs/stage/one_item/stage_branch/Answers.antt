@@ -1,7 +1,4 @@
-use Rattle.std.proofs.Common.{refl}
-use Rattle.covstore.specs.FileIndexView.{index_staged}
-use Rattle.covstore.specs.Kinds.{Branch}
-use Rattle.covstore.specs.TestView.{test_staged}
+use Rattle.covstore.proofs.Words.{refl, index_staged, Branch, test_staged}
 use Rattle.covstore.proofs.EachKind.{room_in}
 use Rattle.covstore.proofs.StepsKept.{keeps_point}
 use Rattle.covstore.proofs.stage.one_item.stage_branch.Goals as goal

@@ -1,15 +1,6 @@
-use Rattle.std.proofs.Common.{Bool, sym, ap, ◌∙◌}
+use Rattle.covstore.proofs.Words.{Bool, sym, ap, ◌∙◌, nat_cmp, value_of, held_more, is_above_at, has_checksum, line_with, test_staged, index_staged, Line}
 use Rattle.std.specs.Option.{is_some}
-use Rattle.std.specs.Ordering.{nat_cmp}
-use Rattle.covmap.specs.Puts.{value_of}
 use Rattle.covstore.specs.declared.index.FileIndex.{FileIndex}
-use Rattle.covstore.specs.Checksums.{held_more}
-use Rattle.covstore.specs.PointIndexCounts.{is_above_at}
-use Rattle.covstore.specs.State.{has_checksum}
-use Rattle.covstore.specs.Sums.{line_with}
-use Rattle.covstore.specs.TestView.{test_staged}
-use Rattle.covstore.specs.FileIndexView.{index_staged}
-use Rattle.covstore.specs.Kinds.{Line}
 use Rattle.covstore.proofs.EachKind.{room_in}
 use Rattle.covstore.proofs.StepsItems.{held_by_test, holders_few}
 use Rattle.covstore.proofs.StepsKept.{keeps_line_bare, keeps_line_checked}

@@ -1,6 +1,5 @@
-use Rattle.covstore.specs.FileIndexView.{index_staged}
+use Rattle.covstore.proofs.Words.{index_staged, test_staged}
 use Rattle.covstore.specs.RunsView.{runs_seen}
-use Rattle.covstore.specs.TestView.{test_staged}
 use Rattle.covstore.proofs.AddsRoom.{has_room}
 use Rattle.covstore.proofs.StepsMore.{held_both}
 use Rattle.covstore.proofs.HeldChecksumsAdds.{held_add_in, room_of_held_in}

@@ -1,9 +1,5 @@
-use Rattle.std.proofs.Common.{[], ◌∷◌, List, ap, length, refl, ◌∙◌}
-use Rattle.std.proofs.lemmas.Result.{err_from_is_err_and}
-use Rattle.covdata.specs.Row.{ItemData}
+use Rattle.covstore.proofs.Words.{[], ◌∷◌, List, ap, length, refl, ◌∙◌, err_from_is_err_and, ItemData, index_staged, test_staged}
 use Rattle.covpacked.specs.ItemRefs.{item_ref_data}
-use Rattle.covstore.specs.FileIndexView.{index_staged}
-use Rattle.covstore.specs.TestView.{test_staged}
 use Rattle.covstore.proofs.AddsItem.{item_adds}
 use Rattle.covstore.proofs.AddsMore.{one_clashes}
 use Rattle.covstore.proofs.AddsRoom.{has_room}

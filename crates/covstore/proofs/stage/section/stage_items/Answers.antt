@@ -1,6 +1,5 @@
-use Rattle.std.proofs.Common.{refl}
+use Rattle.covstore.proofs.Words.{refl, err_from_is_err_and}
 use Rattle.covstore.proofs.Parted.{none_left, parted}
-use Rattle.std.proofs.lemmas.Result.{err_from_is_err_and}
 use Rattle.covstore.proofs.RunsAdds.{next_added, next_clash, next_have_room, none_to, taken_to_end}
 use Rattle.covstore.proofs.StepsMore.{held_both}
 use Rattle.covstore.proofs.FollowsSteps.{follows_both}

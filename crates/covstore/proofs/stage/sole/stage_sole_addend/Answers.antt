@@ -1,7 +1,4 @@
-use Rattle.std.proofs.Common.{◌≡◌, Option, List, ap, sym, subst, ◌∙◌}
-use Rattle.covmap.specs.Puts.{value_of}
-use Rattle.covstore.specs.Items.{KeepsCountsOfKind}
-use Rattle.covstore.specs.PointIndexCounts.{change_of}
+use Rattle.covstore.proofs.Words.{◌≡◌, Option, List, ap, sym, subst, ◌∙◌, value_of, KeepsCountsOfKind, change_of}
 use Rattle.covstore.specs.SoleTest.{counts_of}
 use Rattle.covstore.proofs.SoleSteps.{few_put, found_by_put, hit_by_put, put_alone}
 use Rattle.covstore.proofs.stage.sole.stage_sole_addend.Goals as goal

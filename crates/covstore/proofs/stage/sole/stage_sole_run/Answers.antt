@@ -1,10 +1,7 @@
-use Rattle.std.proofs.Common.{◌≡◌, ◌++◌, List, ap, arith, length, sym, subst, ◌∙◌}
+use Rattle.covstore.proofs.Words.{◌≡◌, ◌++◌, List, ap, arith, length, sym, subst, ◌∙◌, reports_run, KeepsCountsOfKind, MapData}
 use Rattle.covmap.proofs.Run.{fit_always}
-use Rattle.covmap.specs.Run.{reports_run}
 use Rattle.covstore.specs.declared.sums.TestsAddend.{TestsAddend}
-use Rattle.covstore.specs.Items.{KeepsCountsOfKind}
 use Rattle.covstore.specs.SoleTest.{counts_of}
-use Rattle.covmap.specs.MapData.{MapData}
 use Rattle.covstore.proofs.SoleCounts.{points_ascend}
 use Rattle.covstore.proofs.SoleSteps.{found_by_run, hit_by_run, run_alone}
 use Rattle.covstore.proofs.StepsTally.{length_reports}

@@ -1,9 +1,5 @@
-use Rattle.std.proofs.Common.{◌≢◌, List, [], ◌∷◌, ◌++◌, sym, ap, subst, ◌∙◌, append-nil, append_assoc}
-use Rattle.std.specs.List.{flat_map}
-use Rattle.std.proofs.lemmas.Result.{err_from_is_err_and}
-use Rattle.covdata.specs.Row.{SectData, rows_of_sect}
+use Rattle.covstore.proofs.Words.{◌≢◌, List, [], ◌∷◌, ◌++◌, sym, ap, subst, ◌∙◌, append-nil, append_assoc, flat_map, err_from_is_err_and, SectData, rows_of_sect, AddsRows, ClashesWith}
 use Rattle.covpacked.specs.PackedSects.{packed_sect_data}
-use Rattle.covstore.specs.Store.{AddsRows, ClashesWith}
 use Rattle.covtable.specs.RefuseView.{refuse_data}
 use Rattle.covstore.proofs.AddsSome.{some_of_them}
 use Rattle.covstore.proofs.AddsStore.{HasTakenSects, held_by_both, next_room, no_sects, one_sect, sect_clashes}

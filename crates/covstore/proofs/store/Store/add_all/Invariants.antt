@@ -1,5 +1,4 @@
-use Rattle.std.proofs.Common.{◌≡◌, ◌++◌, List}
-use Rattle.covdata.specs.Row.{SectData}
+use Rattle.covstore.proofs.Words.{◌≡◌, ◌++◌, List, SectData}
 use Rattle.covstore.proofs.AddsStore.{HasTakenSects}
 use Rattle.covstore.proofs.store.Store.add_all.Given as goal
 

@@ -1,7 +1,4 @@
-use Rattle.std.proofs.Common.{sym, ap, ◌∙◌, subst}
-use Rattle.covstore.specs.StoreView.{files_committed}
-use Rattle.covstore.specs.Store.{StoreData}
-use Rattle.covtable.specs.Totals.{AreTotals}
+use Rattle.covstore.proofs.Words.{sym, ap, ◌∙◌, subst, files_committed, StoreData, AreTotals}
 use Rattle.covstore.proofs.Settled.{file_name}
 use Rattle.covstore.proofs.WithoutStores.{sections_with, some_left, totals_bounds, totals_left}
 use Rattle.covstore.proofs.store.Store.after_drop.Goals as goal

@@ -1,8 +1,5 @@
-use Rattle.std.proofs.Common.{[], ◌∷◌, ◌++◌, refl, sym, subst, List, ◌+◌}
+use Rattle.covstore.proofs.Words.{[], ◌∷◌, ◌++◌, refl, sym, subst, List, ◌+◌, rows_of, AreSettledBut, files_staged, files_committed, touched_data, IsPlanOf, StandsFor, StoreData}
 use Rattle.covstore.specs.declared.store.Touched.{Touched}
-use Rattle.covdata.specs.Row.{rows_of}
-use Rattle.covstore.specs.StoreView.{AreSettledBut, files_staged, files_committed, touched_data}
-use Rattle.covstore.specs.Store.{IsPlanOf, StandsFor, StoreData}
 use Rattle.covstore.proofs.Settled.{file_name}
 use Rattle.covstore.proofs.Stores.{same_members, stands_more, stands_same, store_more}
 use Rattle.covstore.proofs.store.Store.commit.Goals as goal

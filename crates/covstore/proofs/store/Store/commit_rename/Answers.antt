@@ -1,12 +1,5 @@
-use Rattle.std.proofs.Common.{◌≡◌, ℕ, Option, Some, List, sym, subst}
+use Rattle.covstore.proofs.Words.{◌≡◌, ℕ, Option, Some, List, sym, subst, AreWithoutTest, AreSettledBut, files_staged, files_committed, touched_data, IsMoving, IsMovingIfAny, FileData, IsConsistentFile, StandsFor, StoreData, all_rows, AllByRecursion}
 use Rattle.covstore.specs.declared.store.Touched.{Touched}
-use Rattle.covstore.specs.FileDrops.{AreWithoutTest}
-use Rattle.covstore.specs.StoreView.{AreSettledBut, files_staged, files_committed, touched_data}
-use Rattle.covstore.specs.Renaming.{IsMoving, IsMovingIfAny}
-use Rattle.covstore.specs.State.{FileData, IsConsistentFile}
-use Rattle.covstore.specs.Store.{StandsFor, StoreData}
-use Rattle.covtable.specs.Table.{all_rows}
-use Rattle.std.specs.List.{AllByRecursion}
 use Rattle.covstore.proofs.RenamedTablesState.{stands_moved, store_moved}
 use Rattle.covstore.proofs.Settled.{file_name}
 use Rattle.covstore.proofs.Stores.{store_of}

@@ -1,6 +1,4 @@
-use Rattle.std.proofs.Common.{◌+◌, ℕ, List, drop, map, take, sym, ap, subst}
-use Rattle.std.proofs.lemmas.List.{drop_all}
-use Rattle.covstore.specs.Renaming.{Copies, HasRoomToCopy}
+use Rattle.covstore.proofs.Words.{◌+◌, ℕ, List, drop, map, take, sym, ap, subst, drop_all, Copies, HasRoomToCopy}
 use Rattle.covstore.proofs.AddsStore.{held_by_both}
 use Rattle.covstore.proofs.RenamedTablesLoop.{HasCopied, copy_room, left_at, moving_ready, none_copied, one_file_copied, taken_at}
 use Rattle.covstore.proofs.Settled.{file_name}

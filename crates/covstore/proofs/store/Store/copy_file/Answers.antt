@@ -1,8 +1,4 @@
-use Rattle.std.proofs.Common.{ℕ, List, [], ◌∷◌, ◌++◌, sym, ap, ◌∙◌, subst, Some}
-use Rattle.std.specs.Prelude.{OnOk}
-use Rattle.std.proofs.lemmas.Result.{on_ok_weaker}
-use Rattle.covstore.specs.Renaming.{Copies, HasRoomToCopy}
-use Rattle.covstore.specs.StoreView.{files_staged, touched_data}
+use Rattle.covstore.proofs.Words.{ℕ, List, [], ◌∷◌, ◌++◌, sym, ap, ◌∙◌, subst, Some, OnOk, on_ok_weaker, Copies, HasRoomToCopy, files_staged, touched_data}
 use Rattle.covstore.proofs.RenamedStore.{copied_committed, copied_room, copied_same, copied_store, copied_to, unfound}
 use Rattle.covstore.proofs.Settled.{file_name, last_there}
 use Rattle.covstore.proofs.store.Store.copy_file.Goals as goal

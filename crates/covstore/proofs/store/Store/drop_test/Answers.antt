@@ -1,6 +1,4 @@
-use Rattle.std.proofs.Common.{sym, ap, ◌∙◌, subst}
-use Rattle.covstore.specs.StoreView.{files_staged, files_committed, touched_data}
-use Rattle.covstore.specs.Store.{StandsFor, StoreData}
+use Rattle.covstore.proofs.Words.{sym, ap, ◌∙◌, subst, files_staged, files_committed, touched_data, StandsFor, StoreData}
 use Rattle.covstore.proofs.Settled.{file_name}
 use Rattle.covstore.proofs.WithoutState.{store_without}
 use Rattle.covstore.proofs.WithoutStores.{sections_with, stands_left, stands_too, totals_fit, whole_files}

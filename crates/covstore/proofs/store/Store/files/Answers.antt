@@ -1,9 +1,6 @@
-use Rattle.std.proofs.Common.{Vec, ℕ, List, sym, ap, ◌∙◌}
-use Rattle.covstore.specs.declared.file.File.{File}
+use Rattle.covstore.proofs.Words.{Vec, ℕ, List, sym, ap, ◌∙◌, File, StoreData, files_committed}
 use Rattle.covtable.specs.Files.{files_with_totals}
 use Rattle.covstore.specs.FilesView.{files_with_points}
-use Rattle.covstore.specs.Store.{StoreData}
-use Rattle.covstore.specs.StoreView.{files_committed}
 use Rattle.covstore.proofs.FilesTotals.{files_of_store}
 use Rattle.covstore.proofs.Settled.{file_name}
 use Rattle.covstore.proofs.store.Store.files.Goals as goal

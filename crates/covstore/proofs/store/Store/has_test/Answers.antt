@@ -1,15 +1,6 @@
-use Rattle.std.proofs.Common.{rules, tests, refl, sym, ap, ◌∙◌}
-use Rattle.std.specs.Str.{bytes_eq}
-use Rattle.std.specs.List.{list_any}
+use Rattle.covstore.proofs.Words.{rules, tests, refl, sym, ap, ◌∙◌, bytes_eq, list_any, File, SectionData, file_committed, StoreData, files_committed, has_points_of, all_rows}
 use Rattle.std.proofs.lemmas.Iterator.Consumers.{YieldsList-from_rest}
 use Rattle.std.proofs.lemmas.Iterator.Search.{any_from_yields_List}
-use Rattle.covstore.specs.declared.file.File.{File}
-use Rattle.covtable.specs.Content.{SectionData}
-use Rattle.covstore.specs.FileView.{file_committed}
-use Rattle.covstore.specs.Store.{StoreData}
-use Rattle.covstore.specs.StoreView.{files_committed}
-use Rattle.covstore.specs.State.{has_points_of}
-use Rattle.covtable.specs.Table.{all_rows}
 use Rattle.covtable.proofs.Contents.{test_by_content}
 use Rattle.covstore.proofs.HasTest.{any_in_files, any_named}
 use Rattle.covstore.proofs.Settled.{file_name}

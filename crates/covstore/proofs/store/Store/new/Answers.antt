@@ -1,8 +1,4 @@
-use Rattle.std.proofs.Common.{ℕ, List, sym, subst, Vec}
-use Rattle.covstore.specs.declared.file.File.{File}
-use Rattle.covtable.specs.declared.totals.Totals.{Totals}
-use Rattle.covstore.specs.StoreView.{AreSettledBut, IsStore, files_committed, touched_data}
-use Rattle.covtable.specs.TotalsExchanged.{no_totals}
+use Rattle.covstore.proofs.Words.{ℕ, List, sym, subst, Vec, File, Totals, AreSettledBut, IsStore, files_committed, touched_data, no_totals}
 use Rattle.covstore.proofs.Settled.{file_name}
 use Rattle.covstore.proofs.Stores.{no_store}
 use Rattle.covstore.proofs.store.Store.new.Goals as goal

@@ -1,12 +1,5 @@
-use Rattle.std.proofs.Common.{◌≡◌, List, [], ◌∷◌, ◌++◌, ap, sym, subst, ◌∙◌}
+use Rattle.covstore.proofs.Words.{◌≡◌, List, [], ◌∷◌, ◌++◌, ap, sym, subst, ◌∙◌, flat_map, Row, SectData, SubmissionData, rows_of, rows_of_sect, clash_of, AddsTo, all_rows, content_at, totals_of}
 use Rattle.std.specs.Prelude.{None}
-use Rattle.std.specs.List.{flat_map}
-use Rattle.covdata.specs.Row.{Row, SectData, SubmissionData, rows_of, rows_of_sect}
-use Rattle.covtable.specs.Clash.{clash_of}
-use Rattle.covstore.specs.Store.{AddsTo}
-use Rattle.covtable.specs.Table.{all_rows}
-use Rattle.covtable.specs.Content.{content_at}
-use Rattle.covtable.specs.Totals.{totals_of}
 use Rattle.covmap.proofs.SlotWrites.{on_err}
 use Rattle.covstore.proofs.Nothing.{if_ok_then, no_rows, some_rows_of}
 use Rattle.covstore.proofs.store.Store.prepare.Goals as goal

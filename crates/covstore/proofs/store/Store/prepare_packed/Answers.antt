@@ -1,9 +1,5 @@
-use Rattle.std.proofs.Common.{◌≢◌, List, [], sym, ◌∙◌, subst}
-use Rattle.std.specs.List.{flat_map}
-use Rattle.covdata.specs.Row.{SectData, rows_of_sect}
-use Rattle.covstore.specs.Store.{AddsRows, ClashesWith, HasRoomForRows}
+use Rattle.covstore.proofs.Words.{◌≢◌, List, [], sym, ◌∙◌, subst, flat_map, SectData, rows_of_sect, AddsRows, ClashesWith, HasRoomForRows, AreTotals}
 use Rattle.covtable.specs.RefuseView.{refuse_data}
-use Rattle.covtable.specs.Totals.{AreTotals}
 use Rattle.covstore.proofs.Prepares.{is_planned, later_bounds, planned_agrees, planned_totals, refused_too, room_for_submission}
 use Rattle.covstore.proofs.store.Store.prepare_packed.Goals as goal
 

@@ -1,14 +1,7 @@
-use Rattle.std.proofs.Common.{◌≡◌, ◌≢◌, ℕ, List, sym, ap, ◌∙◌, subst}
+use Rattle.covstore.proofs.Words.{◌≡◌, ◌≢◌, ℕ, List, sym, ap, ◌∙◌, subst, eqb-true, false≢true, nil_from_length, bytes_eq-Decides, IsMovingIfAny, names_with, StandsFor, StoreData, files_committed, Table}
 use Rattle.std.specs.Prelude.{◌==◌}
-use Rattle.std.proofs.lemmas.Bool.{eqb-true, false≢true}
-use Rattle.std.proofs.lemmas.List.{nil_from_length}
-use Rattle.std.proofs.lemmas.Slice.Eq.{bytes_eq-Decides}
 use Rattle.covmap.proofs.SlotWrites.{on_err}
 use Rattle.covtable.specs.Renamed.{renamed}
-use Rattle.covstore.specs.Renaming.{IsMovingIfAny, names_with}
-use Rattle.covstore.specs.Store.{StandsFor, StoreData}
-use Rattle.covstore.specs.StoreView.{files_committed}
-use Rattle.covtable.specs.Table.{Table}
 use Rattle.covtable.specs.Without.{sections_of_test}
 use Rattle.covtable.proofs.RenamedTables.{renamed_none_counted, renamed_same}
 use Rattle.covstore.proofs.Settled.{file_name}

@@ -1,8 +1,5 @@
-use Rattle.std.proofs.Common.{◌≡◌, ℕ, length, refl, sym, ap, ◌∙◌, subst, Vec, BTreeMap, Some}
-use Rattle.covstore.specs.declared.file.File.{File}
+use Rattle.covstore.proofs.Words.{◌≡◌, ℕ, length, refl, sym, ap, ◌∙◌, subst, Vec, BTreeMap, Some, File, file_committed, StoreData}
 use Rattle.covstore.specs.declared.store.Store.TheInside.{Inside}
-use Rattle.covstore.specs.FileView.{file_committed}
-use Rattle.covstore.specs.Store.{StoreData}
 use Rattle.covstore.proofs.Settled.{IsSettling, all_settled, none_left, popped_as, settling_found, settling_unfound}
 use Rattle.covstore.proofs.store.Store.rollback.Goals as goal
 use Rattle.covstore.proofs.store.Store.rollback.Goals.{in-Some-get_mut, in_default-get_mut}

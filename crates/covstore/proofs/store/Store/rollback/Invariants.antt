@@ -1,5 +1,4 @@
-use Rattle.std.proofs.Common.{◌≡◌, length}
-use Rattle.covstore.specs.FileView.{file_committed}
+use Rattle.covstore.proofs.Words.{◌≡◌, length, file_committed}
 use Rattle.covstore.proofs.Settled.{IsSettling}
 use Rattle.covstore.proofs.store.Store.rollback.Given as goal
 

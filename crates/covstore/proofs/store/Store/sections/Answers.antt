@@ -1,8 +1,5 @@
-use Rattle.std.proofs.Common.{Vec, ℕ, sym, subst}
-use Rattle.std.specs.List.{AllByRecursion}
-use Rattle.covstore.specs.StoreView.{files_committed}
+use Rattle.covstore.proofs.Words.{Vec, ℕ, sym, subst, AllByRecursion, files_committed, sections_of}
 use Rattle.covstore.specs.ContentView.{IsFewOf}
-use Rattle.covstore.specs.State.{sections_of}
 use Rattle.covstore.proofs.SeenStore.{few_of_store}
 use Rattle.covstore.proofs.store.Store.sections.Goals as goal
 

@@ -1,10 +1,6 @@
-use Rattle.std.proofs.Common.{ℕ, List, [], ◌∷◌, ◌++◌, sym, ap, ◌∙◌, subst}
-use Rattle.std.proofs.lemmas.Result.{err_from_is_err_and}
-use Rattle.covstore.specs.Store.{AddsTo, ClashesAmong, SameCommitted, StoreData}
+use Rattle.covstore.proofs.Words.{ℕ, List, [], ◌∷◌, ◌++◌, sym, ap, ◌∙◌, subst, err_from_is_err_and, AddsTo, ClashesAmong, SameCommitted, StoreData, AreSettledBut, files_committed, files_staged, touched_data, FileData, totals_in}
 use Rattle.covstore.specs.StoreSection.{HasRoomAmong, rows_of_items}
-use Rattle.covstore.specs.StoreView.{AreSettledBut, files_committed, files_staged, touched_data}
 use Rattle.covtable.specs.RefuseView.{refuse_data}
-use Rattle.covstore.specs.State.{FileData, totals_in}
 use Rattle.covstore.proofs.AddsReady.{exchange_in, held_kept, room_among}
 use Rattle.covstore.proofs.AddsStore.{same_committed}
 use Rattle.covstore.proofs.Settled.{file_name, last_there}

@@ -1,7 +1,4 @@
-use Rattle.std.proofs.Common.{ap, ◌∙◌}
-use Rattle.covstore.specs.Store.{StoreData}
-use Rattle.covstore.specs.StoreView.{files_committed}
-use Rattle.covtable.specs.Totals.{totals_of}
+use Rattle.covstore.proofs.Words.{ap, ◌∙◌, StoreData, files_committed, totals_of}
 use Rattle.covstore.proofs.Settled.{file_name}
 use Rattle.covstore.proofs.Stores.{store_bounds, store_totals}
 use Rattle.covstore.proofs.store.Store.totals.Goals as goal

@@ -1,5 +1,4 @@
-use Rattle.std.proofs.Common.{sym, ◌∙◌}
-use Rattle.std.proofs.lemmas.Bool.{false≢true}
+use Rattle.covstore.proofs.Words.{sym, ◌∙◌, false≢true}
 use Rattle.covstore.proofs.HasTest.{no_points}
 use Rattle.covstore.proofs.test.Test.is_empty.Goals as goal
 use Rattle.covstore.proofs.test.Test.is_empty.Goals.{then-is_empty, else-is_empty}

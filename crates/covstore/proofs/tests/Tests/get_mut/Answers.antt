@@ -1,6 +1,4 @@
-use Rattle.std.proofs.Common.{◌≡◌, ℕ, Vec, [], refl, sym, ap, ◌∙◌}
-use Rattle.std.specs.Cmp.Lexicographic.{slice_cmp}
-use Rattle.std.specs.Ordering.{nat_cmp}
+use Rattle.covstore.proofs.Words.{◌≡◌, ℕ, Vec, [], refl, sym, ap, ◌∙◌, slice_cmp, nat_cmp}
 use Rattle.covstore.specs.FileParts.{FileTests}
 use Rattle.covstore.specs.TestsHeld.{tests_held}
 use Rattle.covstore.proofs.OneTest.{none_sorted}

@@ -1,8 +1,4 @@
-use Rattle.std.proofs.Common.{refl, subst}
-use Rattle.covstore.specs.declared.file.File.{File}
-use Rattle.covstore.specs.FileDrops.{IsWithoutTest}
-use Rattle.covstore.specs.FileView.{file_committed}
-use Rattle.covstore.specs.StoreView.{IsSettledBut}
+use Rattle.covstore.proofs.Words.{refl, subst, File, IsWithoutTest, file_committed, IsSettledBut}
 use Rattle.covstore.proofs.all_files.fn.drop_from_files.retain.Goals as goal
 
 pub returns : goal.returns
