@@ -1,10 +1,8 @@
 -- Lists that are cut where the first element doesn't pass, and branches by line.
-use Rattle.std.proofs.Common.{◌≡◌, ℕ, suc, ◌+◌, ◌-◌, ◌≤◌, ◌<◌, Bool, true, false, ◌==◌, nat_lt, Some, List, [], ◌∷◌, ◌++◌, length, map, take, drop, refl, sym, ap, ◌∙◌, append_assoc, arith, inl, inr}
+use Rattle.std.proofs.Common.{◌≡◌, ℕ, ◌-◌, ◌≤◌, ◌<◌, Bool, true, false, ◌==◌, Some, List, [], ◌∷◌, ◌++◌, length, map, take, refl, sym, ap, ◌∙◌, append_assoc, arith, inl, inr}
 use Rattle.std.proofs.lemmas.Bool.{cases_Bool, eq-eqb, eqb-false, eqb-true, ne_eqb}
 use Rattle.std.proofs.lemmas.List.{append-nil, length-append, length-map, map-append, take-map, take_at}
 use Rattle.covtable.specs.Content.{BranchValueData, LineValueData}
-use Rattle.covtable.specs.ValuesView.{branch_data}
-use Rattle.covtable.specs.declared.values.BranchValue.{BranchValue}
 use Rattle.covhtml.specs.Rows.{RowData}
 use Rattle.covhtml.specs.SectionRows.{behind, branch_row, branch_rows, branches_after, branches_from, front, is_before, is_of, line_rows, onto_rows, section_rows}
 

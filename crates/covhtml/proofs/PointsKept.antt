@@ -1,12 +1,12 @@
 -- The rows of a section have all of its lines and branches, and no others.
-use Rattle.std.proofs.Common.{◌≡◌, ℕ, Bool, true, false, ◌==◌, Some, List, [], ◌∷◌, ◌++◌, map, refl, sym, ap, ◌∙◌, append_assoc, inl, inr}
-use Rattle.std.specs.List.{AllByRecursion, flat_map}
+use Rattle.std.proofs.Common.{◌≡◌, ℕ, Some, List, [], ◌∷◌, ◌++◌, map, refl, ap, ◌∙◌, append_assoc, inl, inr}
+use Rattle.std.specs.List.{AllByRecursion}
 use Rattle.std.proofs.lemmas.Bool.{cases_Bool, eqb-true}
 use Rattle.std.proofs.lemmas.List.{append-nil}
 use Rattle.std.proofs.lemmas.List.Concat.{flat_map-append}
 use Rattle.covtable.specs.Content.{BranchValueData, LineValueData}
 use Rattle.covhtml.specs.Rows.{RowData}
-use Rattle.covhtml.specs.SectionRows.{HasOwnBranches, branch_row, branch_rows, branches_after, branches_from, branches_in, behind, counted_line, counts_in, front, is_before, is_of, line_count, line_rows, onto_rows, section_rows}
+use Rattle.covhtml.specs.SectionRows.{HasOwnBranches, branch_rows, branches_after, branches_from, branches_in, counted_line, counts_in, front, is_before, is_of, line_count, line_rows, onto_rows, section_rows}
 use Rattle.covhtml.proofs.Fronts.{parts}
 
 -- the row of a line with its count

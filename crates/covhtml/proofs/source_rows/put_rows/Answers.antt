@@ -1,4 +1,4 @@
-use Rattle.std.proofs.Common.{◌≡◌, ℕ, List, ap, length, map, arith}
+use Rattle.std.proofs.Common.{ap, length, map, arith}
 use Rattle.covline.specs.Lines.{lines_of}
 use Rattle.covhtml.specs.RowView.{row_data}
 use Rattle.covhtml.proofs.LaterRows.{rows_put, source_row_put}
