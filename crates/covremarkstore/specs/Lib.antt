@@ -1,0 +1,10 @@
+pub mod Joined
+pub mod Values
+pub mod Tested
+pub mod Keys
+pub mod FileRemarks
+pub mod TestRemarks
+pub mod Store
+pub mod Growth
+pub mod Totals
+pub mod Laws
