@@ -2,7 +2,6 @@
 use Rattle.std.proofs.Common.{◌≡◌, ℕ, zero, suc, ◌<◌, ◌≤◌, max, Bool, true, false, ◌||◌, List, [], ◌∷◌, ◌++◌, length, get_or, set, refl, sym, ap, ◌∙◌, subst, inl, inr, arith}
 use Rattle.std.specs.Cmp.Lexicographic.{slice_cmp}
 use Rattle.std.specs.List.{list_any, swap}
-use Rattle.std.specs.List.Sorted.{IsPermutation}
 use Rattle.std.specs.Ordering.{nat_cmp}
 use Rattle.std.proofs.lemmas.Bool.{cases_eq, cases_lt}
 use Rattle.std.proofs.lemmas.List.{append_assoc}
@@ -11,7 +10,7 @@ use Rattle.std.proofs.lemmas.List.Sorted.{IsPermutation-keeps}
 use Rattle.covremark.specs.Orders.{condition_cmp, worded_cmp}
 use Rattle.covremark.specs.Remark.{RemarkSectData, RemarksData, no_remarks}
 use Rattle.covremarkstore.specs.Laws.{OrderLaw}
-use Rattle.covremarkstore.specs.Store.{RemarkStoreData, StandsFor, is_counted}
+use Rattle.covremarkstore.specs.Store.{RemarkStoreData, StandsFor, is_counted, is_said}
 use Rattle.covremarkstore.specs.Values.{count_sum, has_sect_key, point_cmp, stronger, taken_sum}
 use Rattle.covremarkstore.proofs.Grows.{of_file}
 use Rattle.covremarkstore.proofs.Joining.{counts_join, ends_join, marks_join, taken_join}
@@ -26,19 +25,19 @@ or_turned false true false d = refl
 or_turned false false true d = refl
 or_turned false false false d = refl
 
-module _ (test : RemarkSectData → Bool) where
-  counted : List RemarkSectData → Bool
-  counted sects = list_any is_counted (picks test sects)
+module _ (test : RemarkSectData → Bool) (some : RemarksData → Bool) where
+  any_of : List RemarkSectData → Bool
+  any_of sects = list_any some (picks test sects)
 
-  four_counted : (front xs ys back : List RemarkSectData) → list_any is_counted (picks test (front ++ (xs ++ (ys ++ back)))) ≡ (counted front || (counted xs || (counted ys || counted back)))
-  unfolding counted
-  four_counted front xs ys back =
-      any-append test front (xs ++ (ys ++ back)) ∙ ap (λ (b : Bool). list_any is_counted (picks test front) || b) (any-append test xs (ys ++ back))
-      ∙ ap (λ (b : Bool). list_any is_counted (picks test front) || (list_any is_counted (picks test xs) || b)) (any-append test ys back)
+  any_of_four : (front xs ys back : List RemarkSectData) → list_any some (picks test (front ++ (xs ++ (ys ++ back)))) ≡ (any_of front || (any_of xs || (any_of ys || any_of back)))
+  unfolding any_of
+  any_of_four front xs ys back =
+      any-append test some front (xs ++ (ys ++ back)) ∙ ap (λ (b : Bool). list_any some (picks test front) || b) (any-append test some xs (ys ++ back))
+      ∙ ap (λ (b : Bool). list_any some (picks test front) || (list_any some (picks test xs) || b)) (any-append test some ys back)
 
-  any_exchanged : (front xs ys back : List RemarkSectData) → list_any is_counted (picks test (front ++ (xs ++ (ys ++ back)))) ≡ list_any is_counted (picks test (front ++ (ys ++ (xs ++ back))))
+  any_exchanged : (front xs ys back : List RemarkSectData) → list_any some (picks test (front ++ (xs ++ (ys ++ back)))) ≡ list_any some (picks test (front ++ (ys ++ (xs ++ back))))
   any_exchanged front xs ys back =
-      four_counted front xs ys back ∙ or_turned (counted front) (counted xs) (counted ys) (counted back) ∙ sym (four_counted front ys xs back)
+      any_of_four front xs ys back ∙ or_turned (any_of front) (any_of xs) (any_of ys) (any_of back) ∙ sym (any_of_four front ys xs back)
 
 stands_exchanged : (store : RemarkStoreData) (front xs ys back : List RemarkSectData) → StandsFor store (front ++ (xs ++ (ys ++ back))) → StandsFor store (front ++ (ys ++ (xs ++ back)))
 stands_exchanged store front xs ys back stands = record {
@@ -48,11 +47,12 @@ stands_exchanged store front xs ys back stands = record {
     worded_marks = λ file branch. stands.files.worded_marks file branch ∙ value_exchanged (of_file file) worded_cmp stronger (λ (r : RemarksData). r.worded_marks) branch marks_join front xs ys back;
     taken = λ file branch. stands.files.taken file branch ∙ value_exchanged (of_file file) worded_cmp taken_sum (λ (r : RemarksData). r.taken) branch taken_join front xs ys back;
     sensed = λ file condition. stands.files.sensed file condition ∙ value_exchanged (of_file file) condition_cmp count_sum (λ (r : RemarksData). r.sensed) condition counts_join front xs ys back;
+    there = λ file. stands.files.there file ∙ any_exchanged (of_file file) is_said front xs ys back;
   };
   tests = record {
     taken = λ key branch. stands.tests.taken key branch ∙ value_exchanged (has_sect_key key) worded_cmp taken_sum (λ (r : RemarksData). r.taken) branch taken_join front xs ys back;
     sensed = λ key condition. stands.tests.sensed key condition ∙ value_exchanged (has_sect_key key) condition_cmp count_sum (λ (r : RemarksData). r.sensed) condition counts_join front xs ys back;
-    there = λ key. stands.tests.there key ∙ any_exchanged (has_sect_key key) front xs ys back;
+    there = λ key. stands.tests.there key ∙ any_exchanged (has_sect_key key) is_counted front xs ys back;
   };
 }
 

@@ -15,12 +15,12 @@ use Rattle.std.proofs.lemmas.Slice.Eq.{bytes_eq-Decides}
 use Rattle.covremark.specs.Orders.{condition_cmp, worded_cmp}
 use Rattle.covremark.specs.Remark.{RemarkSectData, RemarksData, no_remarks}
 use Rattle.covremarkstore.specs.FileRemarks.{AddsToFile}
-use Rattle.covremarkstore.specs.Growth.{AddsSect, MergesStore, key_of_sect}
+use Rattle.covremarkstore.specs.Growth.{AddsSect, key_of_sect}
 use Rattle.covremarkstore.specs.Joined.{Joins, Merges, found, joined_all, values_at}
 use Rattle.covremarkstore.specs.Laws.{AddLaw, MergeLaw}
-use Rattle.covremarkstore.specs.Store.{RemarkStoreData, StandsFor, file_in, is_counted, test_in}
+use Rattle.covremarkstore.specs.Store.{RemarkStoreData, StandsFor, file_in, is_counted, is_said, test_in}
 use Rattle.covremarkstore.specs.TestRemarks.{AddsToTest, TestRemarksData, nothing_counted}
-use Rattle.covremarkstore.specs.Values.{count_sum, has_sect_key, point_cmp, remarks_at, stronger, taken_sum}
+use Rattle.covremarkstore.specs.Values.{count_sum, has_sect_key, on_file, point_cmp, remarks_at, stronger, taken_sum}
 use Rattle.covremarkstore.proofs.Joining.{IsJoin, counts_join, ends_join, marks_join, taken_join}
 use Rattle.covremarkstore.proofs.Picks.{any-append, any_elsewhere, any_here, value_elsewhere, value_here, value_in, value_merged}
 use Rattle.covtable.proofs.Orders.{keys_order}
@@ -81,6 +81,13 @@ module _ (s : RemarkSectData) (before after : RemarkStoreData) (sects : List Rem
     file_part file false e =
         grown_elsewhere cmp join part (of_file file) s sects (part (file_in before file)) (part (file_in after file)) e (is file) (ap part (file_stays file e))
 
+  files_grow : (file : List ℕ) (here : Bool) → of_file file s ≡ here → is_some (found (slice_cmp nat_cmp) file after.files) ≡ list_any is_said (on_file file (sects ++ s ∷ []))
+  files_grow file true e =
+      subst (λ (f : List ℕ). is_some (found (slice_cmp nat_cmp) f after.files) ≡ (is_some (found (slice_cmp nat_cmp) f before.files) || is_said s.remarks)) ((bytes_eq-Decides s.file file).0 e) adds.files_there
+      ∙ ap (λ (b : Bool). b || is_said s.remarks) (stands.files.there file) ∙ sym (any_here (of_file file) is_said sects s e)
+  files_grow file false e =
+      ap is_some (adds.files.others file (is_eq-slice_cmp s.file file ∙ e)) ∙ stands.files.there file ∙ sym (any_elsewhere (of_file file) is_said sects s e)
+
   found_stays : (key : Key) → has_sect_key key s ≡ false → found key_cmp key after.tests ≡ found key_cmp key before.tests
   found_stays key e = adds.tests.others key (sym (has_key s key) ∙ e)
 
@@ -104,9 +111,9 @@ module _ (s : RemarkSectData) (before after : RemarkStoreData) (sects : List Rem
 
   there_grow : (key : Key) (here : Bool) → has_sect_key key s ≡ here → is_some (found key_cmp key after.tests) ≡ list_any is_counted (remarks_at key (sects ++ s ∷ []))
   there_grow key true e =
-      subst (λ (k : Key). is_some (found key_cmp k after.tests) ≡ (is_some (found key_cmp k before.tests) || is_counted s.remarks)) (same_key key e) adds.there
-      ∙ ap (λ (b : Bool). b || is_counted s.remarks) (stands.tests.there key) ∙ sym (any_here (has_sect_key key) sects s e)
-  there_grow key false e = ap is_some (found_stays key e) ∙ stands.tests.there key ∙ sym (any_elsewhere (has_sect_key key) sects s e)
+      subst (λ (k : Key). is_some (found key_cmp k after.tests) ≡ (is_some (found key_cmp k before.tests) || is_counted s.remarks)) (same_key key e) adds.tests_there
+      ∙ ap (λ (b : Bool). b || is_counted s.remarks) (stands.tests.there key) ∙ sym (any_here (has_sect_key key) is_counted sects s e)
+  there_grow key false e = ap is_some (found_stays key e) ∙ stands.tests.there key ∙ sym (any_elsewhere (has_sect_key key) is_counted sects s e)
 
   stands_more : StandsFor after (sects ++ s ∷ [])
   stands_more = record {
@@ -116,6 +123,7 @@ module _ (s : RemarkSectData) (before after : RemarkStoreData) (sects : List Rem
       worded_marks = λ file branch. file_part worded_cmp stronger (λ (r : RemarksData). r.worded_marks) stands.files.worded_marks (λ a b h. h.worded_marks) file (of_file file s) refl branch;
       taken = λ file branch. file_part worded_cmp taken_sum (λ (r : RemarksData). r.taken) stands.files.taken (λ a b h. h.taken) file (of_file file s) refl branch;
       sensed = λ file condition. file_part condition_cmp count_sum (λ (r : RemarksData). r.sensed) stands.files.sensed (λ a b h. h.sensed) file (of_file file s) refl condition;
+      there = λ file. files_grow file (of_file file s) refl;
     };
     tests = record {
       taken = λ key branch. test_part worded_cmp taken_sum (λ (r : RemarksData). r.taken) (λ (t : TestRemarksData). t.taken) stands.tests.taken (λ a b h. h.taken) key (has_sect_key key s) refl branch;
@@ -147,6 +155,9 @@ merge_law other before after sects others merges stands stood = record {
     sensed = λ file.
         merged_both condition_cmp count_sum (λ (r : RemarksData). r.sensed) (of_file file) counts_join sects others (file_in other file).sensed (file_in before file).sensed (file_in after file).sensed
         (stands.files.sensed file) (stood.files.sensed file) (merges.files file).sensed;
+    there = λ file.
+        merges.files_there file ∙ ap (λ (b : Bool). b || is_some (found (slice_cmp nat_cmp) file other.files)) (stands.files.there file)
+        ∙ ap (λ (b : Bool). list_any is_said (on_file file sects) || b) (stood.files.there file) ∙ sym (any-append (of_file file) is_said sects others);
   };
   tests = record {
     taken = λ key.
@@ -156,8 +167,8 @@ merge_law other before after sects others merges stands stood = record {
         merged_both condition_cmp count_sum (λ (r : RemarksData). r.sensed) (has_sect_key key) counts_join sects others (test_in other key).sensed (test_in before key).sensed (test_in after key).sensed
         (stands.tests.sensed key) (stood.tests.sensed key) (merges.tests key).sensed;
     there = λ key.
-        merges.there key ∙ ap (λ (b : Bool). b || is_some (found key_cmp key other.tests)) (stands.tests.there key)
-        ∙ ap (λ (b : Bool). list_any is_counted (remarks_at key sects) || b) (stood.tests.there key) ∙ sym (any-append (has_sect_key key) sects others);
+        merges.tests_there key ∙ ap (λ (b : Bool). b || is_some (found key_cmp key other.tests)) (stands.tests.there key)
+        ∙ ap (λ (b : Bool). list_any is_counted (remarks_at key sects) || b) (stood.tests.there key) ∙ sym (any-append (has_sect_key key) is_counted sects others);
   };
 }
 
@@ -171,6 +182,7 @@ none_law = record {
     worded_marks = λ file branch. refl;
     taken = λ file branch. refl;
     sensed = λ file condition. refl;
+    there = λ file. refl;
   };
   tests = record { taken = λ key branch. refl; sensed = λ key condition. refl; there = λ key. refl };
 }

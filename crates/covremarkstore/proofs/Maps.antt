@@ -44,8 +44,8 @@ module _ {K : Type 0} {cmp : K → K → Ordering} (o : IsTotalOrder cmp) where
       by false false e f = e ∙ sym f
 
 -- what a key has is what a test finds that the key passes
-pub found_there : {K X : Type 0} {cmp : K → K → Ordering} (test : K → Bool) → IsKeyTest (eq_by_cmp cmp) test → (key : K) → test key ≡ true → (entries : List (K × X)) → lookup (is_at (cmp key)) entries ≡ lookup test entries
-found_there {K} {X} {cmp} test laws key e entries = sym (lookup_same test (is_at (cmp key)) (λ k. laws key k e) entries)
+pub found_there : {K X : Type 0} (cmp : K → K → Ordering) (test : K → Bool) → IsKeyTest (eq_by_cmp cmp) test → (key : K) → test key ≡ true → (entries : List (K × X)) → lookup (is_at (cmp key)) entries ≡ lookup test entries
+found_there cmp test laws key e entries = sym (lookup_same test (is_at (cmp key)) (λ k. laws key k e) entries)
 
 -- after a key got a value, a test finds this value if the key passes it, and else what it found before
 pub updated : {K X : Type 0} {cmp : K → K → Ordering} (o : IsTotalOrder cmp) (key : K) (old new : BTreeMap K X) (w : Option X) → UpdatesBy cmp (cmp key) old new w → (test : K → Bool) → IsKeyTest (eq_by_cmp cmp) test
@@ -72,7 +72,7 @@ module _ {K V : Type 0} {cmp : K → K → Ordering} (o : IsTotalOrder cmp) (joi
 
       by : (b : Bool) → test stored ≡ b → cond (test stored) (Some w) (lookup test old.entries) ≡ joined_all join (lookup test old.entries) (values_at test ((key, value) ∷ []))
       by true e =
-          ap (λ (c : Bool). cond c (Some w) (lookup test old.entries)) e ∙ is ∙ ap (λ (f : Option V). joined join f value) (found_there {cmp = cmp} test laws stored e old.entries)
+          ap (λ (c : Bool). cond c (Some w) (lookup test old.entries)) e ∙ is ∙ ap (λ (f : Option V). joined join f value) (found_there cmp test laws stored e old.entries)
           ∙ sym (ap (joined_all join (lookup test old.entries)) (values true e))
       by false e =
           ap (λ (c : Bool). cond c (Some w) (lookup test old.entries)) e ∙ sym (ap (joined_all join (lookup test old.entries)) (values false e))
@@ -88,8 +88,8 @@ module _ {K V : Type 0} {cmp : K → K → Ordering} (o : IsTotalOrder cmp) (joi
   pub key_test : (key : K) → IsKeyTest (eq_by_cmp cmp) (eq_by_cmp cmp key)
   key_test key x y e = (eq_by_cmp_equiv o).congr key x y e
 
-  pub joins_keyed : (pairs old new : List (K × V)) → JoinsTested cmp join pairs old new → Joins cmp join pairs old new
-  joins_keyed pairs old new joins key = joins (eq_by_cmp cmp key) (key_test key)
+  pub joins_keyed : (pairs given old new : List (K × V)) → pairs ≡ given → JoinsTested cmp join pairs old new → Joins cmp join given old new
+  joins_keyed pairs given old new same joins = subst (λ (ps : List (K × V)). Joins cmp join ps old new) same (λ key. joins (eq_by_cmp cmp key) (key_test key))
 
   pub merges_keyed : (other old new : List (K × V)) → MergesTested cmp join other old new → Merges cmp join other old new
   merges_keyed other old new merges key = merges (eq_by_cmp cmp key) (key_test key)

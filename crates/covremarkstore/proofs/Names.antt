@@ -1,11 +1,10 @@
 -- Maps whose keys are names, seen by the names' bytes.
-use Rattle.std.proofs.Common.{◌≡◌, ℕ, Bool, true, false, cond, Option, Some, List, [], ◌∷◌, ◌++◌, map, Vec, refl, sym, ap, ◌∙◌}
-use Rattle.std.specs.BTreeMap.{BTreeMap, UpdatesBy, is_at}
-use Rattle.std.specs.Cmp.{Equal-is}
+use Rattle.std.proofs.Common.{◌≡◌, ℕ, Bool, true, false, cond, Option, Some, List, [], ◌∷◌, ◌++◌, map, Vec, refl, sym, ap, ◌∙◌, subst}
+use Rattle.std.specs.BTreeMap.{BTreeMap, UpdatesBy}
 use Rattle.std.specs.Cmp.Lexicographic.{slice_cmp}
 use Rattle.std.specs.List.{AllByRecursion}
 use Rattle.std.specs.List.Sorted.{IsStrictlySortedBy}
-use Rattle.std.specs.Map.{AreApart, IsKeyTest, KeepsOthers, keys_of, lookup}
+use Rattle.std.specs.Map.{AreApart, IsKeyTest, keys_of, lookup}
 use Rattle.std.specs.Option.{option_to_list}
 use Rattle.std.specs.Ordering.{eq_by_cmp, is_eq, nat_cmp}
 use Rattle.std.specs.declared.cmp.Ordering.{Ordering}
@@ -27,6 +26,12 @@ module _ {A : Type 0} where
   pub name_test : (name : List ℕ) → IsKeyTest (eq_by_cmp vec_cmp) (has_name name)
   name_test name x y e = (eq_by_cmp_equiv nat_list_cmp_total).congr name x.items y.items e
 
+  -- names that differ aren't of one key
+  apart : (name other : List ℕ) → is_eq (slice_cmp nat_cmp name other) ≡ false → AreApart (has_name name) (has_name other)
+  apart name other differ key e =
+      let laws = eq_by_cmp_equiv nat_list_cmp_total in
+      laws.symm other key.items ∙ sym (laws.congr name key.items other e) ∙ differ
+
   module _ {T : Type 0} where
     pub found_named : (name : List ℕ) (entries : List (Vec ℕ A × T)) → found (slice_cmp nat_cmp) name (map name_data entries) ≡ lookup (has_name name) entries
     found_named name [] = refl
@@ -38,10 +43,11 @@ module _ {A : Type 0} where
 
     -- ---- joined
 
-    pub joins_named : (join : T → T → T) (pairs old new : List (Vec ℕ A × T)) → JoinsTested vec_cmp join pairs old new → Joins (slice_cmp nat_cmp) join (map name_data pairs) (map name_data old) (map name_data new)
-    joins_named join pairs old new joins name =
+    pub joins_named : (join : T → T → T) (pairs : List (Vec ℕ A × T)) (given : List (List ℕ × T)) (old new : List (Vec ℕ A × T)) → map name_data pairs ≡ given → JoinsTested vec_cmp join pairs old new
+        → Joins (slice_cmp nat_cmp) join given (map name_data old) (map name_data new)
+    joins_named join pairs given old new same joins = subst (λ (ps : List (List ℕ × T)). Joins (slice_cmp nat_cmp) join ps (map name_data old) (map name_data new)) same (λ name.
         found_named name new ∙ joins (has_name name) (name_test name) ∙ ap (λ (o : Option T). joined_all join o (values_at (has_name name) pairs)) (sym (found_named name old))
-        ∙ ap (joined_all join (found (slice_cmp nat_cmp) name (map name_data old))) (sym (values_named name pairs))
+        ∙ ap (joined_all join (found (slice_cmp nat_cmp) name (map name_data old))) (sym (values_named name pairs)))
 
     pub merges_named : (join : T → T → T) (other old new : List (Vec ℕ A × T)) → MergesTested vec_cmp join other old new → Merges (slice_cmp nat_cmp) join (map name_data other) (map name_data old) (map name_data new)
     merges_named join other old new merges name =
@@ -49,11 +55,6 @@ module _ {A : Type 0} where
         ∙ ap (λ (o : Option T). joined_all join (found (slice_cmp nat_cmp) name (map name_data old)) (option_to_list o)) (sym (found_named name other))
 
     -- ---- one key gets a value
-
-    apart : (name other : List ℕ) → is_eq (slice_cmp nat_cmp name other) ≡ false → AreApart (has_name name) (has_name other)
-    apart name other differ key e =
-        let laws = eq_by_cmp_equiv nat_list_cmp_total in
-        laws.symm other key.items ∙ sym (laws.congr name key.items other e) ∙ differ
 
     pub updated_named : (name : List ℕ) (old new : BTreeMap (Vec ℕ A) T) (w : Option T) → UpdatesBy vec_cmp (λ key. slice_cmp nat_cmp name key.items) old new w → (other : List ℕ)
         → found (slice_cmp nat_cmp) other (map name_data new.entries) ≡ cond (is_eq (slice_cmp nat_cmp name other)) w (found (slice_cmp nat_cmp) other (map name_data old.entries))

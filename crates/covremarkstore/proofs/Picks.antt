@@ -9,7 +9,6 @@ use Rattle.std.proofs.lemmas.List.Concat.{flat_map-append}
 use Rattle.std.proofs.lemmas.List.Folds.{list_any-append}
 use Rattle.covremark.specs.Remark.{RemarkSectData, RemarksData}
 use Rattle.covremarkstore.specs.Joined.{joined_all, value_of, values_at}
-use Rattle.covremarkstore.specs.Store.{is_counted}
 use Rattle.covremarkstore.proofs.Joining.{IsJoin, value_of-append, value_of-exchanged, value_of-merged}
 
 -- the remarks of the sections that pass the test
@@ -70,21 +69,21 @@ module _ (test : RemarkSectData → Bool) where
         ap (value_of cmp join key) (four front xs ys back) ∙ value_of-exchanged cmp join key is (pairs_in front) (pairs_in xs) (pairs_in ys) (pairs_in back)
         ∙ ap (value_of cmp join key) (sym (four front ys xs back))
 
-  -- ---- whether something is counted
-
-  pub any-append : (xs ys : List RemarkSectData) → list_any is_counted (picks test (xs ++ ys)) ≡ (list_any is_counted (picks test xs) || list_any is_counted (picks test ys))
-  any-append xs ys = ap (list_any is_counted) (picks-append xs ys) ∙ list_any-append is_counted (picks test xs) (picks test ys)
+  -- ---- whether some remarks pass a test of their own
 
   or_none : (b : Bool) → (b || false) ≡ b
   or_none true = refl
   or_none false = refl
 
-  pub any_here : (sects : List RemarkSectData) (s : RemarkSectData) → test s ≡ true → list_any is_counted (picks test (sects ++ s ∷ [])) ≡ (list_any is_counted (picks test sects) || is_counted s.remarks)
-  any_here sects s e =
-      any-append sects (s ∷ []) ∙ ap (λ (rs : List RemarksData). list_any is_counted (picks test sects) || list_any is_counted rs) (picked s e)
-      ∙ ap (λ (b : Bool). list_any is_counted (picks test sects) || b) (or_none (is_counted s.remarks))
+  module _ (some : RemarksData → Bool) where
+    pub any-append : (xs ys : List RemarkSectData) → list_any some (picks test (xs ++ ys)) ≡ (list_any some (picks test xs) || list_any some (picks test ys))
+    any-append xs ys = ap (list_any some) (picks-append xs ys) ∙ list_any-append some (picks test xs) (picks test ys)
 
-  pub any_elsewhere : (sects : List RemarkSectData) (s : RemarkSectData) → test s ≡ false → list_any is_counted (picks test (sects ++ s ∷ [])) ≡ list_any is_counted (picks test sects)
-  any_elsewhere sects s e =
-      any-append sects (s ∷ []) ∙ ap (λ (rs : List RemarksData). list_any is_counted (picks test sects) || list_any is_counted rs) (left_out s e)
-      ∙ or_none (list_any is_counted (picks test sects))
+    pub any_here : (sects : List RemarkSectData) (s : RemarkSectData) → test s ≡ true → list_any some (picks test (sects ++ s ∷ [])) ≡ (list_any some (picks test sects) || some s.remarks)
+    any_here sects s e =
+        any-append sects (s ∷ []) ∙ ap (λ (rs : List RemarksData). list_any some (picks test sects) || list_any some rs) (picked s e)
+        ∙ ap (λ (b : Bool). list_any some (picks test sects) || b) (or_none (some s.remarks))
+
+    pub any_elsewhere : (sects : List RemarkSectData) (s : RemarkSectData) → test s ≡ false → list_any some (picks test (sects ++ s ∷ [])) ≡ list_any some (picks test sects)
+    any_elsewhere sects s e =
+        any-append sects (s ∷ []) ∙ ap (λ (rs : List RemarksData). list_any some (picks test sects) || list_any some rs) (left_out s e) ∙ or_none (list_any some (picks test sects))

@@ -8,6 +8,8 @@ use Rattle.std.specs.Option.{is_some}
 use Rattle.std.specs.Ordering.{eq_by_cmp, nat_cmp}
 use Rattle.std.specs.declared.cmp.Ordering.{Ordering}
 use Rattle.std.proofs.lemmas.Cmp.{nat_list_cmp_total}
+use Rattle.covdata.specs.declared.point.BranchPoint.{BranchPoint}
+use Rattle.covremark.specs.declared.mark.Mark.{Mark}
 use Rattle.covremark.specs.Orders.{condition_cmp, worded_cmp}
 use Rattle.covremark.specs.Remark.{ConditionData, RemarksData, WordedBranchData}
 use Rattle.covremark.specs.RemarksView.{CountNothing, SayNothing, name_data}
@@ -15,7 +17,7 @@ use Rattle.covremarkstore.specs.FileRemarks.{AddsToFile}
 use Rattle.covremarkstore.specs.Growth.{GrowsAt, found_or}
 use Rattle.covremarkstore.specs.Joined.{Joins, found, joined_all, values_at}
 use Rattle.covremarkstore.specs.Keys.{key_total}
-use Rattle.covremarkstore.specs.Store.{has_some, is_counted}
+use Rattle.covremarkstore.specs.Store.{has_some, is_counted, is_said}
 use Rattle.covremarkstore.specs.TestRemarks.{AddsToTest, TestRemarksData}
 use Rattle.covremarkstore.specs.Values.{count_sum, point_cmp, stronger, taken_sum}
 use Rattle.covremarkstore.proofs.Merging.{grows, is_there}
@@ -80,8 +82,33 @@ or_true : (b : Bool) → true ≡ (b || true)
 or_true true = refl
 or_true false = refl
 
+not_counted : (r : RemarksData) → CountNothing r → is_counted r ≡ false
+not_counted r nothing = ap (λ (xs : List (WordedBranchData × Option ℕ)). has_some xs || has_some r.sensed) nothing.taken ∙ ap has_some nothing.sensed
+
+not_said : (r : RemarksData) → SayNothing r → is_said r ≡ false
+not_said r nothing =
+    ap (λ (xs : List (List ℕ × ℕ)). has_some xs || (has_some r.marks || (has_some r.worded_marks || is_counted r))) nothing.ends
+    ∙ ap (λ (xs : List (BranchPoint × Mark)). has_some xs || (has_some r.worded_marks || is_counted r)) nothing.marks
+    ∙ ap (λ (xs : List (WordedBranchData × Mark)). has_some xs || is_counted r) nothing.worded_marks ∙ not_counted r nothing.counts
+
 pub still_there : (r : RemarksData) (before : Bool) → CountNothing r → before ≡ (before || is_counted r)
-still_there r before nothing = or_false before ∙ ap (λ (b : Bool). before || b) (sym (ap (λ (xs : List (WordedBranchData × Option ℕ)). has_some xs || has_some r.sensed) nothing.taken ∙ ap has_some nothing.sensed))
+still_there r before nothing = or_false before ∙ ap (λ (b : Bool). before || b) (sym (not_counted r nothing))
+
+pub still_said : (r : RemarksData) (before : Bool) → SayNothing r → before ≡ (before || is_said r)
+still_said r before nothing = or_false before ∙ ap (λ (b : Bool). before || b) (sym (not_said r nothing))
+
+pub now_said : (r : RemarksData) (before after : Bool) → (SayNothing r → ⊥) → after ≡ true → after ≡ (before || is_said r)
+now_said r before after some is = is ∙ or_true before ∙ ap (λ (b : Bool). before || b) (sym (by r.ends r.marks r.worded_marks r.taken r.sensed refl refl refl refl refl))
+  where
+    by : (ends : List (List ℕ × ℕ)) (marks : List (BranchPoint × Mark)) (worded_marks : List (WordedBranchData × Mark)) (taken : List (WordedBranchData × Option ℕ)) (sensed : List (ConditionData × ℕ))
+        → r.ends ≡ ends → r.marks ≡ marks → r.worded_marks ≡ worded_marks → r.taken ≡ taken → r.sensed ≡ sensed
+        → (has_some ends || (has_some marks || (has_some worded_marks || (has_some taken || has_some sensed)))) ≡ true
+    by [] [] [] [] [] e f h i j = absurd (some (record { ends = e; marks = f; worded_marks = h; counts = record { taken = i; sensed = j } }))
+    by [] [] [] [] (y ∷ ys) e f h i j = refl
+    by [] [] [] (x ∷ xs) sensed e f h i j = refl
+    by [] [] (x ∷ xs) taken sensed e f h i j = refl
+    by [] (x ∷ xs) worded_marks taken sensed e f h i j = refl
+    by (x ∷ xs) marks worded_marks taken sensed e f h i j = refl
 
 pub now_there : (r : RemarksData) (before after : Bool) → (CountNothing r → ⊥) → after ≡ true → after ≡ (before || is_counted r)
 now_there r before after some is = is ∙ or_true before ∙ ap (λ (b : Bool). before || b) (sym (by r.taken r.sensed refl refl))

@@ -1,5 +1,5 @@
 -- What sections say of a source file, joined over all tests.
-use Rattle.std.specs.Prelude.{ℕ, max}
+use Rattle.std.specs.Prelude.{max}
 use Rattle.std.specs.Cmp.Lexicographic.{slice_cmp}
 use Rattle.std.specs.Ordering.{nat_cmp}
 use Rattle.covremark.specs.Orders.{condition_cmp, worded_cmp}

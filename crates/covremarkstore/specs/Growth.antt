@@ -8,7 +8,7 @@ use Rattle.covremark.specs.Remark.{RemarkSectData, RemarksData, no_remarks}
 use Rattle.covremark.specs.RemarksView.{name_data}
 use Rattle.covremarkstore.specs.FileRemarks.{AddsToFile, MergesFile}
 use Rattle.covremarkstore.specs.Joined.{found}
-use Rattle.covremarkstore.specs.Store.{RemarkStoreData, is_counted}
+use Rattle.covremarkstore.specs.Store.{RemarkStoreData, is_counted, is_said}
 use Rattle.covremarkstore.specs.TestRemarks.{AddsToTest, MergesTest, nothing_counted}
 use Rattle.covtable.specs.Value.{Key, key_cmp}
 
@@ -41,11 +41,13 @@ key_of_sect s = record { file = s.file; test = s.test }
 -- the remarks of a section are joined
 pub record AddsSect (s : RemarkSectData) (before after : RemarkStoreData) : Type 0 where
   pub files : GrowsAt (slice_cmp nat_cmp) no_remarks (AddsToFile s.remarks) s.file before.files after.files
+  pub files_there : is_some (found (slice_cmp nat_cmp) s.file after.files) ≡ (is_some (found (slice_cmp nat_cmp) s.file before.files) || is_said s.remarks)
   pub tests : GrowsAt key_cmp nothing_counted (AddsToTest s.remarks) (key_of_sect s) before.tests after.tests
-  pub there : is_some (found key_cmp (key_of_sect s) after.tests) ≡ (is_some (found key_cmp (key_of_sect s) before.tests) || is_counted s.remarks)
+  pub tests_there : is_some (found key_cmp (key_of_sect s) after.tests) ≡ (is_some (found key_cmp (key_of_sect s) before.tests) || is_counted s.remarks)
 
 -- the remarks of another store are joined
 pub record MergesStore (other before after : RemarkStoreData) : Type 0 where
   pub files : MergesAll (slice_cmp nat_cmp) no_remarks MergesFile other.files before.files after.files
+  pub files_there : HasBoth (slice_cmp nat_cmp) other.files before.files after.files
   pub tests : MergesAll key_cmp nothing_counted MergesTest other.tests before.tests after.tests
-  pub there : HasBoth key_cmp other.tests before.tests after.tests
+  pub tests_there : HasBoth key_cmp other.tests before.tests after.tests

@@ -9,7 +9,7 @@ use Rattle.covremark.specs.Orders.{condition_cmp, worded_cmp}
 use Rattle.covremark.specs.Remark.{ConditionData, RemarkSectData, RemarksData, WordedBranchData, no_remarks}
 use Rattle.covremarkstore.specs.Joined.{found}
 use Rattle.covremarkstore.specs.TestRemarks.{TestRemarksData, nothing_counted}
-use Rattle.covremarkstore.specs.Values.{end_of, mark_of, point_cmp, remarks_at, sensed_in, sensed_of, taken_in, taken_of, worded_mark_of}
+use Rattle.covremarkstore.specs.Values.{end_of, mark_of, on_file, point_cmp, remarks_at, sensed_in, sensed_of, taken_in, taken_of, worded_mark_of}
 use Rattle.covtable.specs.Value.{Key, key_cmp}
 
 -- what is said of source files over all tests, and what is counted in each test of a file. Each file and each key occurs once, and so
@@ -32,13 +32,18 @@ has_some (x ∷ xs) = true
 abbrev pub is_counted : RemarksData → Bool
 is_counted r = has_some r.taken || has_some r.sensed
 
--- the store has what these sections say of files
+-- the remarks say something
+abbrev pub is_said : RemarksData → Bool
+is_said r = has_some r.ends || (has_some r.marks || (has_some r.worded_marks || is_counted r))
+
+-- the store has what these sections say of files. It has a file exactly if some section says something of it
 pub record HasFilesOf (store : RemarkStoreData) (sects : List RemarkSectData) : Type 0 where
   pub ends : (file name : List ℕ) → found (slice_cmp nat_cmp) name (file_in store file).ends ≡ end_of file name sects
   pub marks : (file : List ℕ) (point : BranchPoint) → found point_cmp point (file_in store file).marks ≡ mark_of file point sects
   pub worded_marks : (file : List ℕ) (branch : WordedBranchData) → found worded_cmp branch (file_in store file).worded_marks ≡ worded_mark_of file branch sects
   pub taken : (file : List ℕ) (branch : WordedBranchData) → found worded_cmp branch (file_in store file).taken ≡ taken_in file branch sects
   pub sensed : (file : List ℕ) (condition : ConditionData) → found condition_cmp condition (file_in store file).sensed ≡ sensed_in file condition sects
+  pub there : (file : List ℕ) → is_some (found (slice_cmp nat_cmp) file store.files) ≡ list_any is_said (on_file file sects)
 
 -- the store has what these sections count in tests. It has a test of a file exactly if some section counts something there
 pub record HasTestsOf (store : RemarkStoreData) (sects : List RemarkSectData) : Type 0 where

@@ -2,7 +2,7 @@
 use Rattle.std.specs.Prelude.{ℕ, ◌+◌, Bool, ◌&&◌, max, Option, Some, None, List, map, filter}
 use Rattle.std.specs.Cmp.Lexicographic.{slice_cmp}
 use Rattle.std.specs.List.{flat_map}
-use Rattle.std.specs.Ordering.{nat_cmp, ordering_then}
+use Rattle.std.specs.Ordering.{nat_cmp}
 use Rattle.std.specs.Str.{bytes_eq}
 use Rattle.std.specs.declared.cmp.Ordering.{Ordering}
 use Rattle.covdata.specs.declared.point.BranchPoint.{BranchPoint}
@@ -11,7 +11,8 @@ use Rattle.covremark.specs.declared.mark.Mark.TheVariants.{FallsThrough, Throws}
 use Rattle.covremark.specs.Orders.{condition_cmp, worded_cmp}
 use Rattle.covremark.specs.Remark.{ConditionData, RemarkSectData, RemarksData, WordedBranchData}
 use Rattle.covremarkstore.specs.Joined.{value_of}
-use Rattle.covtable.specs.Value.{Key, bounded}
+use Rattle.covdata.specs.PointView.{branch_point_data}
+use Rattle.covtable.specs.Value.{Key, bounded, branch_cmp}
 
 -- ---- of the source: over all tests of a file, since a source file has one version at a time
 
@@ -23,9 +24,9 @@ abbrev pub stronger : Mark → Mark → Mark
 stronger FallsThrough other = other
 stronger Throws other = Throws
 
--- the order of branches with a number: by line, then by block, then by number
+-- the order of branches with a number is that of version 1: by line, then by block, then by number
 abbrev pub point_cmp : BranchPoint → BranchPoint → Ordering
-point_cmp a b = ordering_then (nat_cmp a.line b.line) (ordering_then (nat_cmp a.block b.block) (nat_cmp a.branch b.branch))
+point_cmp a b = branch_cmp (branch_point_data a) (branch_point_data b)
 
 -- the end line of a function: the greatest that a section of the file gives
 abbrev pub end_of : (file name : List ℕ) → List RemarkSectData → Option ℕ

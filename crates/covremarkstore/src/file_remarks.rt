@@ -112,8 +112,10 @@ impl<A: Allocator + Copy> FileRemarks<A> {
 impl<A: Allocator> FileRemarks<A> {
     ghost use Rattle.std.specs.Prelude.{◌≡◌};
     ghost use Rattle.std.specs.Cmp.Lexicographic.{slice_cmp};
+    ghost use Rattle.std.specs.List.Sorted.{IsStrictlySortedBy};
+    ghost use Rattle.std.specs.Map.{keys_of};
     ghost use Rattle.std.specs.Ordering.{nat_cmp};
-    ghost use Rattle.covremark.specs.Orders.{worded_cmp};
+    ghost use Rattle.covremark.specs.Orders.{condition_cmp, worded_cmp};
     ghost use Rattle.covremarkstore.specs.Joined.{found};
     ghost use Rattle.covremarkstore.specs.Totals.{remark_totals};
     ghost use Rattle.covremarkstore.specs.Values.{point_cmp};
@@ -139,9 +141,12 @@ impl<A: Allocator> FileRemarks<A> {
         self.worded_marks.get(branch).copied()
     }
 
-    /// How much the file has. Takes as long as there are branches with an expression and conditions. Never allocates.
+    /// How much the file has. Each branch and each condition is counted once. Takes as long as there are branches with an expression
+    /// and conditions. Never allocates.
     pub fn totals(&self) -> RemarkTotals
-        ensures { result ≡ remark_totals self.now }
+        ensures value { result ≡ remark_totals self.now }
+        ensures branches_once { IsStrictlySortedBy worded_cmp (keys_of self.now.taken) }
+        ensures conditions_once { IsStrictlySortedBy condition_cmp (keys_of self.now.sensed) }
     {
         RemarkTotals {
             branches_found: self.taken.len() as u64,

@@ -9,7 +9,7 @@ ghost use Rattle.covremark.specs.Remark.{no_remarks};
 ghost use Rattle.covremarkstore.specs.FileRemarks.{AddsToFile, MergesFile};
 ghost use Rattle.covremarkstore.specs.Growth.{GrowsAt, HasBoth, MergesAll, key_of_sect, named_files};
 ghost use Rattle.covremarkstore.specs.Joined.{found};
-ghost use Rattle.covremarkstore.specs.Store.{is_counted};
+ghost use Rattle.covremarkstore.specs.Store.{is_counted, is_said};
 ghost use Rattle.covremarkstore.specs.TestRemarks.{AddsToTest, MergesTest, nothing_counted};
 ghost use Rattle.covtable.specs.Value.{key_cmp};
 
@@ -35,7 +35,8 @@ fn add_to_files<A: Allocator + Copy>(
     alloc: A,
     sect: &RemarkSect<A>,
 ) -> Result<(), Memory>
-    ensures { OnOk result (GrowsAt (slice_cmp nat_cmp) no_remarks (AddsToFile sect.now.remarks) sect.now.file (named_files files.old.entries) (named_files files.new.entries)) }
+    ensures grows { OnOk result (GrowsAt (slice_cmp nat_cmp) no_remarks (AddsToFile sect.now.remarks) sect.now.file (named_files files.old.entries) (named_files files.new.entries)) }
+    ensures there { OnOk result (is_some (found (slice_cmp nat_cmp) sect.now.file (named_files files.new.entries)) ≡ (is_some (found (slice_cmp nat_cmp) sect.now.file (named_files files.old.entries)) || is_said sect.now.remarks)) }
 {
     if sect.remarks.is_empty() {
         return Ok(());
@@ -80,7 +81,8 @@ fn join_files<A: Allocator + Copy>(
     alloc: A,
     others: &Files<A>,
 ) -> Result<(), Memory>
-    ensures { OnOk result (MergesAll (slice_cmp nat_cmp) no_remarks MergesFile (named_files others.now.entries) (named_files files.old.entries) (named_files files.new.entries)) }
+    ensures merges { OnOk result (MergesAll (slice_cmp nat_cmp) no_remarks MergesFile (named_files others.now.entries) (named_files files.old.entries) (named_files files.new.entries)) }
+    ensures there { OnOk result (HasBoth (slice_cmp nat_cmp) (named_files others.now.entries) (named_files files.old.entries) (named_files files.new.entries)) }
 {
     for (file, remarks) in others.iter() {
         join_file(files, alloc, file.as_slice(), remarks)?;

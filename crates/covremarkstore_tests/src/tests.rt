@@ -2,7 +2,7 @@
 
 use covdata::{BranchPoint, Bytes, Memory};
 use covremark::{Condition, ConditionPlace, Mark, RemarkList, RemarkSect, Remarks, WordedBranch};
-use covremarkstore::{FileRemarks, RemarkStore, TestRemarks};
+use covremarkstore::{FileRemarks, RemarkStore, SectionKey, TestRemarks};
 use std::alloc::Allocator;
 use std::process::Abort;
 use std::test::*;
@@ -38,13 +38,14 @@ fn condition<A: Allocator>(alloc: A, sense: bool) -> Result<Condition<A>, Memory
 /// The list of one section.
 fn list_of<A: Allocator + Copy>(
     alloc: A,
+    file: &[u8],
     test: &[u8],
     remarks: Remarks<A>,
 ) -> Result<RemarkList<A>, Memory> {
     let mut list = RemarkList::new(alloc);
     list.push(RemarkSect {
         test: Bytes::of(alloc, test)?,
-        file: Bytes::of(alloc, FILE)?,
+        file: Bytes::of(alloc, file)?,
         remarks,
     })?;
     Ok(list)
@@ -60,7 +61,7 @@ fn first<A: Allocator + Copy>(alloc: A) -> Result<RemarkList<A>, Memory> {
     remarks.push_taken(branch(alloc, b"x <= 0")?, None)?;
     remarks.push_sensed(condition(alloc, true)?, 1)?;
     remarks.push_sensed(condition(alloc, false)?, 0)?;
-    list_of(alloc, TEST, remarks)
+    list_of(alloc, FILE, TEST, remarks)
 }
 
 /// The remarks of a second input.
@@ -73,7 +74,7 @@ fn second<A: Allocator + Copy>(alloc: A) -> Result<RemarkList<A>, Memory> {
     remarks.push_taken(branch(alloc, b"x > 0")?, Some(1))?;
     remarks.push_sensed(condition(alloc, false)?, MOST)?;
     remarks.push_sensed(condition(alloc, false)?, 4)?;
-    list_of(alloc, TEST, remarks)
+    list_of(alloc, FILE, TEST, remarks)
 }
 
 /// Checks what is said of the file of both inputs.
@@ -179,7 +180,7 @@ fn what_counts_makes_a_section(rt: HostRuntime) -> Result<(), Fail> {
     let mut remarks = Remarks::new(alloc);
     remarks.push_end(alloc, b"f", 9)?;
     let mut store = RemarkStore::new(alloc);
-    store.add(alloc, &list_of(alloc, TEST, remarks)?)?;
+    store.add(alloc, &list_of(alloc, FILE, TEST, remarks)?)?;
     assert!(rt; store.sections().next().is_none());
     assert!(rt; store.of_file(FILE).is_some());
     Ok(())
@@ -189,8 +190,86 @@ fn what_counts_makes_a_section(rt: HostRuntime) -> Result<(), Fail> {
 fn no_remarks_make_no_file(rt: HostRuntime) -> Result<(), Fail> {
     let alloc = rt.alloc();
     let mut store = RemarkStore::new(alloc);
-    store.add(alloc, &list_of(alloc, TEST, Remarks::new(alloc))?)?;
+    store.add(alloc, &list_of(alloc, FILE, TEST, Remarks::new(alloc))?)?;
     assert!(rt; store.of_file(FILE).is_none());
     assert!(rt; store.files().next().is_none());
+    Ok(())
+}
+
+/// A branch with an expression has its own mark. A branch with a number has another.
+#[test]
+fn marks_of_expressions(rt: HostRuntime) -> Result<(), Fail> {
+    let alloc = rt.alloc();
+    let mut store = RemarkStore::new(alloc);
+    store.add(alloc, &first(alloc)?)?;
+    match store.of_file(FILE) {
+        Some(file) => {
+            let marked = file.worded_mark_of(&branch(alloc, b"x > 0")?);
+            assert!(rt; marked == Some(Mark::FallsThrough));
+            let unmarked = file.worded_mark_of(&branch(alloc, b"x <= 0")?);
+            assert!(rt; unmarked == None);
+        }
+        None => panic!(rt; "no file"),
+    }
+    Ok(())
+}
+
+/// Adds a section with one branch, whose expression is `x`.
+fn add_branch<A: Allocator + Copy>(
+    store: &mut RemarkStore<A>,
+    alloc: A,
+    file: &[u8],
+    test: &[u8],
+    turn: u64,
+    taken: Option<u128>,
+) -> Result<(), Memory> {
+    let mut remarks = Remarks::new(alloc);
+    remarks.push_taken(WordedBranch::of(alloc, 6, 0, b"x", turn)?, taken)?;
+    store.add(alloc, &list_of(alloc, file, test, remarks)?)
+}
+
+/// Checks a section and the counts of its branches, whose expressions are all `x`.
+fn check_section(
+    rt: &impl Abort,
+    given: Option<(&SectionKey, &TestRemarks)>,
+    file: &[u8],
+    test: &[u8],
+    wanted: &[Option<u128>],
+) {
+    match given {
+        Some((key, remarks)) => {
+            assert_eq!(rt; key.file(), file);
+            assert_eq!(rt; key.test(), test);
+            let mut taken = remarks.taken();
+            for times in wanted {
+                check_taken(rt, taken.next(), b"x", *times);
+            }
+            assert!(rt; taken.next().is_none());
+        }
+        None => panic!(rt; "no section"),
+    }
+}
+
+/// Counts belong to a test and a file. Equal expressions of one block are told apart by their turn.
+#[test]
+fn tests_and_turns_stay_apart(rt: HostRuntime) -> Result<(), Fail> {
+    let alloc = rt.alloc();
+    let mut store = RemarkStore::new(alloc);
+    add_branch(&mut store, alloc, b"/b.cpp", TEST, 0, Some(7))?;
+    add_branch(&mut store, alloc, FILE, b"u", 0, Some(2))?;
+    add_branch(&mut store, alloc, FILE, TEST, 1, Some(0))?;
+    add_branch(&mut store, alloc, FILE, TEST, 0, None)?;
+    let mut sections = store.sections();
+    check_section(&rt, sections.next(), FILE, TEST, &[None, Some(0)]);
+    check_section(&rt, sections.next(), FILE, b"u", &[Some(2)]);
+    check_section(&rt, sections.next(), b"/b.cpp", TEST, &[Some(7)]);
+    assert!(rt; sections.next().is_none());
+    match store.of_file(FILE) {
+        Some(file) => {
+            let totals = file.totals();
+            assert!(rt; (totals.branches_found, totals.branches_hit) == (2, 1));
+        }
+        None => panic!(rt; "no file"),
+    }
     Ok(())
 }

@@ -1,4 +1,5 @@
-use Rattle.std.proofs.Common.{Option, Some, BTreeMap, sym, ap, ◌∙◌, subst, rules, [], ◌∷◌}
+use Rattle.std.proofs.Common.{◌≡◌, Option, None, Some, BTreeMap, sym, ap, ◌∙◌, subst, rules, [], ◌∷◌}
+use Rattle.std.specs.BTreeMap.{get}
 use Rattle.std.proofs.lemmas.Cmp.{tied_itself}
 use Rattle.covremarkstore.specs.Joined.{joined}
 use Rattle.covremarkstore.specs.Tested.{JoinsTested}
@@ -18,4 +19,4 @@ pub returns-clause-ok : goal.returns-clause-ok
 returns-clause-ok g c =
     subst (λ (m : BTreeMap g.row.K.Denot g.row.V.Denot). JoinsTested g.K.Ord.cmp g.V.Join.joined ((c.args.key.now, c.args.value) ∷ []) m.entries c.insert.new.self.entries) c.get_mut.follows.holds-at-none
     (joins_new g.met.K.Ord.total g.V.Join.joined c.args.key.now c.in_ok-copy_key.field-0 c.args.value c.get_mut.follows.lender-at-none c.insert.new.self c.in_ok-copy_key.ensures
-    (c.in_default.ensures.value ∙ ap (λ (m : BTreeMap g.row.K.Denot g.row.V.Denot). _) (sym c.get_mut.follows.holds-at-none)) c.in_ok-insert.ensures.updates)
+    (subst (λ (m : BTreeMap g.row.K.Denot g.row.V.Denot). None ≡ get g.K.Ord.cmp m c.args.key.now) (sym c.get_mut.follows.holds-at-none) c.in_default.ensures.value) c.in_ok-insert.ensures.updates)

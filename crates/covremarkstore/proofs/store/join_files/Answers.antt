@@ -5,7 +5,7 @@ use Rattle.covremark.specs.Remark.{RemarksData, no_remarks}
 use Rattle.covremarkstore.specs.FileRemarks.{MergesFile}
 use Rattle.covremarkstore.specs.Growth.{GrowsAt, named_files}
 use Rattle.covremarkstore.specs.Joined.{found}
-use Rattle.covremarkstore.proofs.Merging.{file_chained, file_keeps, merged_all, merging_first, merging_more}
+use Rattle.covremarkstore.proofs.Merging.{both_there, file_chained, file_keeps, merged_all, merging_first, merging_more}
 use Rattle.covremarkstore.proofs.Names.{sorted_named}
 use Rattle.covremarkstore.proofs.store.join_files.Goals as goal
 use Rattle.covtable.proofs.Orders.{names_order}
@@ -30,7 +30,12 @@ loop-file-preserved g c = (
       (subst (λ (name : List ℕ). is_some (found (slice_cmp nat_cmp) name (named_files c.join_file.new.files.entries)) ≡ true) c.as_slice.ensures.value c.in_ok-join_file.ensures.there),
 )
 
-pub returns : goal.returns
-returns g c =
+pub returns-clause-merges : goal.returns-clause-merges
+returns-clause-merges g c =
     merged_all names_order no_remarks MergesFile file_keeps file_chained (named_files c.args.others.now.entries) (named_files c.loop-file.file-iterator) (named_files c.args.files.now.entries) (named_files c.loop-file.files.entries)
+    (ap (λ (pairs : List (Vec ℕ g.row.A.Denot × RemarksData)). named_files pairs) c.in-None.ensures.steps.0) c.loop-file.invariant.2
+
+pub returns-clause-there : goal.returns-clause-there
+returns-clause-there g c =
+    both_there names_order no_remarks MergesFile file_keeps file_chained (named_files c.args.others.now.entries) (named_files c.loop-file.file-iterator) (named_files c.args.files.now.entries) (named_files c.loop-file.files.entries)
     (ap (λ (pairs : List (Vec ℕ g.row.A.Denot × RemarksData)). named_files pairs) c.in-None.ensures.steps.0) c.loop-file.invariant.2

@@ -6,7 +6,8 @@ use Rattle.covremarkstore.proofs.test_remarks.TestRemarks.add.Goals as goal
 pub returns : goal.returns
 returns g c =
     let inside = c.self.inside in
-    rw (← c.self.view_is, ← c.taken.ensures, ← c.sensed.ensures) (record {
-      taken = joins_keyed worded_total taken_sum c.taken.result.now inside.taken.entries c.put_all.new.map.entries c.in_ok-put_all.ensures;
-      sensed = joins_keyed condition_total count_sum c.sensed.result.now inside.sensed.entries c.put_all-2.new.map.entries c.in_ok-put_all-2.ensures;
+    let given = c.args.remarks.now in
+    rw (← c.self.view_is) (record {
+      taken = joins_keyed worded_total taken_sum c.taken.result.now given.taken inside.taken.entries c.put_all.new.map.entries c.taken.ensures c.in_ok-put_all.ensures;
+      sensed = joins_keyed condition_total count_sum c.sensed.result.now given.sensed inside.sensed.entries c.put_all-2.new.map.entries c.sensed.ensures c.in_ok-put_all-2.ensures;
     })

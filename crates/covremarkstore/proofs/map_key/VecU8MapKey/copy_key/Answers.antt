@@ -1,7 +1,7 @@
 use Rattle.std.proofs.Common.{◌≡◌, ℕ, List, sym, subst, ◌∙◌, Equal, nat_cmp}
 use Rattle.std.specs.Cmp.Lexicographic.{slice_cmp}
 use Rattle.std.proofs.lemmas.Cmp.{nat_list_cmp_total, tied_itself}
-use Rattle.covremarkstore.proofs.map_key.VecMapKey.copy_key.Goals as goal
+use Rattle.covremarkstore.proofs.map_key.VecU8MapKey.copy_key.Goals as goal
 
 pub returns : goal.returns
 returns g c =
