@@ -63,7 +63,7 @@ updated {K} {X} {cmp} o key old new w updates test laws = by (test key) refl
 
 module _ {K V : Type 0} {cmp : K → K → Ordering} (o : IsTotalOrder cmp) (join : V → V → V) where
   -- the pair's key compares as equal to the one that the map got
-  pub joins_one : (key stored : K) (value w : V) (old new : BTreeMap K V) → cmp key stored ≡ Equal → Some w ≡ joined join (get cmp old stored) value → UpdatesBy cmp (cmp stored) old new (Some w)
+  joins_one : (key stored : K) (value w : V) (old new : BTreeMap K V) → cmp key stored ≡ Equal → Some w ≡ joined join (get cmp old stored) value → UpdatesBy cmp (cmp stored) old new (Some w)
       → JoinsTested cmp join ((key, value) ∷ []) old.entries new.entries
   joins_one key stored value w old new same is updates test laws = updated o stored old new (Some w) updates test laws ∙ by (test stored) refl
     where
@@ -76,6 +76,12 @@ module _ {K V : Type 0} {cmp : K → K → Ordering} (o : IsTotalOrder cmp) (joi
           ∙ sym (ap (joined_all join (lookup test old.entries)) (values true e))
       by false e =
           ap (λ (c : Bool). cond c (Some w) (lookup test old.entries)) e ∙ sym (ap (joined_all join (lookup test old.entries)) (values false e))
+
+  -- the map had a value at the key
+  pub joins_there : (key stored : K) (value before w : V) (old new : BTreeMap K V) → cmp key stored ≡ Equal → w ≡ join before value → Some before ≡ get cmp old stored → UpdatesBy cmp (cmp stored) old new (Some w)
+      → JoinsTested cmp join ((key, value) ∷ []) old.entries new.entries
+  joins_there key stored value before w old new same is there updates =
+      joins_one key stored value w old new same (ap Some is ∙ ap (λ (f : Option V). joined join f value) there) updates
 
   -- the map had nothing at the key
   pub joins_new : (key stored : K) (value : V) (old new : BTreeMap K V) → cmp key stored ≡ Equal → None ≡ get cmp old key → UpdatesBy cmp (cmp stored) old new (Some value) → JoinsTested cmp join ((key, value) ∷ []) old.entries new.entries

@@ -36,9 +36,13 @@ impl<A: Allocator> Model for FileRemarks<A> {
 /// condition counts.
 #[derive(Clone, Copy, Debug)]
 pub struct RemarkTotals {
+    /// Branches with an expression.
     pub branches_found: u64,
+    /// Branches with an expression that were taken in some test.
     pub branches_hit: u64,
+    /// Senses of conditions.
     pub conditions_found: u64,
+    /// Senses of conditions that were sensed in some test.
     pub conditions_hit: u64,
 }
 

@@ -1,18 +1,16 @@
-use Rattle.std.proofs.Common.{◌≡◌, Option, None, Some, BTreeMap, sym, ap, ◌∙◌, subst, rules, [], ◌∷◌}
+use Rattle.std.proofs.Common.{◌≡◌, None, BTreeMap, sym, subst, rules, [], ◌∷◌}
 use Rattle.std.specs.BTreeMap.{get}
 use Rattle.std.proofs.lemmas.Cmp.{tied_itself}
-use Rattle.covremarkstore.specs.Joined.{joined}
 use Rattle.covremarkstore.specs.Tested.{JoinsTested}
-use Rattle.covremarkstore.proofs.Maps.{joins_new, joins_one}
+use Rattle.covremarkstore.proofs.Maps.{joins_new, joins_there}
 use Rattle.covremarkstore.proofs.put.put.Goals as goal
 
 -- the key is known
 pub returns-in-Some-clause-ok : goal.returns-in-Some-clause-ok
 returns-in-Some-clause-ok g c =
     let w = c.join.result in
-    let is = ap Some c.join.ensures ∙ ap (λ (f : Option g.row.V.Denot). joined g.V.Join.joined f c.args.value) c.in-Some.ensures.value in
-    joins_one g.met.K.Ord.total g.V.Join.joined c.args.key.now c.args.key.now c.args.value w c.args.map.now (c.get_mut.follows.lender w) (tied_itself g.met.K.Ord.total c.args.key.now) is
-    ((c.get_mut.follows.holds w).3 (search rules))
+    joins_there g.met.K.Ord.total g.V.Join.joined c.args.key.now c.args.key.now c.args.value c.in-Some.found.now w c.args.map.now (c.get_mut.follows.lender w) (tied_itself g.met.K.Ord.total c.args.key.now) c.join.ensures
+    c.in-Some.ensures.value ((c.get_mut.follows.holds w).3 (search rules))
 
 -- the key is new
 pub returns-clause-ok : goal.returns-clause-ok
