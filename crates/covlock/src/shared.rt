@@ -7,6 +7,7 @@ use crate::start::Start;
 use covbook::{Book, BookFault, Entries, Entry, Keep, Op, Receipt};
 use covdata::Memory;
 use covnews::{Live, Name, News, Publisher, ReaderFault};
+use covreport::Table;
 use std::alloc::{Allocator, Global};
 use std::marker::Model;
 use std::sync::{Mutex, Wait};
@@ -15,15 +16,15 @@ use thiserror::Error;
 /// The greatest number of readers of one book.
 pub const MAX_READERS: u32 = 64;
 
-/// A book with a lock. Threads share this value by reference. `K` is the part of each entry that the book stores. Contracts see the
-/// number of jobs. A book that is dropped without being closed leaks the memory that it shares with its readers (some 17 KB).
+/// A book with a lock. Threads share this value by reference. `T` is the book's store, and `K` is the part of each entry that the
+/// book stores. Contracts see the number of jobs. A book that is dropped without being closed leaks the memory that it shares with its readers (some 17 KB).
 #[derive(Drop)]
-pub struct Shared<L: Name, A: Allocator = Global, K: Keep<Of = Entry<A>> = Entry<A>> {
+pub struct Shared<L: Name, A: Allocator, T: Table<A>, K: Keep<Of = Entry<A>> = Entry<A>> {
     jobs: u32,
-    shared_state: Mutex<SharedState<L, A, K>>,
+    shared_state: Mutex<SharedState<L, A, T, K>>,
 }
 
-impl<L: Name, A: Allocator, K: Keep<Of = Entry<A>>> Model for Shared<L, A, K> {
+impl<L: Name, A: Allocator, T: Table<A>, K: Keep<Of = Entry<A>>> Model for Shared<L, A, T, K> {
     ghost use Rattle.std.specs.Prelude.{◌≡◌};
     ghost use Rattle.covlock.specs.Shared.{SharedData};
 
@@ -67,10 +68,10 @@ ghost use Rattle.std.specs.Prelude.{◌≡◌, IfOk};
 ghost use Rattle.covlock.specs.Seat.{first_seats};
 
 /// Opens an empty book, with a seat for each job from 0 on. On `Memory`, drops the start.
-pub fn open_book<L: Name, A: Allocator + Copy>(
+pub fn open_book<L: Name, A: Allocator + Copy, T: Table<A>>(
     alloc: A,
     start: Start<A>,
-) -> Result<(Shared<L, A>, Seats<L, A>), Memory>
+) -> Result<(Shared<L, A, T>, Seats<L, A>), Memory>
     requires name { start.name ≡ L.name }
     requires jobs { start.jobs ≡ L.parts }
     requires book { start.book ≡ L.book }
@@ -81,10 +82,10 @@ pub fn open_book<L: Name, A: Allocator + Copy>(
 }
 
 /// Like `open_book`, but the book stores only the `K` part of each entry. Contracts see whole entries in any case.
-pub fn open_book_keeping<L: Name, A: Allocator + Copy, K: Keep<Of = Entry<A>>>(
+pub fn open_book_keeping<L: Name, A: Allocator + Copy, T: Table<A>, K: Keep<Of = Entry<A>>>(
     alloc: A,
     start: Start<A>,
-) -> Result<(Shared<L, A, K>, Seats<L, A>), Memory>
+) -> Result<(Shared<L, A, T, K>, Seats<L, A>), Memory>
     requires name { start.name ≡ L.name }
     requires jobs { start.jobs ≡ L.parts }
     requires book { start.book ≡ L.book }
@@ -99,7 +100,7 @@ pub fn open_book_keeping<L: Name, A: Allocator + Copy, K: Keep<Of = Entry<A>>>(
     Ok((Shared { jobs, shared_state }, seats))
 }
 
-impl<L: Name, A: Allocator + Copy, K: Keep<Of = Entry<A>>> Shared<L, A, K> {
+impl<L: Name, A: Allocator + Copy, T: Table<A>, K: Keep<Of = Entry<A>>> Shared<L, A, T, K> {
     ghost use Rattle.std.specs.Prelude.{◌≡◌, ◌≤◌, IfOk, MatchResult};
     ghost use Rattle.covbook.specs.View.{op_data};
     ghost use Rattle.covbook.specs.EntryView.{receipt_data};
@@ -129,7 +130,7 @@ impl<L: Name, A: Allocator + Copy, K: Keep<Of = Entry<A>>> Shared<L, A, K> {
     }
 }
 
-impl<L: Name, A: Allocator, K: Keep<Of = Entry<A>>> Shared<L, A, K> {
+impl<L: Name, A: Allocator, T: Table<A>, K: Keep<Of = Entry<A>>> Shared<L, A, T, K> {
     ghost use Rattle.std.specs.Prelude.{◌≡◌, length, IfOk, IfErr, MatchResult};
     ghost use Rattle.covbook.specs.Op.{AreLawfulOps};
     ghost use Rattle.covbook.specs.Step.{IsLegal, ops_in};
@@ -154,7 +155,7 @@ impl<L: Name, A: Allocator, K: Keep<Of = Entry<A>>> Shared<L, A, K> {
         self,
         rt: &R,
         seats: Seats<L, A>,
-    ) -> Result<(Book<A, K>, News<L>), (Shared<L, A, K>, Seats<L, A>, CloseFault)>
+    ) -> Result<(Book<A, T, K>, News<L>), (Shared<L, A, T, K>, Seats<L, A>, CloseFault)>
         ensures seated { MatchResult result (λ _. AllAreSeated self.jobs seats) (λ back. IsLeastMissing self.jobs seats (told_job back.2)) }
         ensures history { IfOk result (λ closed. IsLegal closed.0.entries) }
         ensures lawful { IfOk result (λ closed. AreLawfulOps (ops_in closed.0.entries)) }
@@ -169,7 +170,7 @@ impl<L: Name, A: Allocator, K: Keep<Of = Entry<A>>> Shared<L, A, K> {
     }
 }
 
-impl<L: Name, A: Allocator> Shared<L, A> {
+impl<L: Name, A: Allocator, T: Table<A>> Shared<L, A, T> {
     ghost use Rattle.std.specs.Prelude.{◌≡◌, length, IfOk, MatchResult};
     ghost use Rattle.covbook.specs.Op.{AreLawfulOps};
     ghost use Rattle.covbook.specs.Step.{IsLegal, ops_in};
@@ -184,7 +185,7 @@ impl<L: Name, A: Allocator> Shared<L, A> {
         self,
         rt: &R,
         seats: Seats<L, A>,
-    ) -> Result<(Entries<A>, News<L>), (Shared<L, A>, Seats<L, A>, CloseFault)>
+    ) -> Result<(Entries<A>, News<L>), (Shared<L, A, T>, Seats<L, A>, CloseFault)>
         ensures seated { MatchResult result (λ _. AllAreSeated self.jobs seats) (λ back. IsLeastMissing self.jobs seats (told_job back.2)) }
         ensures history { IfOk result (λ closed. IsLegal closed.0) }
         ensures lawful { IfOk result (λ closed. AreLawfulOps (ops_in closed.0)) }

@@ -20,6 +20,7 @@ use crate::workers::do_all_work;
 use covbook::{BookFault, Entry, Keep, Op, Receipt};
 use covdata::Memory;
 use covlock::{Name, Seats, Shared};
+use covreport::Table;
 use std::alloc::Global;
 use std::sync::Wait;
 use std::thread::Threads;
@@ -33,10 +34,11 @@ pub(crate) fn all_done<
     T: LateInput<Global, Fault: Send> + Send,
     K: Keep<Of = Entry> + Send,
     P: Keep<Of = Receipt> + Send,
+    S: Table<Global> + Send,
 >(
     rt: &R,
     alloc: Global,
-    book: &Shared<L, Global, K>,
+    book: &Shared<L, Global, S, K>,
     gate: &G,
     seats: Seats<L>,
     jobs: u32,
@@ -86,10 +88,10 @@ fn all_well<L: Name, P: Keep<Of = Receipt>, F: Drop>(
 }
 
 /// Lets job 0 perform the last operation. Returns the number of entries up to and including this operation's entry.
-pub(crate) fn ask_last<R: Wait, L: Name>(
+pub(crate) fn ask_last<R: Wait, L: Name, S: Table<Global>>(
     rt: &R,
     alloc: Global,
-    book: &Shared<L>,
+    book: &Shared<L, Global, S>,
     workers: &mut Vec<Worker<L>>,
     last: &Op,
 ) -> Result<u64, BookFault>

@@ -12,18 +12,19 @@ use covbook::laws::{a_run_goes_on, calls_count_a_history, order_does_not_matter}
 use covbook::{Answered, Book, BookFault, Receipt};
 use covdata::{Memory, ReadFault};
 use covlock::{Name, News, Seats, Start, open_book_keeping};
+use covreport::Table;
 use std::alloc::Global;
 use std::marker::Brand;
 use std::snapshot::Snapshot;
 use std::sync::Wait;
 use std::thread::Threads;
 
-/// The result of `collect_into_book`.
+/// The result of `collect_into_book`, with a book over the store `S`.
 #[derive(Drop)]
-pub struct CollectedBook<F: Drop = ReadFault> {
+pub struct CollectedBook<S: Table<Global>, F: Drop = ReadFault> {
     /// The book. Its table has the counts of all accepted submissions. Of its history, it stores only the answers; the rest exists
     /// only in proofs.
-    pub book: Book<Global, Answered>,
+    pub book: Book<Global, S, Answered>,
     /// The rejected inputs, in the inputs' order. Of these inputs, only parts before the error are in the history.
     pub refused: Refused<Global, F>,
 }
@@ -56,20 +57,21 @@ pub fn collect_into_book<
     R: Threads + Wait + Sync,
     G: Gate + Sync,
     T: LateInput<Global, Fault: Send> + Send,
+    S: Table<Global> + Send,
 >(
     rt: &R,
     alloc: Global,
     inputs: Vec<T>,
     jobs: u32,
     gate: &G,
-) -> Result<CollectedBook<T::Fault>, IntoBookFault>
+) -> Result<CollectedBook<S, T::Fault>, IntoBookFault>
     ensures collected { IfOk result (λ c. IsCollectedSoFar T.may_give inputs.items jobs c.book.entries c.refused) }
     ensures not_full { IfOk result (λ c. length c.book.entries < max_entries) }
     ensures unread { IfErr result (IsIntoBookFault T.may_give T.may_fail T.most inputs.items) }
     ensures bad { (result ≡ Err (into_book.Collect faults.BadJobs)) ↔ (AreJobs jobs → ⊥) }
 {
     let start = Start::new(alloc, jobs)?;
-    collect_named::<R, G, Brand, T>(rt, alloc, inputs, jobs, gate, start)
+    collect_named::<R, G, Brand, T, S>(rt, alloc, inputs, jobs, gate, start)
 }
 
 /// Like `collect_into_book`, with a book opened from `start`.
@@ -78,6 +80,7 @@ fn collect_named<
     G: Gate + Sync,
     L: Name + Send + Sync,
     T: LateInput<Global, Fault: Send> + Send,
+    S: Table<Global> + Send,
 >(
     rt: &R,
     alloc: Global,
@@ -85,7 +88,7 @@ fn collect_named<
     jobs: u32,
     gate: &G,
     start: Start,
-) -> Result<CollectedBook<T::Fault>, IntoBookFault>
+) -> Result<CollectedBook<S, T::Fault>, IntoBookFault>
     requires name { start.name ≡ L.name }
     requires parts { start.jobs ≡ L.parts }
     requires book { start.book ≡ L.book }
@@ -97,7 +100,7 @@ fn collect_named<
     ensures jobs_are_good { result ≡ Err (into_book.Collect faults.BadJobs) → ⊥ }
 {
     let most_parts = most_parts_of(inputs.as_slice());
-    let (book, seats) = open_book_keeping::<L, Global, Answered>(alloc, start)?;
+    let (book, seats) = open_book_keeping::<L, Global, S, Answered>(alloc, start)?;
     let workers: Vec<Worker<L, Global, Snapshot<Receipt>, T::Fault>> = all_done(
         rt,
         alloc,

@@ -12,6 +12,7 @@ use crate::stop::{Refusal, Stop};
 use covbook::{BookFault, Entry, JobLog, Keep, Op, Readings, Receipt, Receipts};
 use covdata::{Memory, ReadFault};
 use covlock::{Done, Live, Name, News, Seat, Shared};
+use covreport::Table;
 use std::alloc::{Allocator, Global};
 use std::marker::Model;
 use std::snapshot::Snapshot;
@@ -81,11 +82,11 @@ impl<L: Name, A: Allocator + Copy, P: Keep<Of = Receipt<A>>, F: Drop> Worker<L, 
     /// Reads the input part by part. `first` is the job's first failed call or list allocation before this input. As long as none
     /// has failed, submits each part before reading the next one, or notes that the input is rejected. Returns the job's first
     /// failure up to the end of this input. The input is consumed before its last part is submitted.
-    fn go_on<R: Wait, G: Gate, T: LateInput<A, Fault = F>, K: Keep<Of = Entry<A>>>(
+    fn go_on<R: Wait, G: Gate, T: LateInput<A, Fault = F>, K: Keep<Of = Entry<A>>, S: Table<A>>(
         &mut self,
         rt: &R,
         alloc: A,
-        book: &Shared<L, A, K>,
+        book: &Shared<L, A, S, K>,
         gate: &G,
         placed: Placed<T>,
         first: Option<BookFault>,
@@ -113,11 +114,11 @@ impl<L: Name, A: Allocator + Copy, P: Keep<Of = Receipt<A>>, F: Drop> Worker<L, 
     /// Reads the next part of the input. `first` is the job's first failed call or list allocation before this part. If `first` is
     /// `None`, submits the part, or notes that the input is rejected. Returns the rest of the input, and the job's first failure up
     /// to the end of this part.
-    fn take_part<R: Wait, G: Gate, T: LateInput<A, Fault = F>, K: Keep<Of = Entry<A>>>(
+    fn take_part<R: Wait, G: Gate, T: LateInput<A, Fault = F>, K: Keep<Of = Entry<A>>, S: Table<A>>(
         &mut self,
         rt: &R,
         alloc: A,
-        book: &Shared<L, A, K>,
+        book: &Shared<L, A, S, K>,
         gate: &G,
         index: usize,
         input: T,
@@ -137,11 +138,11 @@ impl<L: Name, A: Allocator + Copy, P: Keep<Of = Receipt<A>>, F: Drop> Worker<L, 
     }
 
     /// Submits a part of an input, or notes that the input is rejected.
-    fn take<R: Wait, G: Gate, K: Keep<Of = Entry<A>>>(
+    fn take<R: Wait, G: Gate, K: Keep<Of = Entry<A>>, S: Table<A>>(
         &mut self,
         rt: &R,
         alloc: A,
-        book: &Shared<L, A, K>,
+        book: &Shared<L, A, S, K>,
         gate: &G,
         index: usize,
         part: Result<Given<A>, F>,
@@ -171,11 +172,11 @@ impl<L: Name, A: Allocator + Copy, P: Keep<Of = Receipt<A>>, F: Drop> Worker<L, 
     }
 
     /// Submits `submission` between the two calls of `gate`, and stores the receipt. Then stores a reading if the job has a reader.
-    fn submit<R: Wait, G: Gate, K: Keep<Of = Entry<A>>>(
+    fn submit<R: Wait, G: Gate, K: Keep<Of = Entry<A>>, S: Table<A>>(
         &mut self,
         rt: &R,
         alloc: A,
-        book: &Shared<L, A, K>,
+        book: &Shared<L, A, S, K>,
         gate: &G,
         submission: Given<A>,
     ) -> Result<(), BookFault>
@@ -195,11 +196,11 @@ impl<L: Name, A: Allocator + Copy, P: Keep<Of = Receipt<A>>, F: Drop> Worker<L, 
 
     /// Performs the operation and stores the receipt. Returns news of the history up to and including the receipt's entry, which
     /// the job has now seen. Reserves memory for the receipt first, so the receipt of each successful call is stored.
-    pub(crate) fn ask<R: Wait, K: Keep<Of = Entry<A>>>(
+    pub(crate) fn ask<R: Wait, K: Keep<Of = Entry<A>>, S: Table<A>>(
         &mut self,
         rt: &R,
         alloc: A,
-        book: &Shared<L, A, K>,
+        book: &Shared<L, A, S, K>,
         op: &Op<A>,
     ) -> Result<News<L>, BookFault>
         ensures job { self.new.seat.job ≡ self.old.seat.job }
@@ -326,10 +327,11 @@ pub(crate) fn work<
     T: LateInput<A>,
     K: Keep<Of = Entry<A>>,
     P: Keep<Of = Receipt<A>>,
+    S: Table<A>,
 >(
     rt: &R,
     alloc: A,
-    book: &Shared<L, A, K>,
+    book: &Shared<L, A, S, K>,
     gate: &G,
     seat: Seat<L>,
     jobs: u32,
@@ -400,9 +402,9 @@ fn refused_text<F: Drop>(
 }
 
 /// Makes a reader of the book, if `readers` asks for one per job and the book has a place for it.
-fn reader_of<R: Wait, L: Name, A: Allocator, K: Keep<Of = Entry<A>>>(
+fn reader_of<R: Wait, L: Name, A: Allocator, K: Keep<Of = Entry<A>>, S: Table<A>>(
     rt: &R,
-    book: &Shared<L, A, K>,
+    book: &Shared<L, A, S, K>,
     readers: Readers,
 ) -> Option<Live<L, A>>
     ensures { MayHaveReader readers (is_some result) }
