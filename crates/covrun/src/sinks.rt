@@ -8,7 +8,8 @@ ghost use Rattle.covsession.specs.declared.session.fault.SessionFault.TheVariant
 ghost use Rattle.covrun.specs.Streams.{CanWrite, Complains, IsSilent, PutsOut, Withholds};
 
 use crate::ready_text::ReadyText;
-use covsession::{SessionFault, put_bytes, run_session};
+use covnamed::run_session;
+use covsession::{SessionFault, put_bytes};
 use covstream::{Sink, Source};
 use std::alloc::Global;
 use std::marker::Model;

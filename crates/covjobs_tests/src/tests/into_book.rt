@@ -8,10 +8,8 @@ use super::said::check_answers;
 use covbook::Op;
 use covdata::{Bytes, ReadFault};
 use covjobs::Input;
-use covworkers::{
-    CollectFault, CollectedBook, Given, IntoBookFault, LateFault, LateInput, NoGate, Part,
-    collect_into_book,
-};
+use covnamed::{CollectedBook, collect_into_book};
+use covworkers::{CollectFault, Given, IntoBookFault, LateFault, LateInput, NoGate, Part};
 use std::alloc::Global;
 use std::process::Abort;
 use std::sync::Wait;

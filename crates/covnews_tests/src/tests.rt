@@ -1,9 +1,10 @@
-//! Tests of a publisher and its readers. The entries are those of a `covbook::Book`.
+//! Tests of a publisher and its readers. The entries are those of a `covnamed::Book`.
 
 ghost use Rattle.std.specs.Prelude.{◌≡◌, ◌<◌, []};
 
-use super::*;
-use covbook::{Book, Op};
+use covbook::Op;
+use covnamed::Book;
+use covnews::{HistorySeed, Live, Name, News, Publisher};
 use linked_list_allocator::LocalHeap;
 use std::alloc::{AllocGlobal, Allocator, Global};
 use std::marker::Brand;

@@ -1,7 +1,7 @@
 use Rattle.std.proofs.Common.{◌≡◌, ◌∙◌, List, subst, sym}
 use Rattle.covbook.specs.Op.{EntryData}
 use Rattle.covbook.specs.Step.{ComesNext}
-use Rattle.covnews.proofs.tests.step.Goals as goal
+use Rattle.covnews_tests.proofs.tests.step.Goals as goal
 
 -- the entry comes next in the book, and the publisher has noted the book's entries
 pub note-requires-clause-next : goal.note-requires-clause-next

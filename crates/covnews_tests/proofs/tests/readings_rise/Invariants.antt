@@ -1,4 +1,4 @@
-use Rattle.covnews.proofs.tests.readings_rise.Given as goal
+use Rattle.covnews_tests.proofs.tests.readings_rise.Given as goal
 
 -- the name is that of the history that the seed begins
 abbrev pub ghosts-read_meanwhile-L-Name : goal.ghosts-read_meanwhile-L-Name

@@ -1,5 +1,5 @@
 use Rattle.std.proofs.Common.{◌≡◌}
-use Rattle.covnews.proofs.tests.step_often.Given as goal
+use Rattle.covnews_tests.proofs.tests.step_often.Given as goal
 
 -- the publisher has noted the book's entries
 abbrev pub invariant-loop : goal.invariant-loop
