@@ -5,6 +5,6 @@ use Rattle.covtable.specs.Files.{FileTotalsData}
 use Rattle.covtable.specs.TotalsExchanged.{no_totals, together}
 
 -- the sum of the totals of those files that aren't chosen
-pub others : (chosen : List ℕ → Bool) → List FileTotalsData → Totals
+unfoldable pub others : (chosen : List ℕ → Bool) → List FileTotalsData → Totals
 others chosen [] = no_totals
 others chosen (file ∷ files) = cond (chosen file.path) (others chosen files) (together file.totals (others chosen files))

@@ -11,7 +11,7 @@ abbrev pub invariant-loop-file : goal.invariant-loop-file
 invariant-loop-file g l =
     let chosen = is_chosen (choice_data l.choice) in
     let left = g.I.TableFiles.left in
-    (own : Totals) → l.whole ≡ together own (others chosen (left l.initial.files)) → l.totals ≡ together own (others chosen (left l.files))
+    (own : Totals) → l.fn.whole ≡ together own (others chosen (left l.initial.files)) → l.totals ≡ together own (others chosen (left l.files))
 
 abbrev pub decreases-loop-file : goal.decreases-loop-file
 decreases-loop-file g l = length (g.I.TableFiles.left l.files)

@@ -12,7 +12,7 @@ loop-section-init g c = record { written = refl; room = c.requires }
 
 pub put_if_wanted-requires : goal.put_if_wanted-requires
 put_if_wanted-requires g c =
-    room_first (choice_data c.args.choice.now) _ _ _ (vec_capacity c.loop-section.functions) c.in-Some.ensures c.loop-section.invariant.room
+    λ k. ((refl, tt), room_first (choice_data c.args.choice.now) _ _ _ (vec_capacity c.loop-section.functions) c.in-Some.ensures c.loop-section.invariant.room)
 
 pub loop-section-preserved : goal.loop-section-preserved
 loop-section-preserved g c =
