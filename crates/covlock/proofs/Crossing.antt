@@ -13,8 +13,8 @@ use Rattle.covnews.specs.declared.name.Name as Name
 use Rattle.covlock.specs.contracts.shared.Shared as Shared
 use Rattle.covlock.specs.contracts.shared_state.SharedState as SharedState
 
-state_send : (L T K : RattleType) (n : Name.Ghosts L.Denot) (l : Ledger.Ghosts L.Denot) (t : _) (k : _) → IsSend T → IsSend K → IsSend (SharedState.the_row L Heap.the_row T K n l ghosts t k)
-state_send L T K n l t k st sk = search (sendable, heap.crosses, book.the_send, publisher.the_send, count.the_send, share.the_send) depth 40 fits 20000
+state_send : (L T K Plan Renaming : RattleType) (n : Name.Ghosts L.Denot) (l : Ledger.Ghosts L.Denot) (t : _) (k : _) → IsSend T → IsSend K → IsSend (SharedState.the_row L Heap.the_row T K Plan Renaming n l ghosts t k)
+state_send L T K Plan Renaming n l t k st sk = search (sendable, heap.crosses, book.the_send, publisher.the_send, count.the_send, share.the_send) depth 40 fits 20000
 
-pub shared_sync : (L T K : RattleType) (n : Name.Ghosts L.Denot) (l : Ledger.Ghosts L.Denot) (t : _) (k : _) → IsSend T → IsSend K → IsSync (Shared.the_row L Heap.the_row T K n l ghosts t k)
-shared_sync L T K n l t k st sk = search (sendable, heap.crosses, state_send) depth 40 fits 20000
+pub shared_sync : (L T K Plan Renaming : RattleType) (n : Name.Ghosts L.Denot) (l : Ledger.Ghosts L.Denot) (t : _) (k : _) → IsSend T → IsSend K → IsSync (Shared.the_row L Heap.the_row T K Plan Renaming n l ghosts t k)
+shared_sync L T K Plan Renaming n l t k st sk = search (sendable, heap.crosses, state_send) depth 40 fits 20000

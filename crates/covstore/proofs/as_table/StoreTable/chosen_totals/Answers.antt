@@ -1,4 +1,4 @@
-use Rattle.std.proofs.Common.{List, sym, ap, ◌∙◌, subst}
+use Rattle.std.proofs.Common.{List, refl, sym, ap, ◌∙◌, subst}
 use Rattle.covtable.specs.Files.{FileTotalsData}
 use Rattle.covtable.specs.Totals.{AreTotals, totals_of}
 use Rattle.covtable.specs.TotalsExchanged.{together}
@@ -14,7 +14,7 @@ without_others-requires g c =
     let chosen = is_chosen (choice_data c.args.choice.now) in
     let sections = c.args.self.now.sections in
     let own = totals_of (chosen_of chosen sections) in
-    (own, c.totals.ensures.value ∙ sym (all_parted chosen sections) ∙ ap (λ (files : List FileTotalsData). together own (others chosen files)) (sym c.files.ensures))
+    λ k. ((refl, tt), (own, c.totals.ensures.value ∙ sym (all_parted chosen sections) ∙ ap (λ (files : List FileTotalsData). together own (others chosen files)) (sym c.files.ensures)))
 
 pub returns-clause-value : goal.returns-clause-value
 returns-clause-value g c =
