@@ -329,7 +329,6 @@ failure_reported None failure status old new alone printed = (alone, printed)
 failure_reported (Some name) (failures.Words fault) status old new alone printed = (alone.0, (printed, alone.1))
 failure_reported (Some name) (failures.Unreadable file) status old new alone printed = (alone.0, (printed, alone.1))
 failure_reported (Some name) (failures.Stopped fault) status old new alone printed = (alone.0, (printed, alone.1))
-failure_reported (Some name) failures.Ungathered status old new alone printed = (alone.0, (printed, alone.1))
 failure_reported (Some name) (failures.Refused lines) status old new alone printed = (alone.0, (printed, alone.1))
 failure_reported (Some name) (failures.Unclean lines) status old new alone printed = (alone.0, (printed, alone.1))
 

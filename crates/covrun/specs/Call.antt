@@ -79,7 +79,7 @@ most_submissions (LargeTracefile version) files = files * max_pieces
 most_submissions (GcovOutput test) files = files
 
 -- the result of collecting the texts. `BadJobs` is returned only if the number of jobs is out of range, and `Full` only if the files
--- can have at least as many submissions as a full history has entries. `Gather` is never returned
+-- can have at least as many submissions as a full history has entries. `Gather` and `NotLast` are never returned
 abbrev pub IsAnswer : WorkData → List (List ℕ) → Result CollectedData CollectFault → Type 0
 IsAnswer work texts (Ok c) =
     AreCollectedIn work.format work.strictness texts work.jobs (last_of work.asks) c.entries c.logs c.refused

@@ -106,7 +106,7 @@ first_unread {X} MayGive MayFail readers inputs jobs ended index some if_started
 -- ---- which fault is returned
 
 -- the history can be full if there are parts enough
-full_may_come : (parts most : ℕ) (test : Bool) → nat_lt parts most ≡ test → (Few : CollectFault → Type 0) → Few collects.NotLast → (most ≤ parts → Few collects.Full) → Few (if test then collects.NotLast else collects.Full)
+full_may_come : (parts most : ℕ) (test : Bool) → nat_lt parts most ≡ test → (Few : CollectFault → Type 0) → Few collects.Memory → (most ≤ parts → Few collects.Full) → Few (if test then collects.Memory else collects.Full)
 full_may_come parts most true is Few few many = few
 full_may_come parts most false is Few few many = many (ltb-false parts most is)
 

@@ -48,13 +48,13 @@ IsFirstUnread MayGive MayFail inputs index =
     IsSomeAnd (slice_get inputs index) MayFail × AllByRecursion (λ input. HasOutcome (MayGive input)) (take index inputs)
 
 -- which faults of collecting may come if no history is kept. `Full` comes only if the inputs can have at least as many parts as a
--- full history has entries. `Gather` doesn't come
+-- full history has entries. `Gather` and `NotLast` don't come
 abbrev pub MayCome : (most_parts : ℕ) → CollectFault → Type 0
 MayCome most_parts collects.BadJobs = Unit {0}
 MayCome most_parts collects.Full = max_entries ≤ most_parts
 MayCome most_parts collects.Memory = Unit {0}
 MayCome most_parts (collects.Gather fault) = ⊥
-MayCome most_parts collects.NotLast = Unit {0}
+MayCome most_parts collects.NotLast = ⊥
 
 -- why inputs aren't collected in a book: this is the first input that can't be read, or this fault of collecting may come. `most`
 -- says how many parts an input can have at most

@@ -15,9 +15,9 @@ use Rattle.covworkers.specs.declared.stop.Stop.{Stop}
 use Rattle.covworkers.specs.declared.stop.Stop.TheVariants as stops
 
 -- which fault of collecting is returned if the book refused a call. With fewer parts than `max_entries` the history never gets
--- full: `NotLast` stands for that case
+-- full: `Memory`, which needs no cause, stands for that case
 abbrev pub of_refused : (most_parts : ℕ) → BookFault → CollectFault
-of_refused most_parts book.Full = if nat_lt most_parts max_entries then collects.NotLast else collects.Full
+of_refused most_parts book.Full = if nat_lt most_parts max_entries then collects.Memory else collects.Full
 of_refused most_parts book.Memory = collects.Memory
 
 -- which fault is returned for a stop. The inputs have this number of parts at most

@@ -110,13 +110,13 @@ pub(crate) fn fault_of(most_parts: u64, stop: Stop) -> IntoBookFault
 }
 
 /// Turns an error of the book into one of collecting. `most_parts` is the greatest number of parts that all inputs together can
-/// have. `Full` becomes `NotLast` if `most_parts` is below `MAX_ENTRIES`: then no history gets full, so this never happens.
+/// have. `Full` becomes `Memory` if `most_parts` is below `MAX_ENTRIES`: then no history gets full, so this never happens.
 pub(crate) fn refused_by(most_parts: u64, fault: BookFault) -> CollectFault
     ensures { result ≡ of_refused most_parts fault }
 {
     match fault {
         BookFault::Full => if most_parts < MAX_ENTRIES {
-            CollectFault::NotLast
+            CollectFault::Memory
         } else {
             CollectFault::Full
         },

@@ -21,8 +21,7 @@ pub enum CollectFault {
     /// Fault 4: the history isn't a merge of the jobs' logs, or a log has a wrong reading.
     #[error("gather: {0}")]
     Gather(GatherFault),
-    /// Fault 5, checked last: the last operation's entry isn't the last one. Also returned if the history is full although the
-    /// inputs have fewer parts than it has entries. Neither happens.
+    /// Fault 5: the last operation's entry isn't the last one. This is checked last, and never happens.
     #[error("NotLast")]
     NotLast,
 }

@@ -49,10 +49,10 @@ ghost use Rattle.covlock.specs.Start.{AreJobs};
 /// If job 0 next asks for a text, whichever it is, the history with this further entry is a result of `collect`: matching logs of
 /// the jobs exist. The history always has capacity for this entry. `Book::text_of` returns the text.
 ///
-/// Errors: those of `collect` except `Gather`, and `Unread` with the first unreadable input. If that input is known, `Unread` takes
-/// precedence over `Full` and `Memory`. `Full` is returned only if the inputs can have at least 1,048,576 parts. `NotLast` is
-/// returned if a worker knows of more entries than the closed book has, or if the book is full although the inputs have fewer
-/// parts. Neither happens. No contract says that `Memory` is returned only after a failed allocation.
+/// Errors: those of `collect` except `Gather` and `NotLast`, and `Unread` with the first unreadable input. If that input is known,
+/// `Unread` takes precedence over `Full` and `Memory`. `Full` is returned only if the inputs can have at least 1,048,576 parts. No
+/// contract says that `Memory` is returned only after a failed allocation. It would also be returned if a worker knew of more entries
+/// than the closed book has, or if the book were full although the inputs have fewer parts. Neither happens.
 pub fn collect_into_book<
     R: Threads + Wait + Sync,
     G: Gate + Sync,
@@ -117,8 +117,10 @@ fn collect_named<
         // No seat is missing: each worker returns its own.
         Err(_back) => unreachable!(),
     };
+    // Always true: the closed news are the longest, but no contract says so. The error is `Memory`, since every other error has a
+    // cause that callers can see.
     if !are_before(latest.as_slice(), &news) {
-        return Err(IntoBookFault::Collect(CollectFault::NotLast));
+        return Err(IntoBookFault::Collect(CollectFault::Memory));
     }
     if book.is_full() {
         return Err(IntoBookFault::Collect(refused_by(most_parts, BookFault::Full)));

@@ -1,7 +1,10 @@
-use Rattle.std.proofs.Common.{Err, map, slice_get, refl, inl, inr, ap, ◌∙◌}
+use Rattle.std.proofs.Common.{ℕ, Err, length, map, slice_get, refl, inl, inr, ap, sym, subst, ◌∙◌}
 use Rattle.std.specs.String.{string_bytes}
+use Rattle.covworkers.specs.Late.{MayCome}
 use Rattle.covworkers.specs.declared.book_fault.IntoBookFault.TheVariants as into_book
+use Rattle.covworkers.specs.declared.collect_fault.CollectFault.{CollectFault}
 use Rattle.covsession.specs.declared.session.fault.SessionFault.TheVariants as faults
+use Rattle.covrun.specs.Call.{most_submissions}
 use Rattle.covrun.specs.Ending.{Unreadable, name_at, of_collect}
 use Rattle.covrun.specs.Folder.{folder_data}
 use Rattle.covrun.specs.View.{work_data}
@@ -52,6 +55,14 @@ returns-in-Err-Unread g c =
     (map string_bytes c.get-names.result.now) c.in-Err-Unread.index _ c.in-Ok.ensures.names c.in-Ok.ensures.own c.in-Err-Unread.field-0-is c.in-Err-Unread.ensures.unread)
     (unreadable_told _ _ _ _ c.of-naming.ensures (c.file_name.ensures ∙ ap (λ index. name_at (slice_get (map string_bytes c.get-names.result.now) index)) c.in-Err-Unread.index-is) c.unreadable.ensures))
     c.report_failure-in-Err-Unread.ensures
+
+pub failure_of_collect-requires : goal.failure_of_collect-requires
+failure_of_collect-requires g c =
+    subst (λ (fault : CollectFault). (most_parts : ℕ) × MayCome most_parts fault) (sym c.in-Err-Collect.fault-is)
+    (most_submissions c.args.work.now.format (length (map string_bytes c.get-names.result.now)),
+    may_come c.in-Ok.inputs.items c.args.folder.now g.F.File.Source.left
+    (record { own = λ one. one.folder.now; name = λ one. one.name.now; format = λ one. one.format.now; strictness = λ one. one.strictness; opened = λ one. one.opened })
+    c.args.work.now.format c.args.work.now.strictness _ _ _ _ c.in-Err-Collect.fault c.in-Ok.ensures.names c.in-Ok.ensures.own c.in-Err-Collect.field-0-is c.in-Err-Collect.ensures.unread)
 
 pub returns : goal.returns
 returns g c =
