@@ -85,10 +85,6 @@ impl<A: Allocator + Copy> LateInput<A> for Input<A> {
             Err(fault) => Err(LateFault::Refused(fault)),
         }
     }
-
-    fn most_parts(&self) -> u64 {
-        1
-    }
 }
 
 /// A borrowed input in memory. It has one part, and its owner keeps it.
@@ -110,9 +106,5 @@ impl<'a, A: Allocator + Copy> LateInput<A> for &'a Input<A> {
             Ok(submission) => Ok(Part::Last(Given::plain(submission))),
             Err(fault) => Err(LateFault::Refused(fault)),
         }
-    }
-
-    fn most_parts(&self) -> u64 {
-        1
     }
 }

@@ -63,7 +63,7 @@ pub fn collect_into_book<
 ) -> Result<CollectedBook<T::Fault>, IntoBookFault>
     ensures collected { IfOk result (λ c. IsCollectedSoFar T.may_give inputs.items jobs c.book.entries c.refused) }
     ensures not_full { IfOk result (λ c. length c.book.entries < max_entries) }
-    ensures unread { IfErr result (IsIntoBookFault T.may_give T.may_fail T.most inputs.items) }
+    ensures unread { IfErr result (IsIntoBookFault T.may_give T.may_fail inputs.items) }
     ensures bad { (result ≡ Err (into_book.Collect faults.BadJobs)) ↔ (AreJobs jobs → ⊥) }
 {
     covworkers::collect_into_book::<R, G, T, Store>(rt, alloc, inputs, jobs, gate)

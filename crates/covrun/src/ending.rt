@@ -1,7 +1,7 @@
 //! How a run of a subcommand ends.
 
-ghost use Rattle.std.specs.Prelude.{◌≡◌, ℕ};
-ghost use Rattle.covworkers.specs.Late.{MayCome};
+ghost use Rattle.std.specs.Prelude.{◌≡◌};
+ghost use Rattle.covworkers.specs.Late.{MayComeAtAll};
 ghost use Rattle.covrun.specs.Ending.{of_collect};
 ghost use Rattle.covrun.specs.View.{failure_data};
 ghost use Rattle.covrun.specs.WorkFault.{of_work};
@@ -39,7 +39,7 @@ pub(crate) enum Failure {
 
 /// Turns an error of collecting into a book into the failure of the run.
 pub(crate) fn failure_of_collect(fault: CollectFault) -> Failure
-    requires { (most_parts : ℕ) × MayCome most_parts fault }
+    requires { MayComeAtAll fault }
     ensures { failure_data result ≡ of_collect fault }
 {
     match fault {

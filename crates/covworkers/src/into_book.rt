@@ -1,15 +1,15 @@
 //! Collects inputs into a book that stores only the answers of its history.
 
-use crate::book_fault::{IntoBookFault, refused_by};
+use crate::book_fault::IntoBookFault;
 use crate::collect_fault::CollectFault;
 use crate::done::all_done;
 use crate::gate::Gate;
-use crate::late::{LateInput, most_parts_of};
+use crate::late::LateInput;
 use crate::readers::Readers;
 use crate::refused::Refused;
 use crate::worker::Worker;
 use covbook::laws::{a_run_goes_on, calls_count_a_history, order_does_not_matter};
-use covbook::{Answered, Book, BookFault, Receipt};
+use covbook::{Answered, Book, Receipt};
 use covdata::{Memory, ReadFault};
 use covlock::{Name, News, Seats, Start, open_book_keeping};
 use covreport::Table;
@@ -50,9 +50,9 @@ ghost use Rattle.covlock.specs.Start.{AreJobs};
 /// the jobs exist. The history always has capacity for this entry. `Book::text_of` returns the text.
 ///
 /// Errors: those of `collect` except `Gather` and `NotLast`, and `Unread` with the first unreadable input. If that input is known,
-/// `Unread` takes precedence over `Full` and `Memory`. `Full` is returned only if the inputs can have at least 1,048,576 parts. No
-/// contract says that `Memory` is returned only after a failed allocation. It would also be returned if a worker knew of more entries
-/// than the closed book has, or if the book were full although the inputs have fewer parts. Neither happens.
+/// `Unread` takes precedence over `Full` and `Memory`. `Full` is returned only if all inputs were read, as at least 1,048,576
+/// submissions. No contract says that `Memory` is returned only after a failed allocation. It would also be returned if a worker knew
+/// of more entries than the closed book has, or if the book were full although fewer submissions were read. Neither happens.
 pub fn collect_into_book<
     R: Threads + Wait + Sync,
     G: Gate + Sync,
@@ -67,7 +67,7 @@ pub fn collect_into_book<
 ) -> Result<CollectedBook<S, T::Fault>, IntoBookFault>
     ensures collected { IfOk result (λ c. IsCollectedSoFar T.may_give inputs.items jobs c.book.entries c.refused) }
     ensures not_full { IfOk result (λ c. length c.book.entries < max_entries) }
-    ensures unread { IfErr result (IsIntoBookFault T.may_give T.may_fail T.most inputs.items) }
+    ensures unread { IfErr result (IsIntoBookFault T.may_give T.may_fail inputs.items) }
     ensures bad { (result ≡ Err (into_book.Collect faults.BadJobs)) ↔ (AreJobs jobs → ⊥) }
 {
     let start = Start::new(alloc, jobs)?;
@@ -96,10 +96,9 @@ fn collect_named<
     requires some { 0 < jobs }
     ensures collected { IfOk result (λ c. IsCollectedSoFar T.may_give inputs.items jobs c.book.entries c.refused) }
     ensures not_full { IfOk result (λ c. length c.book.entries < max_entries) }
-    ensures unread { IfErr result (IsIntoBookFault T.may_give T.may_fail T.most inputs.items) }
+    ensures unread { IfErr result (IsIntoBookFault T.may_give T.may_fail inputs.items) }
     ensures jobs_are_good { result ≡ Err (into_book.Collect faults.BadJobs) → ⊥ }
 {
-    let most_parts = most_parts_of(inputs.as_slice());
     let (book, seats) = open_book_keeping::<L, Global, S, Answered>(alloc, start)?;
     let workers: Vec<Worker<L, Global, Snapshot<Receipt>, T::Fault>> = all_done(
         rt,
@@ -123,7 +122,7 @@ fn collect_named<
         return Err(IntoBookFault::Collect(CollectFault::Memory));
     }
     if book.is_full() {
-        return Err(IntoBookFault::Collect(refused_by(most_parts, BookFault::Full)));
+        return Err(IntoBookFault::Collect(CollectFault::Full));
     }
     calls_count_a_history();
     a_run_goes_on();

@@ -7,7 +7,7 @@ use std::alloc::Allocator;
 /// An input that is read when a worker reaches it, such as a file. It has one part or several, and each part is a submission of its
 /// own. Reading consumes the input: its memory is freed or returned to the owner before the last part is submitted.
 pub trait LateInput<A: Allocator>: Drop {
-    ghost use Rattle.std.specs.Prelude.{◌≡◌, ℕ};
+    ghost use Rattle.std.specs.Prelude.{ℕ};
     ghost use Rattle.covworkers.specs.Collect.{OutcomeData};
     ghost use Rattle.covworkers.specs.Late.{IsNextPart};
 
@@ -27,22 +27,4 @@ pub trait LateInput<A: Allocator>: Drop {
     /// last one. An error ends the input, but parts submitted earlier stay submitted.
     fn read_part(self, alloc: A) -> Result<Part<Self, A>, LateFault<Self::Fault>>
         ensures { IsNextPart may_give may_fail most self result };
-
-    /// The greatest number of parts that the input can have.
-    fn most_parts(&self) -> u64
-        ensures { result ≡ most self.now };
-}
-
-ghost use Rattle.std.specs.Prelude.{◌≡◌};
-ghost use Rattle.covworkers.specs.Stops.{most_parts_in};
-
-/// The greatest number of parts that all inputs together can have. Saturates at 2^64 - 1.
-pub(crate) fn most_parts_of<A: Allocator, T: LateInput<A>>(inputs: &[T]) -> u64
-    ensures { result ≡ most_parts_in T.most inputs.now }
-{
-    let mut most: u64 = 0;
-    for input in inputs {
-        most = most.saturating_add(input.most_parts());
-    }
-    most
 }

@@ -57,7 +57,7 @@ impl<L: Name, A: Allocator + Copy, P: Keep<Of = Receipt<A>>, F: Drop> Worker<L, 
     ghost use Rattle.covworkers.specs.Collect.{ops_in, refusal, submitted, whole, HasRead};
     ghost use Rattle.covworkers.specs.Late.{chances_of};
     ghost use Rattle.covworkers.specs.Stops.{IsStopAt};
-    ghost use Rattle.covworkers.specs.Work.{Asks, HasOutcome, IsReading, ReadsOn, Takes};
+    ghost use Rattle.covworkers.specs.Work.{Asks, HasParts, IsReading, ReadsOn, Takes};
     ghost use Rattle.covlock.specs.Seat.{fresh_seat};
 
     /// A worker that has done nothing yet.
@@ -81,7 +81,8 @@ impl<L: Name, A: Allocator + Copy, P: Keep<Of = Receipt<A>>, F: Drop> Worker<L, 
 
     /// Reads the input part by part. `first` is the job's first failed call or list allocation before this input. As long as none
     /// has failed, submits each part before reading the next one, or notes that the input is rejected. Returns the job's first
-    /// failure up to the end of this input. The input is consumed before its last part is submitted.
+    /// failure up to the end of this input, and how many submissions were read of the input (at most 2^64 - 1). The input is consumed
+    /// before its last part is submitted.
     fn go_on<R: Wait, G: Gate, T: LateInput<A, Fault = F>, K: Keep<Of = Entry<A>>, S: Table<A>>(
         &mut self,
         rt: &R,
@@ -90,30 +91,32 @@ impl<L: Name, A: Allocator + Copy, P: Keep<Of = Receipt<A>>, F: Drop> Worker<L, 
         gate: &G,
         placed: Placed<T>,
         first: Option<BookFault>,
-    ) -> Result<Option<BookFault>, Stop>
+    ) -> Result<(Option<BookFault>, u64), Stop>
         ensures job { self.new.seat.job ≡ self.old.seat.job }
-        ensures outcome { IfOk result (λ _. HasOutcome (T.may_give placed.input)) }
-        ensures taken { IfOk result (λ fault. fault ≡ None → (first ≡ None) × Takes (T.may_give placed.input) placed.index (ops_in self.old.receipts) (ops_in self.new.receipts) self.old.refused self.new.refused) }
-        ensures kept { IfSome first (λ f. IfOk result (λ fault. fault ≡ Some f)) }
+        ensures outcome { IfOk result (λ r. HasParts (T.may_give placed.input) r.1) }
+        ensures taken { IfOk result (λ r. r.0 ≡ None → (first ≡ None) × Takes (T.may_give placed.input) placed.index (ops_in self.old.receipts) (ops_in self.new.receipts) self.old.refused self.new.refused) }
+        ensures kept { IfSome first (λ f. IfOk result (λ r. r.0 ≡ Some f)) }
         ensures idle { IfSome first (λ _. IfOk result (λ _. (self.new.receipts ≡ self.old.receipts) × (self.new.refused ≡ self.old.refused))) }
         ensures stop { IfErr result (IsStopAt placed.index (T.may_fail placed.input)) }
-        ensures read { IfOk result (λ fault. fault ≡ None → HasRead self.old.has_reader self.old.receipts self.old.readings → HasRead self.new.has_reader self.new.receipts self.new.readings) }
+        ensures read { IfOk result (λ r. r.0 ≡ None → HasRead self.old.has_reader self.old.receipts self.old.readings → HasRead self.new.has_reader self.new.receipts self.new.readings) }
         ensures reader { self.new.has_reader ≡ self.old.has_reader }
     {
         let Placed { index, input } = placed;
         let mut fault = first;
         let mut left = Some(input);
+        let mut parts: u64 = 0;
         while let Some(input) = left {
-            let (rest, after) = self.take_part(rt, alloc, book, gate, index, input, fault)?;
+            let (rest, after, more) = self.take_part(rt, alloc, book, gate, index, input, fault)?;
             left = rest;
             fault = after;
+            parts = parts.saturating_add(more);
         }
-        Ok(fault)
+        Ok((fault, parts))
     }
 
     /// Reads the next part of the input. `first` is the job's first failed call or list allocation before this part. If `first` is
-    /// `None`, submits the part, or notes that the input is rejected. Returns the rest of the input, and the job's first failure up
-    /// to the end of this part.
+    /// `None`, submits the part, or notes that the input is rejected. Returns the rest of the input, the job's first failure up to the
+    /// end of this part, and 1 if the part is a submission, else 0.
     fn take_part<R: Wait, G: Gate, T: LateInput<A, Fault = F>, K: Keep<Of = Entry<A>>, S: Table<A>>(
         &mut self,
         rt: &R,
@@ -123,17 +126,22 @@ impl<L: Name, A: Allocator + Copy, P: Keep<Of = Receipt<A>>, F: Drop> Worker<L, 
         index: usize,
         input: T,
         first: Option<BookFault>,
-    ) -> Result<(Option<T>, Option<BookFault>), Stop>
+    ) -> Result<(Option<T>, Option<BookFault>, u64), Stop>
         ensures job { self.new.seat.job ≡ self.old.seat.job }
         ensures reader { self.new.has_reader ≡ self.old.has_reader }
-        ensures reading { IfOk result (λ r. IsReading (chances_of T.may_give T.may_fail) index input first self.old r.0 r.1 self.new) }
+        ensures reading { IfOk result (λ r. IsReading (chances_of T.may_give T.may_fail) index input first self.old r.0 r.1 r.2 self.new) }
         ensures fewer { IfOk result (λ r. IfSome r.0 (λ rest. T.most rest < T.most input)) }
         ensures stop { IfErr result (IsStopAt index (T.may_fail input)) }
     {
         let (part, rest) = next_part(alloc, index, input, first)?;
+        let parts = parts_in(&part);
         match first {
-            Some(fault) => Ok((rest, Some(fault))),
-            None => Ok((rest, self.take(rt, alloc, book, gate, index, part).err())),
+            Some(fault) => Ok((rest, Some(fault), parts)),
+            None => Ok((
+                rest,
+                self.take(rt, alloc, book, gate, index, part).err(),
+                parts,
+            )),
         }
     }
 
@@ -250,10 +258,17 @@ fn later<L: Name>(latest: &Option<News<L>>, news: &News<L>) -> News<L>
 }
 
 impl<L: Name, A: Allocator, P: Keep<Of = Receipt<A>>, F: Drop> Worker<L, A, P, F> {
-    ghost use Rattle.std.specs.Prelude.{◌≡◌};
+    ghost use Rattle.std.specs.Prelude.{◌≡◌, length};
     ghost use Rattle.covbook.specs.Kept.{IsKeptWell};
     ghost use Rattle.covworkers.specs.Latest.{history_of};
     ghost use Rattle.covworkers.specs.Work.{kept_of};
+
+    /// How many submissions the job has made: one for each receipt.
+    pub(crate) fn submissions(&self) -> u64
+        ensures { result ≡ length self.now.receipts }
+    {
+        self.receipts.len() as u64
+    }
 
     /// How many entries of the history the job has seen: all up to and including the entry of its last successful call.
     pub(crate) fn seen(&self) -> u64
@@ -346,15 +361,45 @@ pub(crate) fn work<
     let live = reader_of(rt, book, readers);
     let mut worker = Worker::new(alloc, seat, live);
     let mut first: Option<BookFault> = None;
+    // How many submissions were read. As long as nothing failed, each one has a receipt.
+    let mut parts: u64 = 0;
     for placed in share {
-        first = worker.go_on(rt, alloc, book, gate, placed, first)?;
+        let (fault, more) = worker.go_on(rt, alloc, book, gate, placed, first)?;
+        first = fault;
+        parts = counted(first, worker.submissions(), parts, more);
     }
     match first {
         None => Ok(worker),
         Some(fault) => Err(Stop::Refused(Refusal {
             fault,
             upto: usize::MAX,
+            parts,
         })),
+    }
+}
+
+ghost use Rattle.covworkers.specs.Stops.{counted_of};
+
+/// How many submissions a job has read after one more input, of which it read `more`: those that it `submitted`, if nothing failed
+/// (`first`). Otherwise `more` than `before`, or 2^64 - 1 if that is less.
+fn counted(first: Option<BookFault>, submitted: u64, before: u64, more: u64) -> u64
+    ensures { result ≡ counted_of first submitted before more }
+{
+    match first {
+        None => submitted,
+        Some(_) => before.saturating_add(more),
+    }
+}
+
+ghost use Rattle.covworkers.specs.Work.{one_if_read};
+
+/// Returns 1 if the part is a submission, and 0 if it is an error.
+fn parts_in<A: Allocator, F: Drop>(part: &Result<Given<A>, F>) -> u64
+    ensures { result ≡ one_if_read part.now }
+{
+    match part {
+        Ok(_) => 1,
+        Err(_) => 0,
     }
 }
 
@@ -397,6 +442,7 @@ fn refused_text<F: Drop>(
         LateFault::Memory => Err(Stop::Refused(Refusal {
             fault: first.unwrap_or(BookFault::Memory),
             upto: index,
+            parts: 0,
         })),
     }
 }

@@ -47,10 +47,6 @@ impl<'a> LateInput<Global> for Letters<'a> {
             },
         }
     }
-
-    fn most_parts(&self) -> u64 {
-        self.parts.len() as u64
-    }
 }
 
 /// `ONE` and `TWO` have different checksums for one line.
@@ -227,4 +223,20 @@ fn refused_memory(rt: HostRuntime) {
     for inputs in ["s ! ? s", "s ! s ?", "s s!", "s! s?"] {
         assert!(rt; ends_with(&rt, inputs, 2, memory), "{inputs}");
     }
+}
+
+/// As many submissions as a full history has entries are too many, whichever jobs read them. If memory runs out while an input is read,
+/// `Memory` takes precedence.
+#[test]
+fn a_full_history(rt: HostRuntime) -> Result<(), Fail> {
+    let full = IntoBookFault::Collect(CollectFault::Full);
+    let memory = IntoBookFault::Collect(CollectFault::Memory);
+    let half = "s".repeat(rt.alloc(), 524_288)?;
+    let exact = format!(in rt.alloc(); "{half} {half}")?;
+    let more = format!(in rt.alloc(); "{half}s x {half}")?;
+    let refused = format!(in rt.alloc(); "{exact} s !")?;
+    assert!(rt; ends_with(&rt, exact.as_str(), 2, full));
+    assert!(rt; ends_with(&rt, more.as_str(), 1, full));
+    assert!(rt; ends_with(&rt, refused.as_str(), 2, memory));
+    Ok(())
 }
