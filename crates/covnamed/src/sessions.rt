@@ -57,7 +57,7 @@ pub fn run_session<I: Source, O: Sink, E: Sink, A: Allocator + Copy>(
     requires failed_writes { O.failed_writes sink.old < 2 ^ 62 }
     requires failed_words { E.failed_writes faults.old < 2 ^ 62 }
     ensures { TellsSession result (I.left source.old) (I.left source.new) (O.written sink.old) (O.written sink.new)
-        (E.written faults.old) (E.written faults.new)
+        (E.written faults.old) (E.written faults.new) (O.held sink.old) (O.held sink.new)
         (calls (I.reads source.old) (I.failed_reads source.old) (O.failed_writes sink.old))
         (calls (I.reads source.new) (I.failed_reads source.new) (O.failed_writes sink.new))
         (E.failed_writes faults.old) (E.failed_writes faults.new) }

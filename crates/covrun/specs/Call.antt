@@ -171,6 +171,7 @@ abbrev pub IsServed : (status : ℕ) → WorldData → WorldData → Type 0
 IsServed status old new =
     (new.files ≡ old.files)
     × TellsSession status old.input.left new.input.left old.sinks.output new.sinks.output old.sinks.faults new.sinks.faults
+    old.sinks.held new.sinks.held
     (calls old.input.reads old.input.failed_reads old.sinks.failed_output) (calls new.input.reads new.input.failed_reads new.sinks.failed_output)
     old.sinks.failed_faults new.sinks.failed_faults
 
