@@ -11,7 +11,7 @@ use Rattle.covpieces.specs.Sections.{EndsSection}
 use Rattle.covpieces.specs.Whole.{IsWholeLcov2Outcome, IsWholeOutcome}
 use Rattle.covread.specs.Outcome as trace
 use Rattle.covdata.specs.declared.fault.ReadFault.{ReadFault}
-use Rattle.covdata.specs.declared.fault.ReadFault.TheVariants.{TooLong, Line, Outside, Inside, OpenEnd, BadMark, NoSource, Percent, Instances, Misplaced, LostFunction, BadTest, Memory}
+use Rattle.covdata.specs.declared.fault.ReadFault.TheVariants.{TooLong, Line, Outside, Inside, Misplaced}
 use Rattle.covlarge.proofs.Summary.{holds_all_if_told}
 use Rattle.covlarge.specs.Large.{AreLong, BeginsTooLong, IsAll, IsReadAs, IsStop, MayBeReadAs, max_pieces, told_fault}
 use Rattle.covlarge.specs.State.{EndsAs, IsFaultyPiece, MayGive, begun_state}
@@ -52,16 +52,8 @@ told_moved : (c : CarriedData) (fault : ReadFault) → told c fault ≡ told_fau
 told_moved c (Line at fault) = refl
 told_moved c (Outside at) = refl
 told_moved c (Inside at) = refl
-told_moved c (BadMark at) = refl
-told_moved c (NoSource at) = refl
-told_moved c (Percent at) = refl
-told_moved c (Instances at) = refl
 told_moved c (Misplaced at) = refl
-told_moved c TooLong = refl
-told_moved c OpenEnd = refl
-told_moved c LostFunction = refl
-told_moved c BadTest = refl
-told_moved c Memory = refl
+told_moved c other = refl
 
 ok_isnt_err : (s : SubmissionData) (f : ReadFault) → (let x : Result SubmissionData ReadFault = Ok s in let y : Result SubmissionData ReadFault = Err f in x ≡ y) → ⊥
 ok_isnt_err s f e = cc
