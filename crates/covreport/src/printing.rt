@@ -34,14 +34,16 @@ impl<'s, A: Allocator, T: Table<A>> Model for Printing<'s, A, T> {
 }
 
 impl<'s, A: Allocator, T: Table<A>> Printing<'s, A, T> {
-    ghost use Rattle.std.specs.Prelude.{◌≡◌, ◌++◌, ℕ, List, true, IfOk};
+    ghost use Rattle.std.specs.Prelude.{◌≡◌, ◌<◌, ◌++◌, ℕ, List, true, IfOk, OnErr};
     ghost use Rattle.covreport.specs.ChoiceView.{choice_data};
     ghost use Rattle.covreport.specs.Report.{report_text};
+    ghost use Rattle.covreport.specs.Room.{most_functions};
 
     /// The tracefile of all chosen files, in order. If a chosen section has functions, reserves memory for the functions of one
-    /// section.
+    /// section, and otherwise never fails.
     pub fn of_store(alloc: A, store: &'s T, choice: Choice<A>) -> Result<Printing<'s, A, T>, Memory>
-        ensures { IfOk result (λ p. p ≡ report_text (choice_data choice) (T.shown store.now).sections) }
+        ensures text { IfOk result (λ p. p ≡ report_text (choice_data choice) (T.shown store.now).sections) }
+        ensures refused { OnErr result (0 < most_functions (choice_data choice) (T.shown store.now).sections) }
     {
         let tracefile = Tracefile::of(alloc, store, choice)?;
         Ok(Printing {

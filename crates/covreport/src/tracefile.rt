@@ -1,6 +1,6 @@
 //! The merged tracefile as text (geninfo(1), section FILES). Each test with a row in a file has a section for this file.
 
-ghost use Rattle.std.specs.Prelude.{◌≡◌, ◌≢◌, ◌≤◌, ◌++◌, ℕ, List, true, false, [], ◌∷◌, length, IfOk, OnErr, vec_capacity};
+ghost use Rattle.std.specs.Prelude.{◌≡◌, ◌≢◌, ◌<◌, ◌≤◌, ◌++◌, ℕ, List, true, false, [], ◌∷◌, length, IfOk, OnErr, vec_capacity};
 ghost use Rattle.covreport.specs.ChoiceView.{choice_data};
 ghost use Rattle.covreport.specs.Report.{section_text, report_text};
 ghost use Rattle.covreport.specs.Put.{HasPut};
@@ -69,13 +69,14 @@ impl<'s, A: Allocator, T: Table<A>> Model for Tracefile<'s, A, T> {
 }
 
 impl<'s, A: Allocator, T: Table<A>> Tracefile<'s, A, T> {
-    /// Reserves capacity to print the tracefile of all chosen files, in order.
+    /// Reserves capacity to print the tracefile of all chosen files, in order. Allocates nothing if these files have no functions.
     pub(crate) fn of(
         alloc: A,
         store: &'s T,
         choice: Choice<A>,
     ) -> Result<Tracefile<'s, A, T>, Memory>
-        ensures { IfOk result (λ t. t ≡ report_text (choice_data choice) (T.shown store.now).sections) }
+        ensures text { IfOk result (λ t. t ≡ report_text (choice_data choice) (T.shown store.now).sections) }
+        ensures refused { OnErr result (0 < most_functions (choice_data choice) (T.shown store.now).sections) }
     {
         let functions = room_for_functions(alloc, store, &choice)?;
         Ok(Tracefile {
@@ -89,6 +90,7 @@ impl<'s, A: Allocator, T: Table<A>> Tracefile<'s, A, T> {
     pub(crate) fn print<P: Printer>(self, out: &mut P)
         ensures begun { (rest : List ℕ) × (P.text out.new ++ rest ≡ P.text out.old ++ self.entry) }
         ensures whole { P.is_open out.new ≡ true → P.text out.new ≡ P.text out.old ++ self.entry }
+        ensures stops { P.is_open out.old ≡ false → P.text out.new ≡ P.text out.old }
     {
         let Tracefile {
             store,
@@ -110,6 +112,7 @@ fn put_chosen<'s, A: Allocator, T: Table<A>, P: Printer>(
     requires { most_functions (choice_data choice.now) (T.shown store.now).sections ≤ vec_capacity functions }
     ensures begun { (rest : List ℕ) × (P.text out.new ++ rest ≡ P.text out.old ++ report_text (choice_data choice.now) (T.shown store.now).sections) }
     ensures whole { P.is_open out.new ≡ true → P.text out.new ≡ P.text out.old ++ report_text (choice_data choice.now) (T.shown store.now).sections }
+    ensures stops { P.is_open out.old ≡ false → P.text out.new ≡ P.text out.old }
 {
     store.put_sections(choice, &mut functions, out);
 }
@@ -143,6 +146,7 @@ fn put_if_wanted<'s, A: Allocator, C: TableSection<'s>, P: Printer>(
     ensures text { result ≡ true → P.text out.new ≡ P.text out.old ++ report_text (choice_data choice.now) (C.shown section.now ∷ []) }
     ensures same { result ≡ false → P.text out.new ≡ P.text out.old }
     ensures closed { result ≡ false → P.is_open out.new ≡ false }
+    ensures stops { P.is_open out.old ≡ false → result ≡ false }
     ensures room { vec_capacity functions.new ≡ vec_capacity functions.old }
 {
     if !out.is_open() {

@@ -1,4 +1,4 @@
-use Rattle.std.proofs.Common.{◌≡◌, ◌++◌, ◌≤◌, length}
+use Rattle.std.proofs.Common.{◌≡◌, ◌++◌, ◌≤◌, false, length}
 use Rattle.std.specs.Prelude.{vec_capacity}
 use Rattle.covreport.specs.ChoiceView.{choice_data}
 use Rattle.covreport.specs.Report.{report_text}
@@ -12,6 +12,7 @@ invariant-loop-section g l =
     record {
       written : text l.out ++ report_text (choice_data l.choice) (left l.sections) ≡ text l.fn.out ++ report_text (choice_data l.choice) (left l.initial.sections);
       room : most_functions (choice_data l.choice) (left l.sections) ≤ vec_capacity l.functions;
+      closed : g.P.Printer.is_open l.fn.out ≡ false → (g.P.Printer.is_open l.out ≡ false) × (text l.out ≡ text l.fn.out);
     }
 
 abbrev pub decreases-loop-section : goal.decreases-loop-section

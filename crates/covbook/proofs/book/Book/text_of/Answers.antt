@@ -20,7 +20,7 @@ returns-in_ok-copy-in-Extract g c =
     let book = c.self.inside in
     let patterns = c.in_ok-copy-in-Extract.field-0 in
     told c.trace_text-in-Extract.result (report_text (Extracted patterns) (g.T.Table.shown book.store).sections) book.history.entries c.args.self.now (ExtractOp patterns) (op_data c.args.op.now) (ap (λ (b : BookData g.row.T.Denot). b.entries) c.self.view_is)
-    (ap op_data c.in-Extract.is ∙ sym (ap ExtractOp c.in_ok-copy-in-Extract.ensures))
+    (ap op_data c.in-Extract.is ∙ sym (ap ExtractOp c.in_ok-copy-in-Extract.ensures.copied))
     (report_is (Extracted patterns) (g.T.Table.shown book.store) (table_of (ops_in book.history.entries)) c.self.invariant.stands) c.trace_text-in-Extract.ensures.text
 
 pub returns-in_ok-copy-in-Remove : goal.returns-in_ok-copy-in-Remove
@@ -28,7 +28,7 @@ returns-in_ok-copy-in-Remove g c =
     let book = c.self.inside in
     let patterns = c.in_ok-copy-in-Remove.field-0 in
     told c.trace_text-in-Remove.result (report_text (Removed patterns) (g.T.Table.shown book.store).sections) book.history.entries c.args.self.now (RemoveOp patterns) (op_data c.args.op.now) (ap (λ (b : BookData g.row.T.Denot). b.entries) c.self.view_is)
-    (ap op_data c.in-Remove.is ∙ sym (ap RemoveOp c.in_ok-copy-in-Remove.ensures))
+    (ap op_data c.in-Remove.is ∙ sym (ap RemoveOp c.in_ok-copy-in-Remove.ensures.copied))
     (report_is (Removed patterns) (g.T.Table.shown book.store) (table_of (ops_in book.history.entries)) c.self.invariant.stands) c.trace_text-in-Remove.ensures.text
 
 pub returns-in-Summary : goal.returns-in-Summary

@@ -13,7 +13,7 @@ returns-in_ok-copy_of-in-ChosenReport c =
     let entries = c.args.collected.now.book.entries in
     let held = c.store.ensures in
     rw c.in-ChosenReport.is
-    (text_then c.of_store.result (report_text (choice_data c.in_ok-copy_of-in-ChosenReport.field-0) c.store.result.now.sections) _ c.of_store.ensures
+    (text_then c.of_store.result (report_text (choice_data c.in_ok-copy_of-in-ChosenReport.field-0) c.store.result.now.sections) _ c.of_store.ensures.text
     (ap (λ (choice : ChoiceData). report_text choice c.store.result.now.sections) c.in_ok-copy_of-in-ChosenReport.ensures
     ∙ report_is_asked entries (choice_data c.in-ChosenReport.choice) _ (ap (λ (s : ShownData). s.sections) held.store ∙ held.stands.content)))
 
