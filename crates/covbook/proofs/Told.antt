@@ -1,5 +1,5 @@
 -- The texts that a book prints are those of the table that its store represents.
-use Rattle.std.proofs.Common.{◌≡◌, ℕ, List, Result, Ok, Err, IfOk, sym, ap, ◌∙◌}
+use Rattle.std.proofs.Common.{◌≡◌, ℕ, List, Result, Ok, Err, IfOk, OnErr, sym, ap, subst, ◌∙◌}
 use Rattle.covtable.specs.declared.totals.Totals.{Totals}
 use Rattle.covtable.specs.Content.{SectionData, content_at}
 use Rattle.covtable.specs.Shown.{ShownData, StandsFor}
@@ -24,3 +24,15 @@ pub told : {E T : Type 0} (result : Result (List ℕ) E) (text : List ℕ) (entr
 told (Ok t) text entries book own op view equal is said =
     ap TextAnswer said ∙ is ∙ ap (λ (es : List EntryData). answer_of (table_of (ops_in es)) own) view ∙ ap (answer_of (table_of (ops_in book.entries))) (sym equal)
 told (Err refused) text entries book own op view equal is said = tt
+
+-- a text that is refused for what an operation and a store are is refused for an equal operation of a book with this store
+pub refused : {E T V : Type 0} (MayFail : OpData → List SectionData → Type 0) (result : Result V E) (book : BookData T) (store : ShownData) (own op : OpData) → store ≡ book.store → op ≡ own
+    → OnErr result (MayFail own store.sections) → OnErr result (MayFail op book.store.sections)
+refused MayFail (Ok t) book store own op view equal may = tt
+refused MayFail (Err e) book store own op view equal may =
+    subst (λ (o : OpData). MayFail o book.store.sections) (sym equal) (subst (λ (s : ShownData). MayFail own s.sections) view may)
+
+-- what may always fail
+pub always : {E V : Type 0} (result : Result V E) → OnErr result (Unit {0})
+always (Ok t) = tt
+always (Err e) = tt

@@ -105,6 +105,7 @@ impl<A: Allocator + Copy, T: Table<A>, K: Keep<Of = Entry<A>>> Book<A, T, K> {
     ghost use Rattle.covbook.specs.ChangeView.{change_data};
     ghost use Rattle.covbook.specs.Op.{SubmitOp, DropTestOp, RenameOp, AcceptedAnswer, DroppedAnswer, RenamedAnswer, TextAnswer, AreLawfulOps, IsLawfulOp};
     ghost use Rattle.covbook.specs.Step.{IsLegal, answer_of, last_totals, next_entry, receipt_of, table_after, table_of, totals_at, ops_in, max_entries};
+    ghost use Rattle.covbook.specs.MayFail.{PrintingMayFail, TextMayFail};
     ghost use Rattle.covbook.specs.Texts.{IsText};
     ghost use Rattle.covbook.specs.View.{op_data, answer_data};
     ghost use Rattle.covbook.specs.EntryView.{entry_data, receipt_data};
@@ -122,9 +123,10 @@ impl<A: Allocator + Copy, T: Table<A>, K: Keep<Of = Entry<A>>> Book<A, T, K> {
         }
     }
 
-    /// How many entries the history has. Never allocates.
+    /// How many entries the history has: at most 1,048,576. Never allocates.
     pub fn len(&self) -> u64
-        ensures { result ≡ length self.now.entries }
+        ensures value { result ≡ length self.now.entries }
+        ensures few { length self.now.entries ≤ max_entries }
     {
         self.history.place()
     }
@@ -477,10 +479,11 @@ impl<A: Allocator + Copy, T: Table<A>, K: Keep<Of = Entry<A>>> Book<A, T, K> {
         self.history.append(entry);
     }
 
-    /// Returns the text that the operation asks for, of the current table. Appends no entry.
+    /// Returns the text that the operation asks for, of the current table. Appends no entry. An empty report never fails.
     pub fn text_of(&self, alloc: A, op: &Op<A>) -> Result<Bytes<A>, Memory>
         requires { IsText (op_data op.now) }
-        ensures { IfOk result (λ t. TextAnswer t ≡ answer_of (table_of (ops_in self.now.entries)) (op_data op.now)) }
+        ensures text { IfOk result (λ t. TextAnswer t ≡ answer_of (table_of (ops_in self.now.entries)) (op_data op.now)) }
+        ensures refused { OnErr result (TextMayFail (op_data op.now) self.now.store.sections) }
     {
         match op {
             Op::Submit(_) | Op::SubmitPacked(_) | Op::DropTest(_) | Op::Rename { .. } => {
@@ -498,10 +501,11 @@ impl<A: Allocator + Copy, T: Table<A>, K: Keep<Of = Entry<A>>> Book<A, T, K> {
     }
 
     /// Prepares to print the text that the operation asks for, of the current table. Appends no entry. Reserves all memory that
-    /// printing needs, so nothing is printed if an allocation fails.
+    /// printing needs, so nothing is printed if an allocation fails. Never fails for a report without functions.
     pub fn printing(&self, alloc: A, op: &Op<A>) -> Result<Printing<'_, A, T>, Memory>
         requires { IsText (op_data op.now) }
-        ensures { IfOk result (λ p. TextAnswer p ≡ answer_of (table_of (ops_in self.now.entries)) (op_data op.now)) }
+        ensures text { IfOk result (λ p. TextAnswer p ≡ answer_of (table_of (ops_in self.now.entries)) (op_data op.now)) }
+        ensures refused { OnErr result (PrintingMayFail (op_data op.now) self.now.store.sections) }
     {
         match op {
             Op::Submit(_) | Op::SubmitPacked(_) | Op::DropTest(_) | Op::Rename { .. } => {
