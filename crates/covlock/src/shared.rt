@@ -101,9 +101,11 @@ pub fn open_book_keeping<L: Name, A: Allocator + Copy, T: Table<A>, K: Keep<Of =
 }
 
 impl<L: Name, A: Allocator + Copy, T: Table<A>, K: Keep<Of = Entry<A>>> Shared<L, A, T, K> {
-    ghost use Rattle.std.specs.Prelude.{◌≡◌, ◌≤◌, IfOk, MatchResult};
+    ghost use Rattle.std.specs.Prelude.{◌≡◌, ◌≤◌, IfOk, IfErr, MatchResult};
+    ghost use Rattle.covbook.specs.declared.book.BookFault.TheVariants as faults;
     ghost use Rattle.covbook.specs.View.{op_data};
     ghost use Rattle.covbook.specs.EntryView.{receipt_data};
+    ghost use Rattle.covbook.specs.Step.{max_entries};
     ghost use Rattle.covlock.specs.Call.{IsReceiptFor, IsNewsOf};
     ghost use Rattle.covlock.specs.Seat.{after_call};
 
@@ -111,7 +113,8 @@ impl<L: Name, A: Allocator + Copy, T: Table<A>, K: Keep<Of = Entry<A>>> Shared<L
     /// legal history. The news are of the history up to this step's entry, and readers see this history from then on. Waits for the
     /// lock, which this call holds only for the step, and for readers that still read what was shown two steps ago. Returns `Full`
     /// if the history is full, or if the seat has seen more entries than the history has, which never happens with a seat of this
-    /// book. A failed call changes neither the book, nor the seat, nor what readers see.
+    /// book. After a call that filled the history, `Full` is the only error for its seat. A failed call changes neither the book, nor
+    /// the seat, nor what readers see.
     pub fn perform<R: Wait>(
         &self,
         rt: &R,
@@ -124,6 +127,7 @@ impl<L: Name, A: Allocator + Copy, T: Table<A>, K: Keep<Of = Entry<A>>> Shared<L
         ensures news { IfOk result (λ d. IsNewsOf seat.old.job (op_data op.now) (receipt_data d.receipt) d.news) }
         ensures seen { IfOk result (λ d. seat.old.seen ≤ d.receipt.place) }
         ensures seat { MatchResult result (λ d. seat.new ≡ after_call seat.old d.receipt.place) (λ _. seat.new ≡ seat.old) }
+        ensures full { IfErr result (λ f. max_entries ≤ seat.old.seen → f ≡ faults.Full) }
     {
         let (receipt, news) = self.shared_state.lock(rt).step(rt, alloc, seat, op)?;
         Ok(Done { receipt, news })

@@ -34,7 +34,7 @@ impl<L: Name, A: Allocator, T: Table<A>, K: Keep<Of = Entry<A>>> Model for Share
 }
 
 impl<L: Name, A: Allocator + Copy, T: Table<A>, K: Keep<Of = Entry<A>>> SharedState<L, A, T, K> {
-    ghost use Rattle.std.specs.Prelude.{◌≡◌, ◌↔◌, ◌⊎◌, ◌<◌, ◌≤◌, ◌++◌, [], ◌∷◌, length, IfOk, OnOk, OnErr, Err, MatchResult};
+    ghost use Rattle.std.specs.Prelude.{◌≡◌, ◌↔◌, ◌⊎◌, ◌<◌, ◌≤◌, ◌++◌, [], ◌∷◌, length, IfOk, IfErr, OnOk, OnErr, Err, MatchResult};
     ghost use Rattle.covbook.specs.declared.book.BookFault.TheVariants as faults;
     ghost use Rattle.covbook.specs.View.{op_data};
     ghost use Rattle.covbook.specs.EntryView.{receipt_data};
@@ -83,6 +83,7 @@ impl<L: Name, A: Allocator + Copy, T: Table<A>, K: Keep<Of = Entry<A>>> SharedSt
         ensures seen { IfOk result (λ r. seat.old.seen ≤ r.0.place) }
         ensures refused { OnErr result (self.new ≡ self.old) }
         ensures full { (result ≡ Err faults.Full) ↔ ((length self.old ≡ max_entries) ⊎ (length self.old < seat.old.seen)) }
+        ensures most { IfErr result (λ f. max_entries ≤ seat.old.seen → f ≡ faults.Full) }
     {
         if self.book.len() < seat.seen() {
             return Err(BookFault::Full);
