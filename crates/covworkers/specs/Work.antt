@@ -4,9 +4,10 @@ use Rattle.std.specs.List.{AllByRecursion, Contains, flat_map}
 use Rattle.covdata.specs.Row.{SubmissionData}
 use Rattle.covbook.specs.declared.book.BookFault.{BookFault}
 use Rattle.covbook.specs.declared.reading.Reading.{Reading}
-use Rattle.covbook.specs.Gather.{LogData}
-use Rattle.covbook.specs.Kept.{KeptData}
+use Rattle.covbook.specs.Gather.{IsReadingOf, LogData}
+use Rattle.covbook.specs.Kept.{IsPrefix, KeptData}
 use Rattle.covbook.specs.Op.{OpData, SubmitOp, EntryData, ReceiptData}
+use Rattle.covbook.specs.Step.{IsLegal}
 use Rattle.covworkers.specs.declared.refused.RefusedInput.{RefusedInput}
 use Rattle.covworkers.specs.declared.readers.Readers.{Readers}
 use Rattle.covworkers.specs.declared.readers.Readers.TheVariants as readers
@@ -47,10 +48,20 @@ pub record Asks (receipts after : List ReceiptData) (seen : ℕ) (op : OpData) :
   pub asked : receipt.op ≡ op
   pub place : receipt.place + 1 ≡ seen
 
--- a job with a reader has one more reading, which counts at least `least` entries. A job without a reader has none more
-abbrev pub ReadsOn : (has_reader : Bool) → (least : ℕ) → (readings after : List Reading) → Type 0
-ReadsOn true least readings after = (reading : Reading) × (after ≡ readings ++ reading ∷ []) × (least ≤ reading.upto)
-ReadsOn false least readings after = after ≡ readings
+-- there is one more reading, which counts at least the entries of the news. It is right of a legal history that begins with the news
+pub record ReadsOnce (news : List EntryData) (readings after : List Reading) : Type 0 where
+  pub reading : Reading
+  pub behind : after ≡ readings ++ reading ∷ []
+  pub least : length news ≤ reading.upto
+  pub history : List EntryData
+  pub legal : IsLegal history
+  pub onward : IsPrefix news history
+  pub right : IsReadingOf history reading
+
+-- a job with a reader has one more reading, and a job without a reader has none more
+abbrev pub ReadsOn : (has_reader : Bool) → (news : List EntryData) → (readings after : List Reading) → Type 0
+ReadsOn true news readings after = ReadsOnce news readings after
+ReadsOn false news readings after = after ≡ readings
 
 -- what a worker has: its seat, its receipts, the history of the latest news of its calls, whether it has a reader, what it read of
 -- the totals, and which of its inputs are refused

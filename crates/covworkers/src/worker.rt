@@ -51,7 +51,7 @@ impl<L: Name, A: Allocator, P: Keep<Of = Receipt<A>>, F: Drop> Model for Worker<
 }
 
 impl<L: Name, A: Allocator + Copy, P: Keep<Of = Receipt<A>>, F: Drop> Worker<L, A, P, F> {
-    ghost use Rattle.std.specs.Prelude.{◌≡◌, ◌<◌, ◌++◌, [], ◌∷◌, None, Some, IfOk, IfErr, IfSome, is_some, length, map};
+    ghost use Rattle.std.specs.Prelude.{◌≡◌, ◌<◌, ◌++◌, [], ◌∷◌, None, Some, IfOk, IfErr, IfSome, IsTrue, OnErr, is_some, length, map};
     ghost use Rattle.covbook.specs.Op.{SubmitOp};
     ghost use Rattle.covbook.specs.View.{op_data};
     ghost use Rattle.covworkers.specs.Collect.{ops_in, refusal, submitted, whole, HasRead};
@@ -225,25 +225,39 @@ impl<L: Name, A: Allocator + Copy, P: Keep<Of = Receipt<A>>, F: Drop> Worker<L, 
         Ok(news)
     }
 
-    /// Stores one reading if the job has a reader. The reading covers at least as many entries as the news.
+    /// Stores one reading if the job has a reader. The reading covers at least as many entries as the news. Never fails for a job
+    /// without a reader.
     fn read(&mut self, news: &News<L>) -> Result<(), Memory>
-        ensures read { IfOk result (λ _. ReadsOn self.old.has_reader (length news.now) self.old.readings self.new.readings) }
+        ensures read { IfOk result (λ _. ReadsOn self.old.has_reader news.now self.old.readings self.new.readings) }
+        ensures cause { OnErr result (IsTrue self.old.has_reader) }
         ensures reader { self.new.has_reader ≡ self.old.has_reader }
         ensures seat { self.new.seat ≡ self.old.seat }
         ensures receipts { self.new.receipts ≡ self.old.receipts }
         ensures refused { self.new.refused ≡ self.old.refused }
     {
         if let Some(live) = &mut self.live {
-            live.learn(news);
-            self.readings.push(live.totals())?;
+            read_once(live, news, &mut self.readings)?;
         }
         Ok(())
     }
 }
 
-ghost use Rattle.std.specs.Prelude.{◌≡◌, ◌<◌, IfOk, length};
+ghost use Rattle.std.specs.Prelude.{◌≡◌, ◌<◌, IfOk, OnOk, length};
 ghost use Rattle.covbook.specs.Kept.{IsPrefix};
 ghost use Rattle.covworkers.specs.Latest.{history_of};
+ghost use Rattle.covworkers.specs.Work.{ReadsOnce};
+
+/// Appends one reading of `live`, which learns the news first.
+fn read_once<L: Name, A: Allocator>(
+    live: &mut Live<L, A>,
+    news: &News<L>,
+    readings: &mut Readings<A>,
+) -> Result<(), Memory>
+    ensures { OnOk result (ReadsOnce news.now readings.old readings.new) }
+{
+    live.learn(news);
+    readings.push(live.totals())
+}
 
 /// Returns a copy of `news`, whose history must be longer than that of `latest`. The longer history extends the shorter one.
 fn later<L: Name>(latest: &Option<News<L>>, news: &News<L>) -> News<L>
