@@ -1,6 +1,6 @@
 //! The reader's input for one chunk: the chunk's prefix (`front`), then bytes of the tracefile.
 
-ghost use Rattle.std.specs.Prelude.{◌≡◌, ◌<◌, ◌≤◌, ◌+◌, ◌-◌, ◌^◌, ◌++◌, length, min, take, drop, None, IfOk, IfErr, IfSome};
+ghost use Rattle.std.specs.Prelude.{◌≡◌, ◌<◌, ◌≤◌, ◌+◌, ◌-◌, ◌*◌, ◌^◌, ◌++◌, length, min, take, drop, None, IfOk, IfErr, IfSome};
 ghost use Rattle.covlarge.specs.Found.{HasFound, HasReadUntil, IsFound};
 ghost use Rattle.covlarge.specs.Large.{piece_bytes};
 ghost use Rattle.covpieces.specs.Pieces.{front_text};
@@ -176,6 +176,8 @@ fn longer(wanted: usize, most: usize) -> usize
     requires most { most < 2 ^ 60 }
     ensures longer { wanted < result }
     ensures few { result ≤ most + 1 }
+    // So a long section is searched once for each doubling of its length, and not for each of its bytes.
+    ensures twice { min (2 * wanted) (most + 1) ≤ result }
 {
     (2 * wanted).min(most + 1)
 }
