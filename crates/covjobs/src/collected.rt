@@ -26,7 +26,7 @@ use std::thread::Threads;
 ///
 /// Counts add up as with lcov(1), --add-tracefile. Errors: `BadJobs` if and only if `jobs` isn't 1 to 64; `Full`; `Memory`, also if
 /// a worker can't be started; `Gather` and `NotLast` if the history doesn't match the logs, which never happens.
-pub fn collect<R: Threads + Wait + Sync, G: Gate + Sync, S: Table<Global> + Send>(
+pub fn collect<R: Threads + Wait + Sync, G: Gate + Sync, S: Table<Global, Plan: Send, Renaming: Send> + Send>(
     rt: &R,
     alloc: Global,
     inputs: &[Input],
@@ -48,7 +48,7 @@ pub fn collect<R: Threads + Wait + Sync, G: Gate + Sync, S: Table<Global> + Send
 }
 
 /// Like `collect`, but consumes the inputs: frees each input after parsing it, before the submit.
-pub fn collect_owned<R: Threads + Wait + Sync, G: Gate + Sync, S: Table<Global> + Send>(
+pub fn collect_owned<R: Threads + Wait + Sync, G: Gate + Sync, S: Table<Global, Plan: Send, Renaming: Send> + Send>(
     rt: &R,
     alloc: Global,
     inputs: Vec<Input>,

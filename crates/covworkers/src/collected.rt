@@ -45,7 +45,7 @@ pub fn collect_named<
     G: Gate + Sync,
     L: Name + Send + Sync,
     T: LateInput<Global, Fault = ReadFault> + Send,
-    S: Table<Global> + Send,
+    S: Table<Global, Plan: Send, Renaming: Send> + Send,
 >(
     rt: &R,
     alloc: Global,

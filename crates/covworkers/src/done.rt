@@ -34,7 +34,7 @@ pub(crate) fn all_done<
     T: LateInput<Global, Fault: Send> + Send,
     K: Keep<Of = Entry> + Send,
     P: Keep<Of = Receipt> + Send,
-    S: Table<Global> + Send,
+    S: Table<Global, Plan: Send, Renaming: Send> + Send,
 >(
     rt: &R,
     alloc: Global,

@@ -57,7 +57,7 @@ pub fn collect_into_book<
     R: Threads + Wait + Sync,
     G: Gate + Sync,
     T: LateInput<Global, Fault: Send> + Send,
-    S: Table<Global> + Send,
+    S: Table<Global, Plan: Send, Renaming: Send> + Send,
 >(
     rt: &R,
     alloc: Global,
@@ -80,7 +80,7 @@ fn collect_named<
     G: Gate + Sync,
     L: Name + Send + Sync,
     T: LateInput<Global, Fault: Send> + Send,
-    S: Table<Global> + Send,
+    S: Table<Global, Plan: Send, Renaming: Send> + Send,
 >(
     rt: &R,
     alloc: Global,

@@ -57,7 +57,7 @@ pub(crate) fn do_all_work<
     T: LateInput<Global, Fault: Send> + Send,
     K: Keep<Of = Entry> + Send,
     P: Keep<Of = Receipt> + Send,
-    S: Table<Global> + Send,
+    S: Table<Global, Plan: Send, Renaming: Send> + Send,
 >(
     rt: &R,
     alloc: Global,
@@ -129,7 +129,7 @@ fn work_at_once<
     T: LateInput<Global, Fault: Send> + Send,
     K: Keep<Of = Entry> + Send,
     P: Keep<Of = Receipt> + Send,
-    S: Table<Global> + Send,
+    S: Table<Global, Plan: Send, Renaming: Send> + Send,
 >(
     rt: &R,
     alloc: Global,

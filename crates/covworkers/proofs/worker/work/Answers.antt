@@ -1,4 +1,4 @@
-use Rattle.std.proofs.Common.{rules, ◌≡◌, ◌∙◌, ◌∷◌, Bool, List, None, ap, sym, subst, arith}
+use Rattle.std.proofs.Common.{◌≡◌, ◌∙◌, ◌∷◌, Bool, List, None, ap, sym, subst, arith}
 use Rattle.std.proofs.lemmas.List.{nil_from_length}
 use Rattle.std.proofs.lemmas.Result.{err_from_is_err_and}
 use Rattle.covlock.specs.Seat.{SeatData}
@@ -25,7 +25,7 @@ loop-placed-preserved g c =
     let old = c.loop-placed.worker in
     let new = c.go_on.new.self in
     let rest = c.next.new.self.rest.items in
-    let left : c.loop-placed.placed-iterator.rest.items ≡ c.in-Some.placed ∷ rest = search rules in (
+    let left : c.loop-placed.placed-iterator.rest.items ≡ c.in-Some.placed ∷ rest = c.in-Some.ensures.steps.0 in (
       c.go_on.ensures.job ∙ c.loop-placed.invariant.0,
       one_gone gives inputs c.args.jobs c.args.seat.job c.in-Some.placed rest c.loop-placed.first c.in_ok-first.first old new
           (subst (λ (share : List (Placed g.row.T.Denot)). IsGoingOn gives inputs c.args.jobs c.args.seat.job share c.loop-placed.first old) left c.loop-placed.invariant.1)
@@ -62,7 +62,7 @@ returns-in_err-first g c =
     let inputs = c.args.inputs.now.value.items in
     let old = c.loop-placed.worker in
     let rest = c.next.new.self.rest.items in
-    let left : c.loop-placed.placed-iterator.rest.items ≡ c.in-Some.placed ∷ rest = search rules in
+    let left : c.loop-placed.placed-iterator.rest.items ≡ c.in-Some.placed ∷ rest = c.in-Some.ensures.steps.0 in
     let p = err_from_is_err_and c.from_residual.result c.from_residual.ensures.1 in
     rw (p.1, p.2)
     (stop_of (chances_of g.T.LateInput.may_give g.T.LateInput.may_fail) c.args.readers inputs c.args.jobs c.args.seat.job c.in-Some.placed rest c.loop-placed.first old c.in_err-first.field-0.0
