@@ -21,7 +21,7 @@ use Rattle.covrun.proofs.Lenient.{are_collected}
 use Rattle.covrun.specs.Call.{AreCollectedIn, AreTextsIn, IsUnreadable, most_submissions}
 use Rattle.covrun.specs.Ending.{name_at}
 use Rattle.covrun.specs.Files.{MayFailAs, MayTake, most_parts}
-use Rattle.covrun.specs.Folder.{AreTextsOf, FolderData, IsTextAtMost, IsTextOf}
+use Rattle.covworld.specs.Folder.{AreTextsOf, FolderData, IsTextAtMost, IsTextOf}
 use Rattle.covrun.specs.Large.{IsLargeOutcome}
 use Rattle.covrun.specs.Strict.{IsOutcomeFor}
 use Rattle.covrun.specs.Work.{input_of}
