@@ -127,7 +127,7 @@ refused_may_come MayGive MayFail readers inputs jobs ended refusal book.Full som
     (λ (last : refusal.upto ≡ 2 ^ 64 - 1) (many : max_entries ≤ refusal.parts).
     filled_though_refused MayGive MayFail readers inputs jobs refusal.upto ended some (omega (arith, last)) (omega (arith, last, few)) done from (omega (arith, many, counted)))
 
-refusal_in : Refusal → Stop → Refusal
+abbrev refusal_in : Refusal → Stop → Refusal
 refusal_in other (stops.Unread index) = other
 refusal_in other (stops.Refused refusal) = refusal
 
