@@ -288,7 +288,7 @@ any_fill Fill collects.Memory may = tt
 any_fill Fill (collects.Gather fault) may = absurd may
 any_fill Fill collects.NotLast may = absurd may
 
-pub comes : {X : Type 0} (MayGive : X → Outcome → Type 0) (MayFail : X → Type 0) (lates : List X) (fault : IntoBookFault) (told : CollectFault) → fault ≡ into_book.Collect told → IsIntoBookFault MayGive MayFail lates fault
-    → MayComeAtAll told
-comes MayGive MayFail lates fault told is may =
-    any_fill (FillHistory MayGive lates) told (subst (λ (f : IntoBookFault). IsIntoBookFault MayGive MayFail lates f) is may)
+pub comes : {X Folder S : Type 0} (lates : List X) (left : S → Option (List ℕ)) (failed_reads : S → ℕ) (view : InputView X Folder S) (of : Folder → FolderData) (fault : IntoBookFault) (told : CollectFault) → fault ≡ into_book.Collect told
+    → IsIntoBookFault (GivesIn view of left) (FailsIn view of left failed_reads) lates fault → MayComeAtAll told
+comes lates left failed_reads view of fault told is may =
+    any_fill (FillHistory (GivesIn view of left) lates) told (subst (λ (f : IntoBookFault). IsIntoBookFault (GivesIn view of left) (FailsIn view of left failed_reads) lates f) is may)

@@ -57,7 +57,9 @@ returns-in-Err-Unread g c =
 
 pub failure_of_collect-requires : goal.failure_of_collect-requires
 failure_of_collect-requires g c =
-    subst (λ (fault : CollectFault). MayComeAtAll fault) (sym c.in-Err-Collect.fault-is) (comes _ _ c.in-Ok.inputs.items _ c.in-Err-Collect.fault c.in-Err-Collect.field-0-is c.in-Err-Collect.ensures.unread)
+    subst (λ (fault : CollectFault). MayComeAtAll fault) (sym c.in-Err-Collect.fault-is) (comes c.in-Ok.inputs.items g.F.File.Source.left g.F.File.Source.failed_reads
+    (record { own = λ one. one.folder.now; name = λ one. one.name.now; format = λ one. one.format.now; strictness = λ one. one.strictness; opened = λ one. one.opened })
+    (folder_data g.F.Folder g.F.File.Source) _ c.in-Err-Collect.fault c.in-Err-Collect.field-0-is c.in-Err-Collect.ensures.unread)
 
 pub returns : goal.returns
 returns g c =
