@@ -42,7 +42,7 @@ pub(crate) fn read_text<S: Source>(
     Ok(text)
 }
 
-/// Reads the file called `name`, up to one byte more than the size limit.
+/// Reads the file called `name`, up to one byte more than the size limit of 64 MiB. The extra byte shows that the file is too long.
 pub fn file_text<'a, F: Folder>(
     folder: &F,
     alloc: Global,

@@ -52,7 +52,8 @@ impl<O: Sink, E: Sink> Sinks<O, E> {
         run_session(alloc, input, &mut self.output, &mut self.faults)
     }
 
-    /// Writes the whole text to the output, and flushes the output.
+    /// Writes the whole text to the output, and flushes the output. After an error, which is `Write`, the output has a prefix of
+    /// the text.
     pub fn put_out(&mut self, text: &[u8]) -> Result<(), SessionFault>
         requires { self.old.failed_output < 2 ^ 62 }
         ensures written { OnOk result (PutsOut text.now self.old self.new) }
@@ -65,7 +66,8 @@ impl<O: Sink, E: Sink> Sinks<O, E> {
         Ok(())
     }
 
-    /// Prints the text to the output, and flushes the output. Never allocates.
+    /// Prints the text to the output, and flushes the output. Never allocates. After an error, which is `Write`, the output has a
+    /// prefix of the text.
     pub fn print(&mut self, text: ReadyText<'_>) -> Result<(), SessionFault>
         requires { self.old.failed_output < 2 ^ 62 }
         ensures written { OnOk result (PutsOut text.entry self.old self.new) }
