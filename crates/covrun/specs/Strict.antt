@@ -1,6 +1,6 @@
 -- What a strict call refuses beside texts with a fault: texts that hold nothing or that have lines which say nothing, and patterns that
 -- match no file.
-use Rattle.std.specs.List.{flat_map, list_any}
+use Rattle.std.specs.List.{flat_map}
 use Rattle.std.specs.Prelude.{◌≡◌, ℕ, Bool, false, IsTrue, ◌&&◌, ◌==◌, nat_lt, if◌then◌else◌, List, [], ◌++◌, codes, map, Result, Ok, Err}
 use Rattle.covcheck.specs.Skipped.{IsSkippedIn}
 use Rattle.covcheck.specs.SummaryLine.{summary_text}
@@ -16,13 +16,12 @@ use Rattle.covworkers.specs.Collect.{IsCollectedWhole}
 use Rattle.covjobs.specs.Inputs.{InputData, TraceInput, Lcov2Input, GcovInput, IsCollected, IsOutcomeOf}
 use Rattle.covworkers.specs.declared.refused.RefusedInput.{RefusedInput}
 use Rattle.covdata.specs.Row.{SubmissionData}
+use Rattle.covlist.specs.Chosen.{is_matched}
 use Rattle.covlist.specs.Shown.{shown_name}
 use Rattle.covdata.specs.declared.fault.ReadFault.{ReadFault}
 use Rattle.covreport.specs.Choice.{ChoiceData, AllFiles, Extracted, Removed, Filtered}
-use Rattle.covreport.specs.Pattern.{matches}
 use Rattle.covsession.specs.Session.{said}
 use Rattle.covtable.specs.Content.{SectionData}
-use Rattle.covtable.specs.Files.{files_with_totals}
 use Rattle.covrun.specs.Work.{QuestionData, Answer, ChosenReport, ChosenSummary, LimitedTotals, ChosenList}
 use Rattle.covrun.specs.declared.text_fault.TextFault.{TextFault}
 use Rattle.covrun.specs.declared.text_fault.TextFault.TheVariants.{Faulty, Unclean}
@@ -99,10 +98,6 @@ asked_patterns (ChosenReport choice) = patterns_of_choice choice
 asked_patterns (ChosenSummary choice) = patterns_of_choice choice
 asked_patterns (LimitedTotals form choice limits) = patterns_of_choice choice
 asked_patterns (ChosenList form choice) = patterns_of_choice choice
-
--- the pattern matches the path of one of the files that the sections have counts of
-abbrev pub is_matched : List SectionData → (pattern : List ℕ) → Bool
-is_matched sections pattern = list_any (λ f. matches pattern f.path) (files_with_totals sections)
 
 -- the line about a pattern, with its control bytes in hexadecimal digits: none if it matches a file
 abbrev pub unmatched_line : List SectionData → (pattern : List ℕ) → List ℕ

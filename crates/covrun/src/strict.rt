@@ -8,16 +8,16 @@ ghost use Rattle.covworkers.specs.Late.{IsLateOutcome};
 ghost use Rattle.covreport.specs.ChoiceView.{choice_data};
 ghost use Rattle.covbook.specs.View.{op_data};
 ghost use Rattle.covrun.specs.Files.{IsUncleanFault};
-ghost use Rattle.covrun.specs.Strict.{HoldsIn, IsStrictOutcome, is_clean as is_clean_summary, is_matched, patterns_of_choice, patterns_of_op, unmatched_line};
+ghost use Rattle.covrun.specs.Strict.{HoldsIn, IsStrictOutcome, is_clean as is_clean_summary, patterns_of_choice, patterns_of_op, unmatched_line};
 
 use crate::text_fault::TextFault;
 use covbook::{Op, PackedRef};
 use covcheck::{Format, TextSummary, summary_line, summary_of};
 use covdata::{Bytes, Memory};
 use covjobs::Input;
-use covlist::put_shown_name;
+use covlist::{matches_a_file, put_shown_name};
 use covpacked::PackedSubmission;
-use covreport::{Choice, Patterns, matches};
+use covreport::{Choice, Patterns};
 use covstore::Store;
 use covworkers::LateFault;
 use std::alloc::Global;
@@ -120,16 +120,4 @@ fn add_if_unmatched(pattern: &[u8], store: &Store, lines: &mut Bytes) -> Result<
     put_shown_name(pattern, lines)?;
     lines.append(b": matches no file\n")?;
     Ok(())
-}
-
-/// Whether `pattern` matches the path of a file of `store`.
-fn matches_a_file(pattern: &[u8], store: &Store) -> bool
-    ensures { result ≡ is_matched store.now.sections pattern.now }
-{
-    for file in store.files() {
-        if matches(pattern, file.path) {
-            return true;
-        }
-    }
-    false
 }

@@ -20,6 +20,11 @@ Finishes name text None after = Unit {0}
 Finishes name text (Some files) None = ⊥
 Finishes name text (Some files) (Some after) = after ≡ files ++ (name, text) ∷ []
 
+-- one more file was finished, with this name and this text, and nothing else changed
+abbrev pub IsWritten : (name text : List ℕ) → OutputFilesData → OutputFilesData → Type 0
+IsWritten name text files after =
+    Finishes name text files.finished after.finished × (after.begun ≡ files.begun) × (after.failed ≡ files.failed)
+
 -- a file that was just begun has no bytes. Nothing is said if the finished files aren't known
 abbrev pub IsEmptyIfKnown : (finished : Option (List (List ℕ × List ℕ))) → (written : Option (List ℕ)) → Type 0
 IsEmptyIfKnown None written = Unit {0}
