@@ -94,10 +94,12 @@ fn run_command<
         Ok(Task::Check { options, files }) => {
             check_files(rt, folder, alloc, &options, files.get(), &mut world.sinks)
         }
-        Ok(Task::Combine {
-            options,
-            strictness,
-        }) => combine(
+        Ok(
+            Task::Combine {
+                options,
+                strictness,
+            },
+        ) => combine(
             rt,
             folder,
             alloc,
