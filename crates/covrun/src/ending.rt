@@ -7,11 +7,11 @@ ghost use Rattle.covrun.specs.View.{failure_data};
 ghost use Rattle.covrun.specs.WorkFault.{of_work};
 
 use crate::argument_fault::ArgumentFault;
-use crate::ready_text::ReadyText;
 use crate::work::WorkFault;
 use covdata::Bytes;
 use covsession::SessionFault;
 use covworkers::CollectFault;
+use covworld::ReadyText;
 
 /// An answer that is ready to be printed.
 #[derive(Drop)]

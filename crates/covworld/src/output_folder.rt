@@ -1,0 +1,148 @@
+//! The directory trait that output files are written to.
+
+ghost use Rattle.std.specs.Prelude.{◌≡◌, ℕ, ◌<◌, ◌^◌, ◌≤◌, List, Option, None, Some, suc, option_map, IfOk, IfErr, OnOk, OnErr};
+ghost use Rattle.covworld.specs.OutputFiles.{CountsFault, Finishes, IsEmptyIfKnown};
+
+use crate::unfinished_file::{UnfinishedFile, abandon_file, begin_file, finish_file};
+use covreport::Noted;
+use covstream::Sink;
+use std::alloc::AllocGlobal;
+use std::random::RandomSource;
+use std::rt::Files;
+
+/// Why a file couldn't be begun or finished.
+#[derive(Clone, Copy, Debug, PartialEq, Eq)]
+pub enum OutputFault {
+    /// The file can't be written.
+    Failed,
+    /// An allocation failed.
+    Memory,
+}
+
+/// Writes files, each of them whole or not at all.
+///
+/// A file is begun, its bytes are written, and then it is finished. A file gets its name when it is finished, and an older file of
+/// this name stays unchanged until then. Bytes for a device or a stream are written to it at once. Only one file can be begun at a
+/// time.
+pub trait OutputFolder {
+    // The finished files in order, each with its name and content, if they are known.
+    ghost finished: { Self → Option (List (List ℕ × List ℕ)) };
+
+    // The name of the file that is begun, and neither finished nor abandoned.
+    ghost begun: { Self → Option (List ℕ) };
+
+    // How many files couldn't be written.
+    ghost failed: { Self → ℕ };
+
+    /// An unfinished file, as a sink of its bytes.
+    type File: Sink + Drop;
+
+    /// Begins a file that will be called `name`.
+    fn begin(&mut self, name: &str) -> Result<Self::File, OutputFault>
+        requires free { begun self.old ≡ None }
+        requires few { failed self.old < 2 ^ 63 }
+        ensures same { finished self.new ≡ finished self.old }
+        ensures begun { OnOk result (begun self.new ≡ Some name.now) }
+        ensures none { OnErr result (begun self.new ≡ None) }
+        ensures empty { IfOk result (λ file. IsEmptyIfKnown (finished self.old) (Self.File.written file)) }
+        ensures fresh { IfOk result (λ file. Self.File.failed_writes file ≡ 0) }
+        ensures good { OnOk result (failed self.new ≡ failed self.old) }
+        ensures counted { IfErr result (λ fault. CountsFault fault (failed self.old) (failed self.new)) };
+
+    /// Gives the begun file its name, once all bytes of the file are written and flushed. Drops the file on an error.
+    fn finish(&mut self, file: Self::File) -> Result<(), OutputFault>
+        requires good { Self.File.failed_writes file ≡ 0 }
+        requires sent { Self.File.held file ≡ 0 }
+        requires few { failed self.old < 2 ^ 63 }
+        ensures finished { OnOk result ((name text : List ℕ) → begun self.old ≡ Some name → Self.File.written file ≡ Some text → Finishes name text (finished self.old) (finished self.new)) }
+        ensures same { OnErr result (finished self.new ≡ finished self.old) }
+        ensures none { begun self.new ≡ None }
+        ensures good { OnOk result (failed self.new ≡ failed self.old) }
+        ensures counted { IfErr result (λ fault. CountsFault fault (failed self.old) (failed self.new)) };
+
+    /// Drops the begun file after a failed write.
+    fn abandon(&mut self, file: Self::File)
+        requires failed { 1 ≤ Self.File.failed_writes file }
+        requires few { failed self.old < 2 ^ 63 }
+        ensures same { finished self.new ≡ finished self.old }
+        ensures none { begun self.new ≡ None }
+        ensures counted { failed self.new ≡ suc (failed self.old) };
+}
+
+/// The file system of std as an output folder.
+///
+/// std's `Files` doesn't specify what a file holds, so `finished` is `None`. It is assumed that std does with files what the
+/// functions of `unfinished_file` ask for.
+#[derive(Drop)]
+pub struct IntoFiles<'a, R> {
+    rt: &'a R,
+    // Proof only: the name of the file that is begun.
+    begun: Option<Noted>,
+    failed: u64,
+}
+
+impl<'a, R: Files + RandomSource + AllocGlobal> IntoFiles<'a, R> {
+    /// Wraps the file system of this runtime.
+    pub fn new(rt: &'a R) -> IntoFiles<'a, R>
+        ensures failed { ⟦<IntoFiles<'a, R> as OutputFolder>⟧.failed result ≡ 0 }
+        ensures begun { ⟦<IntoFiles<'a, R> as OutputFolder>⟧.begun result ≡ None }
+    {
+        IntoFiles {
+            rt,
+            begun: None,
+            failed: 0,
+        }
+    }
+
+    /// Counts a file that couldn't be written.
+    fn count(&mut self, fault: OutputFault)
+        requires { self.old.failed < 2 ^ 63 }
+        ensures counted { CountsFault fault self.old.failed self.new.failed }
+        ensures begun { self.new.begun ≡ self.old.begun }
+    {
+        match fault {
+            OutputFault::Failed => self.failed += 1,
+            OutputFault::Memory => (),
+        }
+    }
+}
+
+impl<'a, R: Files + RandomSource + AllocGlobal> OutputFolder for IntoFiles<'a, R> {
+    ghost finished = { λ _. None };
+
+    ghost begun = { λ f. option_map (λ name. name.bytes) f.begun };
+
+    ghost failed = { λ f. f.failed };
+
+    type File = UnfinishedFile<R::File>;
+
+    fn begin(&mut self, name: &str) -> Result<UnfinishedFile<R::File>, OutputFault> {
+        match begin_file(self.rt, name) {
+            Ok(file) => {
+                self.begun = Some(Noted::none().and(name.as_bytes()));
+                Ok(file)
+            }
+            Err(fault) => {
+                self.count(fault);
+                Err(fault)
+            }
+        }
+    }
+
+    fn finish(&mut self, file: UnfinishedFile<R::File>) -> Result<(), OutputFault> {
+        self.begun = None;
+        match finish_file(self.rt, file) {
+            Ok(()) => Ok(()),
+            Err(fault) => {
+                self.count(fault);
+                Err(fault)
+            }
+        }
+    }
+
+    fn abandon(&mut self, file: UnfinishedFile<R::File>) {
+        abandon_file(self.rt, file);
+        self.begun = None;
+        self.failed += 1;
+    }
+}
