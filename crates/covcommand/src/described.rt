@@ -7,6 +7,7 @@ ghost use Rattle.covcommand.specs.CommandLine as line;
 ghost use Rattle.covcommand.specs.Built.{HasNoGlobals, IsRule};
 
 use crate::help;
+use crate::html::html;
 use clap::{Arg, ArgAction, Command, value_parser};
 use std::alloc::{AllocError, Global};
 
@@ -20,7 +21,8 @@ pub(crate) fn described<'a>(alloc: Global) -> Result<Command<'a>, AllocError>
     let extracting = with(listing, extract(alloc))?;
     let removing = with(extracting, remove(alloc))?;
     let converting = with(removing, gcov(alloc))?;
-    with(converting, check(alloc))
+    let checking = with(converting, check(alloc))?;
+    with(checking, html(alloc))
 }
 
 /// Adds a subcommand to `command`. A chain of calls with `?` in their arguments would take the prover minutes.
@@ -149,7 +151,7 @@ fn check<'a>(alloc: Global) -> Result<Command<'a>, AllocError>
 }
 
 /// A required argument that may be repeated.
-fn several<'a>(alloc: Global, id: &'a str, help: &'a str) -> Arg<'a>
+pub(crate) fn several<'a>(alloc: Global, id: &'a str, help: &'a str) -> Arg<'a>
     ensures { IsRule (line.several id.entry.now) result }
 {
     Arg::new(alloc, id)
@@ -170,7 +172,7 @@ fn tracefile<'a>(alloc: Global) -> Arg<'a>
 }
 
 /// `--jobs N` or `-j N`, the number of jobs.
-fn jobs<'a>(alloc: Global) -> Arg<'a>
+pub(crate) fn jobs<'a>(alloc: Global) -> Arg<'a>
     ensures { IsRule line.jobs result }
 {
     Arg::new(alloc, "jobs")
@@ -208,7 +210,7 @@ fn test<'a>(alloc: Global) -> Arg<'a>
 }
 
 /// A repeatable option for a pattern.
-fn patterns<'a>(alloc: Global, id: &'a str, help: &'a str) -> Arg<'a>
+pub(crate) fn patterns<'a>(alloc: Global, id: &'a str, help: &'a str) -> Arg<'a>
     ensures { IsRule (line.patterns id.entry.now) result }
 {
     Arg::new(alloc, id)
@@ -237,21 +239,21 @@ fn annotated<'a>(alloc: Global) -> Arg<'a>
 }
 
 /// The flag `--lcov2`: tracefiles of LCOV 2 are read too.
-fn lcov2<'a>(alloc: Global) -> Arg<'a>
+pub(crate) fn lcov2<'a>(alloc: Global) -> Arg<'a>
     ensures { IsRule line.lcov2 result }
 {
     flag(alloc, "lcov2", help::LCOV2)
 }
 
 /// The flag `--strict`: files and patterns that look wrong are rejected.
-fn strict<'a>(alloc: Global, help: &'a str) -> Arg<'a>
+pub(crate) fn strict<'a>(alloc: Global, help: &'a str) -> Arg<'a>
     ensures { IsRule line.strict result }
 {
     flag(alloc, "strict", help)
 }
 
 /// The flag `--large`: tracefiles above the size limit are read in chunks.
-fn large<'a>(alloc: Global) -> Arg<'a>
+pub(crate) fn large<'a>(alloc: Global) -> Arg<'a>
     ensures { IsRule line.large result }
 {
     flag(alloc, "large", help::LARGE)

@@ -145,6 +145,22 @@ With both flags the files are what gcov wrote.
 The status is 1 where a file can't be read, else 4 where one is refused, and
 else 5 where one has no items or, with --strict, odd or skipped lines.";
 
+/// What `html` does.
+pub(crate) const HTML: &str = "Writes pages that show the coverage in a browser (genhtml)";
+
+/// How to call `html`.
+pub(crate) const HTML_END: &str = "\
+Writes index.html and a page for each source file into a folder, with the text
+of the source if it can be read. The folder is replaced as a whole if html wrote
+it, and refused if it has other files. In place of
+  genhtml A.info -o DIR
+write
+  covcollect html A.info -o DIR
+and where the sources lie elsewhere
+  covcollect html --source /build=/home/me/src A.info -o DIR
+and to end with status 5 unless each source can be shown
+  covcollect html --strict A.info -o DIR";
+
 /// The help of an argument for tracefiles.
 pub(crate) const TRACEFILES: &str = "Tracefiles, read in this order";
 
@@ -180,6 +196,11 @@ lines; unmatched patterns";
 /// The help of `--strict` for `check`.
 pub(crate) const STRICT_CHECK: &str = "Fail for odd or skipped lines too";
 
+/// The help of `--strict` for `html`. It has two lines as that of the other subcommands.
+pub(crate) const STRICT_HTML: &str = "\
+Refuse files with no items, odd or skipped
+lines; unmatched patterns; missing sources";
+
 /// The help of `--large`.
 pub(crate) const LARGE: &str = "Read tracefiles above 64 MiB in pieces";
 
@@ -200,6 +221,20 @@ pub(crate) const FAIL_UNDER_FUNCTIONS: &str = "Status 6 if less than N% of funct
 
 /// The help of `--fail-under-branches`.
 pub(crate) const FAIL_UNDER_BRANCHES: &str = "Status 6 if less than N% of branches are hit";
+
+/// The help of `--output` for `html`.
+pub(crate) const FOLDER: &str = "Folder for the pages: new, empty, or of html";
+
+/// The help of `--title`.
+pub(crate) const TITLE: &str = "Title of the index; Coverage without it";
+
+/// The help of `--date`.
+pub(crate) const DATE: &str = "Date that the index shows; none without it";
+
+/// The help of `--source`.
+pub(crate) const SOURCE: &str = "\
+Sources of OLD lie in NEW; may be repeated,
+the first that fits counts";
 
 /// The help of `--gcov`.
 pub(crate) const ANNOTATED: &str = "The files are what gcov wrote, and not tracefiles";

@@ -4,13 +4,13 @@ ghost use Rattle.std.specs.Prelude.{◌≡◌, ◌≤◌, ◌++◌, [], IfOk, If
 ghost use Rattle.std.specs.String.{string_bytes};
 ghost use Rattle.clap.specs.Words.{rows_of, found_of, subcommand_of, takes, fault_of, first_of};
 ghost use Rattle.covcommand.specs.CommandLine.{covcollect};
-ghost use Rattle.covcommand.specs.Asked.{AreLimitsOf, AsksFor, GoesTo, HasSize, HasStrictness, IsFilterOf, IsFormOf, IsFormatOf, IsInBounds, IsLimitOf, IsNumberOf, IsOutputOf, IsSizeOf, IsStrictnessOf, IsVersionOf, rows_met, tracefile_and_patterns, values_of};
-ghost use Rattle.covcommand.specs.Found.{Fits, HasFilter, HasFlag, HasJobs, HasSome, HasTest, TellsFlags};
+ghost use Rattle.covcommand.specs.Asked.{AreLimitsOf, AsksFor, ArePagesOf, GoesTo, HasSize, HasStrictness, IsFilterOf, IsFormOf, IsFormatOf, IsInBounds, IsNumberOf, IsOutputOf, IsSizeOf, IsStrictnessOf, IsTextIfAny, IsVersionOf, rows_met, tracefile_and_patterns, values_of};
+ghost use Rattle.covcommand.specs.Found.{Fits, HasFilter, HasFlag, HasFolder, HasJobs, HasSome, HasTest, TellsFlags};
 ghost use Rattle.covcommand.specs.Fault.{IsFaultAmong};
 ghost use Rattle.covcommand.specs.declared.fault.CommandFault.TheVariants as faults;
 
 use crate::asked::{
-    Asked, Command, Limits, SourceFilter, Strictness, TextFormat, TextSize, TotalsForm,
+    Asked, Command, Limits, PageOptions, SourceFilter, Strictness, TextFormat, TextSize, TotalsForm,
 };
 use crate::described::described;
 use crate::fault::CommandFault;
@@ -117,7 +117,7 @@ fn size_of(found: &ArgMatches<'_>) -> TextSize
     }
 }
 
-/// Returns the output file of `command`: none for a session and `check`, else the argument of `--output`.
+/// Returns the output file of `command`: none for a session, `check` and `html`, else the argument of `--output`.
 fn output_for(
     alloc: Global,
     command: &Command,
@@ -126,7 +126,7 @@ fn output_for(
     ensures { IfOk result (GoesTo (rows_of (found_of found.now)) command.now) }
 {
     match command {
-        Command::Session | Command::Check { .. } => Ok(None),
+        Command::Session | Command::Check { .. } | Command::Html { .. } => Ok(None),
         _ => output_of(alloc, found),
     }
 }
@@ -183,11 +183,50 @@ fn command_from(alloc: Global, name: &str, found: &ArgMatches<'_>) -> Result<Com
             test: test_of(alloc, found)?,
             names: files_of(alloc, found)?,
         }),
-        _ => Ok(Command::Check {
+        "check" => Ok(Command::Check {
             format: format_of(found),
             jobs: jobs_of(found),
             names: files_of(alloc, found)?,
         }),
+        _ => Ok(Command::Html {
+            version: version_of(found),
+            jobs: jobs_of(found),
+            filter: source_filter_of(alloc, found)?,
+            pages: page_options_of(alloc, found)?,
+            names: files_of(alloc, found)?,
+        }),
+    }
+}
+
+/// How pages are written.
+fn page_options_of(alloc: Global, found: &ArgMatches<'_>) -> Result<PageOptions, Memory>
+    requires { HasFolder (rows_of (found_of found.now)) }
+    ensures { IfOk result (ArePagesOf (rows_of (found_of found.now))) }
+{
+    Ok(PageOptions {
+        folder: folder_of(alloc, found)?,
+        title: text_if_any(alloc, found, "title")?,
+        date: text_if_any(alloc, found, "date")?,
+        sources: patterns_of(alloc, found, "source")?,
+    })
+}
+
+/// The folder for pages.
+fn folder_of(alloc: Global, found: &ArgMatches<'_>) -> Result<String, Memory>
+    requires { HasFolder (rows_of (found_of found.now)) }
+    ensures { IfOk result (λ folder. first_of (codes "output") (rows_of (found_of found.now)) ≡ Some (string_bytes folder)) }
+{
+    let folder = found.get_str("output").unwrap();
+    Ok(String::from_str(alloc, folder)?)
+}
+
+/// Returns the argument of the option `id`, or `None` without the option.
+fn text_if_any(alloc: Global, found: &ArgMatches<'_>, id: &str) -> Result<Option<Bytes>, Memory>
+    ensures { IfOk result (IsTextIfAny id.now (rows_of (found_of found.now))) }
+{
+    match found.get_str(id) {
+        Some(word) => Ok(Some(Bytes::of(alloc, word.as_bytes())?)),
+        None => Ok(None),
     }
 }
 
@@ -247,20 +286,10 @@ fn limits_of(alloc: Global, found: &ArgMatches<'_>) -> Result<Limits, Memory>
     ensures { IfOk result (AreLimitsOf (rows_of (found_of found.now))) }
 {
     Ok(Limits {
-        lines: limit_of(alloc, found, "fail-under-lines")?,
-        functions: limit_of(alloc, found, "fail-under-functions")?,
-        branches: limit_of(alloc, found, "fail-under-branches")?,
+        lines: text_if_any(alloc, found, "fail-under-lines")?,
+        functions: text_if_any(alloc, found, "fail-under-functions")?,
+        branches: text_if_any(alloc, found, "fail-under-branches")?,
     })
-}
-
-/// Returns the argument of the threshold option `id`, or `None` without the option.
-fn limit_of(alloc: Global, found: &ArgMatches<'_>, id: &str) -> Result<Option<Bytes>, Memory>
-    ensures { IfOk result (IsLimitOf id.now (rows_of (found_of found.now))) }
-{
-    match found.get_str(id) {
-        Some(word) => Ok(Some(Bytes::of(alloc, word.as_bytes())?)),
-        None => Ok(None),
-    }
 }
 
 /// The name of the tracefile, followed by the patterns.

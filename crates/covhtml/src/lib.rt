@@ -35,7 +35,7 @@ mod source_page;
 mod source_rows;
 mod style_sheet;
 
-pub use index_page::put_index_page;
+pub use index_page::{name_of, put_index_page};
 pub use names::page_name;
 pub use pages::{Directory, IndexPage, IndexedFile, SourcePage};
 pub use rows::Row;

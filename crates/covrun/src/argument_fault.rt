@@ -18,6 +18,9 @@ pub enum ArgumentFault {
     /// A threshold isn't a rate: a decimal number of percent from 0 to 100, with at most six digits after the point.
     #[error("BadRate")]
     BadRate,
+    /// A rule for where source files lie has no `=`.
+    #[error("BadSource")]
+    BadSource,
     /// The number of jobs is 0 or more than 64, which the command line never admits.
     #[error("BadJobs")]
     BadJobs,
@@ -37,6 +40,7 @@ impl ArgumentFault {
             ArgumentFault::TooLong => b"TooLong\n",
             ArgumentFault::BadTest => b"BadTest\n",
             ArgumentFault::BadRate => b"BadRate\n",
+            ArgumentFault::BadSource => b"BadSource\n",
             ArgumentFault::BadJobs => b"BadJobs\n",
         }
     }

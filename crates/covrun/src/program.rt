@@ -12,6 +12,7 @@ use crate::checked::check_files;
 use crate::collecting::do_work;
 use crate::ending::failure_of_work;
 use crate::output::{report_failure, report_line};
+use crate::pages::do_pages;
 use crate::work::{Task, task_for};
 use covcommand::{Asked, CommandFault, command};
 use covstream::{Sink, Source};
@@ -24,7 +25,7 @@ use std::thread::Threads;
 ///
 /// A run that collects files checks for errors in this order, given here with the exit statuses:
 /// - the command line (2);
-/// - the patterns, then the thresholds, or for `gcov` the test's name (2);
+/// - the patterns, then the thresholds or where sources lie, or for `gcov` the test's name (2);
 /// - the first file that can't be read (1);
 /// - an error of collecting, such as a full history (3), or an input for which memory ran out (3);
 /// - invalid files, and clashes of accepted ones (4);
@@ -43,6 +44,10 @@ use std::thread::Threads;
 /// that can be read. The error stream gets a complaint about a file that can't be read or has no item, and in a strict run also
 /// about a file that isn't clean. The status of `check` is 1 if a file can't be read, else 4 if one is invalid, else 5 if one has
 /// no item or isn't clean, else 0. A `check` ends early if a write of a line fails (1), or if memory runs out (3).
+///
+/// `html` fails like `list`. Then it writes pages into a new folder, which replaces an older one as a whole. It fails if the folder
+/// can't be written or has files that `html` didn't write (1), and in a strict run if source files can't be shown (5). Nothing has
+/// changed then. It writes nothing to the output.
 ///
 /// The run collects or checks the content of the files on the command line, if `folder` knows its files' bytes.
 ///
@@ -91,6 +96,7 @@ fn run_command<
         Ok(Task::Check { options, files }) => {
             check_files(rt, folder, alloc, &options, files.get(), &mut world.sinks)
         }
+        Ok(Task::Show { work, pages }) => do_pages(rt, folder, alloc, &work, &pages, world),
         Err(fault) => report_failure(failure_of_work(fault), world),
     }
 }

@@ -6,7 +6,7 @@
 //!
 //! `file_text` reads a whole file. `ReadyText::of` reserves all memory for printing a text. The text then goes in blocks, while it
 //! is made from a store, to the output (`Sinks::print`) or into a file (`write_file`). The file gets its name after its whole text
-//! is written.
+//! is written. `write_in_folder` writes a file of a new folder, which gets its name after all its files are written.
 //!
 //! A sketch, which no test runs: a function that prints a file, or reports that the file can't be read.
 //!
@@ -36,17 +36,21 @@ mod block_printer;
 mod files;
 mod folder;
 mod output_folder;
+mod printed_text;
 mod ready_text;
 mod sinks;
 mod unfinished_file;
+mod unfinished_folder;
 mod world;
 mod written_file;
 
 pub use files::{FileFault, file_text};
 pub use folder::{Folder, FromFiles, Opened};
-pub use output_folder::{IntoFiles, OutputFault, OutputFolder};
+pub use output_folder::{FolderFault, IntoFiles, OutputFault, OutputFolder};
+pub use printed_text::PrintedText;
 pub use ready_text::ReadyText;
 pub use sinks::Sinks;
 pub use unfinished_file::UnfinishedFile;
+pub use unfinished_folder::UnfinishedFolder;
 pub use world::World;
-pub use written_file::write_file;
+pub use written_file::{write_file, write_in_folder};

@@ -16,7 +16,7 @@ use std::rt::Files;
 #[derive(Drop)]
 pub struct UnfinishedFile<F> {
     sink: FromWrite<F>,
-    // `None` for a device or a pipe: bytes go straight into it.
+    // `None` for a device or a pipe, which bytes go straight into, and for a file of a new folder.
     rename: Option<Rename>,
 }
 
@@ -140,7 +140,7 @@ fn begin_new<R: Files + RandomSource + AllocGlobal>(
 
 /// Chooses a temporary name beside `to`, the final name.
 fn rename_to<R: RandomSource + AllocGlobal>(rt: &R, to: String) -> Result<Rename, OutputFault> {
-    let from = name_beside(rt, to.as_str())?;
+    let from = name_beside(rt, to.as_str(), ".part")?;
     Ok(Rename { from, to })
 }
 
@@ -153,6 +153,29 @@ fn create<R: Files>(rt: &R, rename: &Rename, mode: u32) -> io::Result<R::File> {
         .open(rt, rename.from.as_str())
 }
 
+/// Creates a file of a new folder, with all its path.
+pub(crate) fn create_in<R: Files>(
+    rt: &R,
+    path: &str,
+) -> Result<UnfinishedFile<R::File>, OutputFault>
+    ensures { IfOk result (λ file. ⟦<UnfinishedFile<R::File> as Sink>⟧.failed_writes file ≡ 0) }
+{
+    let file = OpenOptions::new()
+        .write(true)
+        .create_new(true)
+        .open(rt, path)?;
+    Ok(unfinished(file, None))
+}
+
+/// Closes a file of a new folder after all its bytes are on the disk.
+pub(crate) fn finish_in<F: OpenFile + io::Write + Drop>(
+    file: UnfinishedFile<F>,
+) -> Result<(), OutputFault> {
+    let UnfinishedFile { sink, .. } = file;
+    sync_and_close(sink.into_inner())?;
+    Ok(())
+}
+
 /// An unfinished file without any bytes yet.
 fn unfinished<F: io::Write>(file: F, rename: Option<Rename>) -> UnfinishedFile<F>
     ensures { ⟦<UnfinishedFile<F> as Sink>⟧.failed_writes result ≡ 0 }
@@ -163,15 +186,19 @@ fn unfinished<F: io::Write>(file: F, rename: Option<Rename>) -> UnfinishedFile<F
     }
 }
 
-/// An unused name in the same directory: `name`, followed by random digits and `.part`.
-fn name_beside<R: RandomSource + AllocGlobal>(rt: &R, name: &str) -> Result<String, OutputFault> {
+/// An unused name in the same directory: `name`, followed by random digits and `ending`.
+pub(crate) fn name_beside<R: RandomSource + AllocGlobal>(
+    rt: &R,
+    name: &str,
+    ending: &str,
+) -> Result<String, OutputFault> {
     let mut random = [0u8; 8];
     rt.fill_bytes(&mut random)?;
     let digits = hex::encode(rt.alloc(), random)?;
     let mut beside = String::from_str(rt.alloc(), name)?;
     beside.push_str(".")?;
     beside.push_str(digits.as_str())?;
-    beside.push_str(".part")?;
+    beside.push_str(ending)?;
     Ok(beside)
 }
 

@@ -1,10 +1,14 @@
-//! Writes a text into a file.
+//! Writes a text into a file, or into a file of a new folder.
 
 ghost use Rattle.std.specs.Prelude.{◌≡◌, ◌<◌, ◌^◌, None, IfErr, OnOk, OnErr};
 ghost use Rattle.covworld.specs.OutputFiles.{CountsFault, Finishes};
 
+use crate::block::Block;
+use crate::block_printer::print_text;
 use crate::output_folder::{OutputFault, OutputFolder};
+use crate::printed_text::PrintedText;
 use crate::ready_text::ReadyText;
+use std::alloc::Global;
 
 /// Writes `text` into the file called `name`. An older file of this name stays unchanged if the write fails.
 pub fn write_file<P: OutputFolder>(
@@ -23,6 +27,34 @@ pub fn write_file<P: OutputFolder>(
     let mut file = files.begin(name)?;
     match text.print(&mut file) {
         Ok(()) => files.finish(file),
+        Err(_) => {
+            files.abandon(file);
+            Err(OutputFault::Failed)
+        }
+    }
+}
+
+/// Writes `text` into the file called `name` of an unfinished folder.
+pub fn write_in_folder<P: OutputFolder, T: PrintedText>(
+    alloc: Global,
+    name: &[u8],
+    text: T,
+    folder: &mut P::NewFolder,
+    files: &mut P,
+) -> Result<(), OutputFault>
+    requires free { P.begun files.old ≡ None }
+    requires few { P.failed files.old < 2 ^ 62 }
+    ensures same { P.finished files.new ≡ P.finished files.old }
+    ensures folder { P.folder_name folder.new ≡ P.folder_name folder.old }
+    ensures files { OnOk result (Finishes name.now (T.text text.entry) (P.files_in folder.old) (P.files_in folder.new)) }
+    ensures none { P.begun files.new ≡ None }
+    ensures good { OnOk result (P.failed files.new ≡ P.failed files.old) }
+    ensures counted { IfErr result (λ fault. CountsFault fault (P.failed files.old) (P.failed files.new)) }
+{
+    let block = Block::new(alloc)?;
+    let mut file = files.begin_in(folder, name)?;
+    match print_text(text, block, &mut file) {
+        Ok(()) => files.finish_in(folder, file),
         Err(_) => {
             files.abandon(file);
             Err(OutputFault::Failed)

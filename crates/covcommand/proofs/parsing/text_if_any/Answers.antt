@@ -1,7 +1,7 @@
 use Rattle.std.proofs.Common.{◌∙◌, Some, sym, ap, option_map}
 use Rattle.clap.specs.Words.{found_of}
 use Rattle.clap.proofs.WalkLemmas.{first_value-rows}
-use Rattle.covcommand.proofs.parsing.limit_of.Goals as goal
+use Rattle.covcommand.proofs.parsing.text_if_any.Goals as goal
 
 pub returns-in_ok-of-in-Some : goal.returns-in_ok-of-in-Some
 returns-in_ok-of-in-Some c =

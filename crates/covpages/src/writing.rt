@@ -1,0 +1,254 @@
+//! Writes the folder of pages.
+
+ghost use Rattle.std.specs.Prelude.{◌≡◌, ◌<◌, ◌^◌, ◌++◌, [], ℕ, List, None, IfErr, IfOk, OnErr, OnOk, map};
+ghost use Rattle.covhtml.specs.IndexPage.{IndexedFileData};
+ghost use Rattle.covpages.specs.Pages.{IsPagesFault, IsWritten, IsWrittenSoFar, WrittenData, index_of, shown_at};
+ghost use Rattle.covpages.specs.View.{progress_data, work_data};
+ghost use Rattle.covtable.specs.Totals.{AreTotals};
+ghost use Rattle.covtable.specs.ValuesView.{file_totals_data};
+ghost use Rattle.covworld.specs.Folder.{folder_data};
+
+use crate::entries::{Entry, directories_of_groups, grouped};
+use crate::fault::PagesFault;
+use crate::page::Page;
+use crate::source_rule::located;
+use crate::source_text::{Source, put_complaint, read_source};
+use covcommand::{PageOptions, Strictness};
+use covdata::{Bytes, Memory};
+use covhtml::{IndexPage, Row, SourcePage, branches_of, functions_of, page_name, rows_of};
+use covreport::Choice;
+use covtable::{FileTotals, TableFiles, TableSection, TableSections, Totals};
+use covworld::{Folder, OutputFault, OutputFolder, write_in_folder};
+use std::alloc::Global;
+
+/// The title of an index without `--title`.
+const TITLE: &[u8] = b"Coverage";
+
+/// How pages are written, and of which source files.
+pub struct PagesWork<'w, F> {
+    /// The allocator.
+    pub alloc: Global,
+    /// The folder for the pages, their texts, and where source files lie.
+    pub options: &'w PageOptions,
+    /// The source files that are shown.
+    pub choice: &'w Choice,
+    /// Whether source files whose text can't be shown are refused.
+    pub strictness: Strictness,
+    /// Has the source files.
+    pub sources: &'w F,
+}
+
+/// What pages show of a store. Each file has one section.
+#[derive(Drop)]
+pub struct Shown<T: Drop, C: Drop> {
+    /// Gives the files with their totals.
+    pub files: T,
+    /// Gives the sections.
+    pub sections: C,
+    /// The totals of the shown files.
+    pub totals: Totals,
+}
+
+/// What was written so far: the source files that have a page, and the lines about those whose text isn't shown.
+#[derive(Drop)]
+struct Progress<'s> {
+    entries: Vec<Entry<'s>>,
+    complaints: Bytes,
+}
+
+impl<'s> Progress<'s> {
+    /// Notes a source file that has a page.
+    fn note(&mut self, entry: Entry<'s>) -> Result<(), Memory> {
+        self.entries.push(entry)?;
+        Ok(())
+    }
+}
+
+/// Writes a folder of pages, and returns the warnings. The folder has `index.html`, `style.css`, and a page for each file that is
+/// shown. It replaces an older folder of pages as a whole, at the end. A page has no text if its source file can't be read, or has
+/// fewer lines than the counts: then there is a warning. A strict call is refused for such files.
+pub fn write_pages<'s, T: TableFiles<'s>, C: TableSections<'s>, F: Folder, P: OutputFolder>(
+    work: &PagesWork<'_, F>,
+    shown: Shown<T, C>,
+    files: &mut P,
+) -> Result<Bytes, PagesFault>
+    requires free { P.begun files.old ≡ None }
+    requires few { P.failed files.old < 2 ^ 62 }
+    requires totals { AreTotals shown.totals }
+    ensures written { IfOk result (IsWritten (work_data (folder_data F.Folder F.File.Source work.now.sources.now) work.now) (T.left shown.files) (C.left shown.sections) shown.totals (P.finished files.old) (P.finished files.new)) }
+    ensures refused { IfErr result (IsPagesFault (work_data (folder_data F.Folder F.File.Source work.now.sources.now) work.now) (T.left shown.files) (C.left shown.sections)) }
+    ensures same { OnErr result (P.finished files.new ≡ P.finished files.old) }
+    ensures none { P.begun files.new ≡ None }
+{
+    let mut report = files.begin_folder(work.options.folder.as_str())?;
+    match write_report(work, shown, &mut report, files) {
+        Ok(warnings) => {
+            files.finish_folder(report)?;
+            Ok(warnings)
+        }
+        Err(fault) => {
+            files.abandon_folder(report);
+            Err(fault)
+        }
+    }
+}
+
+/// Writes all files of the folder, and returns the warnings.
+fn write_report<'s, T: TableFiles<'s>, C: TableSections<'s>, F: Folder, P: OutputFolder>(
+    work: &PagesWork<'_, F>,
+    shown: Shown<T, C>,
+    report: &mut P::NewFolder,
+    files: &mut P,
+) -> Result<Bytes, PagesFault>
+    requires free { P.begun files.old ≡ None }
+    requires few { P.failed files.old < 2 ^ 62 }
+    requires totals { AreTotals shown.totals }
+    ensures same { P.finished files.new ≡ P.finished files.old }
+    ensures none { P.begun files.new ≡ None }
+{
+    let totals = shown.totals;
+    write_in_folder(work.alloc, b"style.css", Page::Style, report, files)?;
+    let Progress {
+        entries,
+        complaints,
+    } = write_sources(work, shown, report, files)?;
+    if refuses(work.strictness, &complaints) {
+        return Err(PagesFault::Refused(complaints));
+    }
+    write_index(work, totals, entries.as_slice(), report, files)?;
+    Ok(complaints)
+}
+
+/// Whether a call of this strictness is refused for these lines.
+fn refuses(strictness: Strictness, complaints: &Bytes) -> bool {
+    match strictness {
+        Strictness::Lenient => false,
+        Strictness::Strict => !complaints.get().is_empty(),
+    }
+}
+
+/// Writes the pages of the source files that are shown.
+fn write_sources<'s, T: TableFiles<'s>, C: TableSections<'s>, F: Folder, P: OutputFolder>(
+    work: &PagesWork<'_, F>,
+    shown: Shown<T, C>,
+    report: &mut P::NewFolder,
+    files: &mut P,
+) -> Result<Progress<'s>, PagesFault>
+    requires free { P.begun files.old ≡ None }
+    requires few { P.failed files.old < 2 ^ 62 }
+    ensures same { P.finished files.new ≡ P.finished files.old }
+    ensures none { P.begun files.new ≡ None }
+{
+    let Shown {
+        files: all_files,
+        sections: all_sections,
+        ..
+    } = shown;
+    let mut left = all_files;
+    let mut sections = all_sections;
+    let mut progress = Progress {
+        entries: Vec::new(work.alloc),
+        complaints: Bytes::new(work.alloc),
+    };
+    while let Some(section) = sections.next_section() {
+        let Some(file) = left.next_file() else {
+            break;
+        };
+        if work.choice.takes(file.path) {
+            write_source(work, file, &section, &mut progress, report, files)?;
+        }
+    }
+    Ok(progress)
+}
+
+/// Writes the page of a source file.
+fn write_source<'s, C: TableSection<'s>, F: Folder, P: OutputFolder>(
+    work: &PagesWork<'_, F>,
+    file: FileTotals<'s>,
+    section: &C,
+    progress: &mut Progress<'s>,
+    report: &mut P::NewFolder,
+    files: &mut P,
+) -> Result<(), PagesFault>
+    requires free { P.begun files.old ≡ None }
+    requires few { P.failed files.old < 2 ^ 62 }
+    requires totals { AreTotals file.totals }
+    ensures same { P.finished files.new ≡ P.finished files.old }
+    ensures none { P.begun files.new ≡ None }
+{
+    let number = progress.entries.len() as u64 + 1;
+    let name = page_name(work.alloc, number, file.path)?;
+    let functions = functions_of(work.alloc, section)?;
+    let branches = branches_of(work.alloc, section)?;
+    let rows = rows_of(work.alloc, section, branches.as_slice())?;
+    let source = source_for(work, file.path, rows.as_slice(), &mut progress.complaints)?;
+    let page = SourcePage {
+        path: file.path,
+        totals: file.totals,
+        functions: functions.as_slice(),
+        rows: rows.as_slice(),
+        source: source.text(),
+    };
+    write_in_folder(work.alloc, name.get(), Page::Source(page), report, files)?;
+    progress.note(Entry {
+        page: name,
+        path: file.path,
+        totals: file.totals,
+    })?;
+    Ok(())
+}
+
+/// Reads the source file of this `path`, and appends the line about it if its text isn't shown.
+fn source_for<F: Folder>(
+    work: &PagesWork<'_, F>,
+    path: &[u8],
+    rows: &[Row<'_>],
+    complaints: &mut Bytes,
+) -> Result<Source, Memory> {
+    let name = located(work.alloc, work.options.sources.get(), path)?;
+    let source = read_source(work.sources, work.alloc, name.get(), rows)?;
+    put_complaint(work.strictness, name.get(), &source, complaints)?;
+    Ok(source)
+}
+
+/// Writes the index of these source files.
+fn write_index<F, P: OutputFolder>(
+    work: &PagesWork<'_, F>,
+    totals: Totals,
+    entries: &[Entry<'_>],
+    report: &mut P::NewFolder,
+    files: &mut P,
+) -> Result<(), PagesFault>
+    requires free { P.begun files.old ≡ None }
+    requires few { P.failed files.old < 2 ^ 62 }
+    requires totals { AreTotals totals }
+    ensures same { P.finished files.new ≡ P.finished files.old }
+    ensures none { P.begun files.new ≡ None }
+{
+    let groups = grouped(work.alloc, entries)?;
+    let directories = directories_of_groups(work.alloc, &groups)?;
+    let page = IndexPage {
+        title: text_or(&work.options.title, TITLE),
+        date: text_if_any(&work.options.date),
+        totals,
+        directories: directories.as_slice(),
+    };
+    write_in_folder(work.alloc, b"index.html", Page::Index(page), report, files)?;
+    Ok(())
+}
+
+/// The text of an option, or `other` without the option.
+fn text_or<'t>(text: &'t Option<Bytes>, other: &'t [u8]) -> &'t [u8] {
+    match text {
+        Some(text) => text.get(),
+        None => other,
+    }
+}
+
+/// The text of an option, if the option is given.
+fn text_if_any(text: &Option<Bytes>) -> Option<&[u8]> {
+    match text {
+        Some(text) => Some(text.get()),
+        None => None,
+    }
+}

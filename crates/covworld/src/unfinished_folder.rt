@@ -1,0 +1,300 @@
+//! A folder of std that is written under a temporary name, beside the folder that it will replace.
+
+ghost use Rattle.std.specs.Prelude.{◌≡◌, IfOk};
+
+use crate::files::{FileFault, file_text};
+use crate::folder::FromFiles;
+use crate::output_folder::{FolderFault, OutputFault};
+use crate::unfinished_file::{UnfinishedFile, create_in, name_beside};
+use covdata::{Bytes, Memory};
+use covreport::Noted;
+use covstream::Sink;
+use std::alloc::{AllocError, AllocGlobal};
+use std::collections::BTreeSet;
+use std::fs::{OpenFile, OpenOptions, read_dir};
+use std::io;
+use std::io::{ErrorKind, Write};
+use std::random::RandomSource;
+use std::rt::Files;
+
+/// The name of the file that lists a finished folder's files. A folder with this file was written by `finish_folder`.
+const LIST_NAME: &str = "covcollect-files.txt";
+
+/// A folder of std that isn't finished.
+#[derive(Drop)]
+pub struct UnfinishedFolder {
+    // Proof only: the name that the caller gave.
+    pub(crate) name: Noted,
+    // The path of the temporary folder.
+    from: String,
+    // The path of the finished folder.
+    to: String,
+    // The names of the files so far, one on each line.
+    listing: Bytes,
+    // The names of the older folder's files; `None` if there is no older folder, or an empty one.
+    old: Option<Vec<String>>,
+}
+
+/// Begins a folder that will be called `name`. A symbolic link stays, and the folder that it leads to is replaced.
+pub(crate) fn begin_folder<R: Files + RandomSource + AllocGlobal>(
+    rt: &R,
+    name: &str,
+) -> Result<UnfinishedFolder, FolderFault>
+    ensures { IfOk result (λ folder. folder.name.bytes ≡ name.now) }
+{
+    let to = path_of(rt, name)?;
+    let old = old_files(rt, to.as_str())?;
+    let from = name_beside(rt, to.as_str(), ".part")?;
+    rt.create_dir(from.as_str())?;
+    Ok(UnfinishedFolder {
+        name: Noted::none().and(name.as_bytes()),
+        from,
+        to,
+        listing: Bytes::new(rt.alloc()),
+        old,
+    })
+}
+
+/// The path of the folder called `name`, without links if the folder exists. Fails for a file, and for a symbolic link that leads
+/// nowhere.
+fn path_of<R: Files + AllocGlobal>(rt: &R, name: &str) -> Result<String, FolderFault> {
+    let trimmed = name.trim_end_matches('/');
+    match rt.metadata(name) {
+        Ok(old) if old.is_dir() => Ok(rt.canonicalize(rt.alloc(), name)?.into_string()),
+        Err(error) if error.kind() == ErrorKind::NotFound && is_free(rt, trimmed) => {
+            Ok(String::from_str(rt.alloc(), trimmed)?)
+        }
+        Ok(_) | Err(_) => Err(FolderFault::Failed),
+    }
+}
+
+/// Whether the name isn't empty and nothing has it, not even a symbolic link.
+fn is_free<R: Files>(rt: &R, name: &str) -> bool {
+    !name.is_empty() && rt.symlink_metadata(name).is_err()
+}
+
+/// The names of the files of an older folder; `None` if there is no folder, or an empty one. Fails with `Foreign` if the folder has
+/// a file that its list doesn't name.
+fn old_files<R: Files + AllocGlobal>(
+    rt: &R,
+    path: &str,
+) -> Result<Option<Vec<String>>, FolderFault> {
+    let names = names_in(rt, path)?;
+    if names.is_empty() {
+        return Ok(None);
+    }
+    let listing = old_listing(rt, path)?;
+    if are_listed(rt, names.as_slice(), listing.get())? {
+        Ok(Some(names))
+    } else {
+        Err(FolderFault::Foreign)
+    }
+}
+
+/// The names of all that a folder has. A folder that doesn't exist has nothing.
+fn names_in<R: Files + AllocGlobal>(rt: &R, path: &str) -> io::Result<Vec<String>> {
+    let mut names = Vec::new(rt.alloc());
+    let entries = match read_dir(&rt, path) {
+        Ok(entries) => entries,
+        Err(error) if error.kind() == ErrorKind::NotFound => return Ok(names),
+        Err(error) => return Err(error),
+    };
+    for entry in entries {
+        let entry = entry?;
+        names.push(String::from_str(rt.alloc(), entry.file_name())?)?;
+    }
+    Ok(names)
+}
+
+/// The list of an older folder's files. Fails with `Foreign` if the folder has no list.
+fn old_listing<R: Files + AllocGlobal>(rt: &R, path: &str) -> Result<Bytes, FolderFault> {
+    let name = path_in(rt, path, LIST_NAME)?;
+    match file_text(&FromFiles::new(rt), rt.alloc(), name.as_str()) {
+        Ok(listing) => Ok(listing),
+        Err(FileFault::Unreadable(_)) => Err(FolderFault::Foreign),
+        Err(FileFault::Memory) => Err(FolderFault::Memory),
+    }
+}
+
+/// Whether each name is on a line of `listing`, or is that of the list itself.
+fn are_listed<R: AllocGlobal>(rt: &R, names: &[String], listing: &[u8]) -> Result<bool, Memory> {
+    let Ok(listing) = std::str::from_utf8(listing) else {
+        return Ok(false);
+    };
+    let mut listed = BTreeSet::new(rt.alloc());
+    listed.insert(LIST_NAME)?;
+    for name in listing.lines() {
+        listed.insert(name)?;
+    }
+    Ok(names.iter().all(|name| listed.contains(name.as_str())))
+}
+
+/// The path of a folder's file.
+fn path_in<R: AllocGlobal>(rt: &R, folder: &str, name: &str) -> Result<String, AllocError> {
+    let mut path = String::from_str(rt.alloc(), folder)?;
+    path.push_str("/")?;
+    path.push_str(name)?;
+    Ok(path)
+}
+
+/// Begins a file called `name` in an unfinished folder. Fails if the folder has a file of this name.
+pub(crate) fn begin_in<R: Files + AllocGlobal>(
+    rt: &R,
+    folder: &mut UnfinishedFolder,
+    name: &[u8],
+) -> Result<UnfinishedFile<R::File>, OutputFault>
+    ensures fresh { IfOk result (λ file. ⟦<UnfinishedFile<R::File> as Sink>⟧.failed_writes file ≡ 0) }
+    ensures name { folder.new.name ≡ folder.old.name }
+{
+    let Ok(name) = std::str::from_utf8(name) else {
+        return Err(OutputFault::Failed);
+    };
+    let path = path_in(rt, folder.from.as_str(), name)?;
+    folder.listing.append(name.as_bytes())?;
+    folder.listing.append(b"\n")?;
+    create_in(rt, path.as_str())
+}
+
+/// Gives `folder` its name, with a list of its files, or removes it if it can't get the name.
+pub(crate) fn finish_folder<R: Files + RandomSource + AllocGlobal>(
+    rt: &R,
+    folder: UnfinishedFolder,
+) -> Result<(), OutputFault> {
+    let UnfinishedFolder {
+        from,
+        to,
+        listing,
+        old,
+        ..
+    } = folder;
+    let finished = put_in_place(rt, from.as_str(), to.as_str(), listing.get(), &old);
+    if finished.is_err() {
+        // The run already ends with the error.
+        let _ = rt.remove_dir_all(rt.alloc(), from.as_str());
+    }
+    finished
+}
+
+/// Adds the list of files to the folder `from`, and renames the folder to `to`.
+fn put_in_place<R: Files + RandomSource + AllocGlobal>(
+    rt: &R,
+    from: &str,
+    to: &str,
+    listing: &[u8],
+    old: &Option<Vec<String>>,
+) -> Result<(), OutputFault> {
+    write_list(rt, from, listing)?;
+    match old {
+        // The system replaces an empty folder at once, and refuses to replace one that isn't empty.
+        None => Ok(rt.rename(from, to)?),
+        Some(files) => replace(rt, from, to, files.as_slice()),
+    }
+}
+
+/// Writes the list of a folder's files.
+fn write_list<R: Files + AllocGlobal>(
+    rt: &R,
+    folder: &str,
+    listing: &[u8],
+) -> Result<(), OutputFault> {
+    let path = path_in(rt, folder, LIST_NAME)?;
+    let mut list = OpenOptions::new()
+        .write(true)
+        .create_new(true)
+        .open(rt, path.as_str())?;
+    list.write_all(listing)?;
+    list.sync_all()?;
+    Ok(())
+}
+
+/// Renames the folder `from` to `to`, where an older folder is. The older one is renamed first, and is renamed back if `from` can't
+/// get its name. Then the older one's `files` are removed, and no others: if it has other files now, it stays under its new name.
+fn replace<R: Files + RandomSource + AllocGlobal>(
+    rt: &R,
+    from: &str,
+    to: &str,
+    files: &[String],
+) -> Result<(), OutputFault> {
+    let aside = name_beside(rt, to, ".old")?;
+    rt.rename(to, aside.as_str())?;
+    if let Err(error) = rt.rename(from, to) {
+        let _ = rt.rename(aside.as_str(), to);
+        return Err(OutputFault::from(error));
+    }
+    remove_files(rt, aside.as_str(), files);
+    Ok(())
+}
+
+/// Removes these files of a folder, and then the folder if it has no others. The new folder is in place already, so an error
+/// changes nothing.
+fn remove_files<R: Files + AllocGlobal>(rt: &R, folder: &str, files: &[String]) {
+    for file in files {
+        if let Ok(path) = path_in(rt, folder, file.as_str()) {
+            let _ = rt.remove_file(path.as_str());
+        }
+    }
+    let _ = rt.remove_dir(folder);
+}
+
+/// Removes `folder`, which isn't finished, with all its files.
+pub(crate) fn abandon_folder<R: Files + AllocGlobal>(rt: &R, folder: UnfinishedFolder) {
+    // The run already ends with another error.
+    let _ = rt.remove_dir_all(rt.alloc(), folder.from.as_str());
+}
+
+impl From<AllocError> for FolderFault {
+    ghost use Rattle.std.specs.Prelude.{◌≡◌};
+    ghost use Rattle.covworld.specs.declared.output_folder.FolderFault.TheVariants as faults;
+
+    ghost from_gives = { λ _ f. f ≡ faults.Memory };
+
+    fn from(_refused: AllocError) -> FolderFault {
+        FolderFault::Memory
+    }
+}
+
+impl From<Memory> for FolderFault {
+    ghost use Rattle.std.specs.Prelude.{◌≡◌};
+    ghost use Rattle.covworld.specs.declared.output_folder.FolderFault.TheVariants as faults;
+
+    ghost from_gives = { λ _ f. f ≡ faults.Memory };
+
+    fn from(_refused: Memory) -> FolderFault {
+        FolderFault::Memory
+    }
+}
+
+impl From<OutputFault> for FolderFault {
+    ghost from_gives = { λ _ _. Unit {0} };
+
+    fn from(fault: OutputFault) -> FolderFault {
+        match fault {
+            OutputFault::Failed => FolderFault::Failed,
+            OutputFault::Memory => FolderFault::Memory,
+        }
+    }
+}
+
+impl From<Memory> for OutputFault {
+    ghost use Rattle.std.specs.Prelude.{◌≡◌};
+    ghost use Rattle.covworld.specs.declared.output_folder.OutputFault.TheVariants as faults;
+
+    ghost from_gives = { λ _ f. f ≡ faults.Memory };
+
+    fn from(_refused: Memory) -> OutputFault {
+        OutputFault::Memory
+    }
+}
+
+impl From<io::Error> for FolderFault {
+    ghost from_gives = { λ _ _. Unit {0} };
+
+    /// A name that isn't UTF-8 is that of a foreign file.
+    fn from(error: io::Error) -> FolderFault {
+        match error.kind() {
+            ErrorKind::OutOfMemory => FolderFault::Memory,
+            ErrorKind::InvalidFilename => FolderFault::Foreign,
+            _ => FolderFault::Failed,
+        }
+    }
+}
