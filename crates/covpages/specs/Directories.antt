@@ -1,6 +1,7 @@
 -- The source files of the index, by their directories.
-use Rattle.std.specs.Prelude.{ℕ, ◌-◌, List, [], ◌∷◌, length, take, map, filter, codes, nat_cmp}
-use Rattle.std.specs.Slice.{slice_cmp}
+use Rattle.std.specs.Prelude.{ℕ, ◌-◌, List, [], ◌∷◌, length, take, map, filter, codes}
+use Rattle.std.specs.Cmp.Lexicographic.{slice_cmp}
+use Rattle.std.specs.Ordering.{nat_cmp}
 use Rattle.std.specs.Str.{bytes_eq}
 use Rattle.covhtml.specs.IndexPage.{DirectoryData, IndexedFileData, name_of}
 use Rattle.covtable.specs.Ascending.{ascending}

@@ -5,4 +5,5 @@ pub use Rattle.covworld.specs.OutputFiles
 pub mod Sources
 pub mod Directories
 pub mod Pages
+pub mod Steps
 pub mod View

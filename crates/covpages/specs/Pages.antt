@@ -1,5 +1,5 @@
 -- The folder that `html` writes.
-use Rattle.std.specs.Prelude.{◌≡◌, ◌⊎◌, ⊥, ℕ, ◌+◌, Bool, Option, None, Some, List, [], ◌∷◌, ◌++◌, codes, filter, flat_map, map, unwrap_or}
+use Rattle.std.specs.Prelude.{◌≡◌, ◌⊎◌, ⊥, ℕ, ◌+◌, Bool, true, false, not, ◌==◌, Option, Some, List, [], ◌∷◌, ◌++◌, length, codes, filter, map, unwrap_or}
 use Rattle.covcommand.specs.declared.asked.Strictness.{Strictness}
 use Rattle.covcommand.specs.declared.asked.Strictness.TheVariants.{Lenient, Strict}
 use Rattle.covhtml.specs.IndexPage.{IndexedFileData, index_page}
@@ -14,6 +14,7 @@ use Rattle.covpages.specs.declared.fault.PagesFault.{PagesFault}
 use Rattle.covpages.specs.declared.fault.PagesFault.TheVariants as faults
 use Rattle.covreport.specs.Choice.{ChoiceData, is_chosen}
 use Rattle.covtable.specs.Content.{SectionData}
+use Rattle.covtable.specs.Files.{FileTotalsData}
 use Rattle.covtable.specs.Totals.{totals_of}
 use Rattle.covtable.specs.declared.totals.Totals.{Totals}
 use Rattle.covworld.specs.Folder.{FolderData}
@@ -76,14 +77,22 @@ indexed_after number [] = []
 indexed_after number (s ∷ sections) =
     record { page = page_name (number + 1) s.key.file; path = s.key.file; totals = totals_of (s ∷ []) } ∷ indexed_after (number + 1) sections
 
+-- the index of these files, with the texts of the options
+abbrev pub index_with : (title date : Option (List ℕ)) → Totals → List IndexedFileData → List ℕ
+index_with title date totals files = index_page (record {
+  title = unwrap_or title (codes "Coverage");
+  date = date;
+  totals = totals;
+  directories = directories_of files;
+})
+
 -- the index of these sections
 abbrev pub index_of : PagesWorkData → List SectionData → List ℕ
-index_of work sections = index_page (record {
-  title = unwrap_or work.title (codes "Coverage");
-  date = work.date;
-  totals = totals_of sections;
-  directories = directories_of (indexed_after 0 sections);
-})
+index_of work sections = index_with work.title work.date (totals_of sections) (indexed_after 0 sections)
+
+-- each file of the sections, with its totals
+abbrev pub files_with_section : List SectionData → List FileTotalsData
+files_with_section sections = map (λ s. record { path = s.key.file; totals = totals_of (s ∷ []) }) sections
 
 -- the files of the folder
 abbrev pub files_of : PagesWorkData → List SectionData → List SourceData → List (List ℕ × List ℕ)
@@ -98,15 +107,15 @@ complaints_of work (s ∷ sections) (source ∷ sources) =
     complaint_of work.strictness (place_of work s) source ++ complaints_of work sections sources
 
 -- a call that isn't strict is never refused, and a strict one if there are such lines
-abbrev pub IsAccepted : Strictness → (complaints : List ℕ) → Type 0
-IsAccepted Lenient complaints = Unit {0}
-IsAccepted Strict complaints = complaints ≡ []
+abbrev pub is_refused : Strictness → (complaints : List ℕ) → Bool
+is_refused Lenient complaints = false
+is_refused Strict complaints = not (length complaints == 0)
 
 -- the folder was written whole, with these warnings
 abbrev pub IsWritten : PagesWorkData → List SectionData → (finished finished_after : Option (List (List ℕ × List ℕ))) → (warnings : List ℕ) → Type 0
 IsWritten work sections finished after warnings =
     (sources : List SourceData) × AreSources work (shown_of work sections) sources
-    × (warnings ≡ complaints_of work (shown_of work sections) sources) × IsAccepted work.strictness warnings
+    × (warnings ≡ complaints_of work (shown_of work sections) sources) × (is_refused work.strictness warnings ≡ false)
     × FinishesFolder work.folder (Some (files_of work (shown_of work sections) sources)) finished after
 
 -- why nothing was written: a strict call is refused for the lines about source files
@@ -114,7 +123,7 @@ abbrev pub IsPagesFault : PagesWorkData → List SectionData → PagesFault → 
 IsPagesFault work sections faults.Foreign = Unit {0}
 IsPagesFault work sections faults.Unwritten = Unit {0}
 IsPagesFault work sections (faults.Refused lines) =
-    (work.strictness ≡ Strict) × ((lines ≡ []) → ⊥) × ((sources : List SourceData) × AreSources work (shown_of work sections) sources
+    (is_refused work.strictness lines ≡ true) × ((sources : List SourceData) × AreSources work (shown_of work sections) sources
     × (lines ≡ complaints_of work (shown_of work sections) sources))
 IsPagesFault work sections faults.Memory = Unit {0}
 

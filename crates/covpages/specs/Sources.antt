@@ -1,6 +1,6 @@
 -- Where source files lie, and which of their texts pages show.
 use Rattle.std.specs.Prelude.{◌≡◌, ◌≤◌, ℕ, Bool, ◌==◌, ◌||◌, nat_le, if◌then◌else◌, Option, None, Some, List, [], ◌∷◌, ◌++◌, length, codes, map, option_map, false, true, ◌⊎◌, ⊥}
-use Rattle.std.specs.Str.Utf8.{IsText}
+use Rattle.std.specs.Str.{IsUtf8}
 use Rattle.covcommand.specs.declared.asked.Strictness.{Strictness}
 use Rattle.covcommand.specs.declared.asked.Strictness.TheVariants.{Lenient, Strict}
 use Rattle.covhtml.specs.Rows.{RowData}
@@ -89,7 +89,7 @@ source_with rows text =
 -- what may come of reading the source file of this name. If the folder knows the file's bytes, they are what is read
 abbrev pub IsSource : FolderData → (name : List ℕ) → List RowData → SourceData → Type 0
 IsSource folder name rows source =
-    ((source ≡ Unreadable) × (folder.MayFail name ⊎ (IsText name → ⊥)))
+    ((source ≡ Unreadable) × (folder.MayFail name ⊎ (IsUtf8 name → ⊥)))
     ⊎ ((text : List ℕ) × IsTextOf (folder.holds name) text × (source ≡ source_with rows text))
 
 -- the text that a page shows

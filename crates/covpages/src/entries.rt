@@ -1,11 +1,12 @@
 //! The source files that the index lists, by their directories.
 
-ghost use Rattle.std.specs.Prelude.{◌≡◌, ◌++◌, ◌∷◌, [], IfOk, OnOk, map};
-ghost use Rattle.covhtml.specs.IndexPage.{DirectoryData, IndexedFileData};
-ghost use Rattle.covhtml.specs.PagesView.{directory_data};
-ghost use Rattle.covpages.specs.Directories.{directories_of, directory_of as directory_of_path};
-ghost use Rattle.covpages.specs.View.{entry_data};
+ghost use Rattle.std.specs.Prelude.{◌≡◌, ◌++◌, ◌∷◌, [], List, IfOk, OnOk, map};
+ghost use Rattle.covhtml.specs.IndexPage.{IndexedFileData};
+ghost use Rattle.covhtml.specs.PagesView.{directory_data, indexed_file_data};
+ghost use Rattle.covpages.specs.Directories.{directories_of, directory_of as directory_of_path, totals_together};
+ghost use Rattle.covpages.specs.View.{entry_data, groups_data};
 ghost use Rattle.covtable.specs.Totals.{AreTotals};
+ghost use Rattle.covtable.specs.TotalsExchanged.{FitTogether, no_totals, together};
 
 use covdata::{Bytes, Memory};
 use covhtml::{Directory, IndexedFile, name_of};
@@ -34,7 +35,10 @@ pub(crate) struct Group<'e> {
 
 impl<'e> Group<'e> {
     /// A directory without files.
-    fn new(alloc: Global) -> Group<'e> {
+    fn new(alloc: Global) -> Group<'e>
+        ensures totals { result.totals ≡ no_totals }
+        ensures files { result.files.items ≡ [] }
+    {
         Group {
             totals: Totals::none(),
             files: Vec::new(alloc),
@@ -42,7 +46,11 @@ impl<'e> Group<'e> {
     }
 
     /// Adds a file.
-    fn add(&mut self, file: IndexedFile<'e>) -> Result<(), Memory> {
+    fn add(&mut self, file: IndexedFile<'e>) -> Result<(), Memory>
+        requires { FitTogether file.totals self.old.totals }
+        ensures totals { OnOk result (self.new.totals ≡ together self.old.totals file.totals) }
+        ensures files { OnOk result (map indexed_file_data self.new.files.items ≡ map indexed_file_data self.old.files.items ++ indexed_file_data file ∷ []) }
+    {
         self.files.push(file)?;
         self.totals = self.totals.plus(file.totals);
         Ok(())
@@ -53,7 +61,10 @@ impl<'e> Group<'e> {
 pub(crate) fn grouped<'e>(
     alloc: Global,
     entries: &'e [Entry<'e>],
-) -> Result<BTreeMap<&'e [u8], Group<'e>>, Memory> {
+) -> Result<BTreeMap<&'e [u8], Group<'e>>, Memory>
+    requires fits { AreTotals (totals_together (map entry_data entries.now)) }
+    ensures { IfOk result (λ groups. groups_data groups ≡ directories_of (map entry_data entries.now)) }
+{
     let mut groups = BTreeMap::new(alloc);
     for entry in entries {
         add(alloc, entry, &mut groups)?;
@@ -66,7 +77,10 @@ fn add<'e>(
     alloc: Global,
     entry: &'e Entry<'e>,
     groups: &mut BTreeMap<&'e [u8], Group<'e>>,
-) -> Result<(), Memory> {
+) -> Result<(), Memory>
+    requires fits { (files : List IndexedFileData) → groups_data groups.old ≡ directories_of files → AreTotals (totals_together (files ++ entry_data entry.now ∷ [])) }
+    ensures { OnOk result ((files : List IndexedFileData) → groups_data groups.old ≡ directories_of files → groups_data groups.new ≡ directories_of (files ++ entry_data entry.now ∷ [])) }
+{
     let directory = directory_of(entry.path);
     let file = IndexedFile {
         page: entry.page.get(),
@@ -86,7 +100,9 @@ fn add<'e>(
 pub(crate) fn directories_of_groups<'e>(
     alloc: Global,
     groups: &'e BTreeMap<&'e [u8], Group<'e>>,
-) -> Result<Vec<Directory<'e>>, Memory> {
+) -> Result<Vec<Directory<'e>>, Memory>
+    ensures { IfOk result (λ directories. map directory_data directories.items ≡ groups_data groups.now) }
+{
     let mut directories = Vec::new(alloc);
     for (path, group) in groups {
         directories.push(Directory {

@@ -1,12 +1,15 @@
 //! Writes the folder of pages.
 
-ghost use Rattle.std.specs.Prelude.{◌≡◌, ◌<◌, ◌^◌, ◌++◌, [], ℕ, List, None, IfErr, IfOk, OnErr, OnOk, map};
-ghost use Rattle.covhtml.specs.IndexPage.{IndexedFileData};
-ghost use Rattle.covpages.specs.Pages.{IsPagesFault, IsWritten, IsWrittenSoFar, WrittenData, index_of, shown_at};
-ghost use Rattle.covpages.specs.View.{progress_data, work_data};
-ghost use Rattle.covtable.specs.Totals.{AreTotals};
-ghost use Rattle.covtable.specs.ValuesView.{file_totals_data};
+ghost use Rattle.std.specs.Prelude.{◌≡◌, ◌<◌, ◌^◌, ◌++◌, [], ◌∷◌, None, IfErr, IfOk, OnErr, OnOk, codes, map, option_map, unwrap_or};
+ghost use Rattle.covhtml.specs.RowView.{row_data};
+ghost use Rattle.covpages.specs.Directories.{totals_together};
+ghost use Rattle.covpages.specs.Pages.{IsPagesFault, IsWritten, files_with_section, index_with, is_refused, shown_of};
+ghost use Rattle.covpages.specs.Sources.{complaint_of, located_by, rules_of, IsSource};
+ghost use Rattle.covpages.specs.Steps.{IsNext, IsReport, IsSoFar};
+ghost use Rattle.covpages.specs.View.{entry_data, progress_data, source_data, work_data};
+ghost use Rattle.covtable.specs.Totals.{AreTotals, totals_of};
 ghost use Rattle.covworld.specs.Folder.{folder_data};
+ghost use Rattle.covworld.specs.OutputFiles.{Finishes};
 
 use crate::entries::{Entry, directories_of_groups, grouped};
 use crate::fault::PagesFault;
@@ -58,7 +61,10 @@ struct Progress<'s> {
 
 impl<'s> Progress<'s> {
     /// Notes a source file that has a page.
-    fn note(&mut self, entry: Entry<'s>) -> Result<(), Memory> {
+    fn note(&mut self, entry: Entry<'s>) -> Result<(), Memory>
+        ensures entries { OnOk result (map entry_data self.new.entries.items ≡ map entry_data self.old.entries.items ++ entry_data entry ∷ []) }
+        ensures complaints { self.new.complaints ≡ self.old.complaints }
+    {
         self.entries.push(entry)?;
         Ok(())
     }
@@ -74,9 +80,11 @@ pub fn write_pages<'s, T: TableFiles<'s>, C: TableSections<'s>, F: Folder, P: Ou
 ) -> Result<Bytes, PagesFault>
     requires free { P.begun files.old ≡ None }
     requires few { P.failed files.old < 2 ^ 62 }
-    requires totals { AreTotals shown.totals }
-    ensures written { IfOk result (IsWritten (work_data (folder_data F.Folder F.File.Source work.now.sources.now) work.now) (T.left shown.files) (C.left shown.sections) shown.totals (P.finished files.old) (P.finished files.new)) }
-    ensures refused { IfErr result (IsPagesFault (work_data (folder_data F.Folder F.File.Source work.now.sources.now) work.now) (T.left shown.files) (C.left shown.sections)) }
+    requires files { T.left shown.files ≡ files_with_section (C.left shown.sections) }
+    requires totals { shown.totals ≡ totals_of (shown_of (work_data (folder_data F.Folder F.File.Source work.now.sources.now) work.now) (C.left shown.sections)) }
+    requires bounds { AreTotals shown.totals }
+    ensures written { IfOk result (IsWritten (work_data (folder_data F.Folder F.File.Source work.now.sources.now) work.now) (C.left shown.sections) (P.finished files.old) (P.finished files.new)) }
+    ensures refused { IfErr result (IsPagesFault (work_data (folder_data F.Folder F.File.Source work.now.sources.now) work.now) (C.left shown.sections)) }
     ensures same { OnErr result (P.finished files.new ≡ P.finished files.old) }
     ensures none { P.begun files.new ≡ None }
 {
@@ -102,7 +110,12 @@ fn write_report<'s, T: TableFiles<'s>, C: TableSections<'s>, F: Folder, P: Outpu
 ) -> Result<Bytes, PagesFault>
     requires free { P.begun files.old ≡ None }
     requires few { P.failed files.old < 2 ^ 62 }
-    requires totals { AreTotals shown.totals }
+    requires files { T.left shown.files ≡ files_with_section (C.left shown.sections) }
+    requires totals { shown.totals ≡ totals_of (shown_of (work_data (folder_data F.Folder F.File.Source work.now.sources.now) work.now) (C.left shown.sections)) }
+    requires bounds { AreTotals shown.totals }
+    ensures written { IfOk result (IsReport (work_data (folder_data F.Folder F.File.Source work.now.sources.now) work.now) (C.left shown.sections) (P.files_in report.old) (P.files_in report.new)) }
+    ensures refused { IfErr result (IsPagesFault (work_data (folder_data F.Folder F.File.Source work.now.sources.now) work.now) (C.left shown.sections)) }
+    ensures name { P.folder_name report.new ≡ P.folder_name report.old }
     ensures same { P.finished files.new ≡ P.finished files.old }
     ensures none { P.begun files.new ≡ None }
 {
@@ -120,7 +133,9 @@ fn write_report<'s, T: TableFiles<'s>, C: TableSections<'s>, F: Folder, P: Outpu
 }
 
 /// Whether a call of this strictness is refused for these lines.
-fn refuses(strictness: Strictness, complaints: &Bytes) -> bool {
+fn refuses(strictness: Strictness, complaints: &Bytes) -> bool
+    ensures { result ≡ is_refused strictness complaints.now }
+{
     match strictness {
         Strictness::Lenient => false,
         Strictness::Strict => !complaints.get().is_empty(),
@@ -136,6 +151,9 @@ fn write_sources<'s, T: TableFiles<'s>, C: TableSections<'s>, F: Folder, P: Outp
 ) -> Result<Progress<'s>, PagesFault>
     requires free { P.begun files.old ≡ None }
     requires few { P.failed files.old < 2 ^ 62 }
+    requires files { T.left shown.files ≡ files_with_section (C.left shown.sections) }
+    ensures so_far { IfOk result (λ progress. IsSoFar (work_data (folder_data F.Folder F.File.Source work.now.sources.now) work.now) (shown_of (work_data (folder_data F.Folder F.File.Source work.now.sources.now) work.now) (C.left shown.sections)) (progress_data progress) (P.files_in report.old) (P.files_in report.new)) }
+    ensures name { P.folder_name report.new ≡ P.folder_name report.old }
     ensures same { P.finished files.new ≡ P.finished files.old }
     ensures none { P.begun files.new ≡ None }
 {
@@ -172,7 +190,11 @@ fn write_source<'s, C: TableSection<'s>, F: Folder, P: OutputFolder>(
 ) -> Result<(), PagesFault>
     requires free { P.begun files.old ≡ None }
     requires few { P.failed files.old < 2 ^ 62 }
-    requires totals { AreTotals file.totals }
+    requires path { file.path.now ≡ (C.shown section.now).key.file }
+    requires totals { file.totals ≡ totals_of (C.shown section.now ∷ []) }
+    requires bounds { AreTotals file.totals }
+    ensures next { OnOk result (IsNext (work_data (folder_data F.Folder F.File.Source work.now.sources.now) work.now) (C.shown section.now) (progress_data progress.old) (progress_data progress.new) (P.files_in report.old) (P.files_in report.new)) }
+    ensures name { P.folder_name report.new ≡ P.folder_name report.old }
     ensures same { P.finished files.new ≡ P.finished files.old }
     ensures none { P.begun files.new ≡ None }
 {
@@ -204,7 +226,10 @@ fn source_for<F: Folder>(
     path: &[u8],
     rows: &[Row<'_>],
     complaints: &mut Bytes,
-) -> Result<Source, Memory> {
+) -> Result<Source, Memory>
+    ensures source { IfOk result (λ source. IsSource (folder_data F.Folder F.File.Source work.now.sources.now) (located_by (rules_of work.now.options.now.sources) path.now) (map row_data rows.now) (source_data source)) }
+    ensures complaint { IfOk result (λ source. complaints.new ≡ complaints.old ++ complaint_of work.now.strictness (located_by (rules_of work.now.options.now.sources) path.now) (source_data source)) }
+{
     let name = located(work.alloc, work.options.sources.get(), path)?;
     let source = read_source(work.sources, work.alloc, name.get(), rows)?;
     put_complaint(work.strictness, name.get(), &source, complaints)?;
@@ -221,7 +246,10 @@ fn write_index<F, P: OutputFolder>(
 ) -> Result<(), PagesFault>
     requires free { P.begun files.old ≡ None }
     requires few { P.failed files.old < 2 ^ 62 }
-    requires totals { AreTotals totals }
+    requires totals { totals ≡ totals_together (map entry_data entries.now) }
+    requires bounds { AreTotals totals }
+    ensures index { OnOk result (Finishes (codes "index.html") (index_with work.now.options.now.title work.now.options.now.date totals (map entry_data entries.now)) (P.files_in report.old) (P.files_in report.new)) }
+    ensures name { P.folder_name report.new ≡ P.folder_name report.old }
     ensures same { P.finished files.new ≡ P.finished files.old }
     ensures none { P.begun files.new ≡ None }
 {
@@ -238,7 +266,9 @@ fn write_index<F, P: OutputFolder>(
 }
 
 /// The text of an option, or `other` without the option.
-fn text_or<'t>(text: &'t Option<Bytes>, other: &'t [u8]) -> &'t [u8] {
+fn text_or<'t>(text: &'t Option<Bytes>, other: &'t [u8]) -> &'t [u8]
+    ensures { result.now ≡ unwrap_or text.now other.now }
+{
     match text {
         Some(text) => text.get(),
         None => other,
@@ -246,7 +276,9 @@ fn text_or<'t>(text: &'t Option<Bytes>, other: &'t [u8]) -> &'t [u8] {
 }
 
 /// The text of an option, if the option is given.
-fn text_if_any(text: &Option<Bytes>) -> Option<&[u8]> {
+fn text_if_any(text: &Option<Bytes>) -> Option<&[u8]>
+    ensures { option_map (λ t. t.now) result ≡ text.now }
+{
     match text {
         Some(text) => Some(text.get()),
         None => None,
