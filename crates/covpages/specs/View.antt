@@ -1,11 +1,8 @@
 -- Values of the code, seen as plain data.
 use Rattle.std.specs.Prelude.{ℕ, List, map}
-use Rattle.std.specs.BTreeMap.{keys, values}
-use Rattle.std.specs.List.{zip}
 use Rattle.std.specs.String.{string_bytes}
-use Rattle.std.specs.declared.collections.BTreeMap.{BTreeMap}
-use Rattle.covhtml.specs.IndexPage.{DirectoryData, IndexedFileData, index_page}
-use Rattle.covhtml.specs.PagesView.{index_page_data, indexed_file_data, source_page_data}
+use Rattle.covhtml.specs.IndexPage.{IndexedFileData, index_page}
+use Rattle.covhtml.specs.PagesView.{index_page_data, source_page_data}
 use Rattle.covhtml.specs.SourcePage.{source_page}
 use Rattle.covhtml.specs.declared.style_sheet.TheConstants.{STYLE}
 use Rattle.covpages.specs.Pages.{PagesWorkData}
@@ -13,7 +10,6 @@ use Rattle.covpages.specs.Steps.{ProgressData}
 use Rattle.covpages.specs.declared.writing.Progress.{Progress}
 use Rattle.covpages.specs.Sources.{SourceData, Text, Unreadable, Short}
 use Rattle.covpages.specs.declared.entries.Entry.{Entry}
-use Rattle.covpages.specs.declared.entries.Group.{Group}
 use Rattle.covpages.specs.declared.page.Page.{Page}
 use Rattle.covpages.specs.declared.page.Page.TheVariants as pages
 use Rattle.covpages.specs.declared.source_text.Source.{Source}
@@ -34,14 +30,6 @@ source_data sources.Short = Short
 
 abbrev pub entry_data : Entry → IndexedFileData
 entry_data entry = record { page = entry.page; path = entry.path.now; totals = entry.totals }
-
--- the files of a directory, under its path
-abbrev pub group_data : (path : List ℕ) → Group → DirectoryData
-group_data path group = record { path = path; totals = group.totals; files = map indexed_file_data group.files.items }
-
--- the directories that a map has, ascending
-abbrev pub groups_data : BTreeMap (Ref (List ℕ)) Group → List DirectoryData
-groups_data groups = map (λ g. group_data g.0.now g.1) (zip (keys groups) (values groups))
 
 abbrev pub progress_data : Progress → ProgressData
 progress_data progress = record { entries = map entry_data progress.entries.items; complaints = progress.complaints }

@@ -11,7 +11,7 @@ ghost use Rattle.covtable.specs.Totals.{AreTotals, totals_of};
 ghost use Rattle.covworld.specs.Folder.{folder_data};
 ghost use Rattle.covworld.specs.OutputFiles.{Finishes};
 
-use crate::entries::{Entry, directories_of_groups, grouped};
+use crate::entries::{Entry, directories, indexed};
 use crate::fault::PagesFault;
 use crate::page::Page;
 use crate::source_rule::located;
@@ -253,8 +253,8 @@ fn write_index<F, P: OutputFolder>(
     ensures same { P.finished files.new ≡ P.finished files.old }
     ensures none { P.begun files.new ≡ None }
 {
-    let groups = grouped(work.alloc, entries)?;
-    let directories = directories_of_groups(work.alloc, &groups)?;
+    let indexed = indexed(work.alloc, entries)?;
+    let directories = directories(work.alloc, indexed.as_slice())?;
     let page = IndexPage {
         title: text_or(&work.options.title, TITLE),
         date: text_if_any(&work.options.date),
