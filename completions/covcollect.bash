@@ -54,7 +54,7 @@ _covcollect() {
         elif [[ -z $ended && ${words[i]} == -* ]]; then
             # The value of an option is a word of its own, where it isn't part of the option's.
             case ${words[i]} in
-                -j | --jobs | -o | --output | --include | --exclude | --test) ((i++)) ;;
+                -j | --jobs | -o | --output | --include | --exclude | --test | --title | --date | --source) ((i++)) ;;
                 --fail-under-lines | --fail-under-functions | --fail-under-branches) ((i++)) ;;
             esac
             [[ $subcommand${words[i]} == check--gcov ]] && annotated=1
@@ -67,7 +67,7 @@ _covcollect() {
 
     if [[ -z $ended ]]; then
         case $subcommand$prev in
-            merge--jobs | merge-j | summary--jobs | summary-j | list--jobs | list-j | check--jobs | check-j)
+            merge--jobs | merge-j | summary--jobs | summary-j | list--jobs | list-j | check--jobs | check-j | html--jobs | html-j)
                 # The number of processors, of which 64 can be used.
                 i=$(nproc 2>/dev/null)
                 mapfile -t COMPREPLY < <(compgen -W "$((i > 64 ? 64 : i))" -- "$cur")
@@ -82,8 +82,14 @@ _covcollect() {
                 _filedir
                 return
                 ;;
-            # A pattern, the name of a test, and a threshold.
+            # The folder for pages.
+            html--output | html-o)
+                _filedir -d
+                return
+                ;;
+            # A pattern, the name of a test, a threshold, and a text.
             merge--include | merge--exclude | summary--include | summary--exclude | list--include | list--exclude | gcov--test | \
+                html--include | html--exclude | html--title | html--date | html--source | \
                 summary--fail-under-lines | summary--fail-under-functions | summary--fail-under-branches)
                 return
                 ;;
@@ -98,6 +104,7 @@ _covcollect() {
                 extract | remove) options+=' -o --output --lcov2 --strict --large' ;;
                 gcov) options+=' --test -o --output' ;;
                 check) options+=' -j --jobs --gcov --lcov2 --strict --large' ;;
+                html) options+=' -j --jobs --lcov2 --strict --large --include --exclude -o --output --title --date --source' ;;
             esac
             mapfile -t COMPREPLY < <(compgen -W "$options" -- "$cur")
             return
@@ -105,8 +112,8 @@ _covcollect() {
     fi
 
     case $subcommand$annotated in
-        '') mapfile -t COMPREPLY < <(compgen -W 'merge summary list extract remove gcov check' -- "$cur") ;;
-        merge | summary | list | check) _covcollect_files "$tracefiles" ;;
+        '') mapfile -t COMPREPLY < <(compgen -W 'merge summary list extract remove gcov check html' -- "$cur") ;;
+        merge | summary | list | check | html) _covcollect_files "$tracefiles" ;;
         gcov | check1) _covcollect_files gcov ;;
         extract | remove)
             if ((others == 0)); then

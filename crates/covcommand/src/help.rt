@@ -17,6 +17,7 @@ In place of lcov's calls write (with the patterns in quotes):
   lcov -r A.info '/usr/*' -o OUT     covcollect remove A.info '/usr/*' -o OUT
   lcov --summary A.info              covcollect summary A.info
   lcov --list A.info                 covcollect list A.info
+  genhtml A.info -o DIR              covcollect html A.info -o DIR
 
 With --lcov2 tracefiles of LCOV 2 are read too. Without it their functions (FNL,
 FNA, and FN with an end line) are skipped or look uncalled: covcollect check

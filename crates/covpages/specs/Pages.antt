@@ -19,8 +19,8 @@ use Rattle.covtable.specs.Totals.{totals_of}
 use Rattle.covtable.specs.declared.totals.Totals.{Totals}
 use Rattle.covworld.specs.Folder.{FolderData}
 use Rattle.covworld.specs.OutputFiles.{FinishesFolder}
-use Rattle.covworld.specs.declared.output_folder.FolderFault.{FolderFault}
-use Rattle.covworld.specs.declared.output_folder.FolderFault.TheVariants as folder_faults
+use Rattle.covworld.specs.declared.folder_writer.FolderFault.{FolderFault}
+use Rattle.covworld.specs.declared.folder_writer.FolderFault.TheVariants as folder_faults
 use Rattle.covworld.specs.declared.output_folder.OutputFault.{OutputFault}
 use Rattle.covworld.specs.declared.output_folder.OutputFault.TheVariants as output_faults
 

@@ -7,7 +7,7 @@
 //! A sketch, which no test runs: the pages of all source files of a store in which each file has one test.
 //!
 //! ```text
-//! fn write_all<F: Folder, P: OutputFolder>(
+//! fn write_all<F: Folder, P: FolderWriter>(
 //!     work: &PagesWork<'_, F>,
 //!     store: &Store,
 //!     files: &mut P,

@@ -1,7 +1,9 @@
 //! Writes the folder of pages.
 
 ghost use Rattle.std.specs.Prelude.{◌≡◌, ◌<◌, ◌^◌, ◌++◌, [], ◌∷◌, None, IfErr, IfOk, OnErr, OnOk, codes, map, option_map, unwrap_or};
+ghost use Rattle.covhtml.specs.PagesView.{source_page_data};
 ghost use Rattle.covhtml.specs.RowView.{row_data};
+ghost use Rattle.covhtml.specs.SourcePage.{source_page};
 ghost use Rattle.covpages.specs.Directories.{totals_together};
 ghost use Rattle.covpages.specs.Pages.{IsPagesFault, IsWritten, files_with_section, index_with, is_refused, shown_of};
 ghost use Rattle.covpages.specs.Sources.{complaint_of, located_by, rules_of, IsSource};
@@ -21,7 +23,7 @@ use covdata::{Bytes, Memory};
 use covhtml::{IndexPage, Row, SourcePage, branches_of, functions_of, page_name, rows_of};
 use covreport::Choice;
 use covtable::{FileTotals, TableFiles, TableSection, TableSections, Totals};
-use covworld::{Folder, OutputFault, OutputFolder, write_in_folder};
+use covworld::{Folder, FolderWriter, OutputFault, OutputFolder, write_text};
 use std::alloc::Global;
 
 /// The title of an index without `--title`.
@@ -73,7 +75,7 @@ impl<'s> Progress<'s> {
 /// Writes a folder of pages, and returns the warnings. The folder has `index.html`, `style.css`, and a page for each file that is
 /// shown. It replaces an older folder of pages as a whole, at the end. A page has no text if its source file can't be read, or has
 /// fewer lines than the counts: then there is a warning. A strict call is refused for such files.
-pub fn write_pages<'s, T: TableFiles<'s>, C: TableSections<'s>, F: Folder, P: OutputFolder>(
+pub fn write_pages<'s, T: TableFiles<'s>, C: TableSections<'s>, F: Folder, P: FolderWriter>(
     work: &PagesWork<'_, F>,
     shown: Shown<T, C>,
     files: &mut P,
@@ -89,7 +91,7 @@ pub fn write_pages<'s, T: TableFiles<'s>, C: TableSections<'s>, F: Folder, P: Ou
     ensures none { P.begun files.new ≡ None }
 {
     let mut report = files.begin_folder(work.options.folder.as_str())?;
-    match write_report(work, shown, &mut report, files) {
+    match write_report(work, shown, &mut report) {
         Ok(warnings) => {
             files.finish_folder(report)?;
             Ok(warnings)
@@ -102,33 +104,31 @@ pub fn write_pages<'s, T: TableFiles<'s>, C: TableSections<'s>, F: Folder, P: Ou
 }
 
 /// Writes all files of the folder, and returns the warnings.
-fn write_report<'s, T: TableFiles<'s>, C: TableSections<'s>, F: Folder, P: OutputFolder>(
+fn write_report<'s, T: TableFiles<'s>, C: TableSections<'s>, F: Folder, D: OutputFolder>(
     work: &PagesWork<'_, F>,
     shown: Shown<T, C>,
-    report: &mut P::NewFolder,
-    files: &mut P,
+    report: &mut D,
 ) -> Result<Bytes, PagesFault>
-    requires free { P.begun files.old ≡ None }
-    requires few { P.failed files.old < 2 ^ 62 }
+    requires free { D.begun report.old ≡ None }
+    requires few { D.failed report.old < 2 ^ 62 }
     requires files { T.left shown.files ≡ files_with_section (C.left shown.sections) }
     requires totals { shown.totals ≡ totals_of (shown_of (work_data (folder_data F.Folder F.File.Source work.now.sources.now) work.now) (C.left shown.sections)) }
     requires bounds { AreTotals shown.totals }
-    ensures written { IfOk result (IsReport (work_data (folder_data F.Folder F.File.Source work.now.sources.now) work.now) (C.left shown.sections) (P.files_in report.old) (P.files_in report.new)) }
+    ensures written { IfOk result (IsReport (work_data (folder_data F.Folder F.File.Source work.now.sources.now) work.now) (C.left shown.sections) (D.finished report.old) (D.finished report.new)) }
     ensures refused { IfErr result (IsPagesFault (work_data (folder_data F.Folder F.File.Source work.now.sources.now) work.now) (C.left shown.sections)) }
-    ensures name { P.folder_name report.new ≡ P.folder_name report.old }
-    ensures same { P.finished files.new ≡ P.finished files.old }
-    ensures none { P.begun files.new ≡ None }
+    ensures none { D.begun report.new ≡ None }
+    ensures good { OnOk result (D.failed report.new ≡ D.failed report.old) }
 {
     let totals = shown.totals;
-    write_in_folder(work.alloc, b"style.css", Page::Style, report, files)?;
+    write_text(work.alloc, "style.css", Page::Style, report)?;
     let Progress {
         entries,
         complaints,
-    } = write_sources(work, shown, report, files)?;
+    } = write_sources(work, shown, report)?;
     if refuses(work.strictness, &complaints) {
         return Err(PagesFault::Refused(complaints));
     }
-    write_index(work, totals, entries.as_slice(), report, files)?;
+    write_index(work, totals, entries.as_slice(), report)?;
     Ok(complaints)
 }
 
@@ -143,19 +143,17 @@ fn refuses(strictness: Strictness, complaints: &Bytes) -> bool
 }
 
 /// Writes the pages of the source files that are shown.
-fn write_sources<'s, T: TableFiles<'s>, C: TableSections<'s>, F: Folder, P: OutputFolder>(
+fn write_sources<'s, T: TableFiles<'s>, C: TableSections<'s>, F: Folder, D: OutputFolder>(
     work: &PagesWork<'_, F>,
     shown: Shown<T, C>,
-    report: &mut P::NewFolder,
-    files: &mut P,
+    report: &mut D,
 ) -> Result<Progress<'s>, PagesFault>
-    requires free { P.begun files.old ≡ None }
-    requires few { P.failed files.old < 2 ^ 62 }
+    requires free { D.begun report.old ≡ None }
+    requires few { D.failed report.old < 2 ^ 62 }
     requires files { T.left shown.files ≡ files_with_section (C.left shown.sections) }
-    ensures so_far { IfOk result (λ progress. IsSoFar (work_data (folder_data F.Folder F.File.Source work.now.sources.now) work.now) (shown_of (work_data (folder_data F.Folder F.File.Source work.now.sources.now) work.now) (C.left shown.sections)) (progress_data progress) (P.files_in report.old) (P.files_in report.new)) }
-    ensures name { P.folder_name report.new ≡ P.folder_name report.old }
-    ensures same { P.finished files.new ≡ P.finished files.old }
-    ensures none { P.begun files.new ≡ None }
+    ensures so_far { IfOk result (λ progress. IsSoFar (work_data (folder_data F.Folder F.File.Source work.now.sources.now) work.now) (shown_of (work_data (folder_data F.Folder F.File.Source work.now.sources.now) work.now) (C.left shown.sections)) (progress_data progress) (D.finished report.old) (D.finished report.new)) }
+    ensures none { D.begun report.new ≡ None }
+    ensures good { OnOk result (D.failed report.new ≡ D.failed report.old) }
 {
     let Shown {
         files: all_files,
@@ -173,30 +171,28 @@ fn write_sources<'s, T: TableFiles<'s>, C: TableSections<'s>, F: Folder, P: Outp
             break;
         };
         if work.choice.takes(file.path) {
-            write_source(work, file, &section, &mut progress, report, files)?;
+            write_source(work, file, &section, &mut progress, report)?;
         }
     }
     Ok(progress)
 }
 
 /// Writes the page of a source file.
-fn write_source<'s, C: TableSection<'s>, F: Folder, P: OutputFolder>(
+fn write_source<'s, C: TableSection<'s>, F: Folder, D: OutputFolder>(
     work: &PagesWork<'_, F>,
     file: FileTotals<'s>,
     section: &C,
     progress: &mut Progress<'s>,
-    report: &mut P::NewFolder,
-    files: &mut P,
+    report: &mut D,
 ) -> Result<(), PagesFault>
-    requires free { P.begun files.old ≡ None }
-    requires few { P.failed files.old < 2 ^ 62 }
+    requires free { D.begun report.old ≡ None }
+    requires few { D.failed report.old < 2 ^ 62 }
     requires path { file.path.now ≡ (C.shown section.now).key.file }
     requires totals { file.totals ≡ totals_of (C.shown section.now ∷ []) }
     requires bounds { AreTotals file.totals }
-    ensures next { OnOk result (IsNext (work_data (folder_data F.Folder F.File.Source work.now.sources.now) work.now) (C.shown section.now) (progress_data progress.old) (progress_data progress.new) (P.files_in report.old) (P.files_in report.new)) }
-    ensures name { P.folder_name report.new ≡ P.folder_name report.old }
-    ensures same { P.finished files.new ≡ P.finished files.old }
-    ensures none { P.begun files.new ≡ None }
+    ensures next { OnOk result (IsNext (work_data (folder_data F.Folder F.File.Source work.now.sources.now) work.now) (C.shown section.now) (progress_data progress.old) (progress_data progress.new) (D.finished report.old) (D.finished report.new)) }
+    ensures none { D.begun report.new ≡ None }
+    ensures good { OnOk result (D.failed report.new ≡ D.failed report.old) }
 {
     let number = progress.entries.len() as u64 + 1;
     let name = page_name(work.alloc, number, file.path)?;
@@ -211,13 +207,32 @@ fn write_source<'s, C: TableSection<'s>, F: Folder, P: OutputFolder>(
         rows: rows.as_slice(),
         source: source.text(),
     };
-    write_in_folder(work.alloc, name.get(), Page::Source(page), report, files)?;
+    write_page(work.alloc, name.get(), page, report)?;
     progress.note(Entry {
         page: name,
         path: file.path,
         totals: file.totals,
     })?;
     Ok(())
+}
+
+/// Writes a page of a source file into the file called `name`.
+fn write_page<D: OutputFolder>(
+    alloc: Global,
+    name: &[u8],
+    page: SourcePage<'_>,
+    report: &mut D,
+) -> Result<(), OutputFault>
+    requires free { D.begun report.old ≡ None }
+    requires few { D.failed report.old < 2 ^ 62 }
+    ensures finished { OnOk result (Finishes name.now (source_page (source_page_data page)) (D.finished report.old) (D.finished report.new)) }
+    ensures none { D.begun report.new ≡ None }
+    ensures good { OnOk result (D.failed report.new ≡ D.failed report.old) }
+{
+    match std::str::from_utf8(name) {
+        Ok(name) => write_text(alloc, name, Page::Source(page), report),
+        Err(_) => Err(OutputFault::Failed),
+    }
 }
 
 /// Reads the source file of this `path`, and appends the line about it if its text isn't shown.
@@ -237,21 +252,19 @@ fn source_for<F: Folder>(
 }
 
 /// Writes the index of these source files.
-fn write_index<F, P: OutputFolder>(
+fn write_index<F, D: OutputFolder>(
     work: &PagesWork<'_, F>,
     totals: Totals,
     entries: &[Entry<'_>],
-    report: &mut P::NewFolder,
-    files: &mut P,
+    report: &mut D,
 ) -> Result<(), PagesFault>
-    requires free { P.begun files.old ≡ None }
-    requires few { P.failed files.old < 2 ^ 62 }
+    requires free { D.begun report.old ≡ None }
+    requires few { D.failed report.old < 2 ^ 62 }
     requires totals { totals ≡ totals_together (map entry_data entries.now) }
     requires bounds { AreTotals totals }
-    ensures index { OnOk result (Finishes (codes "index.html") (index_with work.now.options.now.title work.now.options.now.date totals (map entry_data entries.now)) (P.files_in report.old) (P.files_in report.new)) }
-    ensures name { P.folder_name report.new ≡ P.folder_name report.old }
-    ensures same { P.finished files.new ≡ P.finished files.old }
-    ensures none { P.begun files.new ≡ None }
+    ensures index { OnOk result (Finishes (codes "index.html") (index_with work.now.options.now.title work.now.options.now.date totals (map entry_data entries.now)) (D.finished report.old) (D.finished report.new)) }
+    ensures none { D.begun report.new ≡ None }
+    ensures good { OnOk result (D.failed report.new ≡ D.failed report.old) }
 {
     let indexed = indexed(work.alloc, entries)?;
     let directories = directories(work.alloc, indexed.as_slice())?;
@@ -261,7 +274,7 @@ fn write_index<F, P: OutputFolder>(
         totals,
         directories: directories.as_slice(),
     };
-    write_in_folder(work.alloc, b"index.html", Page::Index(page), report, files)?;
+    write_text(work.alloc, "index.html", Page::Index(page), report)?;
     Ok(())
 }
 

@@ -48,5 +48,5 @@ mod text_fault;
 mod work;
 
 pub use argument_fault::ArgumentFault;
-pub use covworld::{Folder, OutputFolder, Sinks, World};
+pub use covworld::{Folder, FolderWriter, OutputFolder, Sinks, World};
 pub use program::{refuse, run};

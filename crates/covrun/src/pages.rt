@@ -32,7 +32,7 @@ use covsession::SessionFault;
 use covstore::Store;
 use covstream::{Sink, Source};
 use covworkers::{IntoBookFault, NoGate};
-use covworld::{Folder, OutputFolder, World};
+use covworld::{Folder, FolderWriter, OutputFolder, World};
 use std::alloc::Global;
 use std::collections::BTreeSet;
 use std::sync::Wait;
@@ -43,7 +43,7 @@ use std::thread::Threads;
 pub(crate) fn do_pages<
     R: Threads + Wait + Sync,
     F: Folder<File: Send> + Sync,
-    P: OutputFolder,
+    P: FolderWriter,
     I: Source,
     O: Sink,
     E: Sink,
@@ -92,7 +92,7 @@ fn judge(alloc: Global, work: &Work, collected: &CollectedBook<TextFault>) -> Re
 }
 
 /// Writes the pages of what was collected, reports how that ended, and returns the exit status.
-fn show<F: Folder, P: OutputFolder, I: Source, O: Sink, E: Sink>(
+fn show<F: Folder, P: FolderWriter, I: Source, O: Sink, E: Sink>(
     alloc: Global,
     folder: &F,
     work: &Work,

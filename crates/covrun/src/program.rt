@@ -16,7 +16,7 @@ use crate::pages::do_pages;
 use crate::work::{Task, task_for};
 use covcommand::{Asked, CommandFault, command};
 use covstream::{Sink, Source};
-use covworld::{Folder, OutputFolder, Sinks, World};
+use covworld::{Folder, FolderWriter, OutputFolder, Sinks, World};
 use std::alloc::{AllocGlobal, Global};
 use std::sync::Wait;
 use std::thread::Threads;
@@ -56,7 +56,7 @@ use std::thread::Threads;
 pub fn run<
     R: AllocGlobal + Threads + Wait + Sync,
     F: Folder<File: Send> + Sync,
-    P: OutputFolder,
+    P: FolderWriter,
     I: Source,
     O: Sink,
     E: Sink,
@@ -75,7 +75,7 @@ pub fn run<
 fn run_command<
     R: Threads + Wait + Sync,
     F: Folder<File: Send> + Sync,
-    P: OutputFolder,
+    P: FolderWriter,
     I: Source,
     O: Sink,
     E: Sink,

@@ -4,7 +4,7 @@
 ghost use Rattle.covworld.specs.Streams.{CanWrite};
 ghost use Rattle.covworld.specs.World.{CanCall};
 
-use covrun::{OutputFolder, Sinks, World, run};
+use covrun::{FolderWriter, Sinks, World, run};
 use covstream::{FromRead, FromWrite, Sink, Source};
 use covworld::{FromFiles, IntoFiles};
 use std::alloc::Global;
@@ -25,7 +25,7 @@ mod printing;
 /// faster this way.
 fn called<
     R: Files<File: Send, Dir: Send> + RandomSource + AllocGlobal + Threads + Wait + Sync,
-    P: OutputFolder,
+    P: FolderWriter,
     I: Source,
     O: Sink,
     E: Sink,

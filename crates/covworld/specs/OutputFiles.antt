@@ -1,8 +1,8 @@
 -- The files that a call writes.
 use Rattle.std.specs.Prelude.{◌≡◌, ℕ, suc, List, [], ◌∷◌, ◌++◌, Bool, ◌||◌, if◌then◌else◌, Option, None, Some, codes, flat_map, map}
 use Rattle.std.specs.Str.{bytes_eq}
-use Rattle.covworld.specs.declared.output_folder.FolderFault.{FolderFault}
-use Rattle.covworld.specs.declared.output_folder.FolderFault.TheVariants as folder_faults
+use Rattle.covworld.specs.declared.folder_writer.FolderFault.{FolderFault}
+use Rattle.covworld.specs.declared.folder_writer.FolderFault.TheVariants as folder_faults
 use Rattle.covworld.specs.declared.output_folder.OutputFault.{OutputFault}
 use Rattle.covworld.specs.declared.output_folder.OutputFault.TheVariants.{Failed, Memory}
 

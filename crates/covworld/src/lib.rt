@@ -6,7 +6,8 @@
 //!
 //! `file_text` reads a whole file. `ReadyText::of` reserves all memory for printing a text. The text then goes in blocks, while it
 //! is made from a store, to the output (`Sinks::print`) or into a file (`write_file`). The file gets its name after its whole text
-//! is written. `write_in_folder` writes a file of a new folder, which gets its name after all its files are written.
+//! is written. A `FolderWriter` writes whole folders too: `write_text` writes the files of a new
+//! one, which gets its name last.
 //!
 //! A sketch, which no test runs: a function that prints a file, or reports that the file can't be read.
 //!
@@ -35,6 +36,7 @@ mod block;
 mod block_printer;
 mod files;
 mod folder;
+mod folder_writer;
 mod output_folder;
 mod printed_text;
 mod ready_text;
@@ -46,11 +48,12 @@ mod written_file;
 
 pub use files::{FileFault, file_text};
 pub use folder::{Folder, FromFiles, Opened};
-pub use output_folder::{FolderFault, IntoFiles, OutputFault, OutputFolder};
+pub use folder_writer::{FolderFault, FolderWriter};
+pub use output_folder::{IntoFiles, OutputFault, OutputFolder};
 pub use printed_text::PrintedText;
 pub use ready_text::ReadyText;
 pub use sinks::Sinks;
 pub use unfinished_file::UnfinishedFile;
 pub use unfinished_folder::UnfinishedFolder;
 pub use world::World;
-pub use written_file::{write_file, write_in_folder};
+pub use written_file::{write_file, write_text};

@@ -1,12 +1,10 @@
 //! The directory trait that output files are written to.
 
 ghost use Rattle.std.specs.Prelude.{◌≡◌, ℕ, ◌<◌, ◌^◌, ◌≤◌, List, Option, None, Some, suc, option_map, IfOk, IfErr, OnOk, OnErr};
-ghost use Rattle.covworld.specs.OutputFiles.{CountsFault, CountsFolderFault, Finishes, FinishesFolder, IsEmptyIfKnown};
+ghost use Rattle.covworld.specs.OutputFiles.{CountsFault, CountsFolderFault, Finishes, IsEmptyIfKnown};
 
-use crate::unfinished_file::{UnfinishedFile, abandon_file, begin_file, finish_file, finish_in};
-use crate::unfinished_folder::{
-    UnfinishedFolder, abandon_folder, begin_folder, begin_in, finish_folder,
-};
+use crate::folder_writer::FolderFault;
+use crate::unfinished_file::{UnfinishedFile, abandon_file, begin_file, finish_file};
 use covreport::Noted;
 use covstream::Sink;
 use std::alloc::AllocGlobal;
@@ -22,26 +20,11 @@ pub enum OutputFault {
     Memory,
 }
 
-/// Why a folder couldn't be begun.
-#[derive(Clone, Copy, Debug, PartialEq, Eq)]
-pub enum FolderFault {
-    /// A folder of this name has files that no finished folder had, or folders. They would be lost.
-    Foreign,
-    /// The folder can't be written.
-    Failed,
-    /// An allocation failed.
-    Memory,
-}
-
-/// Writes files and folders of files, each of them whole or not at all.
+/// Writes files, each of them whole or not at all.
 ///
 /// A file is begun, its bytes are written, and then it is finished. A file gets its name when it is finished, and an older file of
 /// this name stays unchanged until then. Bytes for a device or a stream are written to it at once. Only one file can be begun at a
 /// time.
-///
-/// A folder is begun, its files are begun and finished in it, and then it is finished. It gets its name when it is finished, and an
-/// older finished folder of this name stays unchanged until then. `finish_folder` adds a list of the files' names, by which a finished
-/// folder is known. No other folder is replaced, unless it is empty.
 pub trait OutputFolder {
     // The finished files in order, each with its name and content, if they are known.
     ghost finished: { Self → Option (List (List ℕ × List ℕ)) };
@@ -52,17 +35,8 @@ pub trait OutputFolder {
     // How many files couldn't be written.
     ghost failed: { Self → ℕ };
 
-    // The name that an unfinished folder will have.
-    ghost folder_name: { Self.NewFolder → List ℕ };
-
-    // The finished files of an unfinished folder in order, each with its name and content, if they are known.
-    ghost files_in: { Self.NewFolder → Option (List (List ℕ × List ℕ)) };
-
     /// An unfinished file, as a sink of its bytes.
     type File: Sink + Drop;
-
-    /// An unfinished folder.
-    type NewFolder: Drop;
 
     /// Begins a file that will be called `name`.
     fn begin(&mut self, name: &str) -> Result<Self::File, OutputFault>
@@ -94,67 +68,6 @@ pub trait OutputFolder {
         ensures same { finished self.new ≡ finished self.old }
         ensures none { begun self.new ≡ None }
         ensures counted { failed self.new ≡ suc (failed self.old) };
-
-    /// Begins a folder that will be called `name`.
-    fn begin_folder(&mut self, name: &str) -> Result<Self::NewFolder, FolderFault>
-        requires few { failed self.old < 2 ^ 63 }
-        ensures same { finished self.new ≡ finished self.old }
-        ensures begun { begun self.new ≡ begun self.old }
-        ensures name { IfOk result (λ folder. folder_name folder ≡ name.now) }
-        ensures empty { IfOk result (λ folder. IsEmptyIfKnown (finished self.old) (files_in folder)) }
-        ensures good { OnOk result (failed self.new ≡ failed self.old) }
-        ensures counted { IfErr result (λ fault. CountsFolderFault fault (failed self.old) (failed self.new)) };
-
-    /// Begins a file that will be called `name` in an unfinished folder. The name is UTF-8 without a slash or a line feed.
-    fn begin_in(
-        &mut self,
-        folder: &mut Self::NewFolder,
-        name: &[u8],
-    ) -> Result<Self::File, OutputFault>
-        requires free { begun self.old ≡ None }
-        requires few { failed self.old < 2 ^ 63 }
-        ensures same { finished self.new ≡ finished self.old }
-        ensures folder { folder_name folder.new ≡ folder_name folder.old }
-        ensures files { files_in folder.new ≡ files_in folder.old }
-        ensures begun { OnOk result (begun self.new ≡ Some name.now) }
-        ensures none { OnErr result (begun self.new ≡ None) }
-        ensures empty { IfOk result (λ file. IsEmptyIfKnown (files_in folder.old) (Self.File.written file)) }
-        ensures fresh { IfOk result (λ file. Self.File.failed_writes file ≡ 0) }
-        ensures good { OnOk result (failed self.new ≡ failed self.old) }
-        ensures counted { IfErr result (λ fault. CountsFault fault (failed self.old) (failed self.new)) };
-
-    /// Finishes the begun file of an unfinished folder, once all bytes of the file are written and flushed. `abandon` drops it after
-    /// a failed write.
-    fn finish_in(
-        &mut self,
-        folder: &mut Self::NewFolder,
-        file: Self::File,
-    ) -> Result<(), OutputFault>
-        requires good { Self.File.failed_writes file ≡ 0 }
-        requires sent { Self.File.held file ≡ 0 }
-        requires few { failed self.old < 2 ^ 63 }
-        ensures same { finished self.new ≡ finished self.old }
-        ensures folder { folder_name folder.new ≡ folder_name folder.old }
-        ensures files { OnOk result ((name text : List ℕ) → begun self.old ≡ Some name → Self.File.written file ≡ Some text → Finishes name text (files_in folder.old) (files_in folder.new)) }
-        ensures none { begun self.new ≡ None }
-        ensures good { OnOk result (failed self.new ≡ failed self.old) }
-        ensures counted { IfErr result (λ fault. CountsFault fault (failed self.old) (failed self.new)) };
-
-    /// Gives a folder its name, with a list of its files. Drops the folder on an error.
-    fn finish_folder(&mut self, folder: Self::NewFolder) -> Result<(), OutputFault>
-        requires free { begun self.old ≡ None }
-        requires few { failed self.old < 2 ^ 63 }
-        ensures finished { OnOk result (FinishesFolder (folder_name folder) (files_in folder) (finished self.old) (finished self.new)) }
-        ensures same { OnErr result (finished self.new ≡ finished self.old) }
-        ensures none { begun self.new ≡ None }
-        ensures good { OnOk result (failed self.new ≡ failed self.old) }
-        ensures counted { IfErr result (λ fault. CountsFault fault (failed self.old) (failed self.new)) };
-
-    /// Drops an unfinished folder with its files.
-    fn abandon_folder(&mut self, folder: Self::NewFolder)
-        ensures same { finished self.new ≡ finished self.old }
-        ensures begun { begun self.new ≡ begun self.old }
-        ensures failed { failed self.new ≡ failed self.old };
 }
 
 /// The file system of std as an output folder.
@@ -163,7 +76,7 @@ pub trait OutputFolder {
 /// functions of `unfinished_file` and `unfinished_folder` ask for.
 #[derive(Drop)]
 pub struct IntoFiles<'a, R> {
-    rt: &'a R,
+    pub(crate) rt: &'a R,
     // Proof only: the name of the file that is begun.
     begun: Option<Noted>,
     failed: u64,
@@ -183,7 +96,7 @@ impl<'a, R: Files + RandomSource + AllocGlobal> IntoFiles<'a, R> {
     }
 
     /// Counts a file that couldn't be written.
-    fn count(&mut self, fault: OutputFault)
+    pub(crate) fn count(&mut self, fault: OutputFault)
         requires { self.old.failed < 2 ^ 63 }
         ensures counted { CountsFault fault self.old.failed self.new.failed }
         ensures begun { self.new.begun ≡ self.old.begun }
@@ -194,8 +107,8 @@ impl<'a, R: Files + RandomSource + AllocGlobal> IntoFiles<'a, R> {
         }
     }
 
-    /// Counts a folder that couldn't be written.
-    fn count_folder(&mut self, fault: FolderFault)
+    /// Counts a folder that couldn't be begun.
+    pub(crate) fn count_folder(&mut self, fault: FolderFault)
         requires { self.old.failed < 2 ^ 63 }
         ensures counted { CountsFolderFault fault self.old.failed self.new.failed }
         ensures begun { self.new.begun ≡ self.old.begun }
@@ -214,13 +127,7 @@ impl<'a, R: Files + RandomSource + AllocGlobal> OutputFolder for IntoFiles<'a, R
 
     ghost failed = { λ f. f.failed };
 
-    ghost folder_name = { λ folder. folder.name.bytes };
-
-    ghost files_in = { λ _. None };
-
     type File = UnfinishedFile<R::File>;
-
-    type NewFolder = UnfinishedFolder;
 
     fn begin(&mut self, name: &str) -> Result<UnfinishedFile<R::File>, OutputFault> {
         match begin_file(self.rt, name) {
@@ -250,61 +157,5 @@ impl<'a, R: Files + RandomSource + AllocGlobal> OutputFolder for IntoFiles<'a, R
         abandon_file(self.rt, file);
         self.begun = None;
         self.failed += 1;
-    }
-
-    fn begin_folder(&mut self, name: &str) -> Result<UnfinishedFolder, FolderFault> {
-        match begin_folder(self.rt, name) {
-            Ok(folder) => Ok(folder),
-            Err(fault) => {
-                self.count_folder(fault);
-                Err(fault)
-            }
-        }
-    }
-
-    fn begin_in(
-        &mut self,
-        folder: &mut UnfinishedFolder,
-        name: &[u8],
-    ) -> Result<UnfinishedFile<R::File>, OutputFault> {
-        match begin_in(self.rt, folder, name) {
-            Ok(file) => {
-                self.begun = Some(Noted::none().and(name));
-                Ok(file)
-            }
-            Err(fault) => {
-                self.count(fault);
-                Err(fault)
-            }
-        }
-    }
-
-    fn finish_in(
-        &mut self,
-        _folder: &mut UnfinishedFolder,
-        file: UnfinishedFile<R::File>,
-    ) -> Result<(), OutputFault> {
-        self.begun = None;
-        match finish_in(file) {
-            Ok(()) => Ok(()),
-            Err(fault) => {
-                self.count(fault);
-                Err(fault)
-            }
-        }
-    }
-
-    fn finish_folder(&mut self, folder: UnfinishedFolder) -> Result<(), OutputFault> {
-        match finish_folder(self.rt, folder) {
-            Ok(()) => Ok(()),
-            Err(fault) => {
-                self.count(fault);
-                Err(fault)
-            }
-        }
-    }
-
-    fn abandon_folder(&mut self, folder: UnfinishedFolder) {
-        abandon_folder(self.rt, folder);
     }
 }

@@ -168,7 +168,7 @@ pub(crate) fn create_in<R: Files>(
 }
 
 /// Closes a file of a new folder after all its bytes are on the disk.
-pub(crate) fn finish_in<F: OpenFile + io::Write + Drop>(
+pub(crate) fn close_file<F: OpenFile + io::Write + Drop>(
     file: UnfinishedFile<F>,
 ) -> Result<(), OutputFault> {
     let UnfinishedFile { sink, .. } = file;

@@ -1,11 +1,13 @@
 //! A folder of std that is written under a temporary name, beside the folder that it will replace.
 
-ghost use Rattle.std.specs.Prelude.{◌≡◌, IfOk};
+ghost use Rattle.std.specs.Prelude.{◌≡◌, ◌<◌, ◌^◌, None, IfOk, option_map};
+ghost use Rattle.covworld.specs.OutputFiles.{CountsFault};
 
 use crate::files::{FileFault, file_text};
 use crate::folder::FromFiles;
-use crate::output_folder::{FolderFault, OutputFault};
-use crate::unfinished_file::{UnfinishedFile, create_in, name_beside};
+use crate::folder_writer::FolderFault;
+use crate::output_folder::{OutputFault, OutputFolder};
+use crate::unfinished_file::{UnfinishedFile, abandon_file, close_file, create_in, name_beside};
 use covdata::{Bytes, Memory};
 use covreport::Noted;
 use covstream::Sink;
@@ -20,9 +22,12 @@ use std::rt::Files;
 /// The name of the file that lists a finished folder's files. A folder with this file was written by `finish_folder`.
 const LIST_NAME: &str = "covcollect-files.txt";
 
-/// A folder of std that isn't finished.
+/// A folder of std that isn't finished, as an output folder of its files.
+///
+/// std's `Files` doesn't specify what a file holds, so `finished` is `None`.
 #[derive(Drop)]
-pub struct UnfinishedFolder {
+pub struct UnfinishedFolder<'a, R> {
+    rt: &'a R,
     // Proof only: the name that the caller gave.
     pub(crate) name: Noted,
     // The path of the temporary folder.
@@ -33,25 +38,98 @@ pub struct UnfinishedFolder {
     listing: Bytes,
     // The names of the older folder's files; `None` if there is no older folder, or an empty one.
     old: Option<Vec<String>>,
+    // Proof only: the name of the file that is begun.
+    begun: Option<Noted>,
+    failed: u64,
+}
+
+impl<'a, R> UnfinishedFolder<'a, R> {
+    /// Counts a file that couldn't be written.
+    fn count(&mut self, fault: OutputFault)
+        requires { self.old.failed < 2 ^ 63 }
+        ensures counted { CountsFault fault self.old.failed self.new.failed }
+        ensures begun { self.new.begun ≡ self.old.begun }
+    {
+        match fault {
+            OutputFault::Failed => self.failed += 1,
+            OutputFault::Memory => (),
+        }
+    }
+
+    /// Adds a name to the list.
+    fn list(&mut self, name: &str) -> Result<(), Memory>
+        ensures begun { self.new.begun ≡ self.old.begun }
+        ensures failed { self.new.failed ≡ self.old.failed }
+    {
+        self.listing.append(name.as_bytes())?;
+        self.listing.append(b"\n")
+    }
+}
+
+impl<'a, R: Files + RandomSource + AllocGlobal> OutputFolder for UnfinishedFolder<'a, R> {
+    ghost finished = { λ _. None };
+
+    ghost begun = { λ f. option_map (λ name. name.bytes) f.begun };
+
+    ghost failed = { λ f. f.failed };
+
+    type File = UnfinishedFile<R::File>;
+
+    /// Begins a file. Fails if the folder has a file of this name.
+    fn begin(&mut self, name: &str) -> Result<UnfinishedFile<R::File>, OutputFault> {
+        self.list(name)?;
+        match begin_in(self.rt, self.from.as_str(), name) {
+            Ok(file) => {
+                self.begun = Some(Noted::none().and(name.as_bytes()));
+                Ok(file)
+            }
+            Err(fault) => {
+                self.count(fault);
+                Err(fault)
+            }
+        }
+    }
+
+    fn finish(&mut self, file: UnfinishedFile<R::File>) -> Result<(), OutputFault> {
+        self.begun = None;
+        match close_file(file) {
+            Ok(()) => Ok(()),
+            Err(fault) => {
+                self.count(fault);
+                Err(fault)
+            }
+        }
+    }
+
+    fn abandon(&mut self, file: UnfinishedFile<R::File>) {
+        abandon_file(self.rt, file);
+        self.begun = None;
+        self.failed += 1;
+    }
 }
 
 /// Begins a folder that will be called `name`. A symbolic link stays, and the folder that it leads to is replaced.
-pub(crate) fn begin_folder<R: Files + RandomSource + AllocGlobal>(
-    rt: &R,
+pub(crate) fn begin_folder<'a, R: Files + RandomSource + AllocGlobal>(
+    rt: &'a R,
     name: &str,
-) -> Result<UnfinishedFolder, FolderFault>
-    ensures { IfOk result (λ folder. folder.name.bytes ≡ name.now) }
+) -> Result<UnfinishedFolder<'a, R>, FolderFault>
+    ensures name { IfOk result (λ folder. folder.name.bytes ≡ name.now) }
+    ensures begun { IfOk result (λ folder. folder.begun ≡ None) }
+    ensures failed { IfOk result (λ folder. folder.failed ≡ 0) }
 {
     let to = path_of(rt, name)?;
     let old = old_files(rt, to.as_str())?;
     let from = name_beside(rt, to.as_str(), ".part")?;
     rt.create_dir(from.as_str())?;
     Ok(UnfinishedFolder {
+        rt,
         name: Noted::none().and(name.as_bytes()),
         from,
         to,
         listing: Bytes::new(rt.alloc()),
         old,
+        begun: None,
+        failed: 0,
     })
 }
 
@@ -137,30 +215,24 @@ fn path_in<R: AllocGlobal>(rt: &R, folder: &str, name: &str) -> Result<String, A
     Ok(path)
 }
 
-/// Begins a file called `name` in an unfinished folder. Fails if the folder has a file of this name.
-pub(crate) fn begin_in<R: Files + AllocGlobal>(
+/// Begins a file called `name` in this folder.
+fn begin_in<R: Files + AllocGlobal>(
     rt: &R,
-    folder: &mut UnfinishedFolder,
-    name: &[u8],
+    folder: &str,
+    name: &str,
 ) -> Result<UnfinishedFile<R::File>, OutputFault>
-    ensures fresh { IfOk result (λ file. ⟦<UnfinishedFile<R::File> as Sink>⟧.failed_writes file ≡ 0) }
-    ensures name { folder.new.name ≡ folder.old.name }
+    ensures { IfOk result (λ file. ⟦<UnfinishedFile<R::File> as Sink>⟧.failed_writes file ≡ 0) }
 {
-    let Ok(name) = std::str::from_utf8(name) else {
-        return Err(OutputFault::Failed);
-    };
-    let path = path_in(rt, folder.from.as_str(), name)?;
-    folder.listing.append(name.as_bytes())?;
-    folder.listing.append(b"\n")?;
+    let path = path_in(rt, folder, name)?;
     create_in(rt, path.as_str())
 }
 
 /// Gives `folder` its name, with a list of its files, or removes it if it can't get the name.
 pub(crate) fn finish_folder<R: Files + RandomSource + AllocGlobal>(
-    rt: &R,
-    folder: UnfinishedFolder,
+    folder: UnfinishedFolder<'_, R>,
 ) -> Result<(), OutputFault> {
     let UnfinishedFolder {
+        rt,
         from,
         to,
         listing,
@@ -237,14 +309,15 @@ fn remove_files<R: Files + AllocGlobal>(rt: &R, folder: &str, files: &[String]) 
 }
 
 /// Removes `folder`, which isn't finished, with all its files.
-pub(crate) fn abandon_folder<R: Files + AllocGlobal>(rt: &R, folder: UnfinishedFolder) {
+pub(crate) fn abandon_folder<R: Files + AllocGlobal>(folder: UnfinishedFolder<'_, R>) {
+    let UnfinishedFolder { rt, from, .. } = folder;
     // The run already ends with another error.
-    let _ = rt.remove_dir_all(rt.alloc(), folder.from.as_str());
+    let _ = rt.remove_dir_all(rt.alloc(), from.as_str());
 }
 
 impl From<AllocError> for FolderFault {
     ghost use Rattle.std.specs.Prelude.{◌≡◌};
-    ghost use Rattle.covworld.specs.declared.output_folder.FolderFault.TheVariants as faults;
+    ghost use Rattle.covworld.specs.declared.folder_writer.FolderFault.TheVariants as faults;
 
     ghost from_gives = { λ _ f. f ≡ faults.Memory };
 
@@ -255,7 +328,7 @@ impl From<AllocError> for FolderFault {
 
 impl From<Memory> for FolderFault {
     ghost use Rattle.std.specs.Prelude.{◌≡◌};
-    ghost use Rattle.covworld.specs.declared.output_folder.FolderFault.TheVariants as faults;
+    ghost use Rattle.covworld.specs.declared.folder_writer.FolderFault.TheVariants as faults;
 
     ghost from_gives = { λ _ f. f ≡ faults.Memory };
 

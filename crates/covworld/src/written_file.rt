@@ -1,4 +1,4 @@
-//! Writes a text into a file, or into a file of a new folder.
+//! Writes a text into a file.
 
 ghost use Rattle.std.specs.Prelude.{◌≡◌, ◌<◌, ◌^◌, None, IfErr, OnOk, OnErr};
 ghost use Rattle.covworld.specs.OutputFiles.{CountsFault, Finishes};
@@ -34,27 +34,25 @@ pub fn write_file<P: OutputFolder>(
     }
 }
 
-/// Writes `text` into the file called `name` of an unfinished folder.
-pub fn write_in_folder<P: OutputFolder, T: PrintedText>(
+/// Writes `text` into the file called `name`, as `write_file` does. Reserves the memory for printing first.
+pub fn write_text<P: OutputFolder, T: PrintedText>(
     alloc: Global,
-    name: &[u8],
+    name: &str,
     text: T,
-    folder: &mut P::NewFolder,
     files: &mut P,
 ) -> Result<(), OutputFault>
     requires free { P.begun files.old ≡ None }
     requires few { P.failed files.old < 2 ^ 62 }
-    ensures same { P.finished files.new ≡ P.finished files.old }
-    ensures folder { P.folder_name folder.new ≡ P.folder_name folder.old }
-    ensures files { OnOk result (Finishes name.now (T.text text.entry) (P.files_in folder.old) (P.files_in folder.new)) }
+    ensures finished { OnOk result (Finishes name.now (T.text text.entry) (P.finished files.old) (P.finished files.new)) }
     ensures none { P.begun files.new ≡ None }
     ensures good { OnOk result (P.failed files.new ≡ P.failed files.old) }
+    ensures same { OnErr result (P.finished files.new ≡ P.finished files.old) }
     ensures counted { IfErr result (λ fault. CountsFault fault (P.failed files.old) (P.failed files.new)) }
 {
     let block = Block::new(alloc)?;
-    let mut file = files.begin_in(folder, name)?;
+    let mut file = files.begin(name)?;
     match print_text(text, block, &mut file) {
-        Ok(()) => files.finish_in(folder, file),
+        Ok(()) => files.finish(file),
         Err(_) => {
             files.abandon(file);
             Err(OutputFault::Failed)
