@@ -30,6 +30,7 @@ use std::alloc::Global;
 const TITLE: &[u8] = b"Coverage";
 
 /// How pages are written, and of which source files.
+#[derive(Drop)]
 pub struct PagesWork<'w, F> {
     /// The allocator.
     pub alloc: Global,
