@@ -11,4 +11,5 @@ returns c =
     let with_extract = added_subcommand line.extract _ _ _ with_list c.extract.ensures c.in_ok-extracting.ensures in
     let with_remove = added_subcommand line.remove _ _ _ with_extract c.remove.ensures c.in_ok-removing.ensures in
     let with_gcov = added_subcommand line.gcov _ _ _ with_remove c.gcov.ensures c.in_ok-converting.ensures in
-    IfOk-weaker c.with-7.result _ _ (λ r h. added_subcommand line.check _ _ r with_gcov c.check.ensures h) c.with-7.ensures
+    let with_check = added_subcommand line.check _ _ _ with_gcov c.check.ensures c.in_ok-checking.ensures in
+    IfOk-weaker c.with-8.result _ _ (λ r h. added_subcommand line.html _ _ r with_check c.html.ensures h) c.with-8.ensures
