@@ -3,7 +3,7 @@ use Rattle.std.specs.String.{string_bytes}
 use Rattle.covworld.specs.Folder.{folder_data}
 use Rattle.covworld.specs.OutputFiles.{file_of}
 use Rattle.covrun.specs.View.{task_data, work_data, failure_data}
-use Rattle.covrun.proofs.Endings.{asks_text, stops_early, told_check, told_session, told_work}
+use Rattle.covrun.proofs.Endings.{asks_list, asks_text, stops_early, told_check, told_pages, told_session, told_work}
 use Rattle.covrun.proofs.program.run_command.Goals as goal
 
 pub do_work-requires-clause-text : goal.do_work-requires-clause-text
@@ -33,6 +33,18 @@ returns-in-Ok-Check g c =
       told_check (folder_data g.F.Folder g.F.File.Source c.args.folder.now) _ _ _ _ _ _ (file_of (option_map string_bytes c.args.asked.output)) _ _ _ c.get.ensures
           (ap task_data (sym c.in-Ok-Check.field-0-is) ∙ c.in-Ok-Check.ensures.task) (refl, refl) c.check_files.ensures,
     ))
+
+pub do_pages-requires-clause-list : goal.do_pages-requires-clause-list
+do_pages-requires-clause-list g c =
+    asks_list c.args.asked.command c.args.asked.strictness c.args.asked.size (work_data c.in-Ok-Show.work) c.in-Ok-Show.pages (ap task_data (sym c.in-Ok-Show.field-0-is) ∙ c.in-Ok-Show.ensures.task)
+
+pub returns-in-Ok-Show : goal.returns-in-Ok-Show
+returns-in-Ok-Show g c =
+    inr (
+      c.in-Ok-Show.ensures.taken,
+      told_pages (folder_data g.F.Folder g.F.File.Source c.args.folder.now) (work_data c.in-Ok-Show.work) c.in-Ok-Show.pages _ _ _ _ _
+          (ap task_data (sym c.in-Ok-Show.field-0-is) ∙ c.in-Ok-Show.ensures.task) c.do_pages.ensures,
+    )
 
 pub returns : goal.returns
 returns g c =
