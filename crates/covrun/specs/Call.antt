@@ -1,6 +1,8 @@
 -- What one call of the program does: the order in which it looks for faults, and what it writes to its streams.
 use Rattle.std.specs.List.{AllByRecursion}
-use Rattle.std.specs.Prelude.{◌≡◌, ◌⊎◌, ◌≤◌, ℕ, suc, List, [], ◌∷◌, ◌++◌, length, map, option_map, codes, Option, Some, None, Result, Ok, Err, IfOk, IfErr, true}
+use Rattle.std.specs.Cmp.Lexicographic.{slice_cmp}
+use Rattle.std.specs.Ordering.{nat_cmp}
+use Rattle.std.specs.Prelude.{◌≡◌, ◌⊎◌, ◌≤◌, ◌<◌, ◌+◌, ◌==◌, ℕ, suc, not, List, [], ◌∷◌, ◌++◌, length, filter, map, option_map, codes, Option, Some, None, Result, Ok, Err, IfOk, IfErr, true}
 use Rattle.std.specs.String.{string_bytes}
 use Rattle.clap.specs.Words.{subcommand_of, takes, fault_of}
 use Rattle.covread.specs.Outcome.{max_bytes}
@@ -34,10 +36,11 @@ use Rattle.covrun.specs.declared.argument_fault.ArgumentFault.{ArgumentFault}
 use Rattle.covrun.specs.Ending.{EndingData, Prints, FallsShort, BadLine, BadWords, Unreadable, Stopped, status_of, complaint, of_collect, of_collected}
 use Rattle.covrun.specs.Naming.{naming_of, told_name}
 use Rattle.covcommand.specs.declared.asked.PageOptions.{PageOptions}
-use Rattle.covbook.specs.Step.{ops_in, table_of}
+use Rattle.covbook.specs.Step.{max_entries, ops_in, table_of}
 use Rattle.covpages.specs.Pages.{PagesWorkData, IsPagesFault, IsWritten as ArePagesWritten}
 use Rattle.covpages.specs.declared.fault.PagesFault.{PagesFault}
 use Rattle.covpages.specs.declared.fault.PagesFault.TheVariants as pages_faults
+use Rattle.covtable.specs.Ascending.{ascending}
 use Rattle.covtable.specs.Content.{SectionData, content_at}
 use Rattle.covrun.specs.Work.{WorkData, TaskData, Serves, Collects, Checks, Shows, choice_asked, in_one_test, last_of, task_of, input_of, AreTaken, AreRefused}
 use Rattle.covrun.specs.Check.{IsCheck}
@@ -227,14 +230,28 @@ PagesEnd work sections status old new =
     ⊎ ((fault : PagesFault) × IsPagesFault work sections fault × (status ≡ pages_status fault) × (new.files.finished ≡ old.files.finished)
     × Withholds old.sinks new.sinks × Complains (pages_complaint work.folder fault) old.sinks new.sinks)
 
+-- the names of the tests that have sections, but the empty one
+abbrev pub named_tests : List SectionData → List (List ℕ)
+named_tests sections = filter (λ test. not (length test == 0)) (ascending (slice_cmp nat_cmp) (map (λ s. s.key.test) sections))
+
+-- the history has no room for a rename of each test
+abbrev pub HasNoRoom : List EntryData → Type 0
+HasNoRoom entries = max_entries < length entries + length (named_tests (content_at (table_of (ops_in entries))))
+
+-- what comes of files that were collected: pages of them are written, or the history is full before all counts are of one test
+abbrev pub ShowsCollected : FolderData → WorkData → PageOptions → List EntryData → (status : ℕ) → WorldData → WorldData → Type 0
+ShowsCollected folder work pages entries status old new =
+    PagesEnd (pages_work folder work pages) (sections_shown entries) status old new
+    ⊎ (HasNoRoom entries × IsEndingPrinted (Stopped faults.Full) status old.sinks new.sinks × (new.files ≡ old.files))
+
 -- what `html` does. It fails as a list of the same files would fail, and then no file is finished; or the files were collected, a list of
--- them would have been printed, and pages are written of them
+-- them would have been printed, and they are shown
 abbrev pub IsShown : FolderData → WorkData → PageOptions → (status : ℕ) → WorldData → WorldData → Type 0
 IsShown folder work pages status old new =
     ((ending : EndingData) × WorkEnds folder None work ending × IsEndingReported None ending status old new × IsFailure ending)
     ⊎ ((texts : List (List ℕ)) × (c : CollectedData) × (text : List ℕ) × AreTextsIn work.format folder work.files texts
     × IsAnswer work texts (Ok c) × (ending_of None work (Ok c) ≡ Prints text) × (new.input ≡ old.input) × (new.files.begun ≡ old.files.begun)
-    × PagesEnd (pages_work folder work pages) (sections_shown c.entries) status old new)
+    × ShowsCollected folder work pages c.entries status old new)
 
 -- what a call does for its task. Only a session reads the input, and only collecting writes a file. Checking files reports each file.
 -- Showing files writes a folder

@@ -5,7 +5,7 @@ ghost use Rattle.std.specs.String.{string_bytes};
 ghost use Rattle.covbook.specs.Step.{ops_in, table_of};
 ghost use Rattle.covcommand.specs.declared.asked.PageOptions.{PageOptions as Options};
 ghost use Rattle.covlist.specs.Shown.{shown_name};
-ghost use Rattle.covrun.specs.Call.{IsShown, PagesEnd};
+ghost use Rattle.covrun.specs.Call.{HasNoRoom, IsShown};
 ghost use Rattle.covrun.specs.View.{failure_data, question_data, work_data};
 ghost use Rattle.covrun.specs.Work.{AsksList, in_one_test};
 ghost use Rattle.covsession.specs.Session.{said};
@@ -140,7 +140,8 @@ fn shown_files(asks: &Question) -> &Choice
 
 /// Gives all tests the empty name, so that each file has one section, whose counts are those of all tests.
 fn join_tests(alloc: Global, collected: &mut CollectedBook<TextFault>) -> Result<(), SessionFault>
-    ensures { OnOk result (table_of (ops_in collected.new.book.entries) ≡ in_one_test (table_of (ops_in collected.old.book.entries))) }
+    ensures joined { OnOk result (table_of (ops_in collected.new.book.entries) ≡ in_one_test (table_of (ops_in collected.old.book.entries))) }
+    ensures fault { IfErr result (λ fault. (fault ≡ session_faults.Memory) ⊎ ((fault ≡ session_faults.Full) × HasNoRoom collected.old.book.entries)) }
 {
     let tests = tests_of(alloc, collected.book.store())?;
     for test in tests {
