@@ -75,6 +75,14 @@ def whole_folders(player, folder):
     there = sorted(os.listdir(folder))
     if there != ["a.c", "a.info", "b.c", "b.info", "empty", "link", "new", "way"]:
         player.differs(f"there are {there}")
+    # The name of a folder above needs no meaning as text.
+    inner = os.fsencode(folder) + b"/\xff\xfe"
+    os.mkdir(inner)
+    for it in "ab":
+        player.shell("report", inner, f'exec "$0" html --source {it}.c={folder}/{it}.c {folder}/{it}.info -o out', NOTHING)
+        player.row("report: whose folder's name isn't text")
+        if sorted(os.listdir(inner + b"/out")) != sorted(map(os.fsencode, (*report_of(it), "style.css"))):
+            player.differs(f"there are {os.listdir(inner + b'/out')}")
     # The same input gives the same bytes.
     player.shell("same", folder, '"$0" html b.info -o one; "$0" html b.info -o two; diff -r one two', NOTHING)
 

@@ -133,17 +133,27 @@ pub(crate) fn begin_folder<'a, R: Files + RandomSource + AllocGlobal>(
     })
 }
 
-/// The path of the folder called `name`, without links if the folder exists. Fails for a file, and for a symbolic link that leads
+/// The path of the folder called `name`, whose last name can be changed. Fails for a file, and for a symbolic link that leads
 /// nowhere.
 fn path_of<R: Files + AllocGlobal>(rt: &R, name: &str) -> Result<String, FolderFault> {
     let trimmed = name.trim_end_matches('/');
     match rt.metadata(name) {
-        Ok(old) if old.is_dir() => Ok(rt.canonicalize(rt.alloc(), name)?.into_string()),
+        Ok(old) if old.is_dir() => path_of_old(rt, trimmed),
         Err(error) if error.kind() == ErrorKind::NotFound && is_free(rt, trimmed) => {
             Ok(String::from_str(rt.alloc(), trimmed)?)
         }
         Ok(_) | Err(_) => Err(FolderFault::Failed),
     }
+}
+
+/// The path of a folder that exists. Links and names such as `..` are followed, since only a folder's own name can be changed.
+fn path_of_old<R: Files + AllocGlobal>(rt: &R, name: &str) -> Result<String, FolderFault> {
+    let is_root = name.is_empty();
+    if is_root || name.ends_with('.') || rt.symlink_metadata(name)?.is_symlink() {
+        let path = if is_root { "/" } else { name };
+        return Ok(rt.canonicalize(rt.alloc(), path)?.into_string());
+    }
+    Ok(String::from_str(rt.alloc(), name)?)
 }
 
 /// Whether the name isn't empty and nothing has it, not even a symbolic link.
