@@ -22,6 +22,9 @@ use std::rt::Files;
 /// The name of the file that lists a finished folder's files. A folder with this file was written by `finish_folder`.
 const LIST_NAME: &str = "covcollect-files.txt";
 
+/// The maximum length of a file's name, in bytes.
+const MAX_NAME: usize = 255;
+
 /// A folder of std that isn't finished, as an output folder of its files.
 ///
 /// std's `Files` doesn't specify what a file holds, so `finished` is `None`.
@@ -219,10 +222,16 @@ fn are_listed<R: AllocGlobal>(rt: &R, names: &[String], listing: &[u8]) -> Resul
 
 /// The path of a folder's file.
 fn path_in<R: AllocGlobal>(rt: &R, folder: &str, name: &str) -> Result<String, AllocError> {
-    let mut path = String::from_str(rt.alloc(), folder)?;
-    path.push_str("/")?;
-    path.push_str(name)?;
+    let mut path = String::new(rt.alloc());
+    put_path(folder, name, &mut path)?;
     Ok(path)
+}
+
+/// Appends the path of a folder's file.
+fn put_path(folder: &str, name: &str, path: &mut String) -> Result<(), AllocError> {
+    path.push_str(folder)?;
+    path.push_str("/")?;
+    path.push_str(name)
 }
 
 /// Begins a file called `name` in this folder.
@@ -298,20 +307,22 @@ fn replace<R: Files + RandomSource + AllocGlobal>(
     files: &[String],
 ) -> Result<(), OutputFault> {
     let aside = name_beside(rt, to, ".old")?;
+    let mut path = String::with_capacity(rt.alloc(), aside.len() + 1 + MAX_NAME)?;
     rt.rename(to, aside.as_str())?;
     if let Err(error) = rt.rename(from, to) {
         let _ = rt.rename(aside.as_str(), to);
         return Err(OutputFault::from(error));
     }
-    remove_files(rt, aside.as_str(), files);
+    remove_files(rt, aside.as_str(), files, &mut path);
     Ok(())
 }
 
 /// Removes these files of a folder, and then the folder if it has no others. The new folder is in place already, so an error
-/// changes nothing.
-fn remove_files<R: Files + AllocGlobal>(rt: &R, folder: &str, files: &[String]) {
+/// changes nothing. `path` has room for a path, so memory isn't needed either.
+fn remove_files<R: Files>(rt: &R, folder: &str, files: &[String], path: &mut String) {
     for file in files {
-        if let Ok(path) = path_in(rt, folder, file.as_str()) {
+        path.clear();
+        if put_path(folder, file.as_str(), path).is_ok() {
             let _ = rt.remove_file(path.as_str());
         }
     }
