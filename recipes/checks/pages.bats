@@ -4,7 +4,6 @@
 # need chromium chromium
 # need tidy tidy
 # need lcov genhtml
-# need jq jq
 
 load common
 load projects
@@ -13,8 +12,6 @@ load projects
 browser() { # OPTION... URL
     chromium --headless --no-sandbox --disable-gpu --user-data-dir="$PWD/profile" --enable-logging=stderr --virtual-time-budget=2000 "$@" 2>console
 }
-# The text of the elements that a pattern finds in the document, in lines.
-text_of() { sed -n "$1" | sed 's/<[^>]*>/ /g; s/  */ /g; s/^ //; s/ $//'; } # SED
 # Two source files, one in a directory, of one function each and with tags in their lines.
 pages() {
     mkdir -p src
@@ -38,7 +35,7 @@ pages() {
     call "$COVCOLLECT" list a.info
     for page in src/a.c b.c; do
         holds "html: the row of $page as in the list" \
-            [ "$(tr -d '\n' <index.dom | sed 's/<tr>/\n/g' | grep ">${page##*/}</a>" | sed 's/<[^>]*>/ /g; s/  */ /g; s/^ *[^ ]* //; s/ $//')" = \
+            [ "$(tr -d '\n' <index.dom | sed 's,</\{0,1\}tr>,\n,g' | grep ">${page##*/}</a>" | sed 's/<[^>]*>/ /g; s/  */ /g; s/^ *[^ ]* //; s/ $//')" = \
             "$(grep " $page\$" "$work/out" | sed 's/  */ /g; s/^ //; s/ [^ ]*$//')" ]
     done
     holds 'html: a script of a source is text' grep -q '&lt;script&gt;document.title' file-b.c.dom
