@@ -37,6 +37,12 @@ covcollect check main.c.gcov --gcov util.c.gcov => check (gcov 1) [main.c.gcov] 
 covcollect check -- --gcov => check (tracefile 1 1) [--gcov]
 covcollect check gcov => check (tracefile 1 1) [gcov]
 
+# Pages: the folder has to be named.
+covcollect html -o out a.info => html (1 1) >[out] [a.info]
+covcollect html b.info a.info --output=out --lcov2 -j 2 --include '*.c' => html (2 2) +[*.c] >[out] [b.info] [a.info]
+covcollect html --title t --date= --source a=b --source c -o out --strict --large a.info => html (1 1) >[out] title(t) date() source[a=b] source[c] [a.info] strict large
+covcollect html -o out -o out a.info => 2 2 error: the argument '--output <DIR>' cannot be used multiple times
+
 # The number of jobs, from 1 to 64.
 covcollect merge --jobs 1 a.info => merge (1 1) [a.info]
 covcollect merge --jobs 64 a.info => merge (1 64) [a.info]
