@@ -7,3 +7,4 @@ if grep -q "^holes=0$" <(tail -1 /tmp/chk_$c.log) && ! grep -q "not proved\|no p
   if tail -1 /tmp/bld_$c.log | grep -q 'logic=proved' ; then rm -rf /work/libs/crates/$c/out; mkdir -p /work/libs/crates/$c/out/rlib; mv /tmp/bl/$c.rlib /work/libs/crates/$c/out/rlib/$c.rlib; echo "$(date +%T) $c proved"; exit 0; fi
 fi
 echo "$(date +%T) $c NOT proved"; grep -v ': no holes$\|^statements\|^so far' /tmp/chk_$c.log | grep -v "large solution" | cut -c1-1200 | head -${LINES_MAX:-60}
+exit 1
