@@ -1,4 +1,4 @@
-"""Runs checks side by side, as far as there is memory: a check takes 1 to 4 GB."""
+"""Runs checks side by side, those of the longest crates first, as far as there is memory: a check takes 1 to 4 GB."""
 import contextlib
 import re
 import tempfile
@@ -8,6 +8,8 @@ from concurrent.futures import ThreadPoolExecutor
 
 # The memory that has to be there for a check that begins, in kB, and the seconds after which it has taken what it takes. Proofs beside it may grow too.
 NEEDED, GROWS = 6_000_000, 60
+# How many checks may wait for their turn.
+MOST_WAITING = 200
 
 
 def available():
@@ -17,13 +19,13 @@ def available():
 
 
 class Lanes:
-    """So many lanes, which the checks of all crates share."""
+    """So many lanes, which the checks of all crates share. A check of the longest crate is next, since the run would wait for it at the end."""
 
     def __init__(self, number):
-        # How many crates use the lanes now, and when each check began that runs now.
-        self.number, self.crates, self.running = number, 0, []
+        # How many crates use the lanes now, when each check began that runs now, and the lengths of the crates whose checks wait.
+        self.number, self.crates, self.running, self.waiting = number, 0, [], []
         self.turn = threading.Condition()
-        self.pool = ThreadPoolExecutor(number)
+        self.pool = ThreadPoolExecutor(number + MOST_WAITING)
 
     def __enter__(self):
         return self
@@ -31,18 +33,23 @@ class Lanes:
     def __exit__(self, fault, *_):
         self.pool.shutdown(wait=fault is None, cancel_futures=True)
 
-    def has_room(self):
+    def has_room(self, length):
+        if len(self.running) >= self.number or length < max(self.waiting):
+            return False
         young = [it for it in self.running if it > time.monotonic() - GROWS]
         return not self.running or available() >= NEEDED * (1 + len(young))
 
     @contextlib.contextmanager
-    def room(self):
-        """Waits until there is memory for one check more."""
+    def room(self, length):
+        """Waits for a lane, and for the memory that one check more takes. The length is that of the check's crate."""
         with self.turn:
-            while not self.has_room():
+            self.waiting.append(length)
+            while not self.has_room(length):
                 self.turn.wait(5)
+            self.waiting.remove(length)
             begun = time.monotonic()
             self.running.append(begun)
+            self.turn.notify_all()
         try:
             yield
         finally:
@@ -54,8 +61,8 @@ class Lanes:
 class CrateLanes:
     """The lanes as one crate uses them: each of its checks gets a folder, in which what its checks have in common is kept."""
 
-    def __init__(self, lanes):
-        self.lanes, self.made, self.free = lanes, [], []
+    def __init__(self, lanes, length):
+        self.lanes, self.length, self.made, self.free = lanes, length, [], []
 
     def __enter__(self):
         with self.lanes.turn:
@@ -78,7 +85,7 @@ class CrateLanes:
         return list(self.lanes.pool.map(self.in_lane, tasks))
 
     def in_lane(self, task):
-        with self.lanes.room():
+        with self.lanes.room(self.length):
             folder = self.folder()
             try:
                 return task(folder)

@@ -83,14 +83,18 @@ class Type:
 
     def __init__(self, source, name, block):
         self.source, self.path, self.name, self.block = source, source.path, name, block
-        self.ghosts, self.places, self.seen = 0, [], set()
+        self.ghosts, self.places, self.seen, self.asked = 0, [], set(), set()
 
     def parts(self):
-        """The names of the types in it. Where there are ghosts, only those of its head and of the fields that the ghosts name."""
+        """The names of the types in it. Where there are ghosts, only those of its head, without the bounds of parameters that no ghost
+        asks (as `T.shown` asks `T`), and of the fields that the ghosts name."""
         fields = {found[1]: it for it in self.block[1:] if (found := re.match(r"    (?:pub(?:\(crate\))? )?(\w+): ", it))}
-        lines = [self.block[0], *(it for field, it in fields.items() if field in self.seen)] if self.ghosts else self.block
+        lines = [self.head(), *(it for field, it in fields.items() if field in self.seen)] if self.ghosts else self.block
         # A variant's own name is no type.
         return types_in(" ".join(re.sub(r"^    [A-Z]\w*", "", it) for it in lines))
+
+    def head(self):
+        return re.sub(r"\b([A-Z]\w*): ((?:[^,<>]|<[^<>]*>)+)", lambda it: it[0] if it[1] in self.asked else it[1], self.block[0])
 
     def add_ghosts(self, block, names):
         """Takes a block's ghosts: what they name, by where each name is from."""
@@ -98,6 +102,7 @@ class Type:
         for it in re.findall(r"^    ghost (?!use\b|invariant\b|drop_)\w+(?: =|:) \{(.*?)\};", text, re.M | re.S):
             self.ghosts += it.count("\n") + 1
             self.seen.update(re.findall(r"\.(\w+)", it))
+            self.asked.update(re.findall(r"\b([A-Z]\w*)\.", it))
             self.places += names.places(it)
 
 
@@ -183,6 +188,8 @@ def definitions_of(crates):
             found[f"Rattle.{crate}.specs.{file.module}"] = file
     for crate in crates:
         # A crate may hand on the files of another one as its own.
-        for module in re.findall(r"^pub use (Rattle\.cov\w+\.specs\.\w+)$", text_of(f"crates/{crate}/specs/Lib.antt"), re.M):
+        path = f"crates/{crate}/specs/Lib.antt"
+        text = text_of(path) if os.path.isfile(os.path.join(TOP, path)) else ""
+        for module in re.findall(r"^pub use (Rattle\.cov\w+\.specs\.\w+)$", text, re.M):
             found.setdefault(f"Rattle.{crate}.specs.{module.split('.')[-1]}", found[module])
     return found

@@ -1,6 +1,7 @@
 //! Checks that a single thread gets the same answers as the jobs.
 
-use covbook::{Answer, Book, Entry, JobLog, Op, SubRef};
+use covbook::{Answer, Entry, JobLog, Op, SubRef};
+use covnamed::Book;
 use covread::read_trace;
 use covtable::Totals;
 use std::alloc::Global;

@@ -3,7 +3,8 @@
 use crate::random::Random;
 use crate::random_op::random_op;
 use covbook::{JobLog, Op, Readings, Receipts};
-use covjobs::{Live, Name, News, Seat, Shared};
+use covjobs::{Live, Name, News, Seat};
+use covnamed::Shared;
 use std::alloc::Global;
 use std::sync::Wait;
 

@@ -4,7 +4,8 @@ ghost use Rattle.std.specs.Prelude.{◌≡◌};
 
 use crate::wrappers::{open_book, perform, read, reader, shared};
 use covbook::Op;
-use covjobs::{Live, Name, Seat, Seats, Shared, Start};
+use covjobs::{Live, Name, Seat, Seats, Start};
+use covnamed::Shared;
 use std::alloc::{AllocError, Global};
 use std::marker::Brand;
 use std::sync::Wait;

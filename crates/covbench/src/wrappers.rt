@@ -5,7 +5,8 @@ ghost use Rattle.std.specs.Prelude.{◌≡◌};
 
 use covbook::{BookFault, Op, SubRef};
 use covdata::{Memory, ReadFault, Submission};
-use covjobs::{Done, Live, Name, ReaderFault, Seat, Seats, Shared, Start};
+use covjobs::{Done, Live, Name, ReaderFault, Seat, Seats, Start};
+use covnamed::Shared;
 use covread::read_trace;
 use std::alloc::Allocator;
 use std::sync::Wait;
@@ -30,10 +31,10 @@ pub(crate) fn open_book<L: Name, A: Allocator + Copy>(
     requires jobs { start.jobs ≡ L.parts }
     requires book { start.book ≡ L.book }
 {
-    covjobs::open_book::<L, A>(alloc, start)
+    covnamed::open_book::<L, A>(alloc, start)
 }
 
-pub(crate) fn reader<L: Name, A: Allocator, R: Wait>(
+pub(crate) fn reader<L: Name, A: Allocator + Copy, R: Wait>(
     rt: &R,
     book: &Shared<L, A>,
 ) -> Result<Live<L, A>, ReaderFault> {

@@ -1,9 +1,9 @@
 -- What the first half of a step makes ready is what the second half requires.
 use Rattle.std.proofs.Common.{◌≡◌, ℕ, Bool, true, List, length, sym, ap, ◌∙◌, subst}
+use Rattle.covdata.specs.Row.{SubmissionData}
 use Rattle.covtable.specs.declared.totals.Totals.{Totals}
 use Rattle.covtable.specs.Renamed.{renamed}
-use Rattle.covstore.specs.Renaming.{RenamingData, IsRenamingOf}
-use Rattle.covstore.specs.Store.{StoreData}
+use Rattle.covtable.specs.Shown.{ShownData}
 use Rattle.covtable.specs.Table.{Table}
 use Rattle.covtable.specs.Totals.{totals_of}
 use Rattle.covtable.specs.Without.{sections_of_test, without_test}
@@ -14,10 +14,10 @@ use Rattle.covbook.specs.Step.{answer_of, answer_to_drop, answer_to_rename, has_
 use Rattle.covbook.proofs.Runs.{shown}
 
 -- a step is ready for the book if its entry comes next and its change of the store is planned
-pub ready_for : (book : BookData) (e : EntryData) (place : ℕ) (done : ChangeData) (made : ReadyData) → HasRoom book → IsNextOf book e
-    → IsPlanned book.store (table_of (ops_in book.entries)) e.op done → place ≡ length book.entries
-    → made.place ≡ place → made.entry ≡ e → made.change ≡ done → made.after ≡ e.after → IsReadyFor book e.job e.op made
-ready_for book e place done made room next planned at is_place is_entry is_done is_after =
+pub ready_for : {T P R : Type 0} (plans : T → SubmissionData → P → Type 0) (renames : T → List ℕ → List ℕ → R → Type 0) (book : BookData T) (e : EntryData) (place : ℕ) (done : ChangeData P R) (made : ReadyData P R) → HasRoom book → IsNextOf book e
+    → IsPlanned plans renames book.held (table_of (ops_in book.entries)) e.op done → place ≡ length book.entries
+    → made.place ≡ place → made.entry ≡ e → made.change ≡ done → made.after ≡ e.after → IsReadyFor plans renames book e.job e.op made
+ready_for plans renames book e place done made room next planned at is_place is_entry is_done is_after =
     let table = table_of (ops_in book.entries) in
     let entry_here = sym is_entry in
     let told : e.after ≡ totals_at (table_after table e.op) = ap (λ (x : EntryData). x.after) next in
@@ -26,7 +26,7 @@ ready_for book e place done made room next planned at is_place is_entry is_done 
         room = room;
         next = subst (IsNextOf book) entry_here next;
         place = is_place ∙ at;
-        planned = subst (λ (x : EntryData). IsPlanned book.store table x.op made.change) entry_here (subst (IsPlanned book.store table e.op) (sym is_done) planned);
+        planned = subst (λ (x : EntryData). IsPlanned plans renames book.held table x.op made.change) entry_here (subst (IsPlanned plans renames book.held table e.op) (sym is_done) planned);
         after = is_after ∙ told ∙ ap (λ (x : EntryData). totals_at (table_after table x.op)) entry_here;
       };
       job = ap (λ (x : EntryData). x.job) is_entry;
@@ -34,15 +34,15 @@ ready_for book e place done made room next planned at is_place is_entry is_done 
     }
 
 -- the totals of a store are those after an operation that leaves the table as it is
-pub still_after : (store : StoreData) (accepted room : ℕ) (entries : List EntryData) (book : BookData) (op : OpData) (totals : Totals) → IsBook store accepted entries → shown store room entries ≡ book
-    → totals ≡ totals_of store.sections → table_after (table_of (ops_in book.entries)) op ≡ table_of (ops_in book.entries) → IsAfter book op totals
-still_after store accepted room entries book op totals b view is still =
-    is ∙ ap totals_of b.stands.content ∙ ap (λ (x : BookData). totals_at (table_of (ops_in x.entries))) view
+pub still_after : {T : Type 0} (shows : T → ShownData) (store : T) (accepted room : ℕ) (entries : List EntryData) (book : BookData T) (op : OpData) (totals : Totals) → IsBook (shows store) accepted entries → shown shows store room entries ≡ book
+    → totals ≡ totals_of (shows store).sections → table_after (table_of (ops_in book.entries)) op ≡ table_of (ops_in book.entries) → IsAfter book op totals
+still_after {T} shows store accepted room entries book op totals b view is still =
+    is ∙ ap totals_of b.stands.content ∙ ap (λ (x : BookData T). totals_at (table_of (ops_in x.entries))) view
     ∙ ap totals_at (sym still)
 
 -- the totals after a step that is made ready are also those after its operation in the book as it was before
-pub told_after : (before book : BookData) (asker : ℕ) (asked : OpData) (made : ReadyData) → SameBook before book → IsReadyFor book asker asked made → IsAfter before asked made.after
-told_after before book asker asked made same r =
+pub told_after : {T P R : Type 0} (plans : T → SubmissionData → P → Type 0) (renames : T → List ℕ → List ℕ → R → Type 0) (before book : BookData T) (asker : ℕ) (asked : OpData) (made : ReadyData P R) → SameBook before book → IsReadyFor plans renames book asker asked made → IsAfter before asked made.after
+told_after plans renames before book asker asked made same r =
     r.ready.after ∙ ap (λ (es : List EntryData). totals_at (table_after (table_of (ops_in es)) made.entry.op)) same.entries
     ∙ ap (λ (op : OpData). totals_at (table_after (table_of (ops_in before.entries)) op)) r.op
 
@@ -75,9 +75,9 @@ renamed_next entries job old new answer after there said told =
 
 -- the table has a test of the rename's old name, and the rename's own two names equal the given ones. Then the renaming of the
 -- store by the given names is the change that is planned for the rename
-pub renaming_planned : (store : StoreData) (table : Table) (old new own_old own_new : List ℕ) (renaming : RenamingData) → has_test table own_old ≡ true → own_old ≡ old → own_new ≡ new
-    → IsRenamingOf store old new renaming → IsPlanned store table (RenameOp own_old own_new) (RenameChange renaming)
-renaming_planned store table old new own_old own_new renaming there same_old same_new is = (
+pub renaming_planned : {T P R : Type 0} (plans : T → SubmissionData → P → Type 0) (renames : T → List ℕ → List ℕ → R → Type 0) (store : T) (table : Table) (old new own_old own_new : List ℕ) (renaming : R) → has_test table own_old ≡ true → own_old ≡ old → own_new ≡ new
+    → renames store old new renaming → IsPlanned plans renames store table (RenameOp own_old own_new) (RenameChange renaming)
+renaming_planned plans renames store table old new own_old own_new renaming there same_old same_new is = (
   old,
   new,
   is,
@@ -87,7 +87,7 @@ renaming_planned store table old new own_old own_new renaming there same_old sam
 )
 
 -- if the entries' table has a test of the given name, the book's table has one by the step's own copy of that name
-pub row_there : (store : StoreData) (room : ℕ) (entries : List EntryData) (book : BookData) (own given : List ℕ) → shown store room entries ≡ book → own ≡ given
+pub row_there : {T : Type 0} (shows : T → ShownData) (store : T) (room : ℕ) (entries : List EntryData) (book : BookData T) (own given : List ℕ) → shown shows store room entries ≡ book → own ≡ given
     → true ≡ has_test (table_of (ops_in entries)) given → has_test (table_of (ops_in book.entries)) own ≡ true
-row_there store room entries book own given view is found =
-    ap (λ (b : BookData). has_test (table_of (ops_in b.entries)) own) (sym view) ∙ ap (has_test (table_of (ops_in entries))) is ∙ sym found
+row_there {T} shows store room entries book own given view is found =
+    ap (λ (b : BookData T). has_test (table_of (ops_in b.entries)) own) (sym view) ∙ ap (has_test (table_of (ops_in entries))) is ∙ sym found

@@ -13,4 +13,3 @@ pub mod Checked
 pub mod Counted
 pub mod Gathered
 pub mod Causes
-pub mod Crossing

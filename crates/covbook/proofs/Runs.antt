@@ -4,8 +4,7 @@ use Rattle.std.proofs.lemmas.List.{map_push, length_push}
 use Rattle.covtable.specs.declared.totals.Totals.{Totals}
 use Rattle.covdata.specs.Row.{SubmissionData, items_in, rows_of}
 use Rattle.covtable.specs.Renamed.{renamed}
-use Rattle.covstore.specs.Renaming.{RenamingData, IsRenamingOf}
-use Rattle.covstore.specs.Store.{StoreData, PlanData, IsPlanOf, SameContent, StandsFor}
+use Rattle.covtable.specs.Shown.{ShownData, SameContent, StandsFor}
 use Rattle.covtable.specs.Table.{Table, clash_at}
 use Rattle.covtable.specs.Without.{without_test}
 use Rattle.covbook.proofs.Members.{members_kept, members_stay}
@@ -63,12 +62,12 @@ text_lawful other text = tt
 -- ---- a book with the next entry
 
 -- what contracts see of a book
-abbrev pub shown : StoreData → ℕ → List EntryData → BookData
-shown store room entries = record { entries = entries; room = room; store = store }
+abbrev pub shown : {T : Type 0} → (T → ShownData) → T → ℕ → List EntryData → BookData T
+shown shows store room entries = record { entries = entries; room = room; store = shows store; held = store }
 
 -- a history with the next entry, a store that represents the table after the operation, and the number of submissions that are
 -- accepted then, make a book
-next_book : (store : StoreData) (accepted : ℕ) (entries : List EntryData) (job : ℕ) (op : OpData) → IsLegal entries → AreLawfulOps (ops_in entries) → IsLawfulOp op → length entries < max_entries
+next_book : (store : ShownData) (accepted : ℕ) (entries : List EntryData) (job : ℕ) (op : OpData) → IsLegal entries → AreLawfulOps (ops_in entries) → IsLawfulOp op → length entries < max_entries
     → StandsFor store (table_after (table_of (ops_in entries)) op) → accepted ≡ length (table_after (table_of (ops_in entries)) op) → accepted ≤ length entries + 1
     → IsBook store accepted (entries ++ next_entry entries job op ∷ [])
 next_book store accepted entries job op legal all lawful room stands number fewer =
@@ -84,7 +83,7 @@ next_book store accepted entries job op legal all lawful room stands number fewe
     }
 
 -- the book after an operation that leaves the table as it is
-book_noted : (store : StoreData) (accepted : ℕ) (entries new : List EntryData) (e : EntryData) → IsBook store accepted entries → IsLawfulOp e.op → length entries < max_entries → new ≡ entries ++ e ∷ []
+book_noted : (store : ShownData) (accepted : ℕ) (entries new : List EntryData) (e : EntryData) → IsBook store accepted entries → IsLawfulOp e.op → length entries < max_entries → new ≡ entries ++ e ∷ []
     → e ≡ next_entry entries e.job e.op → table_after (table_of (ops_in entries)) e.op ≡ table_of (ops_in entries) → IsBook store accepted new
 book_noted store accepted entries new e b lawful room is next still =
     let fewer : accepted ≤ length entries + 1 = omega (arith, b.fewer) in
@@ -92,30 +91,30 @@ book_noted store accepted entries new e b lawful room is next still =
     subst (IsBook store accepted) (ap (λ (x : EntryData). entries ++ x ∷ []) (sym next) ∙ sym is) made
 
 -- the same, from what is known of the book as contracts see it
-pub noted_book : (store : StoreData) (accepted room : ℕ) (entries : List EntryData) (book : BookData) (new : List EntryData) (e : EntryData) → IsBook store accepted entries → IsLawfulOp e.op
-    → shown store room entries ≡ book → HasRoom book → IsNextOf book e → table_after (table_of (ops_in book.entries)) e.op ≡ table_of (ops_in book.entries) → new ≡ entries ++ e ∷ [] → IsBook store accepted new
-noted_book store accepted room entries book new e b lawful view has next still is =
+pub noted_book : {T : Type 0} (shows : T → ShownData) (store : T) (accepted room : ℕ) (entries : List EntryData) (book : BookData T) (new : List EntryData) (e : EntryData) → IsBook (shows store) accepted entries → IsLawfulOp e.op
+    → shown shows store room entries ≡ book → HasRoom book → IsNextOf book e → table_after (table_of (ops_in book.entries)) e.op ≡ table_of (ops_in book.entries) → new ≡ entries ++ e ∷ [] → IsBook (shows store) accepted new
+noted_book {T} shows store accepted room entries book new e b lawful view has next still is =
     let back = sym view in
     let few = (subst HasRoom back has).few in
-    let next_here = subst (λ (x : BookData). IsNextOf x e) back next in
-    let still_here = subst (λ (x : BookData). table_after (table_of (ops_in x.entries)) e.op ≡ table_of (ops_in x.entries)) back still in
-    book_noted store accepted entries new e b lawful few is next_here still_here
+    let next_here = subst (λ (x : BookData T). IsNextOf x e) back next in
+    let still_here = subst (λ (x : BookData T). table_after (table_of (ops_in x.entries)) e.op ≡ table_of (ops_in x.entries)) back still in
+    book_noted (shows store) accepted entries new e b lawful few is next_here still_here
 
 -- ---- a submission
 
 -- the table after an operation that submits what doesn't clash
-pub table_with : (store : StoreData) (table : Table) (op : OpData) (given : SubmissionData) → StandsFor store table → ((t : Table) → StandsFor store t → clash_at t given ≡ None) → SubmitOp given ≡ op → table_after table op ≡ table ++ rows_of given ∷ []
+pub table_with : (store : ShownData) (table : Table) (op : OpData) (given : SubmissionData) → StandsFor store table → ((t : Table) → StandsFor store t → clash_at t given ≡ None) → SubmitOp given ≡ op → table_after table op ≡ table ++ rows_of given ∷ []
 table_with store table op given stands agrees is =
     ap (table_after table) (sym is) ∙ ap (table_after_submit table given) (agrees table stands)
 
 -- the answer to it
-pub answer_with : (store : StoreData) (table : Table) (op : OpData) (given : SubmissionData) → StandsFor store table → ((t : Table) → StandsFor store t → clash_at t given ≡ None) → SubmitOp given ≡ op
+pub answer_with : (store : ShownData) (table : Table) (op : OpData) (given : SubmissionData) → StandsFor store table → ((t : Table) → StandsFor store t → clash_at t given ≡ None) → SubmitOp given ≡ op
     → AcceptedAnswer (length table + 1) (items_in given.sects) given.odd ≡ answer_of table op
 answer_with store table op given stands agrees is =
     ap (answer_to_submit table given) (sym (agrees table stands)) ∙ ap (answer_of table) is
 
 -- a book is still one if its store changes, but not the content of the store
-pub kept_book : (store kept : StoreData) (accepted : ℕ) (entries : List EntryData) → IsBook store accepted entries → SameContent store kept → IsBook kept accepted entries
+pub kept_book : (store kept : ShownData) (accepted : ℕ) (entries : List EntryData) → IsBook store accepted entries → SameContent store kept → IsBook kept accepted entries
 kept_book store kept accepted entries b same = record {
   legal = b.legal;
   lawful = b.lawful;
@@ -131,69 +130,76 @@ kept_book store kept accepted entries b same = record {
   fewer = b.fewer;
 }
 
+-- what is planned is a plan of the store
+pub plan_here : {T P R : Type 0} (shows : T → ShownData) (plans : T → SubmissionData → P → Type 0) (renames : T → List ℕ → List ℕ → R → Type 0) (store : T) (room : ℕ) (entries : List EntryData) (book : BookData T) (op : OpData) (plan : P) → shown shows store room entries ≡ book
+    → IsPlanned plans renames book.held (table_of (ops_in book.entries)) op (HoldChange plan) → (s : SubmissionData) × plans store s plan
+plan_here {T} shows plans renames store room entries book op plan view planned =
+    let here = subst (λ (x : BookData T). IsPlanned plans renames x.held (table_of (ops_in x.entries)) op (HoldChange plan)) (sym view) planned in
+    (here.0, here.1)
+
 -- the book after a planned submission is added to the store
-pub held_book : (store committed : StoreData) (accepted room : ℕ) (entries : List EntryData) (book : BookData) (new : List EntryData) (e : EntryData) (plan : PlanData) → IsBook store accepted entries → IsLawfulOp e.op
-    → shown store room entries ≡ book → HasRoom book → IsNextOf book e → IsPlanned book.store (table_of (ops_in book.entries)) e.op (HoldChange plan)
-    → ((s : SubmissionData) (table : Table) → IsPlanOf store s plan → StandsFor store table → StandsFor committed (table ++ rows_of s ∷ [])) → new ≡ entries ++ e ∷ [] → IsBook committed (accepted + 1) new
-held_book store committed accepted room entries book new e plan b lawful view has next planned commit is =
+pub held_book : {T P R : Type 0} (shows : T → ShownData) (plans : T → SubmissionData → P → Type 0) (renames : T → List ℕ → List ℕ → R → Type 0) (store committed : T) (accepted room : ℕ) (entries : List EntryData) (book : BookData T) (new : List EntryData) (e : EntryData) (plan : P) → IsBook (shows store) accepted entries → IsLawfulOp e.op
+    → shown shows store room entries ≡ book → HasRoom book → IsNextOf book e → IsPlanned plans renames book.held (table_of (ops_in book.entries)) e.op (HoldChange plan)
+    → ((s : SubmissionData) (table : Table) → plans store s plan → StandsFor (shows store) table → StandsFor (shows committed) (table ++ rows_of s ∷ [])) → new ≡ entries ++ e ∷ [] → IsBook (shows committed) (accepted + 1) new
+held_book {T} shows plans renames store committed accepted room entries book new e plan b lawful view has next planned commit is =
     let back = sym view in
     let few = (subst HasRoom back has).few in
-    let next_here = subst (λ (x : BookData). IsNextOf x e) back next in
-    let planned_here = subst (λ (x : BookData). IsPlanned x.store (table_of (ops_in x.entries)) e.op (HoldChange plan)) back planned in
+    let next_here = subst (λ (x : BookData T). IsNextOf x e) back next in
+    let planned_here = subst (λ (x : BookData T). IsPlanned plans renames x.held (table_of (ops_in x.entries)) e.op (HoldChange plan)) back planned in
     let table = table_of (ops_in entries) in
     let s = planned_here.0 in
     let leaves : table ++ rows_of s ∷ [] ≡ table_after table e.op = sym planned_here.2 in
-    let stands : StandsFor committed (table_after table e.op) = subst (StandsFor committed) leaves (commit s table planned_here.1 b.stands) in
+    let stands : StandsFor (shows committed) (table_after table e.op) = subst (StandsFor (shows committed)) leaves (commit s table planned_here.1 b.stands) in
     let number : accepted + 1 ≡ length (table_after table e.op) = ap (λ (n : ℕ). n + 1) b.number ∙ sym (length_push table (rows_of s)) ∙ ap length leaves in
     let fewer : accepted + 1 ≤ length entries + 1 = omega (arith, b.fewer) in
-    let made = next_book committed (accepted + 1) entries e.job e.op b.legal b.lawful lawful few stands number fewer in
-    subst (IsBook committed (accepted + 1)) (ap (λ (x : EntryData). entries ++ x ∷ []) (sym next_here) ∙ sym is) made
+    let made = next_book (shows committed) (accepted + 1) entries e.job e.op b.legal b.lawful lawful few stands number fewer in
+    subst (IsBook (shows committed) (accepted + 1)) (ap (λ (x : EntryData). entries ++ x ∷ []) (sym next_here) ∙ sym is) made
 
 -- ---- a test that is dropped
 
 -- the book after a test is dropped
-pub dropped_book : (store without : StoreData) (accepted room : ℕ) (entries : List EntryData) (book : BookData) (new : List EntryData) (e : EntryData) (test : List ℕ) → IsBook store accepted entries → IsLawfulOp e.op
-    → shown store room entries ≡ book → HasRoom book → IsNextOf book e → IsPlanned book.store (table_of (ops_in book.entries)) e.op (DropChange test)
-    → ((table : Table) → StandsFor store table → StandsFor without (without_test test table)) → new ≡ entries ++ e ∷ [] → IsBook without accepted new
-dropped_book store without accepted room entries book new e test b lawful view has next planned drop is =
+pub dropped_book : {T P R : Type 0} (shows : T → ShownData) (plans : T → SubmissionData → P → Type 0) (renames : T → List ℕ → List ℕ → R → Type 0) (store without : T) (accepted room : ℕ) (entries : List EntryData) (book : BookData T) (new : List EntryData) (e : EntryData) (test : List ℕ) → IsBook (shows store) accepted entries → IsLawfulOp e.op
+    → shown shows store room entries ≡ book → HasRoom book → IsNextOf book e → IsPlanned plans renames book.held (table_of (ops_in book.entries)) e.op (DropChange test)
+    → ((table : Table) → StandsFor (shows store) table → StandsFor (shows without) (without_test test table)) → new ≡ entries ++ e ∷ [] → IsBook (shows without) accepted new
+dropped_book {T} shows plans renames store without accepted room entries book new e test b lawful view has next planned drop is =
     let back = sym view in
     let few = (subst HasRoom back has).few in
-    let next_here = subst (λ (x : BookData). IsNextOf x e) back next in
+    let next_here = subst (λ (x : BookData T). IsNextOf x e) back next in
     let table = table_of (ops_in entries) in
-    let leaves : without_test test table ≡ table_after table e.op = sym (subst (λ (x : BookData). IsPlanned x.store (table_of (ops_in x.entries)) e.op (DropChange test)) back planned) in
-    let stands : StandsFor without (table_after table e.op) = subst (StandsFor without) leaves (drop table b.stands) in
+    let leaves : without_test test table ≡ table_after table e.op = sym (subst (λ (x : BookData T). IsPlanned plans renames x.held (table_of (ops_in x.entries)) e.op (DropChange test)) back planned) in
+    let stands : StandsFor (shows without) (table_after table e.op) = subst (StandsFor (shows without)) leaves (drop table b.stands) in
     let number : accepted ≡ length (table_after table e.op) = b.number ∙ members_stay test table ∙ ap length leaves in
     let fewer : accepted ≤ length entries + 1 = omega (arith, b.fewer) in
-    let made = next_book without accepted entries e.job e.op b.legal b.lawful lawful few stands number fewer in
-    subst (IsBook without accepted) (ap (λ (x : EntryData). entries ++ x ∷ []) (sym next_here) ∙ sym is) made
+    let made = next_book (shows without) accepted entries e.job e.op b.legal b.lawful lawful few stands number fewer in
+    subst (IsBook (shows without) accepted) (ap (λ (x : EntryData). entries ++ x ∷ []) (sym next_here) ∙ sym is) made
 
 -- ---- a test that is renamed
 
 -- what is planned is a renaming of the store
-pub renaming_here : (store : StoreData) (room : ℕ) (entries : List EntryData) (book : BookData) (op : OpData) (renaming : RenamingData) → shown store room entries ≡ book
-    → IsPlanned book.store (table_of (ops_in book.entries)) op (RenameChange renaming) → (old new : List ℕ) × IsRenamingOf store old new renaming
-renaming_here store room entries book op renaming view planned =
-    let here = subst (λ (x : BookData). IsPlanned x.store (table_of (ops_in x.entries)) op (RenameChange renaming)) (sym view) planned in
+pub renaming_here : {T P R : Type 0} (shows : T → ShownData) (plans : T → SubmissionData → P → Type 0) (renames : T → List ℕ → List ℕ → R → Type 0) (store : T) (room : ℕ) (entries : List EntryData) (book : BookData T) (op : OpData) (renaming : R) → shown shows store room entries ≡ book
+    → IsPlanned plans renames book.held (table_of (ops_in book.entries)) op (RenameChange renaming) → (old new : List ℕ) × renames store old new renaming
+renaming_here {T} shows plans renames store room entries book op renaming view planned =
+    let here = subst (λ (x : BookData T). IsPlanned plans renames x.held (table_of (ops_in x.entries)) op (RenameChange renaming)) (sym view) planned in
     (here.0, here.1, here.2)
 
 -- the book after a test is renamed
-pub renamed_book : (store committed : StoreData) (accepted room : ℕ) (entries : List EntryData) (book : BookData) (new : List EntryData) (e : EntryData) (renaming : RenamingData) → IsBook store accepted entries → IsLawfulOp e.op
-    → shown store room entries ≡ book → HasRoom book → IsNextOf book e → IsPlanned book.store (table_of (ops_in book.entries)) e.op (RenameChange renaming)
-    → ((from to : List ℕ) (table : Table) → IsRenamingOf store from to renaming → StandsFor store table → StandsFor committed (renamed from to table)) → new ≡ entries ++ e ∷ [] → IsBook committed accepted new
-renamed_book store committed accepted room entries book new e renaming b lawful view has next planned commit is =
+pub renamed_book : {T P R : Type 0} (shows : T → ShownData) (plans : T → SubmissionData → P → Type 0) (renames : T → List ℕ → List ℕ → R → Type 0) (store committed : T) (accepted room : ℕ) (entries : List EntryData) (book : BookData T) (new : List EntryData) (e : EntryData) (renaming : R) → IsBook (shows store) accepted entries → IsLawfulOp e.op
+    → shown shows store room entries ≡ book → HasRoom book → IsNextOf book e → IsPlanned plans renames book.held (table_of (ops_in book.entries)) e.op (RenameChange renaming)
+    → ((from to : List ℕ) (table : Table) → renames store from to renaming → StandsFor (shows store) table → StandsFor (shows committed) (renamed from to table)) → new ≡ entries ++ e ∷ [] → IsBook (shows committed) accepted new
+renamed_book {T} shows plans renames store committed accepted room entries book new e renaming b lawful view has next planned commit is =
     let back = sym view in
     let few = (subst HasRoom back has).few in
-    let next_here = subst (λ (x : BookData). IsNextOf x e) back next in
-    let planned_here = subst (λ (x : BookData). IsPlanned x.store (table_of (ops_in x.entries)) e.op (RenameChange renaming)) back planned in
+    let next_here = subst (λ (x : BookData T). IsNextOf x e) back next in
+    let planned_here = subst (λ (x : BookData T). IsPlanned plans renames x.held (table_of (ops_in x.entries)) e.op (RenameChange renaming)) back planned in
     let table = table_of (ops_in entries) in
     let from = planned_here.0 in
     let to = planned_here.1 in
     let leaves : renamed from to table ≡ table_after table e.op = sym planned_here.3 in
-    let stands : StandsFor committed (table_after table e.op) = subst (StandsFor committed) leaves (commit from to table planned_here.2 b.stands) in
+    let stands : StandsFor (shows committed) (table_after table e.op) = subst (StandsFor (shows committed)) leaves (commit from to table planned_here.2 b.stands) in
     let number : accepted ≡ length (table_after table e.op) = b.number ∙ members_kept from to table ∙ ap length leaves in
     let fewer : accepted ≤ length entries + 1 = omega (arith, b.fewer) in
-    let made = next_book committed accepted entries e.job e.op b.legal b.lawful lawful few stands number fewer in
-    subst (IsBook committed accepted) (ap (λ (x : EntryData). entries ++ x ∷ []) (sym next_here) ∙ sym is) made
+    let made = next_book (shows committed) accepted entries e.job e.op b.legal b.lawful lawful few stands number fewer in
+    subst (IsBook (shows committed) accepted) (ap (λ (x : EntryData). entries ++ x ∷ []) (sym next_here) ∙ sym is) made
 
 -- ---- the last totals
 

@@ -6,6 +6,7 @@ pub mod Held
 pub mod Ready
 pub mod Fault
 pub mod Texts
+pub mod MayFail
 pub mod Refusal
 pub mod ChangeView
 pub mod Order

@@ -8,11 +8,10 @@ use crate::ready::{Change, Ready};
 use crate::shared::TextRef;
 use crate::submitted::Submitted;
 use covdata::{Bytes, Memory};
-use covreport::{Choice, Printing, summary_text, trace_text};
-use covstore::{Plan, Renaming, Store};
+use covreport::{Choice, Printing, Table, summary_text, trace_text};
 use covtable::laws::renaming_keeps_totals;
 use covtable::{Refuse, Totals};
-use std::alloc::{Allocator, Global};
+use std::alloc::Allocator;
 use std::marker::Model;
 use thiserror::Error;
 
@@ -53,33 +52,34 @@ impl From<Memory> for BookFault {
 /// A table of counts with its history. Contracts see the history, which is always legal: its operations result in its answers and
 /// in the table. Contracts also see what `finish` relies on: the capacity for entries, and the model of the store.
 ///
-/// `K` is the part of each entry that the book stores: all of it, its answer, or nothing. Contracts see whole entries in any case.
+/// `T` is the store. `K` is the part of each entry that the book stores: all of it, its answer, or nothing. Contracts see whole
+/// entries in any case.
 #[derive(Drop)]
-pub struct Book<A: Allocator = Global, K: Keep<Of = Entry<A>> = Entry<A>> {
-    store: Store<A>,
+pub struct Book<A: Allocator, T: Table<A>, K: Keep<Of = Entry<A>> = Entry<A>> {
+    store: T,
     accepted: u64,
     history: History<A, K>,
 }
 
-impl<A: Allocator, K: Keep<Of = Entry<A>>> Model for Book<A, K> {
+impl<A: Allocator, T: Table<A>, K: Keep<Of = Entry<A>>> Model for Book<A, T, K> {
     ghost use Rattle.covbook.specs.Held.{BookData, IsBook};
 
-    ghost Value = { BookData };
+    ghost Value = { BookData T };
 
-    ghost view = { λ a. record { entries = a.history.entries; room = a.history.room; store = a.store } };
+    ghost view = { λ a. record { entries = a.history.entries; room = a.history.room; store = T.shown a.store; held = a.store } };
 
-    ghost invariant = { λ a. IsBook a.store a.accepted a.history.entries };
+    ghost invariant = { λ a. IsBook (T.shown a.store) a.accepted a.history.entries };
 }
 
-impl<A: Allocator + Copy> Book<A> {
+impl<A: Allocator + Copy, T: Table<A>> Book<A, T> {
     ghost use Rattle.std.specs.Prelude.{◌≡◌, [], map};
-    ghost use Rattle.covstore.specs.Store.{StandsFor};
+    ghost use Rattle.covtable.specs.Shown.{StandsFor};
     ghost use Rattle.covbook.specs.Op.{AreLawfulOps};
     ghost use Rattle.covbook.specs.Step.{IsLegal, table_of, ops_in};
     ghost use Rattle.covbook.specs.EntryView.{entry_data};
 
     /// An empty book that stores whole entries. Never allocates.
-    pub fn new(alloc: A) -> Book<A>
+    pub fn new(alloc: A) -> Book<A, T>
         ensures { result.entries ≡ [] }
     {
         Book::keeping(alloc)
@@ -97,14 +97,15 @@ impl<A: Allocator + Copy> Book<A> {
     }
 }
 
-impl<A: Allocator + Copy, K: Keep<Of = Entry<A>>> Book<A, K> {
+impl<A: Allocator + Copy, T: Table<A>, K: Keep<Of = Entry<A>>> Book<A, T, K> {
     ghost use Rattle.std.specs.Prelude.{◌≡◌, ◌↔◌, ◌+◌, ◌<◌, ◌≤◌, ◌++◌, [], ◌∷◌, length, IsTrue, IfOk, OnOk, OnErr, Err, map};
-    ghost use Rattle.covstore.specs.Store.{SameContent, StandsFor};
+    ghost use Rattle.covtable.specs.Shown.{SameContent, StandsFor};
     ghost use Rattle.covtable.specs.Totals.{AreTotals};
     ghost use Rattle.covtable.specs.Without.{sections_of_test, without_test};
     ghost use Rattle.covbook.specs.ChangeView.{change_data};
     ghost use Rattle.covbook.specs.Op.{SubmitOp, DropTestOp, RenameOp, AcceptedAnswer, DroppedAnswer, RenamedAnswer, TextAnswer, AreLawfulOps, IsLawfulOp};
     ghost use Rattle.covbook.specs.Step.{IsLegal, answer_of, last_totals, next_entry, receipt_of, table_after, table_of, totals_at, ops_in, max_entries};
+    ghost use Rattle.covbook.specs.MayFail.{PrintingMayFail, TextMayFail};
     ghost use Rattle.covbook.specs.Texts.{IsText};
     ghost use Rattle.covbook.specs.View.{op_data, answer_data};
     ghost use Rattle.covbook.specs.EntryView.{entry_data, receipt_data};
@@ -112,19 +113,20 @@ impl<A: Allocator + Copy, K: Keep<Of = Entry<A>>> Book<A, K> {
     ghost use Rattle.covbook.specs.Ready.{DropChange, HasRoom, HoldChange, RenameChange, IsNextOf, IsPlanned, IsAfter, IsReadyOf, IsReadyFor};
 
     /// An empty book that stores only the `K` part of each entry. Never allocates.
-    pub fn keeping(alloc: A) -> Book<A, K>
+    pub fn keeping(alloc: A) -> Book<A, T, K>
         ensures { result.entries ≡ [] }
     {
         Book {
-            store: Store::new(alloc),
+            store: T::new(alloc),
             accepted: 0,
             history: History::new(alloc),
         }
     }
 
-    /// How many entries the history has. Never allocates.
+    /// How many entries the history has: at most 1,048,576. Never allocates.
     pub fn len(&self) -> u64
-        ensures { result ≡ length self.now.entries }
+        ensures value { result ≡ length self.now.entries }
+        ensures few { length self.now.entries ≤ max_entries }
     {
         self.history.place()
     }
@@ -159,8 +161,9 @@ impl<A: Allocator + Copy, K: Keep<Of = Entry<A>>> Book<A, K> {
 
     /// The store, which represents the table after the last entry. From the store, a caller can print texts that no `Op` prints.
     /// Never allocates.
-    pub fn store(&self) -> &Store<A>
-        ensures store { result.now ≡ self.now.store }
+    pub fn store(&self) -> &T
+        ensures held { result.now ≡ self.now.held }
+        ensures store { T.shown result.now ≡ self.now.store }
         ensures stands { StandsFor self.now.store (table_of (ops_in self.now.entries)) }
     {
         &self.store
@@ -185,9 +188,14 @@ impl<A: Allocator + Copy, K: Keep<Of = Entry<A>>> Book<A, K> {
     /// submission or a rename, prepares the store's change. For a drop, finds the number of the test's sections, and the totals
     /// without the test. Never changes history or table. `finish` does the second half, and the book must not change in between.
     /// Dropping the `Ready` cancels the step.
-    pub fn ready(&mut self, alloc: A, job: u32, op: &Op<A>) -> Result<Ready<A>, BookFault>
+    pub fn ready(
+        &mut self,
+        alloc: A,
+        job: u32,
+        op: &Op<A>,
+    ) -> Result<Ready<A, T::Plan, T::Renaming>, BookFault>
         ensures same { SameBook self.old self.new }
-        ensures ready { IfOk result (λ r. IsReadyFor self.new job (op_data op.now) r) }
+        ensures ready { IfOk result (λ r. IsReadyFor T.plans T.renames self.new job (op_data op.now) r) }
         ensures after { IfOk result (λ r. IsAfter self.old (op_data op.now) r.after) }
         ensures legal { IsLegal self.new.entries }
         ensures full { (result ≡ Err BookFault.Full) ↔ (length self.old.entries ≡ max_entries) }
@@ -200,8 +208,8 @@ impl<A: Allocator + Copy, K: Keep<Of = Entry<A>>> Book<A, K> {
 
     /// Does the second half of a step: appends the step's entry and changes the store. The book must be as `Book::ready` left it.
     /// Never allocates.
-    pub fn finish(&mut self, ready: Ready<A>) -> Receipt<A>
-        requires { IsReadyOf self.old ready }
+    pub fn finish(&mut self, ready: Ready<A, T::Plan, T::Renaming>) -> Receipt<A>
+        requires { IsReadyOf T.plans T.renames self.old ready }
         ensures receipt { receipt_data result ≡ receipt_of (length self.old.entries) (next_entry self.old.entries ready.entry.job ready.entry.op) }
         ensures entry { self.new.entries ≡ self.old.entries ++ next_entry self.old.entries ready.entry.job ready.entry.op ∷ [] }
         ensures legal { IsLegal self.new.entries }
@@ -217,10 +225,15 @@ impl<A: Allocator + Copy, K: Keep<Of = Entry<A>>> Book<A, K> {
     }
 
     /// Prepares the step of `op`, after reserving capacity for the entry. The history must not be full.
-    fn made_ready(&mut self, alloc: A, job: u32, op: &Op<A>) -> Result<Ready<A>, Memory>
+    fn made_ready(
+        &mut self,
+        alloc: A,
+        job: u32,
+        op: &Op<A>,
+    ) -> Result<Ready<A, T::Plan, T::Renaming>, Memory>
         requires { length self.old.entries < max_entries }
         ensures same { SameBook self.old self.new }
-        ensures ready { IfOk result (λ r. IsReadyFor self.new job (op_data op.now) r) }
+        ensures ready { IfOk result (λ r. IsReadyFor T.plans T.renames self.new job (op_data op.now) r) }
     {
         self.make_room()?;
         match op {
@@ -250,17 +263,17 @@ impl<A: Allocator + Copy, K: Keep<Of = Entry<A>>> Book<A, K> {
         alloc: A,
         job: u32,
         submission: &S,
-    ) -> Result<Ready<A>, Memory>
+    ) -> Result<Ready<A, T::Plan, T::Renaming>, Memory>
         requires { HasRoom self.old }
         ensures same { SameBook self.old self.new }
-        ensures ready { IfOk result (λ r. IsReadyFor self.new job (SubmitOp (S.says submission.now)) r) }
+        ensures ready { IfOk result (λ r. IsReadyFor T.plans T.renames self.new job (SubmitOp (S.says submission.now)) r) }
     {
         let op = submission.to_op()?;
         let items = submission.count_items();
         match submission.prepare_in(alloc, &mut self.store) {
             Ok(plan) => {
                 let answer = self.accepted_answer(items, submission.count_odd());
-                let after = plan.after();
+                let after = self.store.totals_after(&plan);
                 let entry = Entry {
                     job,
                     op,
@@ -288,9 +301,14 @@ impl<A: Allocator + Copy, K: Keep<Of = Entry<A>>> Book<A, K> {
     }
 
     /// Prepares the step that drops `test`. The answer is `NoSuchTest` if the table has no row of the test.
-    fn drop_ready(&self, alloc: A, job: u32, test: &Bytes<A>) -> Result<Ready<A>, Memory>
+    fn drop_ready(
+        &self,
+        alloc: A,
+        job: u32,
+        test: &Bytes<A>,
+    ) -> Result<Ready<A, T::Plan, T::Renaming>, Memory>
         requires { HasRoom self.now }
-        ensures { IfOk result (λ r. IsReadyFor self.now job (DropTestOp test.now) r) }
+        ensures { IfOk result (λ r. IsReadyFor T.plans T.renames self.now job (DropTestOp test.now) r) }
     {
         let op = Op::DropTest(test.copy(alloc)?);
         if !self.store.has_test(test.get()) {
@@ -325,10 +343,10 @@ impl<A: Allocator + Copy, K: Keep<Of = Entry<A>>> Book<A, K> {
         job: u32,
         old: &Bytes<A>,
         new: &Bytes<A>,
-    ) -> Result<Ready<A>, Memory>
+    ) -> Result<Ready<A, T::Plan, T::Renaming>, Memory>
         requires { HasRoom self.old }
         ensures same { SameBook self.old self.new }
-        ensures ready { IfOk result (λ r. IsReadyFor self.new job (RenameOp old.now new.now) r) }
+        ensures ready { IfOk result (λ r. IsReadyFor T.plans T.renames self.new job (RenameOp old.now new.now) r) }
     {
         let op = Op::Rename {
             old: old.copy(alloc)?,
@@ -344,7 +362,7 @@ impl<A: Allocator + Copy, K: Keep<Of = Entry<A>>> Book<A, K> {
             job,
             op,
             answer: Answer::Renamed {
-                sections: renaming.sections(),
+                sections: self.store.sections_moved(&renaming),
             },
             after: self.store.totals(),
         };
@@ -352,10 +370,15 @@ impl<A: Allocator + Copy, K: Keep<Of = Entry<A>>> Book<A, K> {
     }
 
     /// Prepares the step of an operation that prints. The step's entry and receipt share the printed text.
-    fn text_ready(&self, alloc: A, job: u32, op: &Op<A>) -> Result<Ready<A>, Memory>
+    fn text_ready(
+        &self,
+        alloc: A,
+        job: u32,
+        op: &Op<A>,
+    ) -> Result<Ready<A, T::Plan, T::Renaming>, Memory>
         requires room { HasRoom self.now }
         requires text { IsText (op_data op.now) }
-        ensures { IfOk result (λ r. IsReadyFor self.now job (op_data op.now) r) }
+        ensures { IfOk result (λ r. IsReadyFor T.plans T.renames self.now job (op_data op.now) r) }
     {
         let text = TextRef::of(alloc, self.text_of(alloc, op)?)?;
         let op = op.copy(alloc)?;
@@ -367,14 +390,14 @@ impl<A: Allocator + Copy, K: Keep<Of = Entry<A>>> Book<A, K> {
         &self,
         alloc: A,
         entry: Entry<A>,
-        change: Change<A>,
-    ) -> Result<Ready<A>, Memory>
+        change: Change<A, T::Plan, T::Renaming>,
+    ) -> Result<Ready<A, T::Plan, T::Renaming>, Memory>
         requires room { HasRoom self.now }
         requires next { IsNextOf self.now (entry_data entry) }
-        requires planned { IsPlanned self.now.store (table_of (ops_in self.now.entries)) (op_data entry.op) (change_data change) }
+        requires planned { IsPlanned T.plans T.renames self.now.held (table_of (ops_in self.now.entries)) (op_data entry.op) (change_data change) }
         requires bounds { AreTotals entry.after }
         requires lawful { IsLawfulOp (op_data entry.op) }
-        ensures { IfOk result (λ r. IsReadyFor self.now entry.job (op_data entry.op) r) }
+        ensures { IfOk result (λ r. IsReadyFor T.plans T.renames self.now entry.job (op_data entry.op) r) }
     {
         let receipt = self.history.receipt(alloc, &entry)?;
         Ok(Ready::new(entry, receipt, change))
@@ -387,12 +410,12 @@ impl<A: Allocator + Copy, K: Keep<Of = Entry<A>>> Book<A, K> {
         job: u32,
         op: Op<A>,
         answer: Answer<A>,
-    ) -> Result<Ready<A>, Memory>
+    ) -> Result<Ready<A, T::Plan, T::Renaming>, Memory>
         requires room { HasRoom self.now }
         requires answer { answer_data answer ≡ answer_of (table_of (ops_in self.now.entries)) (op_data op) }
         requires still { table_after (table_of (ops_in self.now.entries)) (op_data op) ≡ table_of (ops_in self.now.entries) }
         requires lawful { IsLawfulOp (op_data op) }
-        ensures { IfOk result (λ r. IsReadyFor self.now job (op_data op) r) }
+        ensures { IfOk result (λ r. IsReadyFor T.plans T.renames self.now job (op_data op) r) }
     {
         let after = self.store.totals();
         let entry = Entry {
@@ -405,10 +428,10 @@ impl<A: Allocator + Copy, K: Keep<Of = Entry<A>>> Book<A, K> {
     }
 
     /// Adds the submission of `plan` to the store, and appends the entry.
-    fn hold(&mut self, plan: Plan, entry: Entry<A>)
+    fn hold(&mut self, plan: T::Plan, entry: Entry<A>)
         requires room { HasRoom self.old }
         requires next { IsNextOf self.old (entry_data entry) }
-        requires planned { IsPlanned self.old.store (table_of (ops_in self.old.entries)) (op_data entry.op) (HoldChange plan) }
+        requires planned { IsPlanned T.plans T.renames self.old.held (table_of (ops_in self.old.entries)) (op_data entry.op) (HoldChange plan) }
         requires lawful { IsLawfulOp (op_data entry.op) }
         ensures entry { self.new.entries ≡ self.old.entries ++ entry_data entry ∷ [] }
         ensures legal { IsLegal self.new.entries }
@@ -422,7 +445,7 @@ impl<A: Allocator + Copy, K: Keep<Of = Entry<A>>> Book<A, K> {
     fn drop_test(&mut self, test: &Bytes<A>, entry: Entry<A>)
         requires room { HasRoom self.old }
         requires next { IsNextOf self.old (entry_data entry) }
-        requires planned { IsPlanned self.old.store (table_of (ops_in self.old.entries)) (op_data entry.op) (DropChange test.now) }
+        requires planned { IsPlanned T.plans T.renames self.old.held (table_of (ops_in self.old.entries)) (op_data entry.op) (DropChange test.now) }
         requires lawful { IsLawfulOp (op_data entry.op) }
         ensures entry { self.new.entries ≡ self.old.entries ++ entry_data entry ∷ [] }
         ensures legal { IsLegal self.new.entries }
@@ -432,10 +455,10 @@ impl<A: Allocator + Copy, K: Keep<Of = Entry<A>>> Book<A, K> {
     }
 
     /// Renames a test as `renaming` plans, and appends the entry.
-    fn rename(&mut self, renaming: Renaming<A>, entry: Entry<A>)
+    fn rename(&mut self, renaming: T::Renaming, entry: Entry<A>)
         requires room { HasRoom self.old }
         requires next { IsNextOf self.old (entry_data entry) }
-        requires planned { IsPlanned self.old.store (table_of (ops_in self.old.entries)) (op_data entry.op) (RenameChange renaming) }
+        requires planned { IsPlanned T.plans T.renames self.old.held (table_of (ops_in self.old.entries)) (op_data entry.op) (RenameChange renaming) }
         requires lawful { IsLawfulOp (op_data entry.op) }
         ensures entry { self.new.entries ≡ self.old.entries ++ entry_data entry ∷ [] }
         ensures legal { IsLegal self.new.entries }
@@ -456,10 +479,11 @@ impl<A: Allocator + Copy, K: Keep<Of = Entry<A>>> Book<A, K> {
         self.history.append(entry);
     }
 
-    /// Returns the text that the operation asks for, of the current table. Appends no entry.
+    /// Returns the text that the operation asks for, of the current table. Appends no entry. An empty report never fails.
     pub fn text_of(&self, alloc: A, op: &Op<A>) -> Result<Bytes<A>, Memory>
         requires { IsText (op_data op.now) }
-        ensures { IfOk result (λ t. TextAnswer t ≡ answer_of (table_of (ops_in self.now.entries)) (op_data op.now)) }
+        ensures text { IfOk result (λ t. TextAnswer t ≡ answer_of (table_of (ops_in self.now.entries)) (op_data op.now)) }
+        ensures refused { OnErr result (TextMayFail (op_data op.now) self.now.store.sections) }
     {
         match op {
             Op::Submit(_) | Op::SubmitPacked(_) | Op::DropTest(_) | Op::Rename { .. } => {
@@ -477,10 +501,11 @@ impl<A: Allocator + Copy, K: Keep<Of = Entry<A>>> Book<A, K> {
     }
 
     /// Prepares to print the text that the operation asks for, of the current table. Appends no entry. Reserves all memory that
-    /// printing needs, so nothing is printed if an allocation fails.
-    pub fn printing(&self, alloc: A, op: &Op<A>) -> Result<Printing<'_, A>, Memory>
+    /// printing needs, so nothing is printed if an allocation fails. Never fails for a report without functions.
+    pub fn printing(&self, alloc: A, op: &Op<A>) -> Result<Printing<'_, A, T>, Memory>
         requires { IsText (op_data op.now) }
-        ensures { IfOk result (λ p. TextAnswer p ≡ answer_of (table_of (ops_in self.now.entries)) (op_data op.now)) }
+        ensures text { IfOk result (λ p. TextAnswer p ≡ answer_of (table_of (ops_in self.now.entries)) (op_data op.now)) }
+        ensures refused { OnErr result (PrintingMayFail (op_data op.now) self.now.store.sections) }
     {
         match op {
             Op::Submit(_) | Op::SubmitPacked(_) | Op::DropTest(_) | Op::Rename { .. } => {
@@ -501,7 +526,7 @@ impl<A: Allocator + Copy, K: Keep<Of = Entry<A>>> Book<A, K> {
     }
 }
 
-impl<A: Allocator> Book<A> {
+impl<A: Allocator, T: Table<A>> Book<A, T> {
     ghost use Rattle.std.specs.Prelude.{◌≡◌};
     ghost use Rattle.covbook.specs.Op.{AreLawfulOps};
     ghost use Rattle.covbook.specs.Step.{ops_in};

@@ -10,12 +10,14 @@
 //! Each job that shares a book stores its receipts and its readings of the totals in a `JobLog`. `gather` checks that the history
 //! is a merge of these logs and that each reading has the right totals. If not, `gather` returns the first error.
 //!
+//! A book works over any store that implements `covreport::Table`. The crate `covnamed` has the book over covstore's `Store`.
+//!
 //! A book stores its whole history by default. `Book::keeping` makes a book that stores only the answers (`Answered`), or nothing
 //! (`Snapshot<Entry>`). The rest of each entry then exists only in proofs. The contracts of `Book` always describe whole entries,
 //! so they are the same for all books.
 //!
-//! An example, proved and run in `covuses`: job 1 submits, then job 2 asks for a report. The first answer is `Answer::Accepted` or
-//! `Answer::Clash`, the second is `Answer::Text`.
+//! An example over `covnamed::Book`, proved and run in `covuses`: job 1 submits, then job 2 asks for a report. The first answer is
+//! `Answer::Accepted` or `Answer::Clash`, the second is `Answer::Text`.
 //!
 //! ```text
 //! pub fn answers(alloc: Global, submission: Submission) -> Result<(Answer, Answer), BookFault> {

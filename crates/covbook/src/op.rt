@@ -29,12 +29,15 @@ pub enum Op<A: Allocator = Global> {
 }
 
 impl<A: Allocator + Copy> Op<A> {
-    ghost use Rattle.std.specs.Prelude.{◌≡◌, IfOk};
+    ghost use Rattle.std.specs.Prelude.{◌≡◌, IfOk, OnErr};
+    ghost use Rattle.covbook.specs.MayFail.{CopyMayFail};
     ghost use Rattle.covbook.specs.View.{op_data};
 
-    /// Copies the operation with its test names and patterns. A submission is shared, not copied.
+    /// Copies the operation with its test names and patterns. A submission is shared, not copied. Never fails for `Report` and
+    /// `Summary`.
     pub fn copy(&self, alloc: A) -> Result<Op<A>, Memory>
-        ensures { IfOk result (λ o. op_data o ≡ op_data self.now) }
+        ensures copied { IfOk result (λ o. op_data o ≡ op_data self.now) }
+        ensures refused { OnErr result (CopyMayFail (op_data self.now)) }
     {
         match self {
             Op::Submit(submission) => Ok(Op::Submit(submission.copy()?)),
@@ -172,12 +175,14 @@ pub enum Answer<A: Allocator = Global> {
 }
 
 impl<A: Allocator + Copy> Answer<A> {
-    ghost use Rattle.std.specs.Prelude.{◌≡◌, IfOk};
+    ghost use Rattle.std.specs.Prelude.{◌≡◌, IfOk, OnErr};
+    ghost use Rattle.covbook.specs.MayFail.{AnswerCopyMayFail};
     ghost use Rattle.covbook.specs.View.{answer_data};
 
-    /// Copies the answer with a clash's file name and checksums. A text is shared, not copied.
+    /// Copies the answer with a clash's file name and checksums. A text is shared, not copied. Only a `Clash` or a `Text` can fail.
     pub fn copy(&self, alloc: A) -> Result<Answer<A>, Memory>
-        ensures { IfOk result (λ a. answer_data a ≡ answer_data self.now) }
+        ensures copied { IfOk result (λ a. answer_data a ≡ answer_data self.now) }
+        ensures refused { OnErr result (AnswerCopyMayFail (answer_data self.now)) }
     {
         match self {
             Answer::Accepted { number, items, odd } => Ok(Answer::Accepted {

@@ -2,34 +2,34 @@
 
 use crate::entry::{Entry, Receipt};
 use covdata::Bytes;
-use covstore::{Plan, Renaming};
 use covtable::Totals;
-use std::alloc::{Allocator, Global};
+use std::alloc::Allocator;
 use std::marker::Model;
 
-/// The effect of a step on the store.
+/// The effect of a step on a store with plans `P` and renamings `R`.
 #[derive(Drop)]
-pub(crate) enum Change<A: Allocator> {
+pub(crate) enum Change<A: Allocator, P: Drop, R: Drop> {
     /// No change: the operation prints a text or has no effect.
     Nothing,
     /// Adds the planned submission.
-    Hold(Plan),
+    Hold(P),
     /// Drops the test of this name.
     Drop(Bytes<A>),
     /// Renames a test as planned.
-    Rename(Renaming<A>),
+    Rename(R),
 }
 
 /// A step that its book can finish without allocating. Contracts see the step's entry and index, its effect on the store, and the
-/// totals after it. Dropping a `Ready` cancels the step: the book's history and content stay as they are.
+/// totals after it. Dropping a `Ready` cancels the step: the book's history and content stay as they are. `P` and `R` are the plans
+/// and the renamings of the book's store.
 #[derive(Drop)]
-pub struct Ready<A: Allocator = Global> {
+pub struct Ready<A: Allocator, P: Drop, R: Drop> {
     entry: Entry<A>,
     receipt: Receipt<A>,
-    change: Change<A>,
+    change: Change<A, P, R>,
 }
 
-impl<A: Allocator> Model for Ready<A> {
+impl<A: Allocator, P: Drop, R: Drop> Model for Ready<A, P, R> {
     ghost use Rattle.std.specs.Prelude.{◌≡◌};
     ghost use Rattle.covtable.specs.Totals.{AreTotals};
     ghost use Rattle.covbook.specs.EntryView.{entry_data, receipt_data};
@@ -39,14 +39,14 @@ impl<A: Allocator> Model for Ready<A> {
     ghost use Rattle.covbook.specs.Step.{receipt_of};
     ghost use Rattle.covbook.specs.View.{op_data};
 
-    ghost Value = { ReadyData };
+    ghost Value = { ReadyData P R };
 
     ghost view = { λ a. record { place = a.receipt.place; entry = entry_data a.entry; change = change_data a.change; after = a.entry.after } };
 
     ghost invariant = { λ a. (receipt_data a.receipt ≡ receipt_of a.receipt.place (entry_data a.entry)) × AreTotals a.entry.after × IsLawfulOp (op_data a.entry.op) };
 }
 
-impl<A: Allocator> Ready<A> {
+impl<A: Allocator, P: Drop, R: Drop> Ready<A, P, R> {
     ghost use Rattle.std.specs.Prelude.{◌≡◌};
     ghost use Rattle.covtable.specs.Totals.{AreTotals};
     ghost use Rattle.covbook.specs.EntryView.{entry_data, receipt_data};
@@ -56,7 +56,11 @@ impl<A: Allocator> Ready<A> {
     ghost use Rattle.covbook.specs.View.{op_data};
 
     /// Makes the step that appends `entry`, makes `change` to the store, and returns `receipt`.
-    pub(crate) fn new(entry: Entry<A>, receipt: Receipt<A>, change: Change<A>) -> Ready<A>
+    pub(crate) fn new(
+        entry: Entry<A>,
+        receipt: Receipt<A>,
+        change: Change<A, P, R>,
+    ) -> Ready<A, P, R>
         requires receipt { receipt_data receipt ≡ receipt_of receipt.place (entry_data entry) }
         requires totals { AreTotals entry.after }
         requires lawful { IsLawfulOp (op_data entry.op) }
@@ -88,7 +92,7 @@ impl<A: Allocator> Ready<A> {
     }
 
     /// Splits the step into its entry, its receipt, and its change to the store.
-    pub(crate) fn into_parts(self) -> (Entry<A>, Receipt<A>, Change<A>)
+    pub(crate) fn into_parts(self) -> (Entry<A>, Receipt<A>, Change<A, P, R>)
         ensures entry { entry_data result.0 ≡ self.entry }
         ensures receipt { receipt_data result.1 ≡ receipt_of self.place self.entry }
         ensures change { change_data result.2 ≡ self.change }

@@ -3,7 +3,7 @@
 use crate::op::Op;
 use crate::shared::{PackedRef, SubRef};
 use covdata::Memory;
-use covstore::{Plan, Store};
+use covreport::Table;
 use covtable::Refuse;
 use std::alloc::Allocator;
 
@@ -14,9 +14,9 @@ pub(crate) trait Submitted<A: Allocator + Copy> {
     ghost use Rattle.covdata.specs.Row.{SubmissionData, items_in, rows_of};
     ghost use Rattle.covtable.specs.Content.{content_at};
     ghost use Rattle.covtable.specs.RefuseView.{refuse_data};
-    ghost use Rattle.covstore.specs.Store.{IsPlanOf, SameContent, StandsFor, max_members};
     ghost use Rattle.covtable.specs.Refuse.{IsRefusedAt};
-    ghost use Rattle.covtable.specs.Table.{Table, clash_at};
+    ghost use Rattle.covtable.specs.Shown.{SameContent, StandsFor, max_members};
+    ghost use Rattle.covtable.specs.Table.{Table as Rows, clash_at};
     ghost use Rattle.covtable.specs.Totals.{totals_of};
     ghost use Rattle.covbook.specs.Op.{SubmitOp};
     ghost use Rattle.covbook.specs.View.{op_data};
@@ -37,14 +37,14 @@ pub(crate) trait Submitted<A: Allocator + Copy> {
     fn count_odd(&self) -> u64
         ensures { result ≡ (says self.now).odd };
 
-    /// Prepares to add the submission to `store`, as `Store::prepare` does.
-    fn prepare_in(&self, alloc: A, store: &mut Store<A>) -> Result<Plan, Refuse<A>>
-        requires { store.old.members < max_members }
-        ensures content { SameContent store.old store.new }
-        ensures planned { IfOk result (λ plan. IsPlanOf store.new (says self.now) plan) }
-        ensures after { IfOk result (λ plan. (table : Table) → StandsFor store.old table → plan.after ≡ totals_of (content_at (table ++ rows_of (says self.now) ∷ []))) }
-        ensures agrees { IfOk result (λ _. (table : Table) → StandsFor store.old table → clash_at table (says self.now) ≡ None) }
-        ensures refused { IfErr result (λ e. (table : Table) → StandsFor store.old table → IsRefusedAt table (says self.now) (refuse_data e)) }
+    /// Prepares to add the submission to `store`, as `Table::prepare` does.
+    fn prepare_in<T: Table<A>>(&self, alloc: A, store: &mut T) -> Result<T::Plan, Refuse<A>>
+        requires { (T.shown store.old).members < max_members }
+        ensures content { SameContent (T.shown store.old) (T.shown store.new) }
+        ensures planned { IfOk result (λ plan. T.plans store.new (says self.now) plan) }
+        ensures after { IfOk result (λ plan. (table : Rows) → StandsFor (T.shown store.old) table → T.planned_totals plan ≡ totals_of (content_at (table ++ rows_of (says self.now) ∷ []))) }
+        ensures agrees { IfOk result (λ _. (table : Rows) → StandsFor (T.shown store.old) table → clash_at table (says self.now) ≡ None) }
+        ensures refused { IfErr result (λ e. (table : Rows) → StandsFor (T.shown store.old) table → IsRefusedAt table (says self.now) (refuse_data e)) }
         ensures some { OnErr result (rows_of (says self.now) ≢ []) };
 }
 
@@ -63,7 +63,7 @@ impl<A: Allocator + Copy> Submitted<A> for SubRef<A> {
         self.get().odd()
     }
 
-    fn prepare_in(&self, alloc: A, store: &mut Store<A>) -> Result<Plan, Refuse<A>> {
+    fn prepare_in<T: Table<A>>(&self, alloc: A, store: &mut T) -> Result<T::Plan, Refuse<A>> {
         store.prepare(alloc, self.get())
     }
 }
@@ -83,7 +83,7 @@ impl<A: Allocator + Copy> Submitted<A> for PackedRef<A> {
         self.get().odd()
     }
 
-    fn prepare_in(&self, alloc: A, store: &mut Store<A>) -> Result<Plan, Refuse<A>> {
+    fn prepare_in<T: Table<A>>(&self, alloc: A, store: &mut T) -> Result<T::Plan, Refuse<A>> {
         store.prepare_packed(alloc, self.get())
     }
 }

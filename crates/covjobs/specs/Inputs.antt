@@ -35,6 +35,12 @@ MayRunOut (GcovInput test text) = (length text ≤ trace.max_bytes) × IsGoodTes
 abbrev pub IsOutcomeOf : InputData → Result SubmissionData ReadFault → Type 0
 IsOutcomeOf input outcome = IsReadAs input outcome ⊎ (MayRunOut input × (outcome ≡ Err faults.Memory))
 
+-- memory ran out only after something was kept of the input
+abbrev pub GrowsLate : InputData → Result SubmissionData ReadFault → Type 0
+GrowsLate (TraceInput text) answer = trace.GrowsLate text answer
+GrowsLate (Lcov2Input text) answer = lcov2.GrowsLate text answer
+GrowsLate (GcovInput test text) answer = gcov.GrowsLate text answer
+
 -- what this number of jobs collects from these inputs: each input has an outcome that it may have, and this is collected with these
 -- outcomes
 abbrev pub IsCollected : (inputs : List InputData) → (jobs : ℕ) → (last : OpData) → List EntryData → List LogData → List (RefusedInput ReadFault) → Type 0

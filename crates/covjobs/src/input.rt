@@ -20,7 +20,7 @@ pub enum Input<A: Allocator = Global> {
 }
 
 impl<A: Allocator + Copy> Input<A> {
-    ghost use Rattle.covjobs.specs.Inputs.{IsOutcomeOf};
+    ghost use Rattle.covjobs.specs.Inputs.{GrowsLate, IsOutcomeOf};
     ghost use Rattle.covjobs.specs.InputView.{input_data};
 
     /// Parses the input. Returns its submission, or why the input is rejected. Fails with `Memory` also if the submission can't be
@@ -43,7 +43,8 @@ impl<A: Allocator + Copy> Input<A> {
     /// Parses the input.
     #[tactic(auto, using(crate::proofs::Outcomes::trace_outcome, crate::proofs::Outcomes::lcov2_outcome, crate::proofs::Outcomes::gcov_outcome))]
     fn submission(&self, alloc: A) -> Result<Submission<A>, ReadFault>
-        ensures { IsOutcomeOf (input_data self.now) result }
+        ensures outcome { IsOutcomeOf (input_data self.now) result }
+        ensures memory { GrowsLate (input_data self.now) result }
     {
         match self {
             Input::Trace(text) => read_trace(alloc, text.get()),
@@ -55,7 +56,8 @@ impl<A: Allocator + Copy> Input<A> {
     /// Like `submission`, but returns a packed submission.
     #[tactic(auto, using(crate::proofs::Outcomes::trace_outcome, crate::proofs::Outcomes::lcov2_outcome, crate::proofs::Outcomes::gcov_outcome))]
     fn packed_submission(&self, alloc: A) -> Result<PackedSubmission<A>, ReadFault>
-        ensures { IsOutcomeOf (input_data self.now) result }
+        ensures outcome { IsOutcomeOf (input_data self.now) result }
+        ensures memory { GrowsLate (input_data self.now) result }
     {
         match self {
             Input::Trace(text) => read_trace_packed(alloc, text.get()),
@@ -65,7 +67,8 @@ impl<A: Allocator + Copy> Input<A> {
     }
 }
 
-/// An input in memory. It has one part, and is freed after it is read.
+/// An input in memory. It has one part, and is freed after it is read. Without memory to read it, it is rejected with
+/// `ReadFault::Memory`.
 impl<A: Allocator + Copy> LateInput<A> for Input<A> {
     ghost use Rattle.covworkers.specs.Collect.{IsReadWhole};
     ghost use Rattle.covjobs.specs.Inputs.{IsOutcomeOf};
@@ -77,6 +80,8 @@ impl<A: Allocator + Copy> LateInput<A> for Input<A> {
 
     ghost most = { λ late. 1 };
 
+    ghost may_run_out = { λ late. ⊥ };
+
     type Fault = ReadFault;
 
     fn read_part(self, alloc: A) -> Result<Part<Self, A>, LateFault> {
@@ -84,10 +89,6 @@ impl<A: Allocator + Copy> LateInput<A> for Input<A> {
             Ok(submission) => Ok(Part::Last(Given::plain(submission))),
             Err(fault) => Err(LateFault::Refused(fault)),
         }
-    }
-
-    fn most_parts(&self) -> u64 {
-        1
     }
 }
 
@@ -103,6 +104,8 @@ impl<'a, A: Allocator + Copy> LateInput<A> for &'a Input<A> {
 
     ghost most = { λ late. 1 };
 
+    ghost may_run_out = { λ late. ⊥ };
+
     type Fault = ReadFault;
 
     fn read_part(self, alloc: A) -> Result<Part<Self, A>, LateFault> {
@@ -110,9 +113,5 @@ impl<'a, A: Allocator + Copy> LateInput<A> for &'a Input<A> {
             Ok(submission) => Ok(Part::Last(Given::plain(submission))),
             Err(fault) => Err(LateFault::Refused(fault)),
         }
-    }
-
-    fn most_parts(&self) -> u64 {
-        1
     }
 }

@@ -14,17 +14,18 @@
 //! comes, in one part or several (`LateInput`).
 //!
 //! This crate also re-exports covbook's operations (`Op`), logs (`JobLog`, with `Receipt`s and `Reading`s), and `gather`, which
-//! checks that the logs match the closed history (`Entries`). So a user needs only this crate.
+//! checks that the logs match the closed history (`Entries`). So a user needs only this crate, and a store: the book is over any
+//! `covreport::Table`. The crate `covnamed` has the calls over covstore's `Store`.
 //!
 //! A sketch, which no test runs:
 //!
 //! ```text
-//! fn run<L: Name>(rt: &impl Wait, alloc: Global, start: Start) -> Result<(), Fail>
+//! fn run<L: Name, T: Table<Global>>(rt: &impl Wait, alloc: Global, start: Start) -> Result<(), Fail>
 //!     requires name { start.name ≡ L.name }
 //!     requires jobs { start.jobs ≡ L.parts }
 //!     requires book { start.book ≡ L.book }
 //! {
-//!     let (book, seats) = open_book::<L, Global>(alloc, start)?;
+//!     let (book, seats) = open_book::<L, Global, T>(alloc, start)?;
 //!     let mut live = book.reader(rt)?; // for a thread that watches: live.totals()
 //!     // each thread: book.perform(rt, alloc, &mut seat, &op)?
 //!     match book.close(rt, seats) {
@@ -32,7 +33,7 @@
 //!         Err((book, seats, CloseFault::Missing { job })) => ..,
 //!     }
 //! }
-//! run::<Brand>(&rt, alloc, Start::new(alloc, 4)?)
+//! run::<Brand, Store>(&rt, alloc, Start::new(alloc, 4)?)
 //! ```
 #![tactic(auto)]
 

@@ -11,10 +11,9 @@ use Rattle.covpieces.specs.Sections.{EndsSection}
 use Rattle.covpieces.specs.Whole.{IsWholeLcov2Outcome, IsWholeOutcome}
 use Rattle.covread.specs.Outcome as trace
 use Rattle.covdata.specs.declared.fault.ReadFault.{ReadFault}
-use Rattle.covdata.specs.declared.fault.ReadFault.TheVariants.{TooLong, Line, Outside, Inside, OpenEnd, BadMark, NoSource, Percent, Instances, Misplaced, LostFunction, BadTest, Memory}
+use Rattle.covdata.specs.declared.fault.ReadFault.TheVariants.{TooLong, Line, Outside, Inside, Misplaced}
 use Rattle.covlarge.proofs.Summary.{holds_all_if_told}
-use Rattle.covlarge.proofs.ToCome.{all_at_once}
-use Rattle.covlarge.specs.Large.{BeginsTooLong, IsReadAs, IsStop, MayBeReadAs, max_pieces, told_fault}
+use Rattle.covlarge.specs.Large.{AreLong, BeginsTooLong, IsAll, IsReadAs, IsStop, MayBeReadAs, max_pieces, told_fault}
 use Rattle.covlarge.specs.State.{EndsAs, IsFaultyPiece, MayGive, begun_state}
 use Rattle.covlarge.specs.StateData.{StateData}
 use Rattle.covlarge.specs.Summary.{HoldsOnIfTold, SummaryData, nothing_held}
@@ -53,16 +52,8 @@ told_moved : (c : CarriedData) (fault : ReadFault) → told c fault ≡ told_fau
 told_moved c (Line at fault) = refl
 told_moved c (Outside at) = refl
 told_moved c (Inside at) = refl
-told_moved c (BadMark at) = refl
-told_moved c (NoSource at) = refl
-told_moved c (Percent at) = refl
-told_moved c (Instances at) = refl
 told_moved c (Misplaced at) = refl
-told_moved c TooLong = refl
-told_moved c OpenEnd = refl
-told_moved c LostFunction = refl
-told_moved c BadTest = refl
-told_moved c Memory = refl
+told_moved c other = refl
 
 ok_isnt_err : (s : SubmissionData) (f : ReadFault) → (let x : Result SubmissionData ReadFault = Ok s in let y : Result SubmissionData ReadFault = Err f in x ≡ y) → ⊥
 ok_isnt_err s f e = cc
@@ -127,25 +118,30 @@ module _ {S : Type 0} (left : S → Option (List ℕ)) (v : LcovVersion) (held :
       inr (long, inr (subst (λ (n : ℕ). max_pieces ≤ n) (sym (as_many (IsOutcomeOf v) (carried_over v) nothing_carried pieces before last each)) many))
 
   read_as : (text : List ℕ) (read : List SubmissionData) (end : End) (pieces : List (List ℕ)) (before : List SubmissionData) (last : CarriedData) (rest : List ℕ) → text ≡ concat pieces ++ rest
-      → HaveBeenRead (IsOutcomeOf v) (carried_over v) nothing_carried pieces before last → EndsAs (begun_state v held source) text before last rest read end → IsReadAs v text read end
-  read_as text read (Ok summary) pieces before last rest is each (s, outcome, all, holds) =
+      → HaveBeenRead (IsOutcomeOf v) (carried_over v) nothing_carried pieces before last → AreLong (carried_over v) nothing_carried pieces before
+      → EndsAs (begun_state v held source) text before last rest read end → IsReadAs v text read end
+  read_as text read (Ok summary) pieces before last rest is each long (s, outcome, all, holds) =
       let same : all_of read ≡ joined (all_of before) s = ap all_of all ∙ all_pushed before s in (
         subst (λ (x : SubmissionData). IsWholeOf v text (Ok x)) (sym same) (ok_whole text pieces before last rest s is each outcome),
         holds_all_if_told (IsSkippedOf v) text (all_of read) held summary begins holds,
       )
-  read_as text read (Err fault) pieces before last rest is each (all, why) = record {
+  read_as text read (Err fault) pieces before last rest is each long (all, why) = record {
     pieces = pieces;
     rest = rest;
     carried = last;
     together = is;
     each = subst (λ (r : List SubmissionData). HaveBeenRead (IsOutcomeOf v) (carried_over v) nothing_carried pieces r last) (sym all) each;
+    long = subst (λ (r : List SubmissionData). AreLong (carried_over v) nothing_carried pieces r) (sym all) long;
     stop = stop_of text pieces before last rest fault is each why;
   }
 
   -- whatever the pieces give is what the whole may be read as
   whole : (read : List SubmissionData) (end : End) → MayGive left (begun_state v held source) read end → MayBeReadAs v (left source) read end
-  whole read end (text, all, goes) =
-      (text, all_at_once (left source) text all, read_as text read end goes.pieces goes.before goes.last goes.rest goes.together goes.each goes.ends)
+  whole read end (text, (more, is, all), goes) = (
+    text,
+    subst (λ (t : List ℕ). IsAll (left source) t) (sym is) all,
+    read_as text read end goes.pieces goes.before goes.last goes.rest goes.together goes.each goes.long goes.ends,
+  )
 
   pub whole_of : (state : StateData S) → state ≡ begun_state v held source → (read : List SubmissionData) (end : End) → MayGive left state read end → MayBeReadAs v (left source) read end
   whole_of state is read end gives = whole read end (subst (λ (s : StateData S). MayGive left s read end) is gives)

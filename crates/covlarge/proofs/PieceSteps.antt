@@ -1,7 +1,11 @@
 -- What the next piece of a tracefile is read as. `view` is what is known of the tracefile's fields.
-use Rattle.std.proofs.Common.{◌≡◌, ℕ, ◌+◌, ◌-◌, ◌^◌, ◌<◌, ◌≤◌, List, [], ◌∷◌, ◌++◌, length, take, drop, Option, Ok, Err, sym, ap, subst, ◌∙◌, length-drop, length-take, take-append-drop, arith}
+use Rattle.std.proofs.Common.{◌≡◌, ◌⊎◌, ℕ, ◌+◌, ◌-◌, ◌^◌, ◌<◌, ◌≤◌, List, [], ◌∷◌, ◌++◌, length, take, drop, Option, Ok, Err, inl, inr, sym, ap, subst, ◌∙◌, length-drop, length-take, take-append-drop, arith}
+use Rattle.std.proofs.lemmas.Bool.{cases_lt}
+use Rattle.std.proofs.lemmas.List.{length-take-le}
+use Rattle.std.proofs.Math.Nat.{min-eq_left, min-le_right}
 use Rattle.std.proofs.Math.Seq.{take-length}
 use Rattle.std.specs.Io.KnownBytes.{Consumes, IsAtEnd}
+use Rattle.std.specs.Prelude.{min}
 use Rattle.covdata.specs.declared.version.LcovVersion.{LcovVersion}
 use Rattle.covline.proofs.Cut.{length-lines}
 use Rattle.covline.specs.Lines.{lines_of}
@@ -13,9 +17,11 @@ use Rattle.covdata.specs.declared.fault.ReadFault.TheVariants.{TooLong}
 use Rattle.covstream.specs.Blocks.{IsReadFault}
 use Rattle.covstream.specs.declared.fault.BlockFault.{BlockFault}
 use Rattle.covstream.specs.declared.fault.BlockFault.TheVariants as blocks
+use Rattle.covlarge.proofs.Cuts.{ends_later}
 use Rattle.covlarge.proofs.Stages.{stops, ends_here, last_refused, piece_refused, too_long, lines_over, gives_more}
 use Rattle.covlarge.proofs.ToCome.{fails_here, fails_on}
-use Rattle.covlarge.specs.Found.{BeginsLong, HasFound, IsFound}
+use Rattle.covlarge.specs.Found.{AreSections, BeginsLong, HasFound, IsFound}
+use Rattle.covlarge.specs.Large.{piece_bytes}
 use Rattle.covlarge.specs.Piece.{IsRefused, IsUnread, of_block}
 use Rattle.covlarge.specs.State.{IsNextPiece, MayGive}
 use Rattle.covlarge.specs.StateData.{IsWithin, StateData}
@@ -65,8 +71,12 @@ module _ {S : Type 0} (left : S → Option (List ℕ)) (failed : S → ℕ) (vie
   -- ---- after a text was read
 
   module _ (after : S) (front_begun bytes_begun front body : List ℕ) (what : Found)
-      (read : HasFound max_bytes front_begun bytes_begun body (left view.source) (left after) what)
+      (read : HasFound (min (length front_begun + piece_bytes) max_bytes) max_bytes front_begun bytes_begun body (left view.source) (left after) what)
       (front_same : front ≡ front_begun) (front_is : front_begun ≡ front_text view.carried) (bytes_are : bytes_begun ≡ view.rest) where
+    -- at least so many bytes of the text were looked at, with its front
+    abbrev least : ℕ
+    least = min (length front_begun + piece_bytes) max_bytes
+
     front_of : front ≡ front_text view.carried
     front_of = front_same ∙ front_is
 
@@ -75,7 +85,7 @@ module _ {S : Type 0} (left : S → Option (List ℕ)) (failed : S → ℕ) (vie
 
     long_view : what ≡ found.TooLong → MayGive left view [] (Err TooLong)
     long_view is =
-        let long : BeginsLong max_bytes (length front_begun) body = subst (λ (w : Found). IsFound max_bytes (length front_begun) body (IsAtEnd (left after)) w) is read.3 in
+        let long : BeginsLong max_bytes (length front_begun) body = subst (λ (w : Found). IsFound least max_bytes (length front_begun) body (IsAtEnd (left after)) w) is read.3 in
         too_long left view after read.0 body read.1 body_is (subst (λ (f : List ℕ). BeginsLong max_bytes (length f) body) front_is long)
 
     pub long : what ≡ found.TooLong → MayGive left state [] (Err TooLong)
@@ -84,11 +94,11 @@ module _ {S : Type 0} (left : S → Option (List ℕ)) (failed : S → ℕ) (vie
     -- ---- the last piece
 
     at_end : what ≡ found.Last → IsAtEnd (left after)
-    at_end is = (subst (λ (w : Found). IsFound max_bytes (length front_begun) body (IsAtEnd (left after)) w) is read.3).0
+    at_end is = (subst (λ (w : Found). IsFound least max_bytes (length front_begun) body (IsAtEnd (left after)) w) is read.3).0
 
     pub few_bytes : what ≡ found.Last → length front + length body ≤ max_bytes
     few_bytes is =
-        let few = (subst (λ (w : Found). IsFound max_bytes (length front_begun) body (IsAtEnd (left after)) w) is read.3).1 in
+        let few = (subst (λ (w : Found). IsFound least max_bytes (length front_begun) body (IsAtEnd (left after)) w) is read.3).1 in
         subst (λ (f : List ℕ). length f + length body ≤ max_bytes) (sym front_same) few
 
     last_unread_view : what ≡ found.Last → (fault : PieceFault) → IsUnread view.version view.carried (front ++ body) fault → IsNextPiece left failed view (Err fault)
@@ -111,8 +121,29 @@ module _ {S : Type 0} (left : S → Option (List ℕ)) (failed : S → ℕ) (vie
 
     -- ---- a piece that ends with a section
 
+    are_sections : (n : ℕ) → what ≡ found.Sections n → AreSections least max_bytes (length front_begun) body n
+    are_sections n is = subst (λ (w : Found). IsFound least max_bytes (length front_begun) body (IsAtEnd (left after)) w) is read.3
+
     pub sections : (n : ℕ) → what ≡ found.Sections n → (n ≤ length body) × (length front_begun + n ≤ max_bytes) × EndsSection (take n body)
-    sections n is = subst (λ (w : Found). IsFound max_bytes (length front_begun) body (IsAtEnd (left after)) w) is read.3
+    sections n is =
+        let s = are_sections n is in
+        (s.within, s.room, s.ends)
+
+    -- the next piece makes this one long, unless its front does not leave room for that
+    long_with : (n : ℕ) → what ≡ found.Sections n → (next_rest : List ℕ) → next_rest ≡ drop n body → (more following others : List ℕ) → next_rest ++ more ≡ following ++ others → EndsSection following
+        → (piece_bytes < length (take n body) + length following) ⊎ (max_bytes < length (front_text view.carried) + piece_bytes)
+    long_with n is next_rest rest more following others same ends =
+        let s = are_sections n is in
+        let few : least ≤ max_bytes = min-le_right (length front_begun + piece_bytes) max_bytes in
+        let ended = ends_later least max_bytes (length front_begun) body n s few more following others (ap (λ (t : List ℕ). t ++ more) (sym rest) ∙ same) ends in
+        let len : length (take n body) ≡ n = length-take-le n body s.within in
+        let long_front : length front_begun ≡ length (front_text view.carried) = ap length front_is in
+        elim (cases_lt max_bytes (length front_begun + piece_bytes)) [
+          | inl none ↦ inr (omega (arith, none, long_front))
+          | inr room ↦
+              let exact : least ≡ length front_begun + piece_bytes = min-eq_left room in
+              inl (omega (arith, exact, ended, len))
+        ]
 
     pub few_in_piece : (n : ℕ) → what ≡ found.Sections n → length front + n ≤ max_bytes
     few_in_piece n is = subst (λ (f : List ℕ). length f + n ≤ max_bytes) (sym front_same) ((sections n is).1)
@@ -136,7 +167,7 @@ module _ {S : Type 0} (left : S → Option (List ℕ)) (failed : S → ℕ) (vie
           omega (arith, one),
           λ fails. fails_on left failed view.source next.source read.0 took (ap failed source ∙ good) fails,
           gives_more view next (take n body) s ((sections n is).2) (subst (λ (f : List ℕ). IsOutcomeOf view.version (f ++ take n body) (Ok s)) front_of outcome) holds version carried
-              (omega (arith, one)) left read.0 took joined,
+              (omega (arith, one)) (long_with n is next.rest rest) left read.0 took joined,
         )
 
     pub piece_read : (n : ℕ) → what ≡ found.Sections n → (next : StateData S) (s : SubmissionData) → next.source ≡ after → next.rest ≡ drop n body → next.version ≡ view.version

@@ -15,11 +15,11 @@ use Rattle.covread.specs.Outcome.{max_bytes}
 use Rattle.covdata.specs.declared.fault.ReadFault.{ReadFault}
 use Rattle.covdata.specs.declared.fault.ReadFault.TheVariants.{TooLong}
 use Rattle.covlarge.proofs.Summary.{holds_then_if_told}
-use Rattle.covlarge.proofs.ToCome.{some_text, all_to_end, all_further, all_on}
+use Rattle.covlarge.proofs.ToCome.{some_text, all_to_end, all_further, all_on, come_on}
 use Rattle.covlarge.specs.Found.{BeginsLong}
-use Rattle.covlarge.specs.Large.{BeginsTooLong, IsAll}
+use Rattle.covlarge.specs.Large.{AreLong, BeginsTooLong, piece_bytes}
 use Rattle.covlarge.specs.Piece.{IsRefused}
-use Rattle.covlarge.specs.State.{EndsAs, GoesOn, IsFaultyPiece, MayGive, to_come}
+use Rattle.covlarge.specs.State.{EndsAs, GoesOn, IsFaultyPiece, IsToCome, MayGive}
 use Rattle.covlarge.specs.StateData.{StateData}
 use Rattle.covlarge.specs.Summary.{HoldsOnIfTold, SummaryData}
 use Rattle.covlarge.specs.Version.{IsOutcomeOf, IsSkippedOf, carried_over}
@@ -33,10 +33,10 @@ module _ {S : Type 0} (left : S → Option (List ℕ)) (state : StateData S) whe
   -- no more pieces are read
   pub stops : state.left ≡ 0 → MayGive left state [] (Err TooLong)
   stops none =
-      let text = some_text (to_come left state) in (
-        text.0,
-        text.1,
-        record { pieces = []; before = []; last = state.carried; rest = text.0; together = refl; each = refl; ends = (refl, inr (refl, inr (omega (arith, none)))) },
+      let more = some_text (left state.source) in (
+        state.rest ++ more.0,
+        (more.0, refl, more.1),
+        record { pieces = []; before = []; last = state.carried; rest = state.rest ++ more.0; together = refl; each = refl; long = tt; ends = (refl, inr (refl, inr (omega (arith, none)))) },
       )
 
   -- the last piece
@@ -44,19 +44,19 @@ module _ {S : Type 0} (left : S → Option (List ℕ)) (state : StateData S) whe
       → body ≡ state.rest ++ bytes → IsOutcomeOf state.version (front_text state.carried ++ body) (Ok s)
       → HoldsOnIfTold (IsSkippedOf state.version) state.carried.lines state.held body s told → MayGive left state (s ∷ []) (Ok told)
   ends_here after bytes body s told took end is outcome holds =
-      let all : IsAll (to_come left state) body = subst (λ (t : List ℕ). IsAll (to_come left state) t) (sym is) (all_to_end (left state.source) (left after) state.rest bytes took end) in
+      let all : IsToCome left state body = (bytes, is, all_to_end (left state.source) (left after) bytes took end) in
       let whole : HoldsOnIfTold (IsSkippedOf state.version) state.carried.lines state.held body (all_of (s ∷ [])) told =
       subst (λ (x : SubmissionData). HoldsOnIfTold (IsSkippedOf state.version) state.carried.lines state.held body x told) (sym (joined_nothing s)) holds in (
         body,
         all,
-        record { pieces = []; before = []; last = state.carried; rest = body; together = refl; each = refl; ends = (s, outcome, refl, whole) },
+        record { pieces = []; before = []; last = state.carried; rest = body; together = refl; each = refl; long = tt; ends = (s, outcome, refl, whole) },
       )
 
   -- the last piece is refused
   pub last_refused : (after : S) (bytes body : List ℕ) (fault : ReadFault) → Consumes (left state.source) (left after) bytes → IsAtEnd (left after)
       → body ≡ state.rest ++ bytes → IsRefused state.version state.carried (front_text state.carried ++ body) fault → MayGive left state [] (Err fault)
   last_refused after bytes body fault took end is why =
-      let all : IsAll (to_come left state) body = subst (λ (t : List ℕ). IsAll (to_come left state) t) (sym is) (all_to_end (left state.source) (left after) state.rest bytes took end) in
+      let all : IsToCome left state body = (bytes, is, all_to_end (left state.source) (left after) bytes took end) in
       let faulty : IsFaultyPiece state.version state.carried body fault = record {
         piece = body;
         more = [];
@@ -69,15 +69,15 @@ module _ {S : Type 0} (left : S → Option (List ℕ)) (state : StateData S) whe
       } in (
         body,
         all,
-        record { pieces = []; before = []; last = state.carried; rest = body; together = refl; each = refl; ends = (refl, inl faulty) },
+        record { pieces = []; before = []; last = state.carried; rest = body; together = refl; each = refl; long = tt; ends = (refl, inl faulty) },
       )
 
   -- a piece is refused that ends with a section
   pub piece_refused : (after : S) (bytes body : List ℕ) (n : ℕ) (fault : ReadFault) → Consumes (left state.source) (left after) bytes → body ≡ state.rest ++ bytes → EndsSection (take n body)
       → IsRefused state.version state.carried (front_text state.carried ++ take n body) fault → MayGive left state [] (Err fault)
   piece_refused after bytes body n fault took is ends why =
-      let further = all_further (left state.source) (left after) state.rest bytes took in
-      let all : IsAll (to_come left state) (body ++ further.0) = subst (λ (t : List ℕ). IsAll (to_come left state) (t ++ further.0)) (sym is) further.1 in
+      let further = all_further (left state.source) (left after) bytes took in
+      let all : IsToCome left state (body ++ further.0) = (bytes ++ further.0, ap (λ (t : List ℕ). t ++ further.0) is ∙ append_assoc state.rest bytes further.0, further.1) in
       let faulty : IsFaultyPiece state.version state.carried (body ++ further.0) fault = record {
         piece = take n body;
         more = drop n body ++ further.0;
@@ -90,7 +90,7 @@ module _ {S : Type 0} (left : S → Option (List ℕ)) (state : StateData S) whe
       } in (
         body ++ further.0,
         all,
-        record { pieces = []; before = []; last = state.carried; rest = body ++ further.0; together = refl; each = refl; ends = (refl, inl faulty) },
+        record { pieces = []; before = []; last = state.carried; rest = body ++ further.0; together = refl; each = refl; long = tt; ends = (refl, inl faulty) },
       )
 
 -- ---- a section that is too long
@@ -100,7 +100,7 @@ at_least_by most m not (inl same) = absurd (not (omega (arith, same)))
 at_least_by most m not (inr (inl less)) = less
 at_least_by most m not (inr (inr more)) = absurd (not (omega (arith, more)))
 
-at_least : (most m : ℕ) → (m ≤ most → ⊥) → most < m
+pub at_least : (most m : ℕ) → (m ≤ most → ⊥) → most < m
 at_least most m not = at_least_by most m not (cases_order most m)
 
 long_section : (most : ℕ) (front body more : List ℕ) → BeginsLong most (length front) body → (n : ℕ) → n ≤ length (body ++ more) → EndsSection (take n (body ++ more))
@@ -122,12 +122,12 @@ begins_too_long front body more long = record { all = long_text max_bytes front 
 pub too_long : {S : Type 0} (left : S → Option (List ℕ)) (state : StateData S) (after : S) (bytes body : List ℕ) → Consumes (left state.source) (left after) bytes → body ≡ state.rest ++ bytes
     → BeginsLong max_bytes (length (front_text state.carried)) body → MayGive left state [] (Err TooLong)
 too_long left state after bytes body took is long =
-    let further = all_further (left state.source) (left after) state.rest bytes took in
-    let all : IsAll (to_come left state) (body ++ further.0) = subst (λ (t : List ℕ). IsAll (to_come left state) (t ++ further.0)) (sym is) further.1 in
+    let further = all_further (left state.source) (left after) bytes took in
+    let all : IsToCome left state (body ++ further.0) = (bytes ++ further.0, ap (λ (t : List ℕ). t ++ further.0) is ∙ append_assoc state.rest bytes further.0, further.1) in
     let begins : BeginsTooLong (front_text state.carried) (body ++ further.0) = begins_too_long (front_text state.carried) body further.0 long in (
       body ++ further.0,
       all,
-      record { pieces = []; before = []; last = state.carried; rest = body ++ further.0; together = refl; each = refl; ends = (refl, inr (refl, inl begins)) },
+      record { pieces = []; before = []; last = state.carried; rest = body ++ further.0; together = refl; each = refl; long = tt; ends = (refl, inr (refl, inl begins)) },
     )
 
 -- ---- one piece more
@@ -139,7 +139,9 @@ lines_over Two c piece sects = refl
 module _ {S : Type 0} (state next : StateData S) (piece : List ℕ) (s : SubmissionData)
     (ends : EndsSection piece) (outcome : IsOutcomeOf state.version (front_text state.carried ++ piece) (Ok s))
     (holds : HoldsOnIfTold (IsSkippedOf state.version) state.carried.lines state.held piece s next.held)
-    (version : next.version ≡ state.version) (carried : next.carried ≡ carried_over state.version state.carried piece s.sects) (one : state.left ≤ next.left + 1) where
+    (version : next.version ≡ state.version) (carried : next.carried ≡ carried_over state.version state.carried piece s.sects) (one : state.left ≤ next.left + 1)
+    (far : (more following others : List ℕ) → next.rest ++ more ≡ following ++ others → EndsSection following
+    → (piece_bytes < length piece + length following) ⊎ (max_bytes < length (front_text state.carried) + piece_bytes)) where
   lines_then : next.carried.lines ≡ state.carried.lines + length (lines_of piece)
   lines_then = ap (λ (c : CarriedData). c.lines) carried ∙ lines_over state.version state.carried piece s.sects
 
@@ -171,19 +173,35 @@ module _ {S : Type 0} (state next : StateData S) (piece : List ℕ) (s : Submiss
   ends_more text before last rest read (Err fault) (is, inr (long, inl begins)) = (ap (λ (r : List SubmissionData). s ∷ r) is, inr (long, inl begins))
   ends_more text before last rest read (Err fault) (is, inr (long, inr few)) = (ap (λ (r : List SubmissionData). s ∷ r) is, inr (long, inr (omega (arith, few, one))))
 
-  goes_more : (text : List ℕ) (read : List SubmissionData) (end : End) → GoesOn next text read end → GoesOn state (piece ++ text) (s ∷ read) end
-  goes_more text read end goes = record {
+  -- this piece with the first one of the next, and the next ones among each other
+  long_more : (text more rest : List ℕ) (pieces : List (List ℕ)) (before : List SubmissionData) (last : CarriedData) → text ≡ next.rest ++ more → text ≡ concat pieces ++ rest
+      → HaveBeenRead (IsOutcomeOf next.version) (carried_over next.version) next.carried pieces before last → AreLong (carried_over next.version) next.carried pieces before
+      → AreLong (carried_over state.version) state.carried (piece ∷ pieces) (s ∷ before)
+  long_more text more rest [] before last is together each long = tt
+  long_more text more rest (following ∷ pieces) [] last is together each long = absurd each
+  long_more text more rest (following ∷ pieces) (t ∷ before) last is together each long =
+      let same = subst (λ (v : LcovVersion). AreLong (carried_over v) next.carried (following ∷ pieces) (t ∷ before)) version long in (
+        far more following (concat pieces ++ rest) (sym is ∙ together ∙ append_assoc following (concat pieces) rest) each.0,
+        subst (λ (c : CarriedData). AreLong (carried_over state.version) c (following ∷ pieces) (t ∷ before)) carried same,
+      )
+
+  goes_more : (text more : List ℕ) (read : List SubmissionData) (end : End) → text ≡ next.rest ++ more → GoesOn next text read end → GoesOn state (piece ++ text) (s ∷ read) end
+  goes_more text more read end is goes = record {
     pieces = piece ∷ goes.pieces;
     before = s ∷ goes.before;
     last = goes.last;
     rest = goes.rest;
     together = ap (λ (t : List ℕ). piece ++ t) goes.together ∙ sym (append_assoc piece (concat goes.pieces) goes.rest);
     each = each_more goes.pieces goes.before goes.last goes.each;
+    long = long_more text more goes.rest goes.pieces goes.before goes.last is goes.together goes.each goes.long;
     ends = ends_more text goes.before goes.last goes.rest read end goes.ends;
   }
 
   -- what the rest gives, the whole gives with this piece's submission in front
   pub gives_more : (left : S → Option (List ℕ)) (bytes : List ℕ) → Consumes (left state.source) (left next.source) bytes → state.rest ++ bytes ≡ piece ++ next.rest
       → (read : List SubmissionData) (end : End) → MayGive left next read end → MayGive left state (s ∷ read) end
-  gives_more left bytes took is read end (text, all, goes) =
-      (piece ++ text, all_on (left state.source) (left next.source) state.rest bytes piece next.rest text took is all, goes_more text read end goes)
+  gives_more left bytes took is read end (text, (more, is_text, all), goes) = (
+    piece ++ text,
+    (bytes ++ more, come_on state.rest bytes piece next.rest more text is is_text, all_on (left state.source) (left next.source) bytes more took all),
+    goes_more text more read end is_text goes,
+  )

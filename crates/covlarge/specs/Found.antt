@@ -10,18 +10,27 @@ pub record BeginsLong (most front : ℕ) (bytes : List ℕ) : Type 0 where
   pub long : most < front + length bytes
   pub none : (n : ℕ) → n ≤ length bytes → front + n ≤ most → ¬ EndsSection (take n bytes)
 
+-- the first `n` bytes are whole sections, and no section ends later in the bytes, as far as there is room behind the front. With the
+-- front they have at least `least` bytes
+pub record AreSections (least most front : ℕ) (bytes : List ℕ) (n : ℕ) : Type 0 where
+  pub within : n ≤ length bytes
+  pub room : front + n ≤ most
+  pub ends : EndsSection (take n bytes)
+  pub longest : (k : ℕ) → n < k → k ≤ length bytes → front + k ≤ most → ¬ EndsSection (take k bytes)
+  pub enough : least ≤ front + length bytes
+
 -- what is found in these bytes of a tracefile, behind a front with this number of bytes. `Is_end`: they are its end
-abbrev pub IsFound : (most front : ℕ) → (bytes : List ℕ) → (Is_end : Type 0) → Found → Type 0
-IsFound most front bytes Is_end Last = Is_end × (front + length bytes ≤ most)
-IsFound most front bytes Is_end (Sections n) = (n ≤ length bytes) × (front + n ≤ most) × EndsSection (take n bytes)
-IsFound most front bytes Is_end TooLong = BeginsLong most front bytes
+abbrev pub IsFound : (least most front : ℕ) → (bytes : List ℕ) → (Is_end : Type 0) → Found → Type 0
+IsFound least most front bytes Is_end Last = Is_end × (front + length bytes ≤ most)
+IsFound least most front bytes Is_end (Sections n) = AreSections least most front bytes n
+IsFound least most front bytes Is_end TooLong = BeginsLong most front bytes
 
 -- bytes were read and appended to the text, and this is found in it behind its front
-abbrev pub HasReadUntil : (most front : ℕ) → (text text_after : List ℕ) → (left left_after : Option (List ℕ)) → Found → Type 0
-HasReadUntil most front text text_after left left_after found =
-    (bytes : List ℕ) × Consumes left left_after bytes × (text_after ≡ text ++ bytes) × IsFound most front (drop front text_after) (IsAtEnd left_after) found
+abbrev pub HasReadUntil : (least most front : ℕ) → (text text_after : List ℕ) → (left left_after : Option (List ℕ)) → Found → Type 0
+HasReadUntil least most front text text_after left left_after found =
+    (bytes : List ℕ) × Consumes left left_after bytes × (text_after ≡ text ++ bytes) × IsFound least most front (drop front text_after) (IsAtEnd left_after) found
 
 -- the same for the bytes behind the front
-abbrev pub HasFound : ℕ → (front : List ℕ) → (bytes bytes_after : List ℕ) → (left left_after : Option (List ℕ)) → Found → Type 0
-HasFound most front bytes bytes_after left left_after found =
-    (more : List ℕ) × Consumes left left_after more × (bytes_after ≡ bytes ++ more) × IsFound most (length front) bytes_after (IsAtEnd left_after) found
+abbrev pub HasFound : (least most : ℕ) → (front : List ℕ) → (bytes bytes_after : List ℕ) → (left left_after : Option (List ℕ)) → Found → Type 0
+HasFound least most front bytes bytes_after left left_after found =
+    (more : List ℕ) × Consumes left left_after more × (bytes_after ≡ bytes ++ more) × IsFound least most (length front) bytes_after (IsAtEnd left_after) found

@@ -1,10 +1,10 @@
 -- What a tracefile is read as that is read in pieces, each a submission of its own (geninfo(1), FILES).
-use Rattle.std.specs.Prelude.{◌≡◌, ◌⊎◌, ◌<◌, ◌≤◌, ℕ, List, ◌++◌, length, take, Option, Some, None, Result, Ok, Err}
+use Rattle.std.specs.Prelude.{◌≡◌, ◌⊎◌, ◌+◌, ◌<◌, ◌≤◌, ℕ, List, [], ◌∷◌, ◌++◌, length, take, Option, Some, None, Result, Ok, Err}
 use Rattle.std.specs.List.{concat}
 use Rattle.covdata.specs.declared.version.LcovVersion.{LcovVersion}
 use Rattle.covlarge.specs.Summary.{SummaryData, HoldsAllIfTold, told_number}
 use Rattle.covlarge.specs.Version.{IsOutcomeOf, IsSkippedOf, IsWholeOf, carried_over}
-use Rattle.covdata.specs.Row.{SubmissionData}
+use Rattle.covdata.specs.Row.{SectData, SubmissionData}
 use Rattle.covpieces.specs.Pieces.{CarriedData, HaveBeenRead, all_of, front_text, nothing_carried, renumbered}
 use Rattle.covpieces.specs.Sections.{EndsSection}
 use Rattle.covread.specs.Outcome.{max_bytes}
@@ -14,6 +14,20 @@ use Rattle.covdata.specs.declared.fault.ReadFault.TheVariants.{TooLong}
 -- the most pieces that a tracefile may have. So the entries of one tracefile and of a last operation have room in a history
 abbrev pub max_pieces : ℕ
 max_pieces = 1048575
+
+-- a piece takes whole sections from at least so many bytes, if the tracefile has them and there is room for them: 4 MiB
+abbrev pub piece_bytes : ℕ
+piece_bytes = 4194304
+
+-- each of these pieces has, together with the piece after it, more than `piece_bytes` bytes, unless its front leaves no room for so
+-- many. So `max_pieces` pieces have 2 TiB but for 4 MiB, unless the name of a test has nearly 64 MiB. `c` goes over to the first piece
+abbrev pub AreLong : (over : CarriedData → List ℕ → List SectData → CarriedData) → (c : CarriedData) → (pieces : List (List ℕ)) → (read : List SubmissionData) → Type 0
+AreLong over c [] read = Unit {0}
+AreLong over c (piece ∷ []) read = Unit {0}
+AreLong over c (piece ∷ following ∷ pieces) [] = ⊥
+AreLong over c (piece ∷ following ∷ pieces) (submission ∷ read) =
+    ((piece_bytes < length piece + length following) ⊎ (max_bytes < length (front_text c) + piece_bytes))
+    × AreLong over (over c piece submission.sects) (following ∷ pieces) read
 
 -- the fault with its line's number as it is told
 abbrev pub told_fault : ReadFault → ReadFault
@@ -39,6 +53,7 @@ pub record IsStoppedFor (version : LcovVersion) (text : List ℕ) (read : List S
   pub carried : CarriedData
   pub together : text ≡ concat pieces ++ rest
   pub each : HaveBeenRead (IsOutcomeOf version) (carried_over version) nothing_carried pieces read carried
+  pub long : AreLong (carried_over version) nothing_carried pieces read
   pub stop : IsStop version text carried rest (length pieces) fault
 
 -- what a tracefile of any length is read as: submissions whose sections, in order, are those of the whole text, and whose odd lines

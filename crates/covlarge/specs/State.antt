@@ -1,9 +1,9 @@
 -- Private steps: a tracefile of which some pieces were read, and what may still come of it.
 use Rattle.std.specs.Io.KnownBytes.{Consumes}
-use Rattle.std.specs.Prelude.{◌≡◌, ◌⊎◌, ◌<◌, ◌≤◌, ℕ, List, [], ◌∷◌, ◌++◌, length, option_map, Option, Some, Result, Ok, Err}
+use Rattle.std.specs.Prelude.{◌≡◌, ◌⊎◌, ◌<◌, ◌≤◌, ℕ, List, [], ◌∷◌, ◌++◌, length, Option, Some, Result, Ok, Err}
 use Rattle.std.specs.List.{concat}
 use Rattle.covdata.specs.declared.version.LcovVersion.{LcovVersion}
-use Rattle.covlarge.specs.Large.{BeginsTooLong, IsAll, MayBeReadAs, max_pieces}
+use Rattle.covlarge.specs.Large.{AreLong, BeginsTooLong, IsAll, MayBeReadAs, max_pieces}
 use Rattle.covlarge.specs.StateData.{StateData}
 use Rattle.covlarge.specs.Summary.{HoldsOnIfTold, SummaryData}
 use Rattle.covlarge.specs.Version.{IsOutcomeOf, IsSkippedOf, carried_over}
@@ -21,9 +21,10 @@ use Rattle.covdata.specs.declared.fault.ReadFault.TheVariants.{TooLong}
 abbrev pub begun_state : {S : Type 0} → LcovVersion → Option SummaryData → S → StateData S
 begun_state version held source = record { version = version; carried = nothing_carried; held = held; left = max_pieces; rest = []; source = source }
 
--- the bytes of the tracefile that are still to come, if they are known
-abbrev pub to_come : {S : Type 0} → (left : S → Option (List ℕ)) → StateData S → Option (List ℕ)
-to_come left state = option_map (λ more. state.rest ++ more) (left state.source)
+-- the text is what is still to come of the tracefile: the bytes that were read and aren't in a piece yet, and then the source's, if
+-- these are known
+abbrev pub IsToCome : {S : Type 0} → (left : S → Option (List ℕ)) → StateData S → List ℕ → Type 0
+IsToCome left state text = (more : List ℕ) × (text ≡ state.rest ++ more) × IsAll (left state.source) more
 
 -- the piece with its front was refused for this fault. It ends with a section, or it is the end of the text
 pub record IsFaultyPiece (version : LcovVersion) (carried : CarriedData) (rest : List ℕ) (fault : ReadFault) : Type 0 where
@@ -56,11 +57,12 @@ pub record GoesOn {S : Type 0} (state : StateData S) (text : List ℕ) (read : L
   pub rest : List ℕ
   pub together : text ≡ concat pieces ++ rest
   pub each : HaveBeenRead (IsOutcomeOf state.version) (carried_over state.version) state.carried pieces before last
+  pub long : AreLong (carried_over state.version) state.carried pieces before
   pub ends : EndsAs state text before last rest read end
 
 -- what may come of the tracefile from a state on
 abbrev pub MayGive : {S : Type 0} → (left : S → Option (List ℕ)) → StateData S → (read : List SubmissionData) → Result (Option SummaryData) ReadFault → Type 0
-MayGive left state read end = (text : List ℕ) × IsAll (to_come left state) text × GoesOn state text read end
+MayGive left state read end = (text : List ℕ) × IsToCome left state text × GoesOn state text read end
 
 -- a read may fail from a source on, after it gave some of its bytes
 abbrev pub MayFailFrom : {S : Type 0} → (left : S → Option (List ℕ)) → (failed_reads : S → ℕ) → S → Type 0

@@ -1,6 +1,6 @@
 //! The summary of all chunks of a tracefile.
 
-ghost use Rattle.std.specs.Prelude.{◌≡◌, IfOk, OnOk, OnErr};
+ghost use Rattle.std.specs.Prelude.{◌≡◌, IfOk, IsSome, OnOk, OnErr};
 ghost use Rattle.covlarge.specs.HeldView.{first_data, format_of, moved_line, with_first, with_numbers};
 ghost use Rattle.covlarge.specs.Summary.{HoldsOn, nothing_held, skipped_data, summary_data};
 ghost use Rattle.covlarge.specs.Version.{IsSkippedOf};
@@ -112,13 +112,15 @@ impl Held {
     }
 }
 
-/// Copies a chunk's skipped line, with the line number in the whole tracefile. The earlier chunks have `lines` lines.
+/// Copies a chunk's skipped line, with the line number in the whole tracefile. The earlier chunks have `lines` lines. Never fails if
+/// there is no skipped line.
 fn first_skipped(
     alloc: Global,
     lines: u64,
     line: Option<SkippedLine<'_>>,
 ) -> Result<Option<FirstSkipped>, Memory>
-    ensures { IfOk result (λ first. first_data first ≡ moved_line lines line.entry) }
+    ensures copied { IfOk result (λ first. first_data first ≡ moved_line lines line.entry) }
+    ensures cause { OnErr result (IsSome line.entry) }
 {
     match line {
         Some(line) => Ok(Some(FirstSkipped {

@@ -19,7 +19,7 @@ use covstream::{BLOCK_BYTES, Source};
 use std::alloc::Global;
 use std::marker::Model;
 
-/// The greatest number of chunks of a tracefile. Two successive chunks have together at least 4 MiB, unless a test's name is nearly
+/// The greatest number of chunks of a tracefile. Two successive chunks have together more than 4 MiB, unless a test's name is nearly
 /// as long as the size limit. So a tracefile of less than 2 TiB has fewer chunks.
 pub const MAX_PIECES: u64 = 1_048_575;
 

@@ -1,7 +1,8 @@
 //! The reader's input for one chunk: the chunk's prefix (`front`), then bytes of the tracefile.
 
-ghost use Rattle.std.specs.Prelude.{◌≡◌, ◌<◌, ◌≤◌, ◌+◌, ◌-◌, ◌^◌, ◌++◌, length, take, drop, None, IfOk, IfErr, IfSome};
+ghost use Rattle.std.specs.Prelude.{◌≡◌, ◌<◌, ◌≤◌, ◌+◌, ◌-◌, ◌*◌, ◌^◌, ◌++◌, length, min, take, drop, None, IfOk, IfErr, IfSome};
 ghost use Rattle.covlarge.specs.Found.{HasFound, HasReadUntil, IsFound};
+ghost use Rattle.covlarge.specs.Large.{piece_bytes};
 ghost use Rattle.covpieces.specs.Pieces.{front_text};
 ghost use Rattle.covread.specs.Outcome.{max_bytes};
 ghost use Rattle.covstream.specs.Blocks.{IsReadFault};
@@ -12,7 +13,8 @@ use covstream::{BlockFault, Source, read_at_most};
 use std::alloc::Global;
 use std::marker::Model;
 
-/// The smallest chunk: 4 MiB after the prefix, or less at the end of the file or at the size limit.
+/// A chunk takes whole sections from at least 4 MiB after the prefix, or from less at the end of the file or at the size limit. So two
+/// successive chunks have together more than 4 MiB.
 const PIECE_BYTES: usize = 4_194_304;
 
 /// What follows the prefix of a text.
@@ -66,7 +68,7 @@ impl PieceText {
         requires reads { S.reads source.old < 2 ^ 61 }
         requires failed_reads { S.failed_reads source.old < 2 ^ 61 }
         ensures front { IfOk result (λ r. r.0.front ≡ self.front) }
-        ensures found { IfOk result (λ r. HasFound max_bytes self.front self.bytes r.0.bytes (S.left source.old) (S.left source.new) r.1) }
+        ensures found { IfOk result (λ r. HasFound (min (length self.front + piece_bytes) max_bytes) max_bytes self.front self.bytes r.0.bytes (S.left source.old) (S.left source.new) r.1) }
         ensures counted { IfOk result (λ _. S.reads source.new < S.reads source.old + 2 ^ 28) }
         ensures good { IfOk result (λ _. S.failed_reads source.new ≡ S.failed_reads source.old) }
         ensures failed { IfErr result (IsReadFault (S.left source.old) (S.left source.new) (S.failed_reads source.old) (S.failed_reads source.new)) }
@@ -118,7 +120,7 @@ fn read_on<S: Source>(
     requires most { most < 2 ^ 60 }
     requires reads { S.reads source.old < 2 ^ 61 }
     requires failed_reads { S.failed_reads source.old < 2 ^ 61 }
-    ensures found { IfOk result (λ r. HasReadUntil most front text r.0 (S.left source.old) (S.left source.new) r.1) }
+    ensures found { IfOk result (λ r. HasReadUntil least most front text r.0 (S.left source.old) (S.left source.new) r.1) }
     ensures counted { IfOk result (λ _. S.reads source.new ≤ S.reads source.old + most + most + 3) }
     ensures good { IfOk result (λ _. S.failed_reads source.new ≡ S.failed_reads source.old) }
     ensures failed { IfErr result (IsReadFault (S.left source.old) (S.left source.new) (S.failed_reads source.old) (S.failed_reads source.new)) }
@@ -141,7 +143,7 @@ fn found_in(text: &[u8], front: usize, wanted: usize, most: usize) -> Option<Fou
     requires front { front ≤ length text.now }
     requires wanted { wanted ≤ most + 1 }
     requires most { most < 2 ^ 60 }
-    ensures some { IfSome result (IsFound most front (drop front text.now) (length text.now < wanted)) }
+    ensures some { IfSome result (IsFound wanted most front (drop front text.now) (length text.now < wanted)) }
     ensures none { result ≡ None → (wanted ≤ length text.now) × (length text.now ≤ most) }
 {
     if text.len() < wanted {
@@ -174,6 +176,8 @@ fn longer(wanted: usize, most: usize) -> usize
     requires most { most < 2 ^ 60 }
     ensures longer { wanted < result }
     ensures few { result ≤ most + 1 }
+    // So a long section is searched once for each doubling of its length, and not for each of its bytes.
+    ensures twice { min (2 * wanted) (most + 1) ≤ result }
 {
     (2 * wanted).min(most + 1)
 }

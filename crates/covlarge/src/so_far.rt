@@ -1,6 +1,6 @@
 //! Reads chunks, one after another.
 
-ghost use Rattle.std.specs.Prelude.{◌≡◌, ◌<◌, ◌≤◌, ◌+◌, ◌^◌, ◌++◌, length, take, IfOk, OnOk};
+ghost use Rattle.std.specs.Prelude.{◌≡◌, ◌<◌, ◌≤◌, ◌+◌, ◌^◌, ◌++◌, length, take, IfOk, IsSome, OnErr, OnOk};
 ghost use Rattle.covlarge.specs.Piece.{AnswersOf, IsFaultOf, IsLastPiece, IsPieceRead, IsReadAs};
 ghost use Rattle.covlarge.specs.Summary.{HoldsOnIfTold};
 ghost use Rattle.covlarge.specs.Version.{IsSkippedOf, carried_over};
@@ -124,7 +124,7 @@ fn piece_fault(carried: &Carried, fault: ReadFault) -> PieceFault
     }
 }
 
-/// Adds the next chunk to the summary, if a summary is collected.
+/// Adds the next chunk to the summary, if a summary is collected. Never fails otherwise.
 fn hold(
     held: &mut Option<Held>,
     alloc: Global,
@@ -133,7 +133,8 @@ fn hold(
     piece: &[u8],
     submission: &PackedSubmission,
 ) -> Result<(), Memory>
-    ensures { OnOk result (HoldsOnIfTold (IsSkippedOf version) lines held.old piece.now submission.now held.new) }
+    ensures holds { OnOk result (HoldsOnIfTold (IsSkippedOf version) lines held.old piece.now submission.now held.new) }
+    ensures cause { OnErr result (IsSome held.old) }
 {
     if let Some(held) = held {
         held.add(alloc, version, lines, piece, submission)?;

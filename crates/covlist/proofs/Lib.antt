@@ -1,3 +1,4 @@
 pub mod Apart
+pub mod Begun
 pub mod Files
 pub mod Names

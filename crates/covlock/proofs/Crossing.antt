@@ -7,14 +7,14 @@ use Rattle.std.proofs.sync.ledger.Share.TheSendSync as share
 use Rattle.std.specs.contracts.alloc.Global as Heap
 use Rattle.std.specs.contracts.impls.GlobalAllocator.TheImpl.{ghosts}
 use Rattle.std.specs.declared.sync.ledger.Ledger as Ledger
-use Rattle.covbook.proofs.Crossing.{book_send}
+use Rattle.covbook.proofs.book.Book.TheSendSync as book
 use Rattle.covnews.proofs.publisher.Publisher.TheSendSync as publisher
 use Rattle.covnews.specs.declared.name.Name as Name
 use Rattle.covlock.specs.contracts.shared.Shared as Shared
 use Rattle.covlock.specs.contracts.shared_state.SharedState as SharedState
 
-state_send : (L K : RattleType) (n : Name.Ghosts L.Denot) (l : Ledger.Ghosts L.Denot) (k : _) → IsSend K → IsSend (SharedState.the_row L Heap.the_row K n l ghosts k)
-state_send L K n l k s = search (sendable, heap.crosses, book_send, publisher.the_send, count.the_send, share.the_send) depth 40 fits 20000
+state_send : (L T K Plan Renaming : RattleType) (n : Name.Ghosts L.Denot) (l : Ledger.Ghosts L.Denot) (t : _) (k : _) → IsSend T → IsSend K → IsSend (SharedState.the_row L Heap.the_row T K Plan Renaming n l ghosts t k)
+state_send L T K Plan Renaming n l t k st sk = search (sendable, heap.crosses, book.the_send, publisher.the_send, count.the_send, share.the_send) depth 40 fits 20000
 
-pub shared_sync : (L K : RattleType) (n : Name.Ghosts L.Denot) (l : Ledger.Ghosts L.Denot) (k : _) → IsSend K → IsSync (Shared.the_row L Heap.the_row K n l ghosts k)
-shared_sync L K n l k s = search (sendable, heap.crosses, state_send) depth 40 fits 20000
+pub shared_sync : (L T K Plan Renaming : RattleType) (n : Name.Ghosts L.Denot) (l : Ledger.Ghosts L.Denot) (t : _) (k : _) → IsSend T → IsSend K → IsSync (Shared.the_row L Heap.the_row T K Plan Renaming n l ghosts t k)
+shared_sync L T K Plan Renaming n l t k st sk = search (sendable, heap.crosses, state_send) depth 40 fits 20000

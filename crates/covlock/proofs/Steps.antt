@@ -25,6 +25,9 @@ told_later history ready job op asked told same is_op is_told =
 pub ok_is_no_err : {T E : Type 0} (value : T) (fault : E) → ◌≡◌ {A = Result T E} (Ok value) (Err fault) → ⊥
 ok_is_no_err value fault is = cc
 
+pub err_tells : {T E : Type 0} (told fault : E) → ◌≡◌ {A = Result T E} (Err told) (Err fault) → told ≡ fault
+err_tells told fault is = cc
+
 -- there is no reason for a refusal if the history isn't full and has the entries that the seat has seen
 pub takes_more : (entries seen : ℕ) → entries < max_entries → seen ≤ entries → (entries ≡ max_entries) ⊎ (entries < seen) → ⊥
 takes_more entries seen few long (inl is) = omega arith

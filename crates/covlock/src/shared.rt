@@ -7,6 +7,7 @@ use crate::start::Start;
 use covbook::{Book, BookFault, Entries, Entry, Keep, Op, Receipt};
 use covdata::Memory;
 use covnews::{Live, Name, News, Publisher, ReaderFault};
+use covreport::Table;
 use std::alloc::{Allocator, Global};
 use std::marker::Model;
 use std::sync::{Mutex, Wait};
@@ -15,15 +16,15 @@ use thiserror::Error;
 /// The greatest number of readers of one book.
 pub const MAX_READERS: u32 = 64;
 
-/// A book with a lock. Threads share this value by reference. `K` is the part of each entry that the book stores. Contracts see the
-/// number of jobs. A book that is dropped without being closed leaks the memory that it shares with its readers (some 17 KB).
+/// A book with a lock. Threads share this value by reference. `T` is the book's store, and `K` is the part of each entry that the
+/// book stores. Contracts see the number of jobs. A book that is dropped without being closed leaks the memory that it shares with its readers (some 17 KB).
 #[derive(Drop)]
-pub struct Shared<L: Name, A: Allocator = Global, K: Keep<Of = Entry<A>> = Entry<A>> {
+pub struct Shared<L: Name, A: Allocator, T: Table<A>, K: Keep<Of = Entry<A>> = Entry<A>> {
     jobs: u32,
-    shared_state: Mutex<SharedState<L, A, K>>,
+    shared_state: Mutex<SharedState<L, A, T, K>>,
 }
 
-impl<L: Name, A: Allocator, K: Keep<Of = Entry<A>>> Model for Shared<L, A, K> {
+impl<L: Name, A: Allocator, T: Table<A>, K: Keep<Of = Entry<A>>> Model for Shared<L, A, T, K> {
     ghost use Rattle.std.specs.Prelude.{◌≡◌};
     ghost use Rattle.covlock.specs.Shared.{SharedData};
 
@@ -67,10 +68,10 @@ ghost use Rattle.std.specs.Prelude.{◌≡◌, IfOk};
 ghost use Rattle.covlock.specs.Seat.{first_seats};
 
 /// Opens an empty book, with a seat for each job from 0 on. On `Memory`, drops the start.
-pub fn open_book<L: Name, A: Allocator + Copy>(
+pub fn open_book<L: Name, A: Allocator + Copy, T: Table<A>>(
     alloc: A,
     start: Start<A>,
-) -> Result<(Shared<L, A>, Seats<L, A>), Memory>
+) -> Result<(Shared<L, A, T>, Seats<L, A>), Memory>
     requires name { start.name ≡ L.name }
     requires jobs { start.jobs ≡ L.parts }
     requires book { start.book ≡ L.book }
@@ -81,10 +82,10 @@ pub fn open_book<L: Name, A: Allocator + Copy>(
 }
 
 /// Like `open_book`, but the book stores only the `K` part of each entry. Contracts see whole entries in any case.
-pub fn open_book_keeping<L: Name, A: Allocator + Copy, K: Keep<Of = Entry<A>>>(
+pub fn open_book_keeping<L: Name, A: Allocator + Copy, T: Table<A>, K: Keep<Of = Entry<A>>>(
     alloc: A,
     start: Start<A>,
-) -> Result<(Shared<L, A, K>, Seats<L, A>), Memory>
+) -> Result<(Shared<L, A, T, K>, Seats<L, A>), Memory>
     requires name { start.name ≡ L.name }
     requires jobs { start.jobs ≡ L.parts }
     requires book { start.book ≡ L.book }
@@ -99,10 +100,12 @@ pub fn open_book_keeping<L: Name, A: Allocator + Copy, K: Keep<Of = Entry<A>>>(
     Ok((Shared { jobs, shared_state }, seats))
 }
 
-impl<L: Name, A: Allocator + Copy, K: Keep<Of = Entry<A>>> Shared<L, A, K> {
-    ghost use Rattle.std.specs.Prelude.{◌≡◌, ◌≤◌, IfOk, MatchResult};
+impl<L: Name, A: Allocator + Copy, T: Table<A>, K: Keep<Of = Entry<A>>> Shared<L, A, T, K> {
+    ghost use Rattle.std.specs.Prelude.{◌≡◌, ◌≤◌, IfOk, IfErr, MatchResult};
+    ghost use Rattle.covbook.specs.declared.book.BookFault.TheVariants as faults;
     ghost use Rattle.covbook.specs.View.{op_data};
     ghost use Rattle.covbook.specs.EntryView.{receipt_data};
+    ghost use Rattle.covbook.specs.Step.{max_entries};
     ghost use Rattle.covlock.specs.Call.{IsReceiptFor, IsNewsOf};
     ghost use Rattle.covlock.specs.Seat.{after_call};
 
@@ -110,7 +113,8 @@ impl<L: Name, A: Allocator + Copy, K: Keep<Of = Entry<A>>> Shared<L, A, K> {
     /// legal history. The news are of the history up to this step's entry, and readers see this history from then on. Waits for the
     /// lock, which this call holds only for the step, and for readers that still read what was shown two steps ago. Returns `Full`
     /// if the history is full, or if the seat has seen more entries than the history has, which never happens with a seat of this
-    /// book. A failed call changes neither the book, nor the seat, nor what readers see.
+    /// book. After a call that filled the history, `Full` is the only error for its seat. A failed call changes neither the book, nor
+    /// the seat, nor what readers see.
     pub fn perform<R: Wait>(
         &self,
         rt: &R,
@@ -123,13 +127,14 @@ impl<L: Name, A: Allocator + Copy, K: Keep<Of = Entry<A>>> Shared<L, A, K> {
         ensures news { IfOk result (λ d. IsNewsOf seat.old.job (op_data op.now) (receipt_data d.receipt) d.news) }
         ensures seen { IfOk result (λ d. seat.old.seen ≤ d.receipt.place) }
         ensures seat { MatchResult result (λ d. seat.new ≡ after_call seat.old d.receipt.place) (λ _. seat.new ≡ seat.old) }
+        ensures full { IfErr result (λ f. max_entries ≤ seat.old.seen → f ≡ faults.Full) }
     {
         let (receipt, news) = self.shared_state.lock(rt).step(rt, alloc, seat, op)?;
         Ok(Done { receipt, news })
     }
 }
 
-impl<L: Name, A: Allocator, K: Keep<Of = Entry<A>>> Shared<L, A, K> {
+impl<L: Name, A: Allocator, T: Table<A>, K: Keep<Of = Entry<A>>> Shared<L, A, T, K> {
     ghost use Rattle.std.specs.Prelude.{◌≡◌, length, IfOk, IfErr, MatchResult};
     ghost use Rattle.covbook.specs.Op.{AreLawfulOps};
     ghost use Rattle.covbook.specs.Step.{IsLegal, ops_in};
@@ -154,7 +159,7 @@ impl<L: Name, A: Allocator, K: Keep<Of = Entry<A>>> Shared<L, A, K> {
         self,
         rt: &R,
         seats: Seats<L, A>,
-    ) -> Result<(Book<A, K>, News<L>), (Shared<L, A, K>, Seats<L, A>, CloseFault)>
+    ) -> Result<(Book<A, T, K>, News<L>), (Shared<L, A, T, K>, Seats<L, A>, CloseFault)>
         ensures seated { MatchResult result (λ _. AllAreSeated self.jobs seats) (λ back. IsLeastMissing self.jobs seats (told_job back.2)) }
         ensures history { IfOk result (λ closed. IsLegal closed.0.entries) }
         ensures lawful { IfOk result (λ closed. AreLawfulOps (ops_in closed.0.entries)) }
@@ -169,7 +174,7 @@ impl<L: Name, A: Allocator, K: Keep<Of = Entry<A>>> Shared<L, A, K> {
     }
 }
 
-impl<L: Name, A: Allocator> Shared<L, A> {
+impl<L: Name, A: Allocator, T: Table<A>> Shared<L, A, T> {
     ghost use Rattle.std.specs.Prelude.{◌≡◌, length, IfOk, MatchResult};
     ghost use Rattle.covbook.specs.Op.{AreLawfulOps};
     ghost use Rattle.covbook.specs.Step.{IsLegal, ops_in};
@@ -184,7 +189,7 @@ impl<L: Name, A: Allocator> Shared<L, A> {
         self,
         rt: &R,
         seats: Seats<L, A>,
-    ) -> Result<(Entries<A>, News<L>), (Shared<L, A>, Seats<L, A>, CloseFault)>
+    ) -> Result<(Entries<A>, News<L>), (Shared<L, A, T>, Seats<L, A>, CloseFault)>
         ensures seated { MatchResult result (λ _. AllAreSeated self.jobs seats) (λ back. IsLeastMissing self.jobs seats (told_job back.2)) }
         ensures history { IfOk result (λ closed. IsLegal closed.0) }
         ensures lawful { IfOk result (λ closed. AreLawfulOps (ops_in closed.0)) }

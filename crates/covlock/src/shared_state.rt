@@ -4,6 +4,7 @@ use crate::seat::Seat;
 use crate::seat_list::Seats;
 use covbook::{Book, BookFault, Entry, Keep, Op, Receipt};
 use covnews::{Live, Name, News, Publisher, ReaderFault};
+use covreport::Table;
 use std::alloc::Allocator;
 use std::marker::Model;
 use std::sync::Wait;
@@ -12,15 +13,15 @@ use std::sync::ledger::{Book as Count, Share};
 /// The state behind the lock of a shared book: the book, the count of its calls, and the publisher of its history. The seats have
 /// the shares of the count. Contracts see the history.
 #[derive(Drop)]
-pub(crate) struct SharedState<L: Name, A: Allocator, K: Keep<Of = Entry<A>>> {
-    book: Book<A, K>,
+pub(crate) struct SharedState<L: Name, A: Allocator, T: Table<A>, K: Keep<Of = Entry<A>>> {
+    book: Book<A, T, K>,
     count: Count<L>,
     /// An empty share of the count, to which `close` adds the shares of the seats.
     rest: Share<L>,
     publisher: Publisher<L, A>,
 }
 
-impl<L: Name, A: Allocator, K: Keep<Of = Entry<A>>> Model for SharedState<L, A, K> {
+impl<L: Name, A: Allocator, T: Table<A>, K: Keep<Of = Entry<A>>> Model for SharedState<L, A, T, K> {
     ghost use Rattle.std.specs.Prelude.{List};
     ghost use Rattle.covbook.specs.Op.{EntryData};
     ghost use Rattle.covlock.specs.SharedState.{IsAtRest};
@@ -32,8 +33,8 @@ impl<L: Name, A: Allocator, K: Keep<Of = Entry<A>>> Model for SharedState<L, A, 
     ghost invariant = { λ a. IsAtRest a.book.entries a.publisher.noted a.publisher.published a.count.total a.rest.parts a.rest.amount };
 }
 
-impl<L: Name, A: Allocator + Copy, K: Keep<Of = Entry<A>>> SharedState<L, A, K> {
-    ghost use Rattle.std.specs.Prelude.{◌≡◌, ◌↔◌, ◌⊎◌, ◌<◌, ◌≤◌, ◌++◌, [], ◌∷◌, length, IfOk, OnOk, OnErr, Err, MatchResult};
+impl<L: Name, A: Allocator + Copy, T: Table<A>, K: Keep<Of = Entry<A>>> SharedState<L, A, T, K> {
+    ghost use Rattle.std.specs.Prelude.{◌≡◌, ◌↔◌, ◌⊎◌, ◌<◌, ◌≤◌, ◌++◌, [], ◌∷◌, length, IfOk, IfErr, OnOk, OnErr, Err, MatchResult};
     ghost use Rattle.covbook.specs.declared.book.BookFault.TheVariants as faults;
     ghost use Rattle.covbook.specs.View.{op_data};
     ghost use Rattle.covbook.specs.EntryView.{receipt_data};
@@ -43,11 +44,11 @@ impl<L: Name, A: Allocator + Copy, K: Keep<Of = Entry<A>>> SharedState<L, A, K> 
 
     /// Makes the state of an empty book. `count` and `rest` must count no calls, and the noted and published history must be empty.
     pub(crate) fn new(
-        book: Book<A, K>,
+        book: Book<A, T, K>,
         count: Count<L>,
         rest: Share<L>,
         publisher: Publisher<L, A>,
-    ) -> SharedState<L, A, K>
+    ) -> SharedState<L, A, T, K>
         requires book { book.entries ≡ [] }
         requires count { count.total ≡ 0 }
         requires parts { rest.parts ≡ 0 }
@@ -82,6 +83,7 @@ impl<L: Name, A: Allocator + Copy, K: Keep<Of = Entry<A>>> SharedState<L, A, K> 
         ensures seen { IfOk result (λ r. seat.old.seen ≤ r.0.place) }
         ensures refused { OnErr result (self.new ≡ self.old) }
         ensures full { (result ≡ Err faults.Full) ↔ ((length self.old ≡ max_entries) ⊎ (length self.old < seat.old.seen)) }
+        ensures most { IfErr result (λ f. max_entries ≤ seat.old.seen → f ≡ faults.Full) }
     {
         if self.book.len() < seat.seen() {
             return Err(BookFault::Full);
@@ -99,7 +101,7 @@ impl<L: Name, A: Allocator + Copy, K: Keep<Of = Entry<A>>> SharedState<L, A, K> 
     }
 }
 
-impl<L: Name, A: Allocator, K: Keep<Of = Entry<A>>> SharedState<L, A, K> {
+impl<L: Name, A: Allocator, T: Table<A>, K: Keep<Of = Entry<A>>> SharedState<L, A, T, K> {
     ghost use Rattle.std.specs.Prelude.{◌≡◌, ◌≤◌, length, IfOk, IfErr};
     ghost use Rattle.covbook.specs.Op.{AreLawfulOps};
     ghost use Rattle.covbook.specs.Step.{IsLegal, ops_in};
@@ -117,7 +119,7 @@ impl<L: Name, A: Allocator, K: Keep<Of = Entry<A>>> SharedState<L, A, K> {
     }
 
     /// Takes all seats back, and returns the book and news of its history. Waits for readers that are inside a read.
-    pub(crate) fn close<R: Wait>(self, rt: &R, seats: Seats<L, A>) -> (Book<A, K>, News<L>)
+    pub(crate) fn close<R: Wait>(self, rt: &R, seats: Seats<L, A>) -> (Book<A, T, K>, News<L>)
         requires { L.parts ≤ length seats }
         ensures history { result.0.entries ≡ self }
         ensures news { result.1 ≡ self }

@@ -65,7 +65,7 @@ impl<A: Allocator> Model for Start<A> {
 }
 
 impl<A: Allocator + Copy> Start<A> {
-    ghost use Rattle.std.specs.Prelude.{◌≡◌, ◌↔◌, [], IfOk, Err};
+    ghost use Rattle.std.specs.Prelude.{◌≡◌, ◌↔◌, [], IfOk, IfErr, Err};
     ghost use Rattle.covlock.specs.declared.start.OpenFault.TheVariants as faults;
     ghost use Rattle.covlock.specs.Start.{AreJobs};
 
@@ -74,6 +74,7 @@ impl<A: Allocator + Copy> Start<A> {
     pub fn new(_alloc: A, jobs: u32) -> Result<Start<A>, OpenFault>
         ensures jobs { IfOk result (λ s. s.jobs ≡ jobs) }
         ensures bad { (result ≡ Err faults.BadJobs) ↔ (AreJobs jobs → ⊥) }
+        ensures fault { IfErr result (λ f. f ≡ faults.BadJobs) }
     {
         if jobs == 0 || jobs > MAX_JOBS {
             return Err(OpenFault::BadJobs);

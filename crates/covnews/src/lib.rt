@@ -15,7 +15,7 @@
 //! A sketch, which no test runs:
 //!
 //! ```text
-//! fn run<L: Name>(rt: &impl Wait, alloc: Global, seed: HistorySeed, mut book: Book) -> Result<(), Fail>
+//! fn run<L: Name>(rt: &impl Wait, alloc: Global, seed: HistorySeed, mut book: covnamed::Book) -> Result<(), Fail>
 //!     requires book { seed.book ≡ L.book }
 //!     requires empty { book.entries ≡ [] }
 //! {
@@ -31,7 +31,7 @@
 //!     live.learn(&publisher.close(rt));
 //!     Ok(())
 //! }
-//! run::<Brand>(&rt, alloc, HistorySeed::new(), Book::new(alloc))
+//! run::<Brand>(&rt, alloc, HistorySeed::new(), covnamed::Book::new(alloc))
 //! ```
 #![tactic(auto)]
 
@@ -45,8 +45,6 @@ mod noted;
 mod publisher;
 mod snapshot;
 mod snapshot_cell;
-#[cfg(test)]
-mod tests;
 
 pub use fault::ReaderFault;
 pub use live::Live;

@@ -10,7 +10,7 @@ use Rattle.covdata.specs.Row.{SectData, SubmissionData}
 use Rattle.covline.specs.Spells.{Begins}
 use Rattle.covline.proofs.Cut.{lines-append, lines_at, strip-none}
 use Rattle.covdata.specs.declared.fault.ReadFault.{ReadFault}
-use Rattle.covdata.specs.declared.fault.ReadFault.TheVariants.{TooLong, Line, Outside, Inside, OpenEnd, BadMark, NoSource, Percent, Instances, Misplaced, LostFunction, BadTest, Memory}
+use Rattle.covdata.specs.declared.fault.ReadFault.TheVariants.{TooLong, Line, Outside, Inside, Misplaced}
 use Rattle.covpieces.specs.Sections.{EndsSection}
 use Rattle.covpieces.specs.Pieces.{EndSections, IsCut, CarriedData, nothing_carried, group_line, with_name, front_lines, name_text, front_text, renumbered, moved_number, moved, joined, no_sections, with_first, ReadsInPieces}
 use Rattle.covpieces.proofs.Faults.{Reading, GoAlike}
@@ -51,16 +51,8 @@ renumbered_twice : (f g h : ℕ → ℕ) → ((n : ℕ) → f (g n) ≡ h n) →
 renumbered_twice f g h same (Line at fault) = ap (λ (n : ℕ). Line n fault) (same at)
 renumbered_twice f g h same (Outside at) = ap (λ (n : ℕ). Outside n) (same at)
 renumbered_twice f g h same (Inside at) = ap (λ (n : ℕ). Inside n) (same at)
-renumbered_twice f g h same (BadMark at) = ap (λ (n : ℕ). BadMark n) (same at)
-renumbered_twice f g h same (NoSource at) = ap (λ (n : ℕ). NoSource n) (same at)
-renumbered_twice f g h same (Percent at) = ap (λ (n : ℕ). Percent n) (same at)
-renumbered_twice f g h same (Instances at) = ap (λ (n : ℕ). Instances n) (same at)
 renumbered_twice f g h same (Misplaced at) = ap (λ (n : ℕ). Misplaced n) (same at)
-renumbered_twice f g h same TooLong = refl
-renumbered_twice f g h same OpenEnd = refl
-renumbered_twice f g h same LostFunction = refl
-renumbered_twice f g h same BadTest = refl
-renumbered_twice f g h same Memory = refl
+renumbered_twice f g h same other = refl
 
 -- ---- submissions
 

@@ -4,7 +4,7 @@ use Rattle.std.specs.List.{concat}
 use Rattle.std.proofs.lemmas.List.{append-nil}
 use Rattle.covdata.specs.Row.{SectData, SubmissionData}
 use Rattle.covdata.specs.declared.fault.ReadFault.{ReadFault}
-use Rattle.covdata.specs.declared.fault.ReadFault.TheVariants.{TooLong, Line, Outside, Inside, OpenEnd, BadMark, NoSource, Percent, Instances, Misplaced, LostFunction, BadTest, Memory}
+use Rattle.covdata.specs.declared.fault.ReadFault.TheVariants.{TooLong, Line, Outside, Inside, Misplaced}
 use Rattle.covpieces.specs.Sections.{EndsSection}
 use Rattle.covpieces.specs.Pieces.{EndSections, IsCut, CarriedData, nothing_carried, front_text, moved, joined, no_sections, with_first, ReadsInPieces, all_of, HaveBeenRead, OneByOne}
 use Rattle.covpieces.proofs.InPieces.{Outcomes, Next, joined_nothing}
@@ -14,16 +14,8 @@ moved_is_long : (c : CarriedData) (fault : ReadFault) → moved c fault ≡ TooL
 moved_is_long c (Line at fault) e = absurd cc
 moved_is_long c (Outside at) e = absurd cc
 moved_is_long c (Inside at) e = absurd cc
-moved_is_long c (BadMark at) e = absurd cc
-moved_is_long c (NoSource at) e = absurd cc
-moved_is_long c (Percent at) e = absurd cc
-moved_is_long c (Instances at) e = absurd cc
 moved_is_long c (Misplaced at) e = absurd cc
-moved_is_long c TooLong e = refl
-moved_is_long c OpenEnd e = absurd cc
-moved_is_long c LostFunction e = absurd cc
-moved_is_long c BadTest e = absurd cc
-moved_is_long c Memory e = absurd cc
+moved_is_long c other e = e
 
 abbrev err_of : ReadFault → Result SubmissionData ReadFault
 err_of fault = Err fault

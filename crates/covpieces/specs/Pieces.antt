@@ -5,7 +5,7 @@ use Rattle.covdata.specs.Row.{SectData, SubmissionData}
 use Rattle.covdata.specs.Delimiters.{line_feed}
 use Rattle.covline.specs.Lines.{lines_of}
 use Rattle.covdata.specs.declared.fault.ReadFault.{ReadFault}
-use Rattle.covdata.specs.declared.fault.ReadFault.TheVariants.{TooLong, Line, Outside, Inside, OpenEnd, BadMark, NoSource, Percent, Instances, Misplaced, LostFunction, BadTest, Memory}
+use Rattle.covdata.specs.declared.fault.ReadFault.TheVariants.{TooLong, Line, Outside, Inside, Misplaced}
 use Rattle.covpieces.specs.Sections.{EndsSection, grouped_after}
 
 -- each piece but the last ends with the last line of a section
@@ -52,21 +52,14 @@ name_text (b ∷ bs) text = (codes "TN:" ++ (b ∷ bs)) ++ line_feed ∷ text
 abbrev pub front_text : CarriedData → List ℕ
 front_text c = name_text c.test (if c.is_grouped then group_line ++ line_feed ∷ [] else [])
 
--- the fault with other line numbers
+-- the fault of a tracefile with other line numbers. Only these four of its faults have one, and gcov's own don't come here. A new fault
+-- with a line can't be forgotten: then pieces wouldn't be read as the whole (`OneByOne`)
 abbrev pub renumbered : (ℕ → ℕ) → ReadFault → ReadFault
 renumbered number (Line at fault) = Line (number at) fault
 renumbered number (Outside at) = Outside (number at)
 renumbered number (Inside at) = Inside (number at)
-renumbered number (BadMark at) = BadMark (number at)
-renumbered number (NoSource at) = NoSource (number at)
-renumbered number (Percent at) = Percent (number at)
-renumbered number (Instances at) = Instances (number at)
 renumbered number (Misplaced at) = Misplaced (number at)
-renumbered number TooLong = TooLong
-renumbered number OpenEnd = OpenEnd
-renumbered number LostFunction = LostFunction
-renumbered number BadTest = BadTest
-renumbered number Memory = Memory
+renumbered number other = other
 
 -- the number in the whole text of a line that has this number in a piece with its front
 abbrev pub moved_number : CarriedData → ℕ → ℕ

@@ -65,7 +65,7 @@ impl<A: Allocator> Carried<A> {
     }
 
     /// Turns an error of the chunk, read after its prefix, into the error of the whole tracefile. Line numbers saturate at
-    /// 2^64 - 1.
+    /// 2^64 - 1. An error that only gcov's output has stays as it is.
     pub fn moved(&self, fault: ReadFault) -> ReadFault
         ensures { result ≡ told self.now fault }
     {
@@ -80,23 +80,15 @@ impl<A: Allocator> Carried<A> {
             ReadFault::Inside { at } => ReadFault::Inside {
                 at: self.moved_number(at),
             },
-            ReadFault::BadMark { at } => ReadFault::BadMark {
-                at: self.moved_number(at),
-            },
-            ReadFault::NoSource { at } => ReadFault::NoSource {
-                at: self.moved_number(at),
-            },
-            ReadFault::Percent { at } => ReadFault::Percent {
-                at: self.moved_number(at),
-            },
-            ReadFault::Instances { at } => ReadFault::Instances {
-                at: self.moved_number(at),
-            },
             ReadFault::Misplaced { at } => ReadFault::Misplaced {
                 at: self.moved_number(at),
             },
             ReadFault::TooLong
             | ReadFault::OpenEnd
+            | ReadFault::BadMark { .. }
+            | ReadFault::NoSource { .. }
+            | ReadFault::Percent { .. }
+            | ReadFault::Instances { .. }
             | ReadFault::LostFunction
             | ReadFault::BadTest
             | ReadFault::Memory => fault,

@@ -18,6 +18,7 @@ use Rattle.covtable.proofs.ContentsLists.{In-filter, In-unfilter}
 use Rattle.covtable.proofs.Members.{In, In-map, In-unmap}
 use Rattle.covtable.proofs.Orders.{names_order}
 use Rattle.covtable.proofs.TotalsKinds.{same_totals}
+use Rattle.covreport.specs.Others.{others}
 
 -- ---- lists
 
@@ -124,10 +125,6 @@ module _ (count : List SectionData → ℕ) (sections : List SectionData) where
       over_chosen (λ other. bytes_eq other file) ∙ ap (sum_by own_count) (one_file sections file i) ∙ omega (arith, sum_by-cons own_count file [])
 
 -- ---- the totals of files that aren't chosen
-
-pub others : (chosen : List ℕ → Bool) → List FileTotalsData → Totals
-others chosen [] = no_totals
-others chosen (file ∷ files) = cond (chosen file.path) (others chosen files) (together file.totals (others chosen files))
 
 -- a number of the totals, which is a sum over the files
 module _ (number : Totals → ℕ) (none : number no_totals ≡ 0) (adds : (a b : Totals) → number (together a b) ≡ number a + number b)

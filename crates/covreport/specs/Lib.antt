@@ -1,9 +1,11 @@
 pub mod Pattern
 pub mod Choice
 pub mod ChoiceView
+pub mod Others
 pub mod PatternFault
 pub mod Report
 pub mod Room
+pub mod Put
 pub mod FunctionView
 pub mod PrintingView
 pub mod Summary

@@ -4,6 +4,8 @@
 //! `trace_text` returns the whole text of a tracefile. A `Printing` prints a text piece by piece to the caller's `Printer`, and its
 //! `print` never allocates.
 //!
+//! A store implements [`Table`], so crates that use a store by this trait are not proved again if the code of the store changes.
+//!
 //! `chosen_totals` returns the totals of the chosen files, for a summary of only these files.
 //!
 //! An example, proved and run in `covuses`: the merged tracefile of the files that match a pattern, and the summary of all files.
@@ -27,6 +29,7 @@ mod patterns;
 mod printer;
 mod printing;
 mod summary;
+mod table;
 mod tracefile;
 
 pub use choice::Choice;
@@ -35,5 +38,6 @@ pub use pattern::matches;
 pub use patterns::{MAX_PATTERN_BYTES, MAX_PATTERNS, PatternFault, Patterns};
 pub use printer::Printer;
 pub use printing::Printing;
-pub use summary::{chosen_totals, summary_text, tenths};
-pub use tracefile::trace_text;
+pub use summary::{chosen_totals, summary_text, tenths, without_others};
+pub use table::Table;
+pub use tracefile::{PrintedFunction, most_functions_in, put_sections, trace_text};

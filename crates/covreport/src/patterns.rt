@@ -68,7 +68,7 @@ impl<A: Allocator> Model for Patterns<A> {
 }
 
 impl<A: Allocator + Copy> Patterns<A> {
-    ghost use Rattle.std.specs.Prelude.{◌≡◌, ◌↔◌, ◌<◌, ◌≤◌, ◌++◌, [], ◌∷◌, length, IfOk, OnOk, OnErr, Err};
+    ghost use Rattle.std.specs.Prelude.{◌≡◌, ◌≢◌, ◌↔◌, ◌<◌, ◌≤◌, ◌++◌, [], ◌∷◌, length, IfOk, OnOk, OnErr, Err};
     ghost use Rattle.covreport.specs.declared.patterns.PatternFault.TheVariants as faults;
     ghost use Rattle.covreport.specs.Choice.{any_matches, max_patterns, max_pattern_bytes};
 
@@ -109,9 +109,10 @@ impl<A: Allocator + Copy> Patterns<A> {
         Ok(())
     }
 
-    /// Copies the list.
+    /// Copies the list. Allocates nothing if the list is empty.
     pub fn copy(&self, alloc: A) -> Result<Patterns<A>, Memory>
-        ensures { IfOk result (λ p. p ≡ self.now) }
+        ensures copied { IfOk result (λ p. p ≡ self.now) }
+        ensures refused { OnErr result (self.now ≢ []) }
     {
         let mut copy = Patterns::new(alloc);
         for pattern in &self.patterns {

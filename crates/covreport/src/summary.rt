@@ -1,26 +1,40 @@
 //! Summaries of totals, as lcov(1) prints them with `--summary`.
 
 ghost use Rattle.std.specs.Prelude.{◌≡◌, ◌<◌, ◌≤◌, ◌++◌, ◌/◌, ◌%◌, IfOk, OnOk, codes, decimal, filter};
+ghost use Rattle.covtable.specs.declared.totals.Totals.{Totals};
 ghost use Rattle.covtable.specs.Totals.{AreTotals, totals_of};
 ghost use Rattle.covtable.specs.TotalsExchanged.{IsAmong, together};
 ghost use Rattle.covreport.specs.Choice.{is_chosen};
 ghost use Rattle.covreport.specs.ChoiceView.{choice_data};
+ghost use Rattle.covreport.specs.Others.{others};
 ghost use Rattle.covreport.specs.Summary.{summary_of, summary_line, value_text, tenths_of, noun as noun_of, rounded as rounded_of};
 
 use crate::choice::Choice;
+use crate::table::Table;
 use covdata::{Bytes, Memory};
-use covstore::Store;
-use covtable::Totals;
+use covtable::{TableFiles, Totals};
 use itoa::Buffer;
 use std::alloc::Allocator;
 
 /// The totals of all tests in the chosen files. Never allocates.
-pub fn chosen_totals<A: Allocator + Copy>(store: &Store<A>, choice: &Choice<A>) -> Totals
-    ensures value { result ≡ totals_of (filter (λ s. is_chosen (choice_data choice.now) s.key.file) store.now.sections) }
+pub fn chosen_totals<A: Allocator, T: Table<A>>(store: &T, choice: &Choice<A>) -> Totals
+    ensures value { result ≡ totals_of (filter (λ s. is_chosen (choice_data choice.now) s.key.file) (T.shown store.now).sections) }
     ensures bounds { AreTotals result }
 {
-    let mut totals = store.totals();
-    for file in store.files() {
+    store.chosen_totals(choice)
+}
+
+/// Subtracts the totals of each file that isn't chosen from the totals of the whole. Never allocates.
+pub fn without_others<'s, A: Allocator, I: TableFiles<'s>>(
+    mut files: I,
+    choice: &Choice<A>,
+    whole: Totals,
+) -> Totals
+    requires { (own : Totals) × (whole ≡ together own (others (is_chosen (choice_data choice.now)) (I.left files))) }
+    ensures { (own : Totals) → whole ≡ together own (others (is_chosen (choice_data choice.now)) (I.left files)) → result ≡ own }
+{
+    let mut totals = whole;
+    while let Some(file) = files.next_file() {
         if !choice.takes(file.path) {
             totals = without(totals, file.totals);
         }

@@ -20,7 +20,6 @@ use Rattle.covreport.specs.Report.{report_text}
 use Rattle.covbook.specs.Step.{answer_of, next_entry, ops_in, table_after, table_from, table_of}
 use Rattle.covbook.specs.Texts.{IsText}
 use Rattle.covworkers.specs.Collect.{IsCollectedWith, OutcomeData}
-use Rattle.covworkers.specs.Late.{MayCome}
 use Rattle.covjobs.specs.Start.{AreJobs}
 use Rattle.covworkers.specs.declared.collect_fault.CollectFault.{CollectFault}
 use Rattle.covworkers.specs.declared.collect_fault.CollectFault.TheVariants as collects
@@ -35,7 +34,7 @@ use Rattle.covcommand.specs.declared.asked.TotalsForm.TheVariants as forms
 use Rattle.covrun.specs.WorkFault.{IsRefusal, of_work}
 use Rattle.covrun.specs.declared.work.WorkFault.{WorkFault}
 use Rattle.covrun.specs.declared.work.WorkFault.TheVariants.{Words, Memory}
-use Rattle.covrun.specs.Call.{StopsEarly, AreTextsIn, IsUnreadable, most_submissions, WorkEnds, IsServed, IsWorkDone, IsTaskDone, IsCutShort, IsEndingPrinted, IsEndingReported, IsEndingWritten, IsUnwritten, IsWritten}
+use Rattle.covrun.specs.Call.{StopsEarly, AreTextsIn, IsUnreadable, WorkEnds, IsServed, IsWorkDone, IsTaskDone, IsCutShort, IsEndingPrinted, IsEndingReported, IsEndingWritten, IsUnwritten, IsWritten}
 use Rattle.covrun.specs.Check.{IsCheck}
 use Rattle.covrun.specs.Folder.{FolderData}
 use Rattle.covrun.specs.Naming.{naming_of, told_lines, told_name}
@@ -51,7 +50,7 @@ use Rattle.covlimit.specs.Limits.{has_limit}
 use Rattle.covrun.specs.Work.{QuestionData, Answer, ChosenReport, ChosenSummary, LimitedTotals, ChosenList, last_of, choice_of, chosen_or_all, asked_of, limits_of, summary_asked, WorkData, TaskData, Serves, Collects, Checks, task_of}
 use Rattle.covcommand.specs.declared.asked.TextSize.{TextSize}
 use Rattle.covrun.specs.declared.work.CheckedFormat.{CheckedFormat}
-use Rattle.covrun.proofs.Reading.{HaveTexts, collected_in, texts_held}
+use Rattle.covrun.proofs.Reading.{HaveTexts, HaveTextsFor, collected_in}
 
 -- the texts were collected, and the call ends as `of_collected` says, or because memory ran out. `count` is the number of files
 pub ends_collected : (folder : FolderData) (file : Option (List ℕ)) (work : WorkData) (naming : Naming) → naming ≡ naming_of file work → (files : List (List ℕ)) → files ≡ work.files → (outcome : ℕ → OutcomeData TextFault) (count : ℕ) (entries : List EntryData) (refused : List (RefusedInput TextFault)) (ending : EndingData)
@@ -74,10 +73,8 @@ ends_collected folder file work naming same_naming files named outcome count ent
 
 -- the texts weren't collected, and the call ends with the ending for the fault
 pub ends_uncollected : (folder : FolderData) (file : Option (List ℕ)) (work : WorkData) (fault : CollectFault) (ending : EndingData)
-    → (fault ≡ collects.BadJobs → AreJobs work.jobs → ⊥) → MayCome (most_submissions work.format (length work.files)) fault → ending ≡ of_collect fault → WorkEnds folder file work ending
-ends_uncollected folder file work fault ending bad may is =
-    let held = texts_held work.format folder work.files in
-    inr (inr (held.0, Err fault, held.1, (bad, may), is))
+    → (fault ≡ collects.BadJobs → AreJobs work.jobs → ⊥) → HaveTextsFor folder work.format work.strictness work.files fault → ending ≡ of_collect fault → WorkEnds folder file work ending
+ends_uncollected folder file work fault ending bad may is = inr (inr (may.0, Err fault, may.1, (bad, may.2), is))
 
 -- a file can't be read, and the call ends with that, or because memory ran out
 pub ends_unreadable : (folder : FolderData) (file : Option (List ℕ)) (work : WorkData) (files : List (List ℕ)) → files ≡ work.files → (name : List ℕ) (ending : EndingData)
@@ -329,7 +326,6 @@ failure_reported None failure status old new alone printed = (alone, printed)
 failure_reported (Some name) (failures.Words fault) status old new alone printed = (alone.0, (printed, alone.1))
 failure_reported (Some name) (failures.Unreadable file) status old new alone printed = (alone.0, (printed, alone.1))
 failure_reported (Some name) (failures.Stopped fault) status old new alone printed = (alone.0, (printed, alone.1))
-failure_reported (Some name) failures.Ungathered status old new alone printed = (alone.0, (printed, alone.1))
 failure_reported (Some name) (failures.Refused lines) status old new alone printed = (alone.0, (printed, alone.1))
 failure_reported (Some name) (failures.Unclean lines) status old new alone printed = (alone.0, (printed, alone.1))
 

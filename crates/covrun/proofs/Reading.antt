@@ -1,28 +1,27 @@
 -- The files' texts: which texts the inputs have, and what they are taken as.
-use Rattle.std.proofs.Common.{◌≡◌, ℕ, zero, suc, ◌+◌, ◌*◌, ◌≤◌, List, [], ◌∷◌, ◌++◌, length, take, map, Option, Some, None, slice_get, refl, sym, ap, ◌∙◌, subst, arith}
-use Rattle.std.proofs.Math.Nat.{add_comm, mul-one, suc-mul, zero-mul}
+use Rattle.std.proofs.Common.{◌≡◌, ℕ, zero, suc, ◌≤◌, List, [], ◌∷◌, ◌++◌, length, take, map, Option, Some, None, slice_get, refl, sym, ap, ◌∙◌, subst, arith}
 use Rattle.std.proofs.lemmas.List.{length-map, length-take}
-use Rattle.std.proofs.lemmas.List.Sums.{sum_by-cons}
-use Rattle.std.specs.List.{AllByRecursion, sum_by, zip}
+use Rattle.std.specs.List.{AllByRecursion, zip}
 use Rattle.covread.specs.Outcome.{max_bytes}
 use Rattle.covcommand.specs.declared.asked.Strictness.{Strictness}
 use Rattle.covbook.specs.Gather.{LogData}
 use Rattle.covbook.specs.Op.{OpData, EntryData}
+use Rattle.covbook.specs.Step.{max_entries}
 use Rattle.covworkers.specs.declared.refused.RefusedInput.{RefusedInput}
 use Rattle.covworkers.proofs.ReadWhole.{collected_said}
-use Rattle.covworkers.specs.Collect.{AreOutcomes, IsCollectedWith, IsReadWhole, OutcomeData}
-use Rattle.covworkers.specs.Late.{IsFirstUnread, IsIntoBookFault, MayCome}
+use Rattle.covworkers.specs.Collect.{AreOutcomes, IsCollectedWith, OutcomeData, all_places, submissions_of}
+use Rattle.covworkers.specs.Late.{FillHistory, IsFirstUnread, IsIntoBookFault, MayCome, MayComeAtAll}
 use Rattle.covworkers.specs.declared.book_fault.IntoBookFault.{IntoBookFault}
 use Rattle.covworkers.specs.declared.book_fault.IntoBookFault.TheVariants as into_book
 use Rattle.covworkers.specs.declared.collect_fault.CollectFault.{CollectFault}
+use Rattle.covworkers.specs.declared.collect_fault.CollectFault.TheVariants as collects
 use Rattle.covlarge.specs.Large.{IsAll}
 use Rattle.covlarge.specs.StateData.{StateData}
 use Rattle.covrun.proofs.Lenient.{are_collected}
-use Rattle.covrun.specs.Call.{AreCollectedIn, AreTextsIn, IsUnreadable, most_submissions}
+use Rattle.covrun.specs.Call.{AreCollectedIn, AreTextsIn, IsTakenIn, IsUnreadable}
 use Rattle.covrun.specs.Ending.{name_at}
-use Rattle.covrun.specs.Files.{MayFailAs, MayTake, most_parts}
+use Rattle.covrun.specs.Files.{MayFailAs, MayTake}
 use Rattle.covrun.specs.Folder.{AreTextsOf, FolderData, IsTextAtMost, IsTextOf}
-use Rattle.covrun.specs.Large.{IsLargeOutcome}
 use Rattle.covrun.specs.Strict.{IsOutcomeFor}
 use Rattle.covrun.specs.Work.{input_of}
 use Rattle.covrun.specs.declared.text_fault.TextFault.{TextFault}
@@ -39,12 +38,6 @@ abbrev pub IsTextIn : FileFormat → (held : Option (List ℕ)) → List ℕ →
 IsTextIn (Tracefile version) held text = (length text ≤ suc max_bytes) × IsTextOf held text
 IsTextIn (LargeTracefile version) held text = IsAll held text
 IsTextIn (GcovOutput test) held text = (length text ≤ suc max_bytes) × IsTextOf held text
-
--- what may be taken of a text
-abbrev pub IsTakenIn : FileFormat → Strictness → List ℕ → Outcome → Type 0
-IsTakenIn (Tracefile version) strictness text = IsReadWhole (IsOutcomeFor strictness (input_of (Tracefile version) text))
-IsTakenIn (LargeTracefile version) strictness text = IsLargeOutcome version strictness text
-IsTakenIn (GcovOutput test) strictness text = IsReadWhole (IsOutcomeFor strictness (input_of (GcovOutput test) text))
 
 -- each text is one of the file at its index
 abbrev pub AreTextsBy : FileFormat → FolderData → (files texts : List (List ℕ)) → Type 0
@@ -178,9 +171,6 @@ GivesIn view of left one = MayTake left ((of (view.own one)).holds (view.name on
 abbrev pub FailsIn : {X Folder S : Type 0} → InputView X Folder S → (of : Folder → FolderData) → (left : S → Option (List ℕ)) → (failed_reads : S → ℕ) → X → Type 0
 FailsIn view of left failed_reads one = MayFailAs (of (view.own one)) left failed_reads (view.name one) (view.format one) (view.opened one)
 
-abbrev pub most_in : {X Folder S : Type 0} → InputView X Folder S → X → ℕ
-most_in view one = most_parts (view.format one) (view.opened one)
-
 -- late inputs of this folder and this format are files of the folder
 are_files : {X Folder S : Type 0} (view : InputView X Folder S) (lates : List X) (at : Folder) (format : FileFormat) (strictness : Strictness) (of : Folder → FolderData) (left : S → Option (List ℕ)) (failed_reads : S → ℕ)
     → AreOwn view at format strictness lates → AreFiles (of at) format strictness view.name (GivesIn view of left) (FailsIn view of left failed_reads) lates
@@ -214,45 +204,13 @@ texts_read lates at left failed_reads view format strictness of files outcome na
 -- the first of these late inputs that can't be read is the first file that can't be read
 pub unreadable_read : {X Folder S : Type 0} (lates : List X) (at : Folder) (left : S → Option (List ℕ)) (failed_reads : S → ℕ) (view : InputView X Folder S) (format : FileFormat) (strictness : Strictness) (of : Folder → FolderData)
     → (files : List (List ℕ)) (index : ℕ) (fault : IntoBookFault) → map view.name lates ≡ files → AreOwn view at format strictness lates → fault ≡ into_book.Unread index
-    → IsIntoBookFault (GivesIn view of left) (FailsIn view of left failed_reads) (most_in view) lates fault
+    → IsIntoBookFault (GivesIn view of left) (FailsIn view of left failed_reads) lates fault
     → IsUnreadable format (of at) files (name_at (slice_get files index))
 unreadable_read lates at left failed_reads view format strictness of files index fault named all is unread =
     subst (λ (fs : List (List ℕ)). IsUnreadable format (of at) fs (name_at (slice_get fs index))) named
     (unreadable_in format (of at) (map view.name lates) (name_at (slice_get (map view.name lates) index))
     (unreadable_first (of at) format strictness view.name (GivesIn view of left) (FailsIn view of left failed_reads) lates index (are_files view lates at format strictness of left failed_reads all)
-    (subst (λ (f : IntoBookFault). IsIntoBookFault (GivesIn view of left) (FailsIn view of left failed_reads) (most_in view) lates f) is unread)))
-
--- ---- how many parts the inputs can have
-
-sum_same : {X : Type 0} (most : X → ℕ) (n : ℕ) (lates : List X) → AllByRecursion (λ one. most one ≡ n) lates → sum_by most lates ≡ length lates * n
-sum_same most n [] all = sym (zero-mul n)
-sum_same most n (one ∷ lates) all =
-    sum_by-cons most one lates ∙ ap (λ (k : ℕ). k + sum_by most lates) all.0 ∙ ap (λ (k : ℕ). n + k) (sum_same most n lates all.1)
-    ∙ add_comm n (length lates * n) ∙ sym (suc-mul (length lates) n)
-
-same_most : {X Folder S : Type 0} (view : InputView X Folder S) (lates : List X) (at : Folder) (format : FileFormat) (strictness : Strictness) → AreOwn view at format strictness lates
-    → AllByRecursion (λ one. most_in view one ≡ most_parts {S = S} format None) lates
-same_most view [] at format strictness all = tt
-same_most {X} {Folder} {S} view (one ∷ lates) at format strictness all = (
-  ap (λ (o : Option (StateData S)). most_parts (view.format one) o) all.0.3 ∙ ap (λ (t : FileFormat). most_parts {S = S} t None) all.0.1,
-  same_most view lates at format strictness all.1,
-)
-
-parts_in : (S : Type 0) (format : FileFormat) (n : ℕ) → n * most_parts {S = S} format None ≡ most_submissions format n
-parts_in S (Tracefile version) n = mul-one n
-parts_in S (LargeTracefile version) n = refl
-parts_in S (GcovOutput test) n = mul-one n
-
--- a fault of collecting these late inputs may come with this number of files
-pub may_come : {X Folder S : Type 0} (lates : List X) (at : Folder) (left : S → Option (List ℕ)) (view : InputView X Folder S) (format : FileFormat) (strictness : Strictness) (MayGive : X → Outcome → Type 0) (MayFail : X → Type 0)
-    → (files : List (List ℕ)) (fault : IntoBookFault) (told : CollectFault) → map view.name lates ≡ files → AreOwn view at format strictness lates
-    → fault ≡ into_book.Collect told → IsIntoBookFault MayGive MayFail (most_in view) lates fault → MayCome (most_submissions format (length files)) told
-may_come {X} {Folder} {S} lates at left view format strictness MayGive MayFail files fault told named all is may =
-    let sum : sum_by (most_in view) lates ≡ most_submissions format (length files) =
-    sum_same (most_in view) (most_parts {S = S} format None) lates (same_most view lates at format strictness all)
-    ∙ ap (λ (n : ℕ). n * most_parts {S = S} format None) (sym (length-map lates view.name) ∙ ap length named) ∙ parts_in S format (length files) in
-    subst (λ (n : ℕ). MayCome n told) sum
-    (subst (λ (f : IntoBookFault). IsIntoBookFault MayGive MayFail (most_in view) lates f) is may)
+    (subst (λ (f : IntoBookFault). IsIntoBookFault (GivesIn view of left) (FailsIn view of left failed_reads) lates f) is unread)))
 
 -- ---- texts of files that aren't read
 
@@ -282,3 +240,55 @@ pub texts_held : (format : FileFormat) (folder : FolderData) (files : List (List
 texts_held format folder files =
     let held = held_by format folder files in
     (held.0, texts_in format folder files held.0 held.1)
+
+-- ---- faults of collecting
+
+-- some texts of the files, with which a fault of collecting may come
+abbrev pub HaveTextsFor : FolderData → FileFormat → Strictness → (files : List (List ℕ)) → CollectFault → Type 0
+HaveTextsFor folder format strictness files fault =
+    (texts : List (List ℕ)) × AreTextsIn format folder files texts × MayCome (FillHistory (IsTakenIn format strictness) texts) fault
+
+-- texts of the files, whichever they are, do for a fault that needs none
+any_texts : (folder : FolderData) (format : FileFormat) (strictness : Strictness) (files : List (List ℕ)) (fault : CollectFault) → ((Fill : Type 0) → MayCome Fill fault) → HaveTextsFor folder format strictness files fault
+any_texts folder format strictness files fault may =
+    let held = texts_held format folder files in
+    (held.0, held.1, may (FillHistory (IsTakenIn format strictness) held.0))
+
+-- files whose late inputs fill the history have texts that fill it
+texts_filled : {X Folder S : Type 0} (lates : List X) (at : Folder) (left : S → Option (List ℕ)) (failed_reads : S → ℕ) (view : InputView X Folder S) (format : FileFormat) (strictness : Strictness) (of : Folder → FolderData)
+    → (files : List (List ℕ)) → map view.name lates ≡ files → AreOwn view at format strictness lates → FillHistory (GivesIn view of left) lates
+    → (texts : List (List ℕ)) × AreTextsIn format (of at) files texts × FillHistory (IsTakenIn format strictness) texts
+texts_filled lates at left failed_reads view format strictness of files named all fill =
+    let read = texts_read lates at left failed_reads view format strictness of files fill.0 named all fill.1 in
+    let long : length lates ≡ length read.0.0 = read.1 ∙ sym read.0.1 in
+    (read.0.0, read.0.2, (fill.0, read.0.3, subst (λ (n : ℕ). max_entries ≤ length (submissions_of all_places fill.0 n)) long fill.2))
+
+comes_with : {X Folder S : Type 0} (lates : List X) (at : Folder) (left : S → Option (List ℕ)) (failed_reads : S → ℕ) (view : InputView X Folder S) (format : FileFormat) (strictness : Strictness) (of : Folder → FolderData)
+    → (files : List (List ℕ)) (told : CollectFault) → map view.name lates ≡ files → AreOwn view at format strictness lates → MayCome (FillHistory (GivesIn view of left) lates) told
+    → HaveTextsFor (of at) format strictness files told
+comes_with lates at left failed_reads view format strictness of files collects.BadJobs named all may = any_texts (of at) format strictness files collects.BadJobs (λ Fill. tt)
+comes_with lates at left failed_reads view format strictness of files collects.Full named all may = texts_filled lates at left failed_reads view format strictness of files named all may
+comes_with lates at left failed_reads view format strictness of files collects.Memory named all may = any_texts (of at) format strictness files collects.Memory (λ Fill. tt)
+comes_with lates at left failed_reads view format strictness of files (collects.Gather fault) named all may = absurd may
+comes_with lates at left failed_reads view format strictness of files collects.NotLast named all may = absurd may
+
+-- a fault of collecting these late inputs may come with texts of the files
+pub may_come : {X Folder S : Type 0} (lates : List X) (at : Folder) (left : S → Option (List ℕ)) (failed_reads : S → ℕ) (view : InputView X Folder S) (format : FileFormat) (strictness : Strictness) (of : Folder → FolderData)
+    → (files : List (List ℕ)) (fault : IntoBookFault) (told : CollectFault) → map view.name lates ≡ files → AreOwn view at format strictness lates → fault ≡ into_book.Collect told
+    → IsIntoBookFault (GivesIn view of left) (FailsIn view of left failed_reads) lates fault → HaveTextsFor (of at) format strictness files told
+may_come lates at left failed_reads view format strictness of files fault told named all is may =
+    comes_with lates at left failed_reads view format strictness of files told named all
+    (subst (λ (f : IntoBookFault). IsIntoBookFault (GivesIn view of left) (FailsIn view of left failed_reads) lates f) is may)
+
+-- neither `Gather` nor `NotLast` comes, whatever fills the history
+any_fill : (Fill : Type 0) (told : CollectFault) → MayCome Fill told → MayComeAtAll told
+any_fill Fill collects.BadJobs may = tt
+any_fill Fill collects.Full may = tt
+any_fill Fill collects.Memory may = tt
+any_fill Fill (collects.Gather fault) may = absurd may
+any_fill Fill collects.NotLast may = absurd may
+
+pub comes : {X Folder S : Type 0} (lates : List X) (left : S → Option (List ℕ)) (failed_reads : S → ℕ) (view : InputView X Folder S) (of : Folder → FolderData) (fault : IntoBookFault) (told : CollectFault) → fault ≡ into_book.Collect told
+    → IsIntoBookFault (GivesIn view of left) (FailsIn view of left failed_reads) lates fault → MayComeAtAll told
+comes lates left failed_reads view of fault told is may =
+    any_fill (FillHistory (GivesIn view of left) lates) told (subst (λ (f : IntoBookFault). IsIntoBookFault (GivesIn view of left) (FailsIn view of left failed_reads) lates f) is may)

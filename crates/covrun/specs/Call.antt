@@ -1,20 +1,19 @@
 -- What one call of the program does: the order in which it looks for faults, and what it writes to its streams.
 use Rattle.std.specs.List.{AllByRecursion}
-use Rattle.std.specs.Prelude.{◌≡◌, ◌⊎◌, ◌≤◌, ◌*◌, ℕ, suc, List, [], ◌∷◌, ◌++◌, length, map, option_map, codes, Option, Some, None, Result, Ok, Err, IfOk, IfErr, true}
+use Rattle.std.specs.Prelude.{◌≡◌, ◌⊎◌, ◌≤◌, ℕ, suc, List, [], ◌∷◌, ◌++◌, length, map, option_map, codes, Option, Some, None, Result, Ok, Err, IfOk, IfErr, true}
 use Rattle.std.specs.String.{string_bytes}
 use Rattle.clap.specs.Words.{subcommand_of, takes, fault_of}
 use Rattle.covread.specs.Outcome.{max_bytes}
 use Rattle.covbook.specs.Op.{OpData, EntryData}
 use Rattle.covbook.specs.Gather.{LogData}
-use Rattle.covworkers.specs.Collect.{IsCollectedFrom}
-use Rattle.covworkers.specs.Late.{MayCome}
-use Rattle.covlarge.specs.Large.{max_pieces}
+use Rattle.covworkers.specs.Collect.{IsCollectedFrom, IsReadWhole, OutcomeData}
+use Rattle.covworkers.specs.Late.{FillHistory, MayCome}
 use Rattle.covjobs.specs.Start.{AreJobs}
 use Rattle.covworkers.specs.declared.collect_fault.CollectFault.{CollectFault}
 use Rattle.covworkers.specs.declared.collect_fault.CollectFault.TheVariants as collects
 use Rattle.covworkers.specs.declared.refused.RefusedInput.{RefusedInput}
 use Rattle.covrun.specs.Large.{AreWholeTexts, IsLargeOutcome}
-use Rattle.covrun.specs.Strict.{AreCollected}
+use Rattle.covrun.specs.Strict.{AreCollected, IsOutcomeFor}
 use Rattle.covrun.specs.declared.work.FileFormat.{FileFormat}
 use Rattle.covrun.specs.declared.work.FileFormat.TheVariants.{Tracefile, LargeTracefile, GcovOutput}
 use Rattle.covrun.specs.declared.text_fault.TextFault.{TextFault}
@@ -72,18 +71,19 @@ AreCollectedIn (Tracefile version) strictness texts = AreCollected strictness (m
 AreCollectedIn (LargeTracefile version) strictness texts = IsCollectedFrom (IsLargeOutcome version strictness) texts
 AreCollectedIn (GcovOutput test) strictness texts = AreCollected strictness (map (input_of (GcovOutput test)) texts)
 
--- the most submissions that this number of files can have
-abbrev pub most_submissions : FileFormat → (files : ℕ) → ℕ
-most_submissions (Tracefile version) files = files
-most_submissions (LargeTracefile version) files = files * max_pieces
-most_submissions (GcovOutput test) files = files
+-- what may be taken of a text of a file of this format
+abbrev pub IsTakenIn : FileFormat → Strictness → List ℕ → OutcomeData TextFault → Type 0
+IsTakenIn (Tracefile version) strictness text = IsReadWhole (IsOutcomeFor strictness (input_of (Tracefile version) text))
+IsTakenIn (LargeTracefile version) strictness text = IsLargeOutcome version strictness text
+IsTakenIn (GcovOutput test) strictness text = IsReadWhole (IsOutcomeFor strictness (input_of (GcovOutput test) text))
 
--- the result of collecting the texts. `BadJobs` is returned only if the number of jobs is out of range, and `Full` only if the files
--- can have at least as many submissions as a full history has entries. `Gather` is never returned
+-- the result of collecting the texts. `BadJobs` is returned only if the number of jobs is out of range, and `Full` only if the texts
+-- were read as at least as many submissions as a full history has entries. `Gather` and `NotLast` are never returned
 abbrev pub IsAnswer : WorkData → List (List ℕ) → Result CollectedData CollectFault → Type 0
 IsAnswer work texts (Ok c) =
     AreCollectedIn work.format work.strictness texts work.jobs (last_of work.asks) c.entries c.logs c.refused
-IsAnswer work texts (Err fault) = (fault ≡ collects.BadJobs → AreJobs work.jobs → ⊥) × MayCome (most_submissions work.format (length work.files)) fault
+IsAnswer work texts (Err fault) =
+    (fault ≡ collects.BadJobs → AreJobs work.jobs → ⊥) × MayCome (FillHistory (IsTakenIn work.format work.strictness) texts) fault
 
 -- the ending of a call whose collecting had this result
 abbrev pub ending_of : (file : Option (List ℕ)) → WorkData → Result CollectedData CollectFault → EndingData
@@ -91,8 +91,8 @@ ending_of file work (Ok c) = of_collected (naming_of file work) work.files work.
 ending_of file work (Err fault) = of_collect fault
 
 -- how a call that collects files ends: memory ran out; or a file can't be read; or the ending is that of collecting texts of the
--- files. If collecting ended in a fault, nothing is said of these texts: some files may not have been read. `file`: the name of the
--- file that the call names for its text
+-- files. If collecting ended in another fault than `Full`, nothing is said of these texts: some files may not have been read. `file`: the
+-- name of the file that the call names for its text
 abbrev pub WorkEnds : FolderData → (file : Option (List ℕ)) → WorkData → EndingData → Type 0
 WorkEnds folder file work ending =
     (ending ≡ Stopped faults.Memory)
@@ -171,6 +171,7 @@ abbrev pub IsServed : (status : ℕ) → WorldData → WorldData → Type 0
 IsServed status old new =
     (new.files ≡ old.files)
     × TellsSession status old.input.left new.input.left old.sinks.output new.sinks.output old.sinks.faults new.sinks.faults
+    old.sinks.held new.sinks.held
     (calls old.input.reads old.input.failed_reads old.sinks.failed_output) (calls new.input.reads new.input.failed_reads new.sinks.failed_output)
     old.sinks.failed_faults new.sinks.failed_faults
 

@@ -37,7 +37,7 @@ use Rattle.covrun.specs.Work.{QuestionData, Answer, ChosenReport, ChosenSummary,
 -- was asked for, and these lines say which rates are below their limits. `BadLine`: the words don't fit the command line.
 -- `BadWords`: the patterns, the limits, the test's name or the number of jobs are refused. `Unreadable`: a file can't be read, whose
 -- name is told like this.
--- `Stopped`: memory ran out, or the history was full. `Ungathered`: collecting ended in `Gather` or `NotLast`, which no run meets.
+-- `Stopped`: memory ran out, or the history was full. `Ungathered`: collecting ended in `Gather` or `NotLast`, which `MayCome` excludes.
 -- `Refuses`: texts were refused or clashed, and these lines report them. `IsUnclean`: the call is strict, and these lines report
 -- texts that aren't clean, or patterns that match no file
 pub data EndingData : Type 0 where

@@ -3,7 +3,7 @@ use Rattle.covbook.specs.View.{op_data}
 use Rattle.covreport.specs.ChoiceView.{choice_data}
 use Rattle.covlimit.specs.LimitsView.{limits_data}
 use Rattle.covrun.specs.Work.{QuestionData, Answer, ChosenReport, ChosenSummary, LimitedTotals, ChosenList, WorkData, TaskData, Serves, Collects, Checks}
-use Rattle.covrun.specs.Ending.{EndingData, BadWords, Unreadable, Stopped, Ungathered, Refuses, IsUnclean, with_shortfalls}
+use Rattle.covrun.specs.Ending.{EndingData, BadWords, Unreadable, Stopped, Refuses, IsUnclean, with_shortfalls}
 use Rattle.covrun.specs.declared.question.Question.{Question}
 use Rattle.covrun.specs.declared.question.Question.TheVariants as questions
 use Rattle.covrun.specs.declared.work.Work.{Work}
@@ -35,6 +35,5 @@ abbrev pub failure_data : Failure → EndingData
 failure_data (failures.Words fault) = BadWords fault
 failure_data (failures.Unreadable name) = Unreadable name
 failure_data (failures.Stopped fault) = Stopped fault
-failure_data failures.Ungathered = Ungathered
 failure_data (failures.Refused lines) = Refuses lines
 failure_data (failures.Unclean lines) = IsUnclean lines

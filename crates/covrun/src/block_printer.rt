@@ -7,7 +7,8 @@ ghost use Rattle.covsession.specs.declared.session.fault.SessionFault.TheVariant
 ghost use Rattle.covrun.specs.Printed.{HasPrinted, WritesOn, sink_data};
 
 use crate::block::{BLOCK_BYTES, Block};
-use covreport::{Noted, Printer, Printing};
+use covnamed::Printing;
+use covreport::{Noted, Printer};
 use covsession::{SessionFault, put_bytes};
 use covstream::Sink;
 use std::marker::{Brand, Model, PhantomData};

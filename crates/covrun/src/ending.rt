@@ -1,6 +1,7 @@
 //! How a run of a subcommand ends.
 
 ghost use Rattle.std.specs.Prelude.{◌≡◌};
+ghost use Rattle.covworkers.specs.Late.{MayComeAtAll};
 ghost use Rattle.covrun.specs.Ending.{of_collect};
 ghost use Rattle.covrun.specs.View.{failure_data};
 ghost use Rattle.covrun.specs.WorkFault.{of_work};
@@ -30,23 +31,23 @@ pub(crate) enum Failure {
     Unreadable(Bytes),
     /// Memory ran out, or the history was full.
     Stopped(SessionFault),
-    /// Collecting ended with `Gather` or `NotLast`, which never happens.
-    Ungathered,
     /// Files are invalid, or checksums clash, as these lines report.
     Refused(Bytes),
     /// A strict run found files that aren't clean, or patterns that match no file, as these lines report.
     Unclean(Bytes),
 }
 
-/// Turns an error of collecting into the failure of the run.
+/// Turns an error of collecting into a book into the failure of the run.
 pub(crate) fn failure_of_collect(fault: CollectFault) -> Failure
+    requires { MayComeAtAll fault }
     ensures { failure_data result ≡ of_collect fault }
 {
     match fault {
         CollectFault::BadJobs => Failure::Words(ArgumentFault::BadJobs),
         CollectFault::Full => Failure::Stopped(SessionFault::Full),
         CollectFault::Memory => Failure::Stopped(SessionFault::Memory),
-        CollectFault::Gather(_) | CollectFault::NotLast => Failure::Ungathered,
+        // `collect` alone returns these.
+        CollectFault::Gather(_) | CollectFault::NotLast => unreachable!(),
     }
 }
 

@@ -10,7 +10,7 @@ use covbook::PackedRef;
 use covcommand::{LcovVersion, Strictness};
 use covdata::{Bytes, Memory};
 use covjobs::Input;
-use covlarge::{LargeTracefile, MAX_PIECES, NextPiece, PieceFault};
+use covlarge::{LargeTracefile, NextPiece, PieceFault};
 use covworkers::{Given, LateFault, LateInput, Part};
 use std::alloc::Global;
 
@@ -42,15 +42,6 @@ impl<'a, F: Folder> LateInput<Global> for FileInput<'a, F> {
             FileFormat::LargeTracefile(version) => self.read_piece(alloc, *version),
             FileFormat::Tracefile(_) => self.read_at_once(alloc),
             FileFormat::GcovOutput(_) => self.read_at_once(alloc),
-        }
-    }
-
-    /// Returns 1, or for a large tracefile the number of chunks that may still be read.
-    fn most_parts(&self) -> u64 {
-        match (self.format, &self.opened) {
-            (FileFormat::LargeTracefile(_), Some(large)) => large.most_pieces(),
-            (FileFormat::LargeTracefile(_), None) => MAX_PIECES,
-            (FileFormat::Tracefile(_) | FileFormat::GcovOutput(_), _) => 1,
         }
     }
 }

@@ -122,7 +122,6 @@ fn say_failure<O: Sink, E: Sink>(failure: Failure, sinks: &mut Sinks<O, E>) -> u
         Failure::Words(fault) => complain(b"", fault.line(), 2, sinks),
         Failure::Unreadable(name) => complain(name.get(), b": can't read\n", 1, sinks),
         Failure::Stopped(fault) => complain(b"", line_of(fault), status_of(fault), sinks),
-        Failure::Ungathered => complain(b"", b"gather\n", 3, sinks),
         Failure::Refused(lines) => complain(b"", lines.get(), 4, sinks),
         Failure::Unclean(lines) => complain(b"", lines.get(), 5, sinks),
     }

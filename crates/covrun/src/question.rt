@@ -16,10 +16,10 @@ use covcommand::TotalsForm;
 use covdata::{Bytes, Memory};
 use covlimit::{Limits, shortfall_lines};
 use covlist::{list_json, list_table, summary_json};
-use covreport::{Choice, Printing, chosen_totals, summary_text};
+use covnamed::{CollectedBook, Printing};
+use covreport::{Choice, chosen_totals, summary_text};
 use covstore::Store;
 use covtable::Totals;
-use covworkers::CollectedBook;
 use std::alloc::Global;
 
 /// The question that a run answers after its files are collected.

@@ -2,7 +2,7 @@
 
 use crate::block::Block;
 use crate::block_printer::print_text;
-use covreport::Printing;
+use covnamed::Printing;
 use covsession::SessionFault;
 use covstream::Sink;
 use std::alloc::{AllocError, Global};

@@ -8,7 +8,8 @@ ghost use Rattle.covsession.specs.declared.session.fault.SessionFault.TheVariant
 ghost use Rattle.covrun.specs.Streams.{CanWrite, Complains, IsSilent, PutsOut, Withholds};
 
 use crate::ready_text::ReadyText;
-use covsession::{SessionFault, put_bytes, run_session};
+use covnamed::run_session;
+use covsession::{SessionFault, put_bytes};
 use covstream::{Sink, Source};
 use std::alloc::Global;
 use std::marker::Model;
@@ -43,6 +44,7 @@ impl<O: Sink, E: Sink> Sinks<O, E> {
         requires failed_reads { I.failed_reads input.old < 2 ^ 62 }
         requires sinks { CanWrite self.old }
         ensures { TellsSession result (I.left input.old) (I.left input.new) self.old.output self.new.output self.old.faults self.new.faults
+            self.old.held self.new.held
             (calls (I.reads input.old) (I.failed_reads input.old) self.old.failed_output)
             (calls (I.reads input.new) (I.failed_reads input.new) self.new.failed_output)
             self.old.failed_faults self.new.failed_faults }

@@ -34,14 +34,15 @@ abbrev pub HasNoFault : CallsData → CallsData → Type 0
 HasNoFault old new =
     (new.failed_reads ≡ old.failed_reads) × (new.failed_writes ≡ old.failed_writes) × (new.reads ≤ old.reads + 2 ^ 32)
 
--- a session ran over an input and an output, and this is the exit status. If it is 0, the session ended well. Any other status is
--- that of a fault: the session was cut short, the counts of calls show the cause, and only whole answers were written, unless the
--- fault is `Write`. The fault's line was written to the stream for faults, unless a write to that stream failed
-abbrev pub TellsSession : (status : ℕ) → (left left_after written written_after told told_after : Option (List ℕ))
+-- a session ran over an input and an output, and this is the exit status. If it is 0, the session ended well, and the output holds
+-- nothing back. Any other status is that of a fault: the session was cut short, and the counts of calls show the cause. Unless the
+-- fault is `Write`, only whole answers were written, and the output holds back no more than before. The fault's line was written to
+-- the stream for faults, unless a write to that stream failed. `held`: how many bytes the output may hold back
+abbrev pub TellsSession : (status : ℕ) → (left left_after written written_after told told_after : Option (List ℕ)) → (held held_after : ℕ)
     → (before after : CallsData) → (failures failures_after : ℕ) → Type 0
-TellsSession status left left_after written written_after told told_after before after failures failures_after =
+TellsSession status left left_after written written_after told told_after held held_after before after failures failures_after =
     (ended : Result (Unit {0}) SessionFault) × (status ≡ end_status ended)
-    × OnOk ended (IsWholeSession left left_after written written_after × HasNoFault before after)
+    × OnOk ended (IsWholeSession left left_after written written_after × HasNoFault before after × (held_after ≡ 0))
     × IfErr ended (λ fault. IsCutShort fault left left_after written written_after × HasCause fault before after
-    × (fault ≢ Write → HasAnswered fault left left_after written written_after))
+    × (fault ≢ Write → HasAnswered fault left left_after written written_after) × (fault ≢ Write → held_after ≤ held))
     × (failures_after ≡ failures → Appends told told_after (end_words ended))

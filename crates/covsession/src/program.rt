@@ -7,6 +7,7 @@ ghost use Rattle.covsession.specs.Session.{said};
 
 use crate::session::output::put_bytes;
 use crate::session::{SessionFault, session};
+use covreport::Table;
 use covstream::{Sink, Source};
 use std::alloc::Allocator;
 
@@ -35,7 +36,7 @@ pub fn line_of(fault: SessionFault) -> &'static [u8]
 /// Runs a session from `source` to `sink`, and returns the exit status: 0 if the session ended well, 1 if a stream failed, 3 if
 /// memory ran out or the history was full. Writes the line about an error to `faults`. Only the status reports an error whose line
 /// can't be written.
-pub fn run_session<I: Source, O: Sink, E: Sink, A: Allocator + Copy>(
+pub fn run_session<I: Source, O: Sink, E: Sink, A: Allocator + Copy, T: Table<A>>(
     alloc: A,
     source: &mut I,
     sink: &mut O,
@@ -46,12 +47,12 @@ pub fn run_session<I: Source, O: Sink, E: Sink, A: Allocator + Copy>(
     requires failed_writes { O.failed_writes sink.old < 2 ^ 62 }
     requires failed_words { E.failed_writes faults.old < 2 ^ 62 }
     ensures { TellsSession result (I.left source.old) (I.left source.new) (O.written sink.old) (O.written sink.new)
-        (E.written faults.old) (E.written faults.new)
+        (E.written faults.old) (E.written faults.new) (O.held sink.old) (O.held sink.new)
         (calls (I.reads source.old) (I.failed_reads source.old) (O.failed_writes sink.old))
         (calls (I.reads source.new) (I.failed_reads source.new) (O.failed_writes sink.new))
         (E.failed_writes faults.old) (E.failed_writes faults.new) }
 {
-    match session(alloc, source, sink) {
+    match session::<I, O, A, T>(alloc, source, sink) {
         Ok(()) => 0,
         Err(fault) => {
             // There is no other stream on which to report a failure of this write.

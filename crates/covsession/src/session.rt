@@ -29,6 +29,7 @@ use crate::session::submit::{Given, answer_given, take_text};
 use crate::session::text::{LineEnd, Text};
 pub use answers::{clash_line, refused_line};
 use covbook::{Book, Entry};
+use covreport::Table;
 use covstream::{Sink, Source};
 pub use fault::SessionFault;
 pub use output::put_bytes;
@@ -36,8 +37,9 @@ use std::alloc::Allocator;
 use std::mem;
 use std::snapshot::Snapshot;
 
-// The book of a session. No session returns its history, so the book stores no entries: entries exist only in proofs.
-pub(crate) type SessionBook<A> = Book<A, Snapshot<Entry<A>>>;
+// The book of a session, over the store `T`. No session returns its history, so the book stores no entries: entries exist only in
+// proofs.
+pub(crate) type SessionBook<A, T> = Book<A, T, Snapshot<Entry<A>>>;
 
 // Returns the format of the text after the command line `word`, or `None` if no text follows. `ending` tells how the line ended.
 fn text_following(word: Word<'_>, ending: LineEnd) -> Option<Format<'_>>
@@ -80,9 +82,9 @@ fn names_after(word: Word<'_>, ending: LineEnd) -> bool
 
 // Reads the next command and answers it. Does nothing at the end of the input. Returns how the command's last line ended. `room` is
 // a buffer for the command's text.
-fn answer_command<I: Source, O: Sink, A: Allocator + Copy>(
+fn answer_command<I: Source, O: Sink, A: Allocator + Copy, T: Table<A>>(
     alloc: A,
-    book: &mut SessionBook<A>,
+    book: &mut SessionBook<A, T>,
     input: &mut SessionInput<'_, I, A>,
     output: &mut Output<'_, O, A>,
     room: &mut Vec<u8, A>,
@@ -112,7 +114,7 @@ fn answer_command<I: Source, O: Sink, A: Allocator + Copy>(
 }
 
 // Answers all commands of `input` with a new book.
-fn answer_all<I: Source, O: Sink, A: Allocator + Copy>(
+fn answer_all<I: Source, O: Sink, A: Allocator + Copy, T: Table<A>>(
     alloc: A,
     input: &mut SessionInput<'_, I, A>,
     output: &mut Output<'_, O, A>,
@@ -122,7 +124,7 @@ fn answer_all<I: Source, O: Sink, A: Allocator + Copy>(
     ensures broken { IfErr result (λ f. IsBroken (moment input.old output.old) (moment input.new output.new) f) }
 {
     let mut room = Vec::new(alloc);
-    let mut book = SessionBook::keeping(alloc);
+    let mut book: SessionBook<A, T> = SessionBook::keeping(alloc);
     loop {
         match answer_command(alloc, &mut book, input, output, &mut room)? {
             LineEnd::Feed => {}
@@ -132,7 +134,7 @@ fn answer_all<I: Source, O: Sink, A: Allocator + Copy>(
 }
 
 // Answers all commands, and flushes the answers. An error also flushes the answers before it, unless a write failed.
-fn answer_to_the_end<I: Source, O: Sink, A: Allocator + Copy>(
+fn answer_to_the_end<I: Source, O: Sink, A: Allocator + Copy, T: Table<A>>(
     alloc: A,
     input: &mut SessionInput<'_, I, A>,
     output: &mut Output<'_, O, A>,
@@ -143,15 +145,15 @@ fn answer_to_the_end<I: Source, O: Sink, A: Allocator + Copy>(
     ensures broken { IfErr result (λ f. IsBroken (moment input.old output.old) (moment input.new output.new) f) }
     ensures idle { IfErr result (λ f. f ≢ faults.Write → IsIdle output.new) }
 {
-    match answer_all(alloc, input, output) {
+    match answer_all::<I, O, A, T>(alloc, input, output) {
         Ok(()) => output.send_on(),
         Err(fault) => Err(output.stop(fault)),
     }
 }
 
-/// Answers the commands of `source` with a new book, as job 0, and writes the answers to `sink`. Rejects a text of more than
-/// 67,108,864 bytes, and stores no further byte of the text. Buffers at most 65,536 bytes of output. Before each read and at the
-/// end, writes the buffer and flushes the sink, unless the sink has taken no byte since the session last flushed it.
+/// Answers the commands of `source` with a new book, as job 0, and writes the answers to `sink`. `T` is the book's store. Rejects a
+/// text of more than 67,108,864 bytes, and stores no further byte of the text. Buffers at most 65,536 bytes of output. Before each
+/// read and at the end, writes the buffer and flushes the sink, unless the sink has taken no byte since the session last flushed it.
 ///
 /// # Errors
 ///
@@ -160,7 +162,7 @@ fn answer_to_the_end<I: Source, O: Sink, A: Allocator + Copy>(
 /// sink has taken begin two session texts: the text of the bytes that were read, and the text of the whole input. These bytes are
 /// the whole answers to the commands before the error, and were flushed, unless the error is `Write`. The session returns `Write`
 /// if a write fails after another error.
-pub fn session<I: Source, O: Sink, A: Allocator + Copy>(
+pub fn session<I: Source, O: Sink, A: Allocator + Copy, T: Table<A>>(
     alloc: A,
     source: &mut I,
     sink: &mut O,
@@ -192,7 +194,7 @@ pub fn session<I: Source, O: Sink, A: Allocator + Copy>(
     let block = block(alloc)?;
     let mut input = SessionInput::new(block, source);
     let mut output = Output::new(alloc, sink);
-    let ended = answer_to_the_end(alloc, &mut input, &mut output);
+    let ended = answer_to_the_end::<I, O, A, T>(alloc, &mut input, &mut output);
     input.into_source();
     output.into_sink();
     ended

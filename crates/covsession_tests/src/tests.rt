@@ -4,7 +4,8 @@
 
 ghost use Rattle.std.specs.Prelude.{◌<◌, ◌^◌};
 
-use covsession::session::{SessionFault, session};
+use covnamed::session;
+use covsession::session::SessionFault;
 use covstream::{FromRead, FromWrite, Sink, Source};
 use std::alloc::Global;
 use std::process::Abort;

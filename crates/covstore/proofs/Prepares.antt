@@ -1,5 +1,6 @@
 -- What `prepare` gives is right for any table that the store represents: the plan, its totals, or the clash.
-use Rattle.covstore.proofs.Words.{◌≡◌, ◌+◌, ◌*◌, ◌<◌, ◌≤◌, ◌^◌, None, [], ◌∷◌, ◌++◌, length, sym, ap, ◌∙◌, subst, arith, AllByRecursion, length-append, SubmissionData, rows_of, Totals, Agree, checksums_in, clash_of, content_at, content_of, AddsRows, ClashesWith, HasRoomForRows, IsPlanOf, PlanData, SameCommitted, StandsFor, StoreData, max_members, IsStateOf, sections_of, totals_in, Table, all_rows, clash_at, AreTotals, totals_of}
+use Rattle.covstore.proofs.Words.{◌≡◌, ◌+◌, ◌*◌, ◌<◌, ◌≤◌, ◌^◌, None, [], ◌∷◌, ◌++◌, length, sym, ap, ◌∙◌, subst, arith, AllByRecursion, length-append, SubmissionData, rows_of, Totals, Agree, checksums_in, clash_of, content_at, content_of, AddsRows, ClashesWith, HasRoomForRows, IsPlanOf, PlanData, SameCommitted, StandsFor, StoreData, IsStateOf, sections_of, totals_in, Table, all_rows, clash_at, AreTotals, totals_of}
+use Rattle.covtable.specs.Shown.{max_members}
 use Rattle.covdata.specs.Lawful.{IsLawful, max_items}
 use Rattle.covtable.specs.Refuse.{IsRefusedAt, RefuseData, ClashRefuse, MemoryRefuse}
 use Rattle.covstore.specs.StoreKept.{IsKept}

@@ -20,7 +20,7 @@ pub use Rattle.covstore.specs.Renaming.{AddsPoints, Copies, CopiesIn, HasHolders
 pub use Rattle.covstore.specs.Runs.{AddendOf, HasRoomForRuns, KeepsCountsOfKinds, KeepsHeld, RunOf, addend_of, as_run, points_with, run_of, runs_of, runs_with, sum_of, with_items, with_runs}
 pub use Rattle.covstore.specs.Section.{Adds, Clashes, ClashesAt, HasRoomFor, IsIn, clash_in_file, files_with, section_of_items}
 pub use Rattle.covstore.specs.State.{FileData, IsConsistentFile, IsIndexOf, IsStateOf, branch_seen, file_totals, file_with, found_at, function_seen, has_checksum, has_no_points, has_points_of, hit_at, holders_at, holding, is_empty_list, line_seen, points_at, points_in, points_or_none, section_seen, section_with_points, sections_of, sections_of_file, tests_in, text_at, text_in, totals_in}
-pub use Rattle.covstore.specs.Store.{AddsRows, AddsTo, ClashesAmong, ClashesWith, HasRoomForRows, IsPlanOf, KeepsState, PlanData, SameCommitted, StandsFor, StoreData, max_members}
+pub use Rattle.covstore.specs.Store.{AddsRows, AddsTo, ClashesAmong, ClashesWith, HasRoomForRows, IsPlanOf, KeepsState, PlanData, SameCommitted, StandsFor, StoreData}
 pub use Rattle.covstore.specs.StoreView.{AreSettledBut, IsSettledBut, IsStore, files_committed, files_staged, tests_of, touched_data}
 pub use Rattle.covstore.specs.Sums.{TestData, branch_sum, branch_with, function_sum, function_with, line_sum, line_with, sum_at, sum_taken, test_of, with_item}
 pub use Rattle.covstore.specs.TestView.{test_committed, test_staged}

@@ -1,18 +1,14 @@
 -- What a store is to its callers: its content, the tables that it represents, and what is staged.
 use Rattle.std.specs.Prelude.{◌≡◌, ℕ, ◌+◌, ◌<◌, ◌≤◌, ◌^◌, List, ◌++◌, Some, None, length}
-use Rattle.std.specs.List.{AllByRecursion}
 use Rattle.covdata.specs.Row.{Row, SubmissionData, rows_of}
-use Rattle.covdata.specs.Lawful.{IsLawful, max_items}
+use Rattle.covdata.specs.Lawful.{IsLawful}
 use Rattle.covtable.specs.declared.totals.Totals.{Totals}
 use Rattle.covtable.specs.Clash.{Agree, checksums_in, clash_of}
-use Rattle.covtable.specs.Content.{SectionData, content_at}
+use Rattle.covtable.specs.Content.{SectionData}
 use Rattle.covtable.specs.Refuse.{RefuseData, ClashRefuse, MemoryRefuse}
 use Rattle.covstore.specs.State.{FileData, IsStateOf, totals_in}
-use Rattle.covtable.specs.Table.{Table, all_rows}
-
--- the largest number of submissions in a store
-abbrev pub max_members : ℕ
-max_members = 1048576
+use Rattle.covtable.specs.Shown.{ShownData, max_members, SameContent as SameShown, StandsFor as ShownFor}
+use Rattle.covtable.specs.Table.{Table}
 
 -- the sections, and the number of submissions; the files, committed and staged; and the totals after the next commit
 pub record StoreData : Type 0 where
@@ -22,10 +18,13 @@ pub record StoreData : Type 0 where
   pub staged : List (List ℕ × FileData)
   pub after : Totals
 
+-- what the store shows to its callers
+abbrev pub shown_of : StoreData → ShownData
+shown_of store = record { sections = store.sections; members = store.members }
+
 -- the same content; what is staged may differ
-pub record SameContent (before after : StoreData) : Type 0 where
-  pub sections : after.sections ≡ before.sections
-  pub members : after.members ≡ before.members
+abbrev pub SameContent : StoreData → StoreData → Type 0
+SameContent before after = SameShown (shown_of before) (shown_of after)
 
 -- if the files before are the state of some rows, the files after are their state too. The totals of both are the same. Files and
 -- tests without points may be added
@@ -39,15 +38,9 @@ pub record SameCommitted (before after : StoreData) : Type 0 where
   pub members : after.members ≡ before.members
   pub committed : KeepsState before.committed after.committed
 
--- the store represents the table: its content is the value of all rows of the table, and it has as many submissions as the table
--- has members. In the table, no line of a file has two different checksums. The table has at most `max_members` members, and each
--- of them has at most `max_items` rows
-pub record StandsFor (store : StoreData) (table : Table) : Type 0 where
-  pub content : store.sections ≡ content_at table
-  pub members : store.members ≡ length table
-  pub agree : Agree (checksums_in (all_rows table))
-  pub few : length table ≤ max_members
-  pub small : AllByRecursion (λ rows. length rows ≤ max_items) table
+-- the store represents the table
+abbrev pub StandsFor : StoreData → Table → Type 0
+StandsFor store table = ShownFor (shown_of store) table
 
 -- a plan: the totals after its commit. What makes it a plan of a store is private to the store
 pub record PlanData : Type 0 where

@@ -10,7 +10,7 @@ use Rattle.covtable.specs.Clash.{Agree, checksums_in}
 use Rattle.covstore.specs.FileView.{file_staged, file_committed}
 use Rattle.covstore.specs.FileIndexView.{index_staged, index_committed}
 use Rattle.covstore.specs.State.{FileData, IsStateOf, totals_in}
-use Rattle.covstore.specs.Store.{max_members}
+use Rattle.covtable.specs.Shown.{max_members}
 use Rattle.covtable.specs.Table.{Table, all_rows}
 use Rattle.covstore.specs.TestView.{test_staged, test_committed}
 

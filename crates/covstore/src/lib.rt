@@ -4,6 +4,7 @@
 //! submission, has for the same line of the same file. Lines without a checksum are never compared.
 //!
 //! The contracts say which table of counts a store represents. covtable defines the table, its content, its totals and its clashes.
+//! `Store` implements covtable's trait `Table`. Crates that work with any table use the trait, and don't name this crate.
 //!
 //! A submission is added in two steps. `prepare` compares checksums, allocates all memory and returns a plan. `commit` adds the
 //! submission and never allocates. Between the two steps, the caller can make allocations of its own, and can drop the plan if one
@@ -32,6 +33,7 @@
 #![tactic(auto)]
 
 mod all_files;
+mod as_table;
 mod boxed;
 mod checksums;
 mod content;

@@ -164,7 +164,8 @@ impl<A: Allocator + Copy> Store<A> {
     ghost use Rattle.covpacked.specs.PackedSects.{packed_sect_data};
     ghost use Rattle.covtable.specs.Content.{content_at};
     ghost use Rattle.covtable.specs.Files.{files_with_totals};
-    ghost use Rattle.covstore.specs.Store.{AddsRows, ClashesWith, HasRoomForRows, IsPlanOf, SameContent, SameCommitted, StandsFor, max_members};
+    ghost use Rattle.covstore.specs.Store.{AddsRows, ClashesWith, HasRoomForRows, IsPlanOf, SameContent, SameCommitted, StandsFor};
+    ghost use Rattle.covtable.specs.Shown.{max_members};
     ghost use Rattle.covtable.specs.Refuse.{IsRefusedAt};
     ghost use Rattle.covstore.specs.StoreSection.{rows_of_items};
     ghost use Rattle.covstore.specs.StoreKept.{IsKept};

@@ -66,4 +66,4 @@ pub read_failed : (old now new : Option (List ℕ)) (text : List ℕ) (failed fa
     → failed_now ≡ failed → IsReadFault now new failed_now failed_new fault → IsReadFault old new failed failed_new fault
 read_failed old now new text failed failed_now failed_new Unreadable before same (bytes, took, more) =
     (text ++ bytes, Consumes-trans old now new text bytes before took, more ∙ ap suc same)
-read_failed old now new text failed failed_now failed_new Memory before same fault = tt
+read_failed old now new text failed failed_now failed_new Memory before same kept = kept ∙ same

@@ -20,7 +20,7 @@ HasReadBlock left left_after text text_after room count =
     (bytes : List ℕ) × Consumes left left_after bytes × (text_after ≡ text ++ bytes) × (length bytes ≡ count) × (count ≤ room)
     × (count ≡ 0 → 0 < room → IsAtEnd left_after)
 
--- why no text was read: a read failed after these bytes, or memory ran out
+-- why no text was read: a read failed after these bytes, or memory ran out and no read failed
 abbrev pub IsReadFault : (left left_after : Option (List ℕ)) → (failed failed_after : ℕ) → BlockFault → Type 0
 IsReadFault left left_after failed failed_after Unreadable = (bytes : List ℕ) × Consumes left left_after bytes × (failed_after ≡ suc failed)
-IsReadFault left left_after failed failed_after Memory = Unit {0}
+IsReadFault left left_after failed failed_after Memory = failed_after ≡ failed

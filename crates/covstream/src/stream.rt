@@ -1,6 +1,6 @@
 //! The traits of byte streams, a source and a sink, and their implementations over std's readers and writers.
 
-ghost use Rattle.std.specs.Prelude.{◌≡◌, ◌≢◌, ℕ, ◌+◌, ◌^◌, ◌<◌, ◌≤◌, List, [], Option, None, length, take, MatchResult, IfOk, OnOk, OnErr};
+ghost use Rattle.std.specs.Prelude.{◌≡◌, ◌≢◌, ℕ, ◌+◌, ◌-◌, ◌^◌, ◌<◌, ◌≤◌, List, [], Option, None, length, min, take, MatchResult, IfOk, OnOk, OnErr};
 ghost use Rattle.std.specs.Io.KnownBytes.{Consumes, Appends, Keeps, IsAtEnd, ReadConsumes, WriteAppends};
 
 use std::io;
@@ -141,7 +141,16 @@ impl<W: io::Write> Sink for FromWrite<W> {
 
     ghost failed_writes = { λ s. s.failed };
 
-    fn write(&mut self, bytes: &[u8]) -> Result<usize, Failed> {
+    // The trait's clauses, and that taken bytes count as held back.
+    fn write(&mut self, bytes: &[u8]) -> Result<usize, Failed>
+        requires { self.old.failed < 2 ^ 63 }
+        ensures bound { IfOk result (λ n. n ≤ length bytes.now) }
+        ensures some { IfOk result (λ n. n ≡ 0 → length bytes.now ≡ 0) }
+        ensures bytes { WriteAppends (W.contents self.old.writer) (W.contents self.new.writer) result bytes.now }
+        ensures good { OnOk result (self.new.failed ≡ self.old.failed) }
+        ensures failed { OnErr result (self.new.failed ≡ self.old.failed + 1) }
+        ensures held { IfOk result (λ n. self.new.held ≡ min (self.old.held + n) (2 ^ 64 - 1)) }
+    {
         match self.writer.write(bytes) {
             Ok(n) if n > 0 || bytes.is_empty() => {
                 self.held = self.held.saturating_add(n as u64);
@@ -154,7 +163,15 @@ impl<W: io::Write> Sink for FromWrite<W> {
         }
     }
 
-    fn flush(&mut self) -> Result<(), Failed> {
+    // The trait's clauses, and that after a failed flush all that was held back still counts so.
+    fn flush(&mut self) -> Result<(), Failed>
+        requires { self.old.failed < 2 ^ 63 }
+        ensures bytes { Keeps (W.contents self.old.writer) (W.contents self.new.writer) }
+        ensures sent { OnOk result (self.new.held ≡ 0) }
+        ensures good { OnOk result (self.new.failed ≡ self.old.failed) }
+        ensures failed { OnErr result (self.new.failed ≡ self.old.failed + 1) }
+        ensures unsent { OnErr result (self.new.held ≡ self.old.held) }
+    {
         match self.writer.flush() {
             Ok(()) => {
                 self.held = 0;

@@ -18,3 +18,4 @@ pub mod Alike
 pub mod AlikeContents
 pub mod WithoutContent
 pub mod RenamedTables
+pub mod Walks

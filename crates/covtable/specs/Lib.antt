@@ -14,3 +14,5 @@ pub mod TotalsExchanged
 pub mod Without
 pub mod Renamed
 pub mod Files
+pub mod Shown
+pub mod Walks

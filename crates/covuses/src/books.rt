@@ -5,8 +5,9 @@ ghost use Rattle.covbook.specs.Op.{SubmitOp, ReportOp};
 ghost use Rattle.covbook.specs.Step.{answer_of, table_of};
 ghost use Rattle.covbook.specs.View.{answer_data};
 
-use covbook::{Answer, Book, BookFault, Op, SubRef};
+use covbook::{Answer, BookFault, Op, SubRef};
 use covdata::Submission;
+use covnamed::Book;
 use std::alloc::Global;
 
 /// Returns a new book's answers to a submission, and then to a report.

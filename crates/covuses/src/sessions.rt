@@ -3,8 +3,8 @@
 ghost use Rattle.std.specs.Prelude.{IfOk, Some};
 ghost use Rattle.covsession.specs.Session.{IsSession};
 
+use covnamed::session;
 use covsession::SessionFault;
-use covsession::session::session;
 use covstream::{Failed, FromRead, Sink};
 use std::alloc::Global;
 

@@ -19,6 +19,7 @@ pub mod Stopped
 pub mod Submitted
 pub mod Taken
 pub mod Together
+pub mod Filled
 pub mod Unread
 pub mod SoFar
 pub mod Whole

@@ -1,5 +1,5 @@
 -- An input that is read part by part is taken part by part.
-use Rattle.std.proofs.Common.{◌≡◌, ◌∙◌, ℕ, suc, ◌+◌, ◌<◌, List, [], ◌∷◌, ◌++◌, length, map, Option, None, Some, Result, Ok, Err, ap, sym, refl, subst, arith, append_assoc}
+use Rattle.std.proofs.Common.{◌≡◌, ◌∙◌, ℕ, suc, ◌+◌, ◌<◌, ◌≤◌, List, [], ◌∷◌, ◌++◌, length, map, Option, None, Some, Result, Ok, Err, ap, sym, refl, subst, arith, append_assoc}
 use Rattle.std.specs.List.{sum_by}
 use Rattle.std.specs.Prelude.{IfOk, IfSome}
 use Rattle.std.specs.Result.{result_err}
@@ -17,7 +17,7 @@ use Rattle.covworkers.specs.declared.stop.Stop.TheVariants as stops
 use Rattle.covworkers.specs.Collect.{HasRead, whole, submitted, refusal, ops_in}
 use Rattle.covworkers.specs.Late.{IsNextPart}
 use Rattle.covworkers.specs.Stops.{IsStopAt, of_late}
-use Rattle.covworkers.specs.Work.{Chances, Takes, WorkerData, HasOutcome, GivesLeft, IsPartOf, IsReading, in_front}
+use Rattle.covworkers.specs.Work.{Chances, Takes, WorkerData, HasParts, GivesLeft, IsPartOf, IsReading, in_front, one_if_read}
 use Rattle.covworkers.proofs.Taken.{Outcome, nothing}
 
 -- ---- a part that is read
@@ -43,10 +43,14 @@ same_lists : {F : Type 0} (first : Option BookFault) (worker : WorkerData F) →
 same_lists None worker = tt
 same_lists (Some fault) worker = (refl, refl)
 
+-- an outcome with some parts has fewer parts as well
+fewer_parts : {F : Type 0} (Gives : Outcome F → Type 0) (parts fewer : ℕ) → fewer ≤ parts → HasParts Gives parts → HasParts Gives fewer
+fewer_parts Gives parts fewer few (outcome, is, many) = (outcome, is, omega (arith, few, many))
+
 -- nothing is read yet
-pub none_of_it : {X F : Type 0} (chances : Chances X F) (index : ℕ) (input : X) (first : Option BookFault) (worker : WorkerData F) → IsReading chances index input first worker (Some input) first worker
+pub none_of_it : {X F : Type 0} (chances : Chances X F) (index : ℕ) (input : X) (first : Option BookFault) (worker : WorkerData F) → IsReading chances index input first worker (Some input) first 0 worker
 none_of_it chances index input first worker =
-    record { outcome = λ has. has; fails = λ may. may; well = λ is. is; kept = same_first first; idle = same_lists first worker; taken = λ none asks refuses takes. takes; read = λ none so_far. so_far }
+    record { outcome = λ more has. fewer_parts (chances.Gives input) more (0 + more) (omega arith) has; fails = λ may. may; well = λ is. is; kept = same_first first; idle = same_lists first worker; taken = λ none asks refuses takes. takes; read = λ none so_far. so_far }
 
 still_fails : {X : Type 0} (MayFail : X → Type 0) (input rest : X) (left : Option X) → (MayFail rest → MayFail input) → IfSome left (λ more. MayFail more → MayFail rest) → IfSome left (λ more. MayFail more → MayFail input)
 still_fails MayFail input rest None fails more = tt
@@ -65,10 +69,10 @@ still_idle (Some first) fault old between new is idle more =
     (behind.0 ∙ idle.0, behind.1 ∙ idle.1)
 
 -- more parts are read of what is left
-pub more_of_it : {X F : Type 0} (chances : Chances X F) (index : ℕ) (input rest : X) (left : Option X) (first fault after : Option BookFault) (old between new : WorkerData F)
-    → IsReading chances index input first old (Some rest) fault between → IsReading chances index rest fault between left after new → IsReading chances index input first old left after new
-more_of_it chances index input rest left first fault after old between new so_far more = record {
-  outcome = λ has. so_far.outcome (more.outcome has);
+pub more_of_it : {X F : Type 0} (chances : Chances X F) (index : ℕ) (input rest : X) (left : Option X) (first fault after : Option BookFault) (parts others all : ℕ) (old between new : WorkerData F)
+    → all ≤ parts + others → IsReading chances index input first old (Some rest) fault parts between → IsReading chances index rest fault between left after others new → IsReading chances index input first old left after all new
+more_of_it chances index input rest left first fault after parts others all old between new few so_far more = record {
+  outcome = λ n has. fewer_parts (chances.Gives input) (parts + (others + n)) (all + n) (omega (arith, few)) (so_far.outcome (others + n) (more.outcome n has));
   fails = still_fails chances.MayFail input rest left so_far.fails more.fails;
   well = λ none. so_far.well (more.well none);
   kept = still_kept first fault after so_far.kept more.kept;
@@ -79,10 +83,21 @@ more_of_it chances index input rest left first fault after old between new so_fa
 
 -- ---- one part
 
-part_given : {X F : Type 0} (Gives : X → Outcome F → Type 0) (input : X) (part : Result SubmissionData F) (left : Option X) → IsPartOf Gives input part left → HasOutcome (GivesLeft Gives left) → HasOutcome (Gives input)
-part_given Gives input part None is has = (whole part, is)
-part_given Gives input (Ok submission) (Some rest) is has = (in_front submission has.0, is has.0 has.1)
-part_given Gives input (Err fault) (Some rest) is has = absurd is
+part_given : {X F : Type 0} (Gives : X → Outcome F → Type 0) (input : X) (part : Result SubmissionData F) (left : Option X) → IsPartOf Gives input part left → (more : ℕ) → HasParts (GivesLeft Gives left) more
+    → HasParts (Gives input) (one_if_read part + more)
+part_given {X} {F} Gives input (Ok submission) None is more (outcome, none, many) =
+    let no_more : length outcome.read ≡ 0 = ap (λ (o : Outcome F). length o.read) none in
+    (whole (Ok submission), is, omega (arith, many, no_more))
+part_given {X} {F} Gives input (Err fault) None is more (outcome, none, many) =
+    let no_more : length outcome.read ≡ 0 = ap (λ (o : Outcome F). length o.read) none in
+    (whole (Err fault), is, omega (arith, many, no_more))
+part_given Gives input (Ok submission) (Some rest) is more (outcome, gives, many) = (in_front submission outcome, is outcome gives, omega (arith, many))
+part_given Gives input (Err fault) (Some rest) is more has = absurd is
+
+-- the same for the number of parts that was counted
+parts_given : {X F : Type 0} (Gives : X → Outcome F → Type 0) (input : X) (part : Result SubmissionData F) (left : Option X) (parts : ℕ) → IsPartOf Gives input part left → parts ≡ one_if_read part
+    → (more : ℕ) → HasParts (GivesLeft Gives left) more → HasParts (Gives input) (parts + more)
+parts_given Gives input part left parts is same more has = subst (λ (n : ℕ). HasParts (Gives input) (n + more)) (sym same) (part_given Gives input part left is more has)
 
 -- a part is taken: with an outcome of what is left, the input is taken
 one_taken : {X F : Type 0} (Gives : X → Outcome F → Type 0) (index : ℕ) (input : X) (part : Result SubmissionData F) (left : Option X) (asked now asks : List OpData) (refused now_refused refuses : List (RefusedInput F))
@@ -105,14 +120,14 @@ one_taken {X} {F} Gives index input (Ok submission) (Some rest) asked now asks r
 one_taken Gives index input (Err fault) (Some rest) asked now asks refused now_refused refuses is submits tells takes = absurd is
 
 -- one part is read and taken, or a call or list is refused
-pub part_taken : {X F : Type 0} (chances : Chances X F) (index : ℕ) (input : X) (part : Result SubmissionData F) (left : Option X) (fault : Option BookFault) (old new : WorkerData F)
-    → IsPartOf chances.Gives input part left → IfSome left (λ rest. chances.MayFail rest → chances.MayFail input)
+pub part_taken : {X F : Type 0} (chances : Chances X F) (index : ℕ) (input : X) (part : Result SubmissionData F) (left : Option X) (fault : Option BookFault) (parts : ℕ) (old new : WorkerData F)
+    → IsPartOf chances.Gives input part left → parts ≡ one_if_read part → IfSome left (λ rest. chances.MayFail rest → chances.MayFail input)
     → (fault ≡ None → ops_in new.receipts ≡ ops_in old.receipts ++ map SubmitOp (submitted (whole part)))
     → (fault ≡ None → new.refused ≡ old.refused ++ refusal index (whole part))
     → (fault ≡ None → HasRead old.has_reader old.receipts old.readings → HasRead new.has_reader new.receipts new.readings)
-    → IsReading chances index input None old left fault new
-part_taken chances index input part left fault old new is fails submits tells read = record {
-  outcome = part_given chances.Gives input part left is;
+    → IsReading chances index input None old left fault parts new
+part_taken chances index input part left fault parts old new is same fails submits tells read = record {
+  outcome = parts_given chances.Gives input part left parts is same;
   fails = fails;
   well = λ none. refl;
   kept = tt;
@@ -122,11 +137,11 @@ part_taken chances index input part left fault old new is fails submits tells re
 }
 
 -- after a refused call or list a part is only read
-pub part_read : {X F : Type 0} (chances : Chances X F) (index : ℕ) (input : X) (part : Result SubmissionData F) (left : Option X) (fault : BookFault) (worker : WorkerData F)
-    → IsPartOf chances.Gives input part left → IfSome left (λ rest. chances.MayFail rest → chances.MayFail input)
-    → IsReading chances index input (Some fault) worker left (Some fault) worker
-part_read chances index input part left fault worker is fails = record {
-  outcome = part_given chances.Gives input part left is;
+pub part_read : {X F : Type 0} (chances : Chances X F) (index : ℕ) (input : X) (part : Result SubmissionData F) (left : Option X) (fault : BookFault) (parts : ℕ) (worker : WorkerData F)
+    → IsPartOf chances.Gives input part left → parts ≡ one_if_read part → IfSome left (λ rest. chances.MayFail rest → chances.MayFail input)
+    → IsReading chances index input (Some fault) worker left (Some fault) parts worker
+part_read chances index input part left fault parts worker is same fails = record {
+  outcome = parts_given chances.Gives input part left parts is same;
   fails = fails;
   well = λ none. none;
   kept = refl;
@@ -143,13 +158,14 @@ if_no_fault (Err found) fault Holds is holds none = absurd (none-some found (sym
 -- ---- the whole input
 
 -- nothing is left of the input, so it had an outcome
-pub had_outcome : {X F : Type 0} (chances : Chances X F) (index : ℕ) (input : X) (first fault : Option BookFault) (old new : WorkerData F) → IsReading chances index input first old None fault new → HasOutcome (chances.Gives input)
-had_outcome chances index input first fault old new all = all.outcome (nothing, refl)
+pub had_outcome : {X F : Type 0} (chances : Chances X F) (index : ℕ) (input : X) (first fault : Option BookFault) (parts : ℕ) (old new : WorkerData F) → IsReading chances index input first old None fault parts new
+    → HasParts (chances.Gives input) parts
+had_outcome chances index input first fault parts old new all = fewer_parts (chances.Gives input) (parts + 0) parts (omega arith) (all.outcome 0 (nothing, refl, omega arith))
 
 -- and if nothing was refused, it is taken
-pub was_taken : {X F : Type 0} (chances : Chances X F) (index : ℕ) (input : X) (first fault : Option BookFault) (old new : WorkerData F) → IsReading chances index input first old None fault new → fault ≡ None
+pub was_taken : {X F : Type 0} (chances : Chances X F) (index : ℕ) (input : X) (first fault : Option BookFault) (parts : ℕ) (old new : WorkerData F) → IsReading chances index input first old None fault parts new → fault ≡ None
     → (first ≡ None) × Takes (chances.Gives input) index (ops_in old.receipts) (ops_in new.receipts) old.refused new.refused
-was_taken chances index input first fault old new all none = (
+was_taken chances index input first fault parts old new all none = (
   all.well none,
   all.taken none (ops_in new.receipts) new.refused (record { outcome = nothing; is_outcome = refl; submits = sym (append-nil (ops_in new.receipts)); tells = sym (append-nil new.refused) }),
 )

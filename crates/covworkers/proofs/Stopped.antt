@@ -1,15 +1,16 @@
 -- Which of the workers' ends is returned, as the ends are looked through.
-use Rattle.std.proofs.Common.{◌≡◌, ◌∙◌, ◌⊎◌, inl, inr, ℕ, zero, suc, ◌<◌, ◌≤◌, min, Bool, true, false, List, [], ◌∷◌, ◌++◌, map, Option, None, Some, Ok, Err, ap, sym, refl, subst, arith}
+use Rattle.std.proofs.Common.{◌≡◌, ◌∙◌, ◌⊎◌, inl, inr, ℕ, zero, suc, ◌+◌, ◌<◌, ◌≤◌, length, min, Bool, true, false, List, [], ◌∷◌, ◌++◌, map, Option, None, Some, Ok, Err, ap, sym, refl, subst, arith}
 use Rattle.std.specs.Prelude.{if◌then◌else◌, nat_lt}
-use Rattle.std.specs.List.{AllByRecursion, Contains}
+use Rattle.std.specs.List.{AllByRecursion, Contains, sum_by}
+use Rattle.std.proofs.lemmas.List.Sums.{sum_by-cons}
 use Rattle.std.proofs.lemmas.Bool.{cases_lt, ltb-true, ltb-false}
 use Rattle.std.proofs.lemmas.Option.{none-some}
 use Rattle.covbook.specs.declared.book.BookFault.{BookFault}
 use Rattle.covworkers.specs.declared.stop.Refusal.{Refusal}
 use Rattle.covworkers.specs.declared.stop.Stop.{Stop}
 use Rattle.covworkers.specs.declared.stop.Stop.TheVariants as stops
-use Rattle.covworkers.specs.Stops.{both_of, lesser_of, worst_of}
-use Rattle.covworkers.specs.Work.{WorkerData, IsUnrefused, IsNotBefore, IsFirstFault, IsLeastUnread, IsWorstEnd}
+use Rattle.covworkers.specs.Stops.{both_of, lesser_of, more_parts, no_memory, worst_of}
+use Rattle.covworkers.specs.Work.{WorkerData, IsUnrefused, IsNotBefore, IsFirstFault, IsFrom, IsLeastUnread, IsWorstEnd, parts_of_end, parts_of_stop}
 use Rattle.covworkers.proofs.Ended.{End}
 
 -- ---- what is known of the ends so far
@@ -40,7 +41,7 @@ IsLeast (Some least) ended = AllByRecursion (IsUnreadFrom least) ended × Contai
 abbrev pub IsLeastRefused : {F : Type 0} → Option Refusal → List (End F) → Type 0
 IsLeastRefused None ended = AllByRecursion IsUnrefused ended
 IsLeastRefused (Some refusal) ended =
-    AllByRecursion (HasReadUpto refusal.upto) ended × ((fault : BookFault) × Contains ended (Err (stops.Refused (record { fault = fault; upto = refusal.upto })))) × IsFirstFault ended refusal.fault
+    AllByRecursion (HasReadUpto refusal.upto) ended × ((found : Refusal) × (found.upto ≡ refusal.upto) × Contains ended (Err (stops.Refused found))) × IsFirstFault ended refusal.fault
 
 -- if all ended well, they are these workers
 abbrev AreWorkers : {F : Type 0} → List (WorkerData F) → Option ℕ → Option Refusal → List (End F) → Type 0
@@ -111,7 +112,7 @@ keeps_least (Some least) front end none from is = (all_joined (IsUnreadFrom leas
 
 first_stays : {F : Type 0} (front : List (End F)) (end : End F) (fault : BookFault) → IsFirstFault front fault → IsFirstFault (front ++ end ∷ []) fault
 first_stays {F} front end fault first =
-    (first.0, first.1, first.2 ++ end ∷ [], first.3, ap (λ (es : List (End F)). es ++ end ∷ []) first.4 ∙ joined first.0 (Err (stops.Refused (record { fault = fault; upto = first.1 }))) first.2 end)
+    (first.0, first.1, first.2 ++ end ∷ [], first.3, ap (λ (es : List (End F)). es ++ end ∷ []) first.4 ∙ joined first.0 (Err (stops.Refused first.1)) first.2 end, first.5)
   where
     joined : {F : Type 0} (before : List (End F)) (here : End F) (after : List (End F)) (end : End F) → (before ++ here ∷ after) ++ end ∷ [] ≡ before ++ here ∷ (after ++ end ∷ [])
     joined [] here after end = refl
@@ -122,7 +123,7 @@ keeps_refused : {F : Type 0} (refused : Option Refusal) (front : List (End F)) (
 keeps_refused None front end well upto is = all_joined IsUnrefused front end is well
 keeps_refused (Some refusal) front end well upto is = (
   all_joined (HasReadUpto refusal.upto) front end is.0 (upto refusal.upto),
-  (is.1.0, later_contains front end (Err (stops.Refused (record { fault = is.1.0; upto = refusal.upto }))) is.1.1),
+  (is.1.0, is.1.1, later_contains front end (Err (stops.Refused is.1.0)) is.1.2),
   first_stays front end refusal.fault is.2,
 )
 
@@ -201,17 +202,16 @@ sooner upto lesser le (Err (stops.Refused refusal)) is = omega (arith, le, is)
 both_refused : {F : Type 0} (refused : Option Refusal) (next : Refusal) (front : List (End F)) → IsLeastRefused refused front → IsLeastRefused (Some (both_of refused next)) (front ++ Err (stops.Refused next) ∷ [])
 both_refused None next front is = (
   all_joined (HasReadUpto next.upto) front (Err (stops.Refused next)) (all_by IsUnrefused (HasReadUpto next.upto) (upto_any next.upto) front is) (omega arith),
-  (next.fault, last_contains front (Err (stops.Refused next))),
-  (front, next.upto, [], is, refl),
+  (next, refl, last_contains front (Err (stops.Refused next))),
+  (front, next, [], is, refl, refl),
 )
 both_refused {F} (Some first) next front is =
     let end : End F = Err (stops.Refused next) in
     let lesser = min first.upto next.upto in (
       all_joined (HasReadUpto lesser) front end (all_by (HasReadUpto first.upto) (HasReadUpto lesser) (sooner first.upto lesser (omega arith)) front is.0) (omega arith),
       elim (either first.upto next.upto) [
-        | inl same ↦
-            (is.1.0, subst (λ (n : ℕ). Contains (front ++ end ∷ []) (Err (stops.Refused (record { fault = is.1.0; upto = n })))) (sym same) (later_contains front end (Err (stops.Refused (record { fault = is.1.0; upto = first.upto }))) is.1.1))
-        | inr same ↦ (next.fault, subst (λ (n : ℕ). Contains (front ++ end ∷ []) (Err (stops.Refused (record { fault = next.fault; upto = n })))) (sym same) (last_contains front end))
+        | inl same ↦ (is.1.0, is.1.1 ∙ sym same, later_contains front end (Err (stops.Refused is.1.0)) is.1.2)
+        | inr same ↦ (next, sym same, last_contains front end)
       ],
       first_stays front end first.fault is.2,
     )
@@ -257,24 +257,40 @@ not_before_any index upto less (Err (stops.Refused refusal)) from has = omega (a
 no_least : {F : Type 0} (ended : List (End F)) (index : ℕ) → AllByRecursion IsNoUnread ended → IsLeastUnread ended index → ⊥
 no_least ended index none is = all_of IsNoUnread ended (Err (stops.Unread index)) none is.1
 
-later_least : {F : Type 0} (ended : List (End F)) (index least upto : ℕ) (fault : BookFault) → AllByRecursion (IsUnreadFrom least) ended → Contains ended (Err (stops.Refused (record { fault = fault; upto = upto }))) → upto ≤ least → IsLeastUnread ended index → ⊥
-later_least ended index least upto fault from there late is =
+later_least : {F : Type 0} (ended : List (End F)) (index least : ℕ) (found : Refusal) → AllByRecursion (IsUnreadFrom least) ended → Contains ended (Err (stops.Refused found)) → found.upto ≤ least → IsLeastUnread ended index → ⊥
+later_least ended index least found from there late is =
     let after : least ≤ index = all_of (IsUnreadFrom least) ended (Err (stops.Unread index)) from is.1 in
-    let before : index < upto = all_of (IsNotBefore index) ended (Err (stops.Refused (record { fault = fault; upto = upto }))) is.0 there in
+    let before : index < found.upto = all_of (IsNotBefore index) ended (Err (stops.Refused found)) is.0 there in
     omega (arith, after, before, late)
+
+-- no end is before the place up to which the refused ones have read
+from_both : {F : Type 0} (index upto : ℕ) → upto ≤ index → (end : End F) → IsUnreadFrom index end → HasReadUpto upto end → IsFrom upto end
+from_both index upto late (Ok worker) from has = tt
+from_both index upto late (Err (stops.Unread other)) from has = omega (arith, late, from)
+from_both index upto late (Err (stops.Refused refusal)) from has = has
+
+from_none : {F : Type 0} (upto : ℕ) (end : End F) → IsNoUnread end → HasReadUpto upto end → IsFrom upto end
+from_none upto (Ok worker) none has = tt
+from_none upto (Err (stops.Unread other)) none has = absurd none
+from_none upto (Err (stops.Refused refusal)) none has = has
 
 either_worst : {F : Type 0} (index : ℕ) (refusal : Refusal) (ended : List (End F)) (test : Bool) → nat_lt index refusal.upto ≡ test → IsLeast (Some index) ended → IsLeastRefused (Some refusal) ended
     → IsWorstEnd ended (if test then stops.Unread index else stops.Refused refusal)
 either_worst index refusal ended true is least refused =
     (all_both (IsUnreadFrom index) (HasReadUpto refusal.upto) (IsNotBefore index) (not_before_any index refusal.upto (ltb-true index refusal.upto is)) ended least.0 refused.0, least.1)
 either_worst index refusal ended false is least refused =
-    (refused.2, λ other unread. later_least ended other index refusal.upto refused.1.0 least.0 refused.1.1 (ltb-false index refusal.upto is) unread)
+    let late : refusal.upto ≤ index = ltb-false index refusal.upto is in (
+      refused.2,
+      λ other unread. later_least ended other index refused.1.0 least.0 refused.1.2 (omega (arith, refused.1.1, late)) unread,
+      all_both (IsUnreadFrom index) (HasReadUpto refusal.upto) (IsFrom refusal.upto) (from_both index refusal.upto late) ended least.0 refused.0,
+    )
 
 worst_is : {F : Type 0} (least : Option ℕ) (refused : Option Refusal) (ended : List (End F)) → IsLeast least ended → IsLeastRefused refused ended → (stop : Stop) → worst_of least refused ≡ Some stop → IsWorstEnd ended stop
 worst_is None None ended none well stop is = absurd (none-some stop is)
 worst_is (Some index) None ended unread well stop is =
     subst (λ (s : Stop). IsWorstEnd ended s) (some_is (stops.Unread index) stop is) (all_both (IsUnreadFrom index) IsUnrefused (IsNotBefore index) (not_before index) ended unread.0 well, unread.1)
-worst_is None (Some refusal) ended none refused stop is = subst (λ (s : Stop). IsWorstEnd ended s) (some_is (stops.Refused refusal) stop is) (refused.2, λ index unread. no_least ended index none unread)
+worst_is None (Some refusal) ended none refused stop is = subst (λ (s : Stop). IsWorstEnd ended s) (some_is (stops.Refused refusal) stop is)
+    (refused.2, λ index unread. no_least ended index none unread, all_both IsNoUnread (HasReadUpto refusal.upto) (IsFrom refusal.upto) (from_none refusal.upto) ended none refused.0)
 worst_is (Some index) (Some refusal) ended unread refused stop is =
     subst (λ (s : Stop). IsWorstEnd ended s) (some_is (if nat_lt index refusal.upto then stops.Unread index else stops.Refused refusal) stop is) (either_worst index refusal ended (nat_lt index refusal.upto) refl unread refused)
 
@@ -289,6 +305,74 @@ all_are workers None None ended are is = are
 all_are workers (Some index) None ended are is = absurd (none-some (stops.Unread index) (sym is))
 all_are workers None (Some refusal) ended are is = absurd (none-some (stops.Refused refusal) (sym is))
 all_are workers (Some index) (Some refusal) ended are is = absurd (none-some (if nat_lt index refusal.upto then stops.Unread index else stops.Refused refusal) (sym is))
+
+-- the parts of the workers that ended well change nothing of this
+pub worst_with : {F : Type 0} (ended : List (End F)) (parts : ℕ) (stop : Stop) → IsWorstEnd ended stop → IsWorstEnd ended (more_parts parts stop)
+worst_with ended parts (stops.Unread index) is = is
+worst_with ended parts (stops.Refused refusal) is = is
+
+-- ---- parts
+
+abbrev pub parts_refused : Option Refusal → ℕ
+parts_refused None = 0
+parts_refused (Some refusal) = refusal.parts
+
+-- the parts that were counted and those of the ends that are left are at most those of all ends
+abbrev pub AreCounted : {F : Type 0} → (submitted : ℕ) → (refused : Option Refusal) → (left ended : List (End F)) → Type 0
+AreCounted submitted refused left ended = submitted + parts_refused refused + sum_by parts_of_end left ≤ sum_by parts_of_end ended
+
+-- a refusal of memory before anything was read has no parts
+pub no_parts : {F : Type 0} (ended : List (End F)) (stop : Stop) → stop ≡ no_memory → parts_of_stop stop ≤ sum_by parts_of_end ended
+no_parts ended stop is = subst (λ (s : Stop). parts_of_stop s ≤ sum_by parts_of_end ended) (sym is) (omega arith)
+
+pub none_counted : {F : Type 0} (left ended : List (End F)) → left ≡ ended → AreCounted 0 None left ended
+none_counted {F} left ended is =
+    let same : sum_by parts_of_end left ≡ sum_by parts_of_end ended = ap (λ (es : List (End F)). sum_by parts_of_end es) is in
+    omega (arith, same)
+
+pub well_counted : {F : Type 0} (worker : WorkerData F) (submitted after : ℕ) (refused : Option Refusal) (left ended : List (End F)) → after ≤ submitted + length worker.receipts
+    → AreCounted submitted refused (Ok worker ∷ left) ended → AreCounted after refused left ended
+well_counted {F} worker submitted after refused left ended few so_far =
+    let end : End F = Ok worker in
+    let here : sum_by parts_of_end (end ∷ left) ≡ length worker.receipts + sum_by parts_of_end left = sum_by-cons parts_of_end end left in
+    omega (arith, here, few, so_far)
+
+pub unread_counted : {F : Type 0} (index submitted : ℕ) (refused : Option Refusal) (left ended : List (End F)) → AreCounted submitted refused (Err (stops.Unread index) ∷ left) ended → AreCounted submitted refused left ended
+unread_counted {F} index submitted refused left ended so_far =
+    let end : End F = Err (stops.Unread index) in
+    let here : sum_by parts_of_end (end ∷ left) ≡ 0 + sum_by parts_of_end left = sum_by-cons parts_of_end end left in
+    omega (arith, here, so_far)
+
+both_few : (refused : Option Refusal) (next : Refusal) → (both_of refused next).parts ≤ parts_refused refused + next.parts
+both_few None next = omega arith
+both_few (Some first) next = omega arith
+
+pub refused_counted : {F : Type 0} (next : Refusal) (submitted : ℕ) (refused : Option Refusal) (left ended : List (End F)) → AreCounted submitted refused (Err (stops.Refused next) ∷ left) ended
+    → AreCounted submitted (Some (both_of refused next)) left ended
+refused_counted {F} next submitted refused left ended so_far =
+    let end : End F = Err (stops.Refused next) in
+    let here : sum_by parts_of_end (end ∷ left) ≡ next.parts + sum_by parts_of_end left = sum_by-cons parts_of_end end left in
+    omega (arith, here, so_far, both_few refused next)
+
+worst_few : (least : Option ℕ) (refused : Option Refusal) (stop : Stop) → worst_of least refused ≡ Some stop → parts_of_stop stop ≤ parts_refused refused
+worst_few None None stop is = absurd (none-some stop is)
+worst_few (Some index) None stop is = subst (λ (s : Stop). parts_of_stop s ≤ 0) (some_is (stops.Unread index) stop is) (omega arith)
+worst_few None (Some refusal) stop is = subst (λ (s : Stop). parts_of_stop s ≤ refusal.parts) (some_is (stops.Refused refusal) stop is) (omega arith)
+worst_few (Some index) (Some refusal) stop is =
+    subst (λ (s : Stop). parts_of_stop s ≤ refusal.parts) (some_is (if nat_lt index refusal.upto then stops.Unread index else stops.Refused refusal) stop is) (either_few index refusal (nat_lt index refusal.upto))
+  where
+    either_few : (index : ℕ) (refusal : Refusal) (test : Bool) → parts_of_stop (if test then stops.Unread index else stops.Refused refusal) ≤ refusal.parts
+    either_few index refusal true = omega arith
+    either_few index refusal false = omega arith
+
+with_few : (parts : ℕ) (stop : Stop) → parts_of_stop (more_parts parts stop) ≤ parts + parts_of_stop stop
+with_few parts (stops.Unread index) = omega arith
+with_few parts (stops.Refused refusal) = omega arith
+
+-- no end is left: the worst end has at most the parts of all ends
+pub worst_counted : {F : Type 0} (submitted : ℕ) (least : Option ℕ) (refused : Option Refusal) (left ended : List (End F)) (stop : Stop) → AreCounted submitted refused left ended → worst_of least refused ≡ Some stop
+    → parts_of_stop (more_parts submitted stop) ≤ sum_by parts_of_end ended
+worst_counted submitted least refused left ended stop counted is = omega (arith, counted, worst_few least refused stop is, with_few submitted stop)
 
 -- all ended well
 pub well_at_end : {F : Type 0} (workers : List (WorkerData F)) (least : Option ℕ) (refused : Option Refusal) (left ended : List (End F)) → AreSoFar workers least refused left ended → left ≡ [] → worst_of least refused ≡ None → map Ok workers ≡ ended

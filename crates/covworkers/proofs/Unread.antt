@@ -1,8 +1,8 @@
 -- The least place of an input that can't be read: all inputs before it were read, each by its own worker.
-use Rattle.std.proofs.Common.{◌≡◌, ◌∙◌, ◌⊎◌, inl, inr, ap, ℕ, zero, suc, ◌+◌, ◌-◌, ◌^◌, ◌<◌, ◌%◌, min, Bool, true, IsTrue, List, [], ◌∷◌, length, take, Ok, Err, slice_get, sym, refl, subst, arith}
-use Rattle.std.specs.Prelude.{IsSomeAnd, ◌≤◌, if◌then◌else◌, nat_lt, false}
+use Rattle.std.proofs.Common.{◌≡◌, ◌∙◌, ◌⊎◌, inl, inr, ap, ℕ, zero, suc, ◌+◌, ◌-◌, ◌^◌, ◌<◌, ◌%◌, Bool, true, IsTrue, List, [], ◌∷◌, length, take, Ok, Err, slice_get, sym, refl, subst, arith}
+use Rattle.std.specs.Prelude.{IsSomeAnd, ◌≤◌, ◌==◌, if◌then◌else◌, nat_le, false}
 use Rattle.std.specs.List.{AllByRecursion, Contains, sum_by}
-use Rattle.std.proofs.lemmas.Bool.{eq-eqb, ltb-false}
+use Rattle.std.proofs.lemmas.Bool.{and_parts, eq-eqb, eqb-true, leb-true}
 use Rattle.std.proofs.lemmas.Nat.{mod_below}
 use Rattle.covbook.specs.declared.book.BookFault.{BookFault}
 use Rattle.covbook.specs.declared.book.BookFault.TheVariants as book
@@ -12,12 +12,14 @@ use Rattle.covworkers.specs.declared.book_fault.IntoBookFault.TheVariants as int
 use Rattle.covworkers.specs.declared.collect_fault.CollectFault.{CollectFault}
 use Rattle.covworkers.specs.declared.collect_fault.CollectFault.TheVariants as collects
 use Rattle.covworkers.specs.declared.readers.Readers.{Readers}
+use Rattle.covworkers.specs.declared.stop.Refusal.{Refusal}
 use Rattle.covworkers.specs.declared.stop.Stop.{Stop}
 use Rattle.covworkers.specs.declared.stop.Stop.TheVariants as stops
-use Rattle.covworkers.specs.Late.{MayCome, IsFirstUnread, IsIntoBookFault, IsUnreadFault, chances_of}
-use Rattle.covworkers.specs.Stops.{most_parts_in, no_memory, of_refused, of_stop}
-use Rattle.covworkers.specs.Work.{Chances, WorkData, HasEnded, HasOutcome, HaveEnded, IsStarted, IsUnreadAt, IsNotBefore, IsLeastUnread, IsWorstEnd}
+use Rattle.covworkers.specs.Late.{FillHistory, MayCome, IsFirstUnread, IsIntoBookFault, IsUnreadFault, chances_of}
+use Rattle.covworkers.specs.Stops.{has_filled, no_memory, of_refused, of_stop}
+use Rattle.covworkers.specs.Work.{Chances, WorkData, HasEnded, HasOutcome, HaveEnded, IsFrom, IsStarted, IsUnreadAt, IsNotBefore, IsLeastUnread, IsWorstEnd, parts_of_end, parts_of_stop}
 use Rattle.covworkers.proofs.Ended.{End}
+use Rattle.covworkers.proofs.Filled.{filled_though_refused}
 use Rattle.covworkers.proofs.GoingOn.{read_of}
 use Rattle.covworkers.proofs.Taken.{Outcome}
 use Rattle.covworkers.proofs.Whole.{works_from}
@@ -105,45 +107,53 @@ first_unread {X} MayGive MayFail readers inputs jobs ended index some if_started
 
 -- ---- which fault is returned
 
--- the history can be full if there are parts enough
-full_may_come : (parts most : ℕ) (test : Bool) → nat_lt parts most ≡ test → (Few : CollectFault → Type 0) → Few collects.NotLast → (most ≤ parts → Few collects.Full) → Few (if test then collects.NotLast else collects.Full)
-full_may_come parts most true is Few few many = few
-full_may_come parts most false is Few few many = many (ltb-false parts most is)
-
--- a fault of the book may come. The number of parts may have stopped at the largest number of 64 bits
-pub refused_may_come : {X : Type 0} (most : X → ℕ) (inputs : List X) (fault : BookFault) → MayCome (sum_by most inputs) (of_refused (most_parts_in most inputs) fault)
-refused_may_come most inputs book.Full =
-    let parts = most_parts_in most inputs in
-    full_may_come parts max_entries (nat_lt parts max_entries) refl (MayCome (sum_by most inputs)) tt (λ many. enough max_entries (sum_by most inputs) many)
-  where
-    enough : (all parts : ℕ) → all ≤ min parts (2 ^ 64 - 1) → all ≤ parts
-    enough all parts many = omega (arith, many)
-refused_may_come most inputs book.Memory = tt
+-- what holds if the history was filled, and what holds if not
+if_filled : (upto parts : ℕ) (test : Bool) → has_filled upto parts ≡ test → (Few : CollectFault → Type 0) → Few collects.Memory → (upto ≡ 2 ^ 64 - 1 → max_entries ≤ parts → Few collects.Full) → Few (if test then collects.Full else collects.Memory)
+if_filled upto parts false is Few few many = few
+if_filled upto parts true is Few few many = let both = and_parts (upto == 2 ^ 64 - 1) (nat_le max_entries parts) is in many (eqb-true upto (2 ^ 64 - 1) both.0) (leb-true max_entries parts both.1)
 
 -- a fault of the book is never returned as `BadJobs`
-pub no_bad_jobs_by : (parts : ℕ) (fault : BookFault) → of_refused parts fault ≡ collects.BadJobs → ⊥
-no_bad_jobs_by parts book.Full is = full_may_come parts max_entries (nat_lt parts max_entries) refl (λ (f : CollectFault). f ≡ collects.BadJobs → ⊥) (λ same. cc) (λ many same. cc) is
-no_bad_jobs_by parts book.Memory is = cc
+pub no_bad_jobs_by : (upto parts : ℕ) (fault : BookFault) → of_refused (has_filled upto parts) fault ≡ collects.BadJobs → ⊥
+no_bad_jobs_by upto parts book.Full is = if_filled upto parts (has_filled upto parts) refl (λ (f : CollectFault). f ≡ collects.BadJobs → ⊥) (λ same. cc) (λ last many same. cc) is
+no_bad_jobs_by upto parts book.Memory is = cc
 
-pub fault_is : {X F : Type 0} (MayGive : X → Outcome F → Type 0) (MayFail : X → Type 0) (most : X → ℕ) (readers : Readers) (inputs : List X) (jobs : ℕ) (ended : List (End F)) (stop : Stop) → 0 < jobs
+-- a refusal may come. `Full` comes only if all workers read all their inputs, so that the history was filled
+refused_may_come : {X F : Type 0} (MayGive : X → Outcome F → Type 0) (MayFail : X → Type 0) (readers : Readers) (inputs : List X) (jobs : ℕ) (ended : List (End F)) (refusal : Refusal) (fault : BookFault) → 0 < jobs → length inputs ≤ 2 ^ 64 - 1
     → (AllByRecursion IsStarted ended → HaveEnded (chances_of MayGive MayFail) (works_from inputs jobs readers 0 jobs) ended)
-    → IsWorstEnd ended stop ⊎ (stop ≡ no_memory) → IsIntoBookFault MayGive MayFail most inputs (of_stop (most_parts_in most inputs) stop)
-fault_is MayGive MayFail most readers inputs jobs ended (stops.Unread index) some done (inl least) = first_unread MayGive MayFail readers inputs jobs ended index some done least
-fault_is MayGive MayFail most readers inputs jobs ended (stops.Unread index) some done (inr is) = absurd cc
-fault_is MayGive MayFail most readers inputs jobs ended (stops.Refused refusal) some done worst = refused_may_come most inputs refusal.fault
+    → AllByRecursion (IsFrom refusal.upto) ended → refusal.parts ≤ sum_by parts_of_end ended → MayCome (FillHistory MayGive inputs) (of_refused (has_filled refusal.upto refusal.parts) fault)
+refused_may_come MayGive MayFail readers inputs jobs ended refusal book.Memory some few done from counted = tt
+refused_may_come MayGive MayFail readers inputs jobs ended refusal book.Full some few done from counted =
+    if_filled refusal.upto refusal.parts (has_filled refusal.upto refusal.parts) refl (MayCome (FillHistory MayGive inputs)) tt
+    (λ (last : refusal.upto ≡ 2 ^ 64 - 1) (many : max_entries ≤ refusal.parts).
+    filled_though_refused MayGive MayFail readers inputs jobs refusal.upto ended some (omega (arith, last)) (omega (arith, last, few)) done from (omega (arith, many, counted)))
+
+abbrev refusal_in : Refusal → Stop → Refusal
+refusal_in other (stops.Unread index) = other
+refusal_in other (stops.Refused refusal) = refusal
+
+pub fault_is : {X F : Type 0} (MayGive : X → Outcome F → Type 0) (MayFail : X → Type 0) (readers : Readers) (inputs : List X) (jobs : ℕ) (ended : List (End F)) (stop : Stop) → 0 < jobs → length inputs ≤ 2 ^ 64 - 1
+    → (AllByRecursion IsStarted ended → HaveEnded (chances_of MayGive MayFail) (works_from inputs jobs readers 0 jobs) ended)
+    → IsWorstEnd ended stop ⊎ (stop ≡ no_memory) → parts_of_stop stop ≤ sum_by parts_of_end ended → IsIntoBookFault MayGive MayFail inputs (of_stop stop)
+fault_is MayGive MayFail readers inputs jobs ended (stops.Unread index) some few done (inl least) counted = first_unread MayGive MayFail readers inputs jobs ended index some done least
+fault_is MayGive MayFail readers inputs jobs ended (stops.Unread index) some few done (inr is) counted = absurd cc
+fault_is MayGive MayFail readers inputs jobs ended (stops.Refused refusal) some few done (inl worst) counted =
+    refused_may_come MayGive MayFail readers inputs jobs ended refusal refusal.fault some few done worst.2 counted
+fault_is MayGive MayFail readers inputs jobs ended (stops.Refused refusal) some few done (inr is) counted =
+    let none : refusal ≡ record { fault = book.Memory; upto = 0; parts = 0 } = ap (refusal_in refusal) is in
+    subst (λ (r : Refusal). MayCome (FillHistory MayGive inputs) (of_refused (has_filled r.upto r.parts) r.fault)) (sym none) tt
 
 abbrev collect_in : IntoBookFault → CollectFault
 collect_in (into_book.Unread index) = collects.Memory
 collect_in (into_book.Collect fault) = fault
 
-pub no_bad_jobs : (parts : ℕ) (stop : Stop) → of_stop parts stop ≡ into_book.Collect collects.BadJobs → ⊥
-no_bad_jobs parts (stops.Unread index) is = cc
-no_bad_jobs parts (stops.Refused refusal) is = no_bad_jobs_by parts refusal.fault (ap collect_in is)
+pub no_bad_jobs : (stop : Stop) → of_stop stop ≡ into_book.Collect collects.BadJobs → ⊥
+no_bad_jobs (stops.Unread index) is = cc
+no_bad_jobs (stops.Refused refusal) is = no_bad_jobs_by refusal.upto refusal.parts refusal.fault (ap collect_in is)
 
 -- a fault of collecting into a book tells of an input only if it is the first that can't be read
-pub unread_is : {X F : Type 0} (MayGive : X → Outcome F → Type 0) (MayFail : X → Type 0) (most : X → ℕ) (inputs : List X) (fault : IntoBookFault) → IsIntoBookFault MayGive MayFail most inputs fault → IsUnreadFault MayGive MayFail inputs fault
-unread_is MayGive MayFail most inputs (into_book.Unread index) is = is
-unread_is MayGive MayFail most inputs (into_book.Collect fault) is = tt
+pub unread_is : {X F : Type 0} (MayGive : X → Outcome F → Type 0) (MayFail : X → Type 0) (inputs : List X) (fault : IntoBookFault) → IsIntoBookFault MayGive MayFail inputs fault → IsUnreadFault MayGive MayFail inputs fault
+unread_is MayGive MayFail inputs (into_book.Unread index) is = is
+unread_is MayGive MayFail inputs (into_book.Collect fault) is = tt
 
 -- ---- inputs in memory
 

@@ -1,5 +1,5 @@
 -- Inputs that are read when their turn comes, each in one part or in several, and what is collected of them in a book.
-use Rattle.std.specs.List.{AllByRecursion, sum_by}
+use Rattle.std.specs.List.{AllByRecursion}
 use Rattle.std.specs.Prelude.{ℕ, ◌<◌, ◌≤◌, List, [], ◌∷◌, ◌++◌, length, take, slice_get, IsSomeAnd, None, Some, Result, Ok, Err}
 use Rattle.covdata.specs.Row.{SubmissionData}
 use Rattle.covbook.specs.Gather.{LogData}
@@ -15,7 +15,7 @@ use Rattle.covworkers.specs.declared.collect_fault.CollectFault.TheVariants as c
 use Rattle.covworkers.specs.declared.part.Part.{Part}
 use Rattle.covworkers.specs.declared.part.Part.TheVariants as parts
 use Rattle.covworkers.specs.declared.refused.RefusedInput.{RefusedInput}
-use Rattle.covworkers.specs.Collect.{AreOutcomes, IsCollectedWith, OutcomeData}
+use Rattle.covworkers.specs.Collect.{AreOutcomes, IsCollectedWith, OutcomeData, all_places, submissions_of}
 use Rattle.covworkers.specs.CollectFault.{collect_number}
 use Rattle.covworkers.specs.Work.{Chances, HasOutcome, in_front}
 
@@ -47,20 +47,28 @@ abbrev pub IsFirstUnread : {X F : Type 0} → (MayGive : X → OutcomeData F →
 IsFirstUnread MayGive MayFail inputs index =
     IsSomeAnd (slice_get inputs index) MayFail × AllByRecursion (λ input. HasOutcome (MayGive input)) (take index inputs)
 
--- which faults of collecting may come if no history is kept. `Full` comes only if the inputs can have at least as many parts as a
--- full history has entries. `Gather` doesn't come
-abbrev pub MayCome : (most_parts : ℕ) → CollectFault → Type 0
-MayCome most_parts collects.BadJobs = Unit {0}
-MayCome most_parts collects.Full = max_entries ≤ most_parts
-MayCome most_parts collects.Memory = Unit {0}
-MayCome most_parts (collects.Gather fault) = ⊥
-MayCome most_parts collects.NotLast = Unit {0}
+-- the inputs fill the history: they were read as at least as many submissions as a full history has entries
+abbrev pub FillHistory : {X F : Type 0} → (MayGive : X → OutcomeData F → Type 0) → List X → Type 0
+FillHistory {X} {F} MayGive inputs =
+    (outcome : ℕ → OutcomeData F) × AreOutcomes MayGive inputs outcome × (max_entries ≤ length (submissions_of all_places outcome (length inputs)))
 
--- why inputs aren't collected in a book: this is the first input that can't be read, or this fault of collecting may come. `most`
--- says how many parts an input can have at most
-abbrev pub IsIntoBookFault : {X F : Type 0} → (MayGive : X → OutcomeData F → Type 0) → (MayFail : X → Type 0) → (most : X → ℕ) → List X → IntoBookFault → Type 0
-IsIntoBookFault MayGive MayFail most inputs (into_book.Unread index) = IsFirstUnread MayGive MayFail inputs index
-IsIntoBookFault MayGive MayFail most inputs (into_book.Collect fault) = MayCome (sum_by most inputs) fault
+-- which faults of collecting may come if no history is kept: `Full` only if the inputs fill the history. `Gather` and `NotLast` don't
+-- come
+abbrev pub MayCome : (Fill : Type 0) → CollectFault → Type 0
+MayCome Fill collects.BadJobs = Unit {0}
+MayCome Fill collects.Full = Fill
+MayCome Fill collects.Memory = Unit {0}
+MayCome Fill (collects.Gather fault) = ⊥
+MayCome Fill collects.NotLast = ⊥
+
+-- which of them may come, whatever the inputs are
+abbrev pub MayComeAtAll : CollectFault → Type 0
+MayComeAtAll fault = MayCome (Unit {0}) fault
+
+-- why inputs aren't collected in a book: this is the first input that can't be read, or this fault of collecting may come
+abbrev pub IsIntoBookFault : {X F : Type 0} → (MayGive : X → OutcomeData F → Type 0) → (MayFail : X → Type 0) → List X → IntoBookFault → Type 0
+IsIntoBookFault MayGive MayFail inputs (into_book.Unread index) = IsFirstUnread MayGive MayFail inputs index
+IsIntoBookFault MayGive MayFail inputs (into_book.Collect fault) = MayCome (FillHistory MayGive inputs) fault
 
 -- a fault that names an input that can't be read names the first such input
 abbrev pub IsUnreadFault : {X F : Type 0} → (MayGive : X → OutcomeData F → Type 0) → (MayFail : X → Type 0) → List X → IntoBookFault → Type 0

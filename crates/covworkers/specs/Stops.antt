@@ -1,6 +1,5 @@
 -- Private steps: where a worker stops, and which fault is returned for that.
-use Rattle.std.specs.List.{sum_by}
-use Rattle.std.specs.Prelude.{◌≡◌, ℕ, ◌-◌, ◌^◌, List, min, if◌then◌else◌, nat_lt, Option, None, Some, Result, Ok, Err}
+use Rattle.std.specs.Prelude.{◌≡◌, ℕ, ◌+◌, ◌-◌, ◌^◌, ◌==◌, ◌&&◌, Bool, min, if◌then◌else◌, nat_le, nat_lt, Option, None, Some, Result, Ok, Err}
 use Rattle.covbook.specs.declared.book.BookFault.{BookFault}
 use Rattle.covbook.specs.declared.book.BookFault.TheVariants as book
 use Rattle.covbook.specs.Step.{max_entries}
@@ -14,24 +13,25 @@ use Rattle.covworkers.specs.declared.stop.Refusal.{Refusal}
 use Rattle.covworkers.specs.declared.stop.Stop.{Stop}
 use Rattle.covworkers.specs.declared.stop.Stop.TheVariants as stops
 
--- which fault of collecting is returned if the book refused a call. With fewer parts than `max_entries` the history never gets
--- full: `NotLast` stands for that case
-abbrev pub of_refused : (most_parts : ℕ) → BookFault → CollectFault
-of_refused most_parts book.Full = if nat_lt most_parts max_entries then collects.NotLast else collects.Full
-of_refused most_parts book.Memory = collects.Memory
+-- the jobs read all inputs, and at least as many submissions as a full history has entries. `upto` is the least place up to which a
+-- job read that was refused something
+abbrev pub has_filled : (upto parts : ℕ) → Bool
+has_filled upto parts = upto == 2 ^ 64 - 1 && nat_le max_entries parts
 
--- which fault is returned for a stop. The inputs have this number of parts at most
-abbrev pub of_stop : (most_parts : ℕ) → Stop → IntoBookFault
-of_stop most_parts (stops.Unread index) = Unread index
-of_stop most_parts (stops.Refused refusal) = Collect (of_refused most_parts refusal.fault)
+-- which fault of collecting is returned if the book refused a call. `Full` comes only if the inputs fill the history. If they don't,
+-- the history never gets full, or memory ran out as well: `Memory`, which needs no cause, stands for both cases
+abbrev pub of_refused : (filled : Bool) → BookFault → CollectFault
+of_refused filled book.Full = if filled then collects.Full else collects.Memory
+of_refused filled book.Memory = collects.Memory
 
--- the most parts that all inputs together can have, or the largest number of 64 bits if there are more
-abbrev pub most_parts_in : {X : Type 0} → (most : X → ℕ) → List X → ℕ
-most_parts_in most inputs = min (sum_by most inputs) (2 ^ 64 - 1)
+-- which fault is returned for a stop
+abbrev pub of_stop : Stop → IntoBookFault
+of_stop (stops.Unread index) = Unread index
+of_stop (stops.Refused refusal) = Collect (of_refused (has_filled refusal.upto refusal.parts) refusal.fault)
 
 -- memory was refused before a job read its first input
 abbrev pub no_memory : Stop
-no_memory = stops.Refused (record { fault = book.Memory; upto = 0 })
+no_memory = stops.Refused (record { fault = book.Memory; upto = 0; parts = 0 })
 
 -- the fault that came first
 abbrev pub first_of : Option BookFault → BookFault → BookFault
@@ -43,7 +43,7 @@ first_of (Some first) fault = first
 abbrev pub of_late : {F : Type 0} → (index : ℕ) → (first : Option BookFault) → LateFault F → Result F Stop
 of_late index first (late.Refused fault) = Ok fault
 of_late index first late.Unreadable = Err (stops.Unread index)
-of_late index first late.Memory = Err (stops.Refused (record { fault = first_of first book.Memory; upto = index }))
+of_late index first late.Memory = Err (stops.Refused (record { fault = first_of first book.Memory; upto = index; parts = 0 }))
 
 -- a job stopped while it read the input at this place, so it has read its inputs before the place. If it stopped since the input
 -- can't be read, `MayFail` holds
@@ -56,10 +56,21 @@ abbrev pub lesser_of : Option ℕ → ℕ → ℕ
 lesser_of None index = index
 lesser_of (Some least) index = min least index
 
--- the first fault, with the lesser of the two places
+-- the first fault, with the lesser of the two places, and the parts of both, up to the largest number of 64 bits
 abbrev pub both_of : Option Refusal → Refusal → Refusal
 both_of None next = next
-both_of (Some first) next = record { fault = first.fault; upto = min first.upto next.upto }
+both_of (Some first) next = record { fault = first.fault; upto = min first.upto next.upto; parts = min (first.parts + next.parts) (2 ^ 64 - 1) }
+
+-- how many submissions a job has read after one more input, of which it read `more`: as long as nothing is refused, those that it
+-- submitted. Else `more` than before the input, up to the largest number of 64 bits
+abbrev pub counted_of : Option BookFault → (submitted before more : ℕ) → ℕ
+counted_of None submitted before more = submitted
+counted_of (Some fault) submitted before more = min (before + more) (2 ^ 64 - 1)
+
+-- the same stop, with more parts
+abbrev pub more_parts : (parts : ℕ) → Stop → Stop
+more_parts parts (stops.Unread index) = stops.Unread index
+more_parts parts (stops.Refused refusal) = stops.Refused (record { fault = refusal.fault; upto = refusal.upto; parts = min (refusal.parts + parts) (2 ^ 64 - 1) })
 
 -- which stop is returned: the one at the input that can't be read, if each job that was refused something has read its inputs
 -- before that input. Else the refusal

@@ -4,12 +4,14 @@ use Rattle.std.specs.List.{AllByRecursion, Contains, flat_map}
 use Rattle.covdata.specs.Row.{SubmissionData}
 use Rattle.covbook.specs.declared.book.BookFault.{BookFault}
 use Rattle.covbook.specs.declared.reading.Reading.{Reading}
-use Rattle.covbook.specs.Gather.{LogData}
-use Rattle.covbook.specs.Kept.{KeptData}
+use Rattle.covbook.specs.Gather.{IsReadingOf, LogData}
+use Rattle.covbook.specs.Kept.{IsPrefix, KeptData}
 use Rattle.covbook.specs.Op.{OpData, SubmitOp, EntryData, ReceiptData}
+use Rattle.covbook.specs.Step.{IsLegal}
 use Rattle.covworkers.specs.declared.refused.RefusedInput.{RefusedInput}
 use Rattle.covworkers.specs.declared.readers.Readers.{Readers}
 use Rattle.covworkers.specs.declared.readers.Readers.TheVariants as readers
+use Rattle.covworkers.specs.declared.stop.Refusal.{Refusal}
 use Rattle.covworkers.specs.declared.stop.Stop.{Stop}
 use Rattle.covworkers.specs.declared.stop.Stop.TheVariants as stops
 use Rattle.covworkers.specs.Collect.{OutcomeData, whole, submitted, refusal, places_of_job, submissions_of, refusals_of, ops_in, HasRead}
@@ -46,10 +48,20 @@ pub record Asks (receipts after : List ReceiptData) (seen : ℕ) (op : OpData) :
   pub asked : receipt.op ≡ op
   pub place : receipt.place + 1 ≡ seen
 
--- a job with a reader has one more reading, which counts at least `least` entries. A job without a reader has none more
-abbrev pub ReadsOn : (has_reader : Bool) → (least : ℕ) → (readings after : List Reading) → Type 0
-ReadsOn true least readings after = (reading : Reading) × (after ≡ readings ++ reading ∷ []) × (least ≤ reading.upto)
-ReadsOn false least readings after = after ≡ readings
+-- there is one more reading, which counts at least the entries of the news. It is right of a legal history that begins with the news
+pub record ReadsOnce (news : List EntryData) (readings after : List Reading) : Type 0 where
+  pub reading : Reading
+  pub behind : after ≡ readings ++ reading ∷ []
+  pub least : length news ≤ reading.upto
+  pub history : List EntryData
+  pub legal : IsLegal history
+  pub onward : IsPrefix news history
+  pub right : IsReadingOf history reading
+
+-- a job with a reader has one more reading, and a job without a reader has none more
+abbrev pub ReadsOn : (has_reader : Bool) → (news : List EntryData) → (readings after : List Reading) → Type 0
+ReadsOn true news readings after = ReadsOnce news readings after
+ReadsOn false news readings after = after ≡ readings
 
 -- what a worker has: its seat, its receipts, the history of the latest news of its calls, whether it has a reader, what it read of
 -- the totals, and which of its inputs are refused
@@ -89,12 +101,21 @@ pub record Chances (X F : Type 0) : Type 1 where
 abbrev pub HasOutcome : {F : Type 0} → (Gives : OutcomeData F → Type 0) → Type 0
 HasOutcome {F} Gives = (outcome : OutcomeData F) × Gives outcome
 
--- a worker has come from `old` to `new` while it read parts of an input, and this is left of the input. `first` was the first fault
--- of a refused call or list before these parts, and `fault` is the first one after them. As long as there is none, all parts are
--- taken: with an outcome of what is left, the worker takes the input. After a fault the parts are only read: nothing more is asked,
--- and no input is refused
-pub record IsReading {X F : Type 0} (chances : Chances X F) (index : ℕ) (input : X) (first : Option BookFault) (old : WorkerData F) (left : Option X) (fault : Option BookFault) (new : WorkerData F) : Type 0 where
-  pub outcome : HasOutcome (GivesLeft chances.Gives left) → HasOutcome (chances.Gives input)
+-- an input was read: it had an outcome with at least this number of submissions
+abbrev pub HasParts : {F : Type 0} → (Gives : OutcomeData F → Type 0) → (parts : ℕ) → Type 0
+HasParts {F} Gives parts = (outcome : OutcomeData F) × Gives outcome × (parts ≤ length outcome.read)
+
+-- 1 if the part is a submission, else 0
+abbrev pub one_if_read : {F : Type 0} → Result SubmissionData F → ℕ
+one_if_read (Ok submission) = 1
+one_if_read (Err fault) = 0
+
+-- a worker has come from `old` to `new` while it read parts of an input, at least `parts` of them as submissions, and this is left of
+-- the input. `first` was the first fault of a refused call or list before these parts, and `fault` is the first one after them. As
+-- long as there is none, all parts are taken: with an outcome of what is left, the worker takes the input. After a fault the parts
+-- are only read: nothing more is asked, and no input is refused
+pub record IsReading {X F : Type 0} (chances : Chances X F) (index : ℕ) (input : X) (first : Option BookFault) (old : WorkerData F) (left : Option X) (fault : Option BookFault) (parts : ℕ) (new : WorkerData F) : Type 0 where
+  pub outcome : (more : ℕ) → HasParts (GivesLeft chances.Gives left) more → HasParts (chances.Gives input) (parts + more)
   pub fails : IfSome left (λ rest. chances.MayFail rest → chances.MayFail input)
   pub well : fault ≡ None → first ≡ None
   pub kept : IfSome first (λ f. fault ≡ Some f)
@@ -110,6 +131,12 @@ pub record HasTaken {X F : Type 0} (Gives : X → OutcomeData F → Type 0) (inp
   pub outcomes : (index : ℕ) → index < count → IsTrue (places_of_job jobs job index) → IsSomeAnd (slice_get inputs index) (λ input. Gives input (outcome index))
   pub asked : ops_in receipts ≡ map SubmitOp (submissions_of (places_of_job jobs job) outcome count)
   pub are_refused : refused ≡ refusals_of (places_of_job jobs job) outcome count
+
+-- a job has read all its inputs, with at least this number of submissions: these would be its receipts, and its refused inputs, if
+-- nothing had been refused to it
+abbrev pub HasReadAll : {X F : Type 0} → (Gives : X → OutcomeData F → Type 0) → (inputs : List X) → (jobs job parts : ℕ) → Type 0
+HasReadAll {X} {F} Gives inputs jobs job parts =
+    (receipts : List ReceiptData) × (refused : List (RefusedInput F)) × HasTaken Gives inputs jobs job (length inputs) receipts refused × (parts ≤ length receipts)
 
 -- a worker has this job, and has done its work
 pub record HasDone {X F : Type 0} (chances : Chances X F) (work : WorkData X) (worker : WorkerData F) : Type 0 where
@@ -134,12 +161,13 @@ abbrev pub IsStopPlace : {X : Type 0} → (inputs : List X) → (jobs job place 
 IsStopPlace inputs jobs job place = IsTrue (places_of_job jobs job place) ⊎ (length inputs ≤ place)
 
 -- how a worker ended: it has done its work; or one of its inputs can't be read; or it was refused something. Then it has read its
--- inputs before the place where it stopped nevertheless
+-- inputs before the place where it stopped nevertheless, and if these are all, it has counted the submissions that it read
 abbrev pub HasEnded : {X F : Type 0} → Chances X F → WorkData X → Result (WorkerData F) Stop → Type 0
 HasEnded chances work (Ok worker) = HasDone chances work worker
 HasEnded chances work (Err (stops.Unread index)) = IsUnreadAt chances work.inputs work.jobs work.job index
 HasEnded chances work (Err (stops.Refused refusal)) =
     HasReadBefore chances work.inputs work.jobs work.job refusal.upto × IsStopPlace work.inputs work.jobs work.job refusal.upto
+    × (length work.inputs ≤ refusal.upto → HasReadAll chances.Gives work.inputs work.jobs work.job refusal.parts)
 
 -- each worker has done the work at the same place, and both lists have the same length
 abbrev pub HaveDone : {X F : Type 0} → Chances X F → List (WorkData X) → List (WorkerData F) → Type 0
@@ -172,8 +200,20 @@ HaveEndedIfStarted chances works ended = AllByRecursion IsStarted ended → Have
 
 -- the first worker that was refused something has this fault: all before it ended well, or at an input that can't be read
 abbrev pub IsFirstFault : {F : Type 0} → List (Result (WorkerData F) Stop) → BookFault → Type 0
-IsFirstFault {F} ended fault = (before : List (Result (WorkerData F) Stop)) × (upto : ℕ) × (after : List (Result (WorkerData F) Stop))
-    × AllByRecursion IsUnrefused before × (ended ≡ before ++ Err (stops.Refused (record { fault = fault; upto = upto })) ∷ after)
+IsFirstFault {F} ended fault = (before : List (Result (WorkerData F) Stop)) × (found : Refusal) × (after : List (Result (WorkerData F) Stop))
+    × AllByRecursion IsUnrefused before × (ended ≡ before ++ Err (stops.Refused found) ∷ after) × (found.fault ≡ fault)
+
+-- how many submissions a worker read, as far as its end tells
+abbrev pub parts_of_end : {F : Type 0} → Result (WorkerData F) Stop → ℕ
+parts_of_end (Ok worker) = length worker.receipts
+parts_of_end (Err (stops.Unread index)) = 0
+parts_of_end (Err (stops.Refused refusal)) = refusal.parts
+
+-- a worker that ended early did so at this place or after it
+abbrev pub IsFrom : {F : Type 0} → ℕ → Result (WorkerData F) Stop → Type 0
+IsFrom upto (Ok worker) = Unit {0}
+IsFrom upto (Err (stops.Unread index)) = upto ≤ index
+IsFrom upto (Err (stops.Refused refusal)) = upto ≤ refusal.upto
 
 -- an end that doesn't come before this place: the worker has read its inputs before the place, and if one of its inputs can't be
 -- read, this one is at the place or after it
@@ -187,10 +227,16 @@ abbrev pub IsLeastUnread : {F : Type 0} → List (Result (WorkerData F) Stop) �
 IsLeastUnread ended index = AllByRecursion (IsNotBefore index) ended × Contains ended (Err (stops.Unread index))
 
 -- which end of all workers is returned if not all ended well: the one at the first input that can't be read, if this input is
--- known. Else that of the first worker that was refused something
+-- known. Else that of the first worker that was refused something; then no worker ended before this end's place
 abbrev pub IsWorstEnd : {F : Type 0} → List (Result (WorkerData F) Stop) → Stop → Type 0
 IsWorstEnd ended (stops.Unread index) = IsLeastUnread ended index
-IsWorstEnd ended (stops.Refused refusal) = IsFirstFault ended refusal.fault × ((index : ℕ) → IsLeastUnread ended index → ⊥)
+IsWorstEnd ended (stops.Refused refusal) =
+    IsFirstFault ended refusal.fault × ((index : ℕ) → IsLeastUnread ended index → ⊥) × AllByRecursion (IsFrom refusal.upto) ended
+
+-- how many submissions the workers read, as far as this stop tells
+abbrev pub parts_of_stop : Stop → ℕ
+parts_of_stop (stops.Unread index) = 0
+parts_of_stop (stops.Refused refusal) = refusal.parts
 
 -- what all workers hand in: their seats, their logs, and all that they refused, in the order of the places
 abbrev pub log_of : {F : Type 0} → WorkerData F → LogData

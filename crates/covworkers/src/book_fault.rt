@@ -1,7 +1,7 @@
 //! Why inputs couldn't be collected in a book.
 
 use crate::collect_fault::CollectFault;
-use crate::stop::Stop;
+use crate::stop::{Refusal, Stop};
 use covbook::{BookFault, GatherFault, MAX_ENTRIES};
 use covdata::Memory;
 use covlock::OpenFault;
@@ -14,7 +14,7 @@ use thiserror::Error;
 #[derive(Clone, Copy, Debug, PartialEq, Eq, Error)]
 pub enum IntoBookFault {
     /// Faults 1 to 5: the errors of covjobs' `collect`. `Full` or `Memory` comes from the lowest-numbered job that got one of the
-    /// two.
+    /// two. `Memory` takes the place of `Full` if memory ran out while a job read an input, or if a job couldn't be started.
     #[error("{0}")]
     Collect(CollectFault),
     /// Fault 6: the input with this index, counted from 0, can't be read. All inputs before it were read.
@@ -97,28 +97,28 @@ impl From<GatherFault> for IntoBookFault {
 }
 
 ghost use Rattle.std.specs.Prelude.{◌≡◌};
-ghost use Rattle.covworkers.specs.Stops.{of_refused, of_stop};
+ghost use Rattle.covworkers.specs.Stops.{has_filled, of_refused, of_stop};
 
-/// Turns a job's stop into the error to return. `most_parts` is the greatest number of parts that all inputs together can have.
-pub(crate) fn fault_of(most_parts: u64, stop: Stop) -> IntoBookFault
-    ensures { result ≡ of_stop most_parts stop }
+/// Turns a job's stop into the error to return.
+pub(crate) fn fault_of(stop: Stop) -> IntoBookFault
+    ensures { result ≡ of_stop stop }
 {
     match stop {
         Stop::Unread(index) => IntoBookFault::Unread { index },
-        Stop::Refused(refusal) => IntoBookFault::Collect(refused_by(most_parts, refusal.fault)),
+        Stop::Refused(refusal) => IntoBookFault::Collect(refused_by(refusal)),
     }
 }
 
-/// Turns an error of the book into one of collecting. `most_parts` is the greatest number of parts that all inputs together can
-/// have. `Full` becomes `NotLast` if `most_parts` is below `MAX_ENTRIES`: then no history gets full, so this never happens.
-pub(crate) fn refused_by(most_parts: u64, fault: BookFault) -> CollectFault
-    ensures { result ≡ of_refused most_parts fault }
+/// Turns a refusal into an error of collecting. `Full` becomes `Memory` unless the jobs read all inputs, and enough submissions to fill
+/// the history: else no history gets full, or memory ran out as well.
+fn refused_by(refusal: Refusal) -> CollectFault
+    ensures { result ≡ of_refused (has_filled refusal.upto refusal.parts) refusal.fault }
 {
-    match fault {
-        BookFault::Full => if most_parts < MAX_ENTRIES {
-            CollectFault::NotLast
-        } else {
+    match refusal.fault {
+        BookFault::Full => if refusal.upto == usize::MAX && MAX_ENTRIES <= refusal.parts {
             CollectFault::Full
+        } else {
+            CollectFault::Memory
         },
         BookFault::Memory => CollectFault::Memory,
     }

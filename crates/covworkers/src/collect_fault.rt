@@ -6,7 +6,8 @@ use covlock::OpenFault;
 use thiserror::Error;
 
 /// Why inputs couldn't be collected. A job submits nothing more after its first `Full` or `Memory`, but the other jobs go on. When
-/// all have ended, the error of the lowest-numbered failed job is returned. `Memory` if the list of workers couldn't be allocated.
+/// all have ended, the error of the lowest-numbered failed job is returned. `Memory` if the list of workers couldn't be allocated,
+/// and in place of `Full` if a worker couldn't be started.
 #[derive(Clone, Copy, Debug, PartialEq, Eq, Error)]
 pub enum CollectFault {
     /// Fault 1: the number of jobs is 0 or more than 64. This is checked first.
@@ -21,8 +22,7 @@ pub enum CollectFault {
     /// Fault 4: the history isn't a merge of the jobs' logs, or a log has a wrong reading.
     #[error("gather: {0}")]
     Gather(GatherFault),
-    /// Fault 5, checked last: the last operation's entry isn't the last one. Also returned if the history is full although the
-    /// inputs have fewer parts than it has entries. Neither happens.
+    /// Fault 5: the last operation's entry isn't the last one. This is checked last, and never happens.
     #[error("NotLast")]
     NotLast,
 }

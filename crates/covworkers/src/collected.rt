@@ -22,6 +22,7 @@ use covbook::laws::{a_run_goes_on, order_does_not_matter};
 use covbook::{Entries, Logs, Op, gather};
 use covdata::{Memory, ReadFault};
 use covlock::{Name, Seats, Start, open_book};
+use covreport::Table;
 use std::alloc::Global;
 use std::sync::Wait;
 use std::thread::Threads;
@@ -37,12 +38,14 @@ pub struct Collected {
     pub refused: Refused,
 }
 
-/// Like covjobs' `collect_owned`, but for any `LateInput` whose error is a `ReadFault`, and with a book opened from `start`.
+/// Like covjobs' `collect_owned`, but for any `LateInput` whose error is a `ReadFault`, and with a book opened from `start`
+/// in a store `S`.
 pub fn collect_named<
     R: Threads + Wait + Sync,
     G: Gate + Sync,
     L: Name + Send + Sync,
     T: LateInput<Global, Fault = ReadFault> + Send,
+    S: Table<Global, Plan: Send, Renaming: Send> + Send,
 >(
     rt: &R,
     alloc: Global,
@@ -61,7 +64,7 @@ pub fn collect_named<
     ensures unread { IfErr result (IsUnreadFault T.may_give T.may_fail inputs.items) }
     ensures jobs_are_good { result ≡ Err (into_book.Collect faults.BadJobs) → ⊥ }
 {
-    let (book, seats) = open_book::<L, Global>(alloc, start)?;
+    let (book, seats) = open_book::<L, Global, S>(alloc, start)?;
     let mut workers = all_done(
         rt,
         alloc,

@@ -1,29 +1,30 @@
 //! Collects inputs into a book that stores only the answers of its history.
 
-use crate::book_fault::{IntoBookFault, refused_by};
+use crate::book_fault::IntoBookFault;
 use crate::collect_fault::CollectFault;
 use crate::done::all_done;
 use crate::gate::Gate;
-use crate::late::{LateInput, most_parts_of};
+use crate::late::LateInput;
 use crate::readers::Readers;
 use crate::refused::Refused;
 use crate::worker::Worker;
 use covbook::laws::{a_run_goes_on, calls_count_a_history, order_does_not_matter};
-use covbook::{Answered, Book, BookFault, Receipt};
+use covbook::{Answered, Book, Receipt};
 use covdata::{Memory, ReadFault};
 use covlock::{Name, News, Seats, Start, open_book_keeping};
+use covreport::Table;
 use std::alloc::Global;
 use std::marker::Brand;
 use std::snapshot::Snapshot;
 use std::sync::Wait;
 use std::thread::Threads;
 
-/// The result of `collect_into_book`.
+/// The result of `collect_into_book`, with a book over the store `S`.
 #[derive(Drop)]
-pub struct CollectedBook<F: Drop = ReadFault> {
+pub struct CollectedBook<S: Table<Global>, F: Drop = ReadFault> {
     /// The book. Its table has the counts of all accepted submissions. Of its history, it stores only the answers; the rest exists
     /// only in proofs.
-    pub book: Book<Global, Answered>,
+    pub book: Book<Global, S, Answered>,
     /// The rejected inputs, in the inputs' order. Of these inputs, only parts before the error are in the history.
     pub refused: Refused<Global, F>,
 }
@@ -48,28 +49,29 @@ ghost use Rattle.covlock.specs.Start.{AreJobs};
 /// If job 0 next asks for a text, whichever it is, the history with this further entry is a result of `collect`: matching logs of
 /// the jobs exist. The history always has capacity for this entry. `Book::text_of` returns the text.
 ///
-/// Errors: those of `collect` except `Gather`, and `Unread` with the first unreadable input. If that input is known, `Unread` takes
-/// precedence over `Full` and `Memory`. `Full` is returned only if the inputs can have at least 1,048,576 parts. `NotLast` is
-/// returned if a worker knows of more entries than the closed book has, or if the book is full although the inputs have fewer
-/// parts. Neither happens. No contract says that `Memory` is returned only after a failed allocation.
+/// Errors: those of `collect` except `Gather` and `NotLast`, and `Unread` with the first unreadable input. If that input is known,
+/// `Unread` takes precedence over `Full` and `Memory`. `Full` is returned only if all inputs were read, as at least 1,048,576
+/// submissions. No contract says that `Memory` is returned only after a failed allocation. It would also be returned if a worker knew
+/// of more entries than the closed book has, or if the book were full although fewer submissions were read. Neither happens.
 pub fn collect_into_book<
     R: Threads + Wait + Sync,
     G: Gate + Sync,
     T: LateInput<Global, Fault: Send> + Send,
+    S: Table<Global, Plan: Send, Renaming: Send> + Send,
 >(
     rt: &R,
     alloc: Global,
     inputs: Vec<T>,
     jobs: u32,
     gate: &G,
-) -> Result<CollectedBook<T::Fault>, IntoBookFault>
+) -> Result<CollectedBook<S, T::Fault>, IntoBookFault>
     ensures collected { IfOk result (λ c. IsCollectedSoFar T.may_give inputs.items jobs c.book.entries c.refused) }
     ensures not_full { IfOk result (λ c. length c.book.entries < max_entries) }
-    ensures unread { IfErr result (IsIntoBookFault T.may_give T.may_fail T.most inputs.items) }
+    ensures unread { IfErr result (IsIntoBookFault T.may_give T.may_fail inputs.items) }
     ensures bad { (result ≡ Err (into_book.Collect faults.BadJobs)) ↔ (AreJobs jobs → ⊥) }
 {
     let start = Start::new(alloc, jobs)?;
-    collect_named::<R, G, Brand, T>(rt, alloc, inputs, jobs, gate, start)
+    collect_named::<R, G, Brand, T, S>(rt, alloc, inputs, jobs, gate, start)
 }
 
 /// Like `collect_into_book`, with a book opened from `start`.
@@ -78,6 +80,7 @@ fn collect_named<
     G: Gate + Sync,
     L: Name + Send + Sync,
     T: LateInput<Global, Fault: Send> + Send,
+    S: Table<Global, Plan: Send, Renaming: Send> + Send,
 >(
     rt: &R,
     alloc: Global,
@@ -85,7 +88,7 @@ fn collect_named<
     jobs: u32,
     gate: &G,
     start: Start,
-) -> Result<CollectedBook<T::Fault>, IntoBookFault>
+) -> Result<CollectedBook<S, T::Fault>, IntoBookFault>
     requires name { start.name ≡ L.name }
     requires parts { start.jobs ≡ L.parts }
     requires book { start.book ≡ L.book }
@@ -93,11 +96,10 @@ fn collect_named<
     requires some { 0 < jobs }
     ensures collected { IfOk result (λ c. IsCollectedSoFar T.may_give inputs.items jobs c.book.entries c.refused) }
     ensures not_full { IfOk result (λ c. length c.book.entries < max_entries) }
-    ensures unread { IfErr result (IsIntoBookFault T.may_give T.may_fail T.most inputs.items) }
+    ensures unread { IfErr result (IsIntoBookFault T.may_give T.may_fail inputs.items) }
     ensures jobs_are_good { result ≡ Err (into_book.Collect faults.BadJobs) → ⊥ }
 {
-    let most_parts = most_parts_of(inputs.as_slice());
-    let (book, seats) = open_book_keeping::<L, Global, Answered>(alloc, start)?;
+    let (book, seats) = open_book_keeping::<L, Global, S, Answered>(alloc, start)?;
     let workers: Vec<Worker<L, Global, Snapshot<Receipt>, T::Fault>> = all_done(
         rt,
         alloc,
@@ -114,11 +116,13 @@ fn collect_named<
         // No seat is missing: each worker returns its own.
         Err(_back) => unreachable!(),
     };
+    // Always true: the closed news are the longest, but no contract says so. The error is `Memory`, since every other error has a
+    // cause that callers can see.
     if !are_before(latest.as_slice(), &news) {
-        return Err(IntoBookFault::Collect(CollectFault::NotLast));
+        return Err(IntoBookFault::Collect(CollectFault::Memory));
     }
     if book.is_full() {
-        return Err(IntoBookFault::Collect(refused_by(most_parts, BookFault::Full)));
+        return Err(IntoBookFault::Collect(CollectFault::Full));
     }
     calls_count_a_history();
     a_run_goes_on();

@@ -27,7 +27,7 @@ impl<A: Allocator, F: Drop> Model for Refused<A, F> {
 }
 
 impl<A: Allocator, F: Drop> Refused<A, F> {
-    ghost use Rattle.std.specs.Prelude.{◌≡◌, ◌++◌, [], ◌∷◌, OnOk, OnErr};
+    ghost use Rattle.std.specs.Prelude.{◌≡◌, ◌++◌, [], ◌∷◌, IsOk, OnOk, OnErr};
     ghost use Rattle.std.specs.List.Sorted.{IsPermutation, IsNonDecreasingBy};
     ghost use Rattle.covworkers.specs.declared.refused.RefusedInput.{RefusedInput};
 
@@ -56,13 +56,13 @@ impl<A: Allocator, F: Drop> Refused<A, F> {
         self.inputs.as_slice()
     }
 
-    /// Appends the inputs of `others`. On `Memory`, drops the inputs that aren't appended yet.
-    pub(crate) fn append(&mut self, others: Refused<A, F>) -> Result<(), Memory>
-        ensures { OnOk result (self.new ≡ self.old ++ others) }
+    /// Appends the inputs of `others`. On `Memory`, drops them and leaves the list unchanged. Never fails if there are none.
+    pub(crate) fn append(&mut self, mut others: Refused<A, F>) -> Result<(), Memory>
+        ensures ok { OnOk result (self.new ≡ self.old ++ others) }
+        ensures err { OnErr result (self.new ≡ self.old) }
+        ensures nothing { others ≡ [] → IsOk result }
     {
-        for input in others.inputs {
-            self.push(input)?;
-        }
+        self.inputs.append(&mut others.inputs)?;
         Ok(())
     }
 

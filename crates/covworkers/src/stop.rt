@@ -18,6 +18,8 @@ pub(crate) struct Refusal {
     pub(crate) fault: BookFault,
     /// The job has read its inputs before this index: none of them if this is 0, all of them if it is `usize::MAX`.
     pub(crate) upto: usize,
+    /// How many submissions the job has read, if it has read all its inputs. Saturates at 2^64 - 1.
+    pub(crate) parts: u64,
 }
 
 impl From<Memory> for Stop {
@@ -31,12 +33,13 @@ impl From<Memory> for Stop {
         Stop::Refused(Refusal {
             fault: BookFault::Memory,
             upto: 0,
+            parts: 0,
         })
     }
 }
 
 ghost use Rattle.std.specs.Prelude.{◌≡◌};
-ghost use Rattle.covworkers.specs.Stops.{both_of, lesser_of, worst_of};
+ghost use Rattle.covworkers.specs.Stops.{both_of, lesser_of, more_parts, worst_of};
 
 /// Returns the lesser of `least` and `index`, or `index` if `least` is `None`.
 pub(crate) fn lesser(least: Option<usize>, index: usize) -> usize
@@ -48,7 +51,8 @@ pub(crate) fn lesser(least: Option<usize>, index: usize) -> usize
     }
 }
 
-/// Combines two refusals into one with the error of `first` and the lesser index. Returns `next` if `first` is `None`.
+/// Combines two refusals into one with the error of `first`, the lesser index, and the submissions of both. Returns `next` if `first`
+/// is `None`.
 pub(crate) fn both(first: Option<Refusal>, next: Refusal) -> Refusal
     ensures { result ≡ both_of first next }
 {
@@ -56,6 +60,7 @@ pub(crate) fn both(first: Option<Refusal>, next: Refusal) -> Refusal
         Some(first) => Refusal {
             fault: first.fault,
             upto: first.upto.min(next.upto),
+            parts: first.parts.saturating_add(next.parts),
         },
         None => next,
     }
@@ -75,5 +80,19 @@ pub(crate) fn worst(least: Option<usize>, refused: Option<Refusal>) -> Option<St
         } else {
             Some(Stop::Refused(refusal))
         },
+    }
+}
+
+/// Adds the submissions of the jobs that ended well to a refusal.
+pub(crate) fn with_parts(parts: u64, stop: Stop) -> Stop
+    ensures { result ≡ more_parts parts stop }
+{
+    match stop {
+        Stop::Unread(index) => Stop::Unread(index),
+        Stop::Refused(refusal) => Stop::Refused(Refusal {
+            fault: refusal.fault,
+            upto: refusal.upto,
+            parts: refusal.parts.saturating_add(parts),
+        }),
     }
 }

@@ -12,6 +12,7 @@ use crate::stop::{Refusal, Stop};
 use covbook::{BookFault, Entry, JobLog, Keep, Op, Readings, Receipt, Receipts};
 use covdata::{Memory, ReadFault};
 use covlock::{Done, Live, Name, News, Seat, Shared};
+use covreport::Table;
 use std::alloc::{Allocator, Global};
 use std::marker::Model;
 use std::snapshot::Snapshot;
@@ -50,13 +51,13 @@ impl<L: Name, A: Allocator, P: Keep<Of = Receipt<A>>, F: Drop> Model for Worker<
 }
 
 impl<L: Name, A: Allocator + Copy, P: Keep<Of = Receipt<A>>, F: Drop> Worker<L, A, P, F> {
-    ghost use Rattle.std.specs.Prelude.{◌≡◌, ◌<◌, ◌++◌, [], ◌∷◌, None, Some, IfOk, IfErr, IfSome, is_some, length, map};
+    ghost use Rattle.std.specs.Prelude.{◌≡◌, ◌<◌, ◌++◌, [], ◌∷◌, None, Some, IfOk, IfErr, IfSome, IsTrue, OnErr, is_some, length, map};
     ghost use Rattle.covbook.specs.Op.{SubmitOp};
     ghost use Rattle.covbook.specs.View.{op_data};
     ghost use Rattle.covworkers.specs.Collect.{ops_in, refusal, submitted, whole, HasRead};
     ghost use Rattle.covworkers.specs.Late.{chances_of};
     ghost use Rattle.covworkers.specs.Stops.{IsStopAt};
-    ghost use Rattle.covworkers.specs.Work.{Asks, HasOutcome, IsReading, ReadsOn, Takes};
+    ghost use Rattle.covworkers.specs.Work.{Asks, HasParts, IsReading, ReadsOn, Takes};
     ghost use Rattle.covlock.specs.Seat.{fresh_seat};
 
     /// A worker that has done nothing yet.
@@ -80,68 +81,76 @@ impl<L: Name, A: Allocator + Copy, P: Keep<Of = Receipt<A>>, F: Drop> Worker<L, 
 
     /// Reads the input part by part. `first` is the job's first failed call or list allocation before this input. As long as none
     /// has failed, submits each part before reading the next one, or notes that the input is rejected. Returns the job's first
-    /// failure up to the end of this input. The input is consumed before its last part is submitted.
-    fn go_on<R: Wait, G: Gate, T: LateInput<A, Fault = F>, K: Keep<Of = Entry<A>>>(
+    /// failure up to the end of this input, and how many submissions were read of the input (at most 2^64 - 1). The input is consumed
+    /// before its last part is submitted.
+    fn go_on<R: Wait, G: Gate, T: LateInput<A, Fault = F>, K: Keep<Of = Entry<A>>, S: Table<A>>(
         &mut self,
         rt: &R,
         alloc: A,
-        book: &Shared<L, A, K>,
+        book: &Shared<L, A, S, K>,
         gate: &G,
         placed: Placed<T>,
         first: Option<BookFault>,
-    ) -> Result<Option<BookFault>, Stop>
+    ) -> Result<(Option<BookFault>, u64), Stop>
         ensures job { self.new.seat.job ≡ self.old.seat.job }
-        ensures outcome { IfOk result (λ _. HasOutcome (T.may_give placed.input)) }
-        ensures taken { IfOk result (λ fault. fault ≡ None → (first ≡ None) × Takes (T.may_give placed.input) placed.index (ops_in self.old.receipts) (ops_in self.new.receipts) self.old.refused self.new.refused) }
-        ensures kept { IfSome first (λ f. IfOk result (λ fault. fault ≡ Some f)) }
+        ensures outcome { IfOk result (λ r. HasParts (T.may_give placed.input) r.1) }
+        ensures taken { IfOk result (λ r. r.0 ≡ None → (first ≡ None) × Takes (T.may_give placed.input) placed.index (ops_in self.old.receipts) (ops_in self.new.receipts) self.old.refused self.new.refused) }
+        ensures kept { IfSome first (λ f. IfOk result (λ r. r.0 ≡ Some f)) }
         ensures idle { IfSome first (λ _. IfOk result (λ _. (self.new.receipts ≡ self.old.receipts) × (self.new.refused ≡ self.old.refused))) }
         ensures stop { IfErr result (IsStopAt placed.index (T.may_fail placed.input)) }
-        ensures read { IfOk result (λ fault. fault ≡ None → HasRead self.old.has_reader self.old.receipts self.old.readings → HasRead self.new.has_reader self.new.receipts self.new.readings) }
+        ensures read { IfOk result (λ r. r.0 ≡ None → HasRead self.old.has_reader self.old.receipts self.old.readings → HasRead self.new.has_reader self.new.receipts self.new.readings) }
         ensures reader { self.new.has_reader ≡ self.old.has_reader }
     {
         let Placed { index, input } = placed;
         let mut fault = first;
         let mut left = Some(input);
+        let mut parts: u64 = 0;
         while let Some(input) = left {
-            let (rest, after) = self.take_part(rt, alloc, book, gate, index, input, fault)?;
+            let (rest, after, more) = self.take_part(rt, alloc, book, gate, index, input, fault)?;
             left = rest;
             fault = after;
+            parts = parts.saturating_add(more);
         }
-        Ok(fault)
+        Ok((fault, parts))
     }
 
     /// Reads the next part of the input. `first` is the job's first failed call or list allocation before this part. If `first` is
-    /// `None`, submits the part, or notes that the input is rejected. Returns the rest of the input, and the job's first failure up
-    /// to the end of this part.
-    fn take_part<R: Wait, G: Gate, T: LateInput<A, Fault = F>, K: Keep<Of = Entry<A>>>(
+    /// `None`, submits the part, or notes that the input is rejected. Returns the rest of the input, the job's first failure up to the
+    /// end of this part, and 1 if the part is a submission, else 0.
+    fn take_part<R: Wait, G: Gate, T: LateInput<A, Fault = F>, K: Keep<Of = Entry<A>>, S: Table<A>>(
         &mut self,
         rt: &R,
         alloc: A,
-        book: &Shared<L, A, K>,
+        book: &Shared<L, A, S, K>,
         gate: &G,
         index: usize,
         input: T,
         first: Option<BookFault>,
-    ) -> Result<(Option<T>, Option<BookFault>), Stop>
+    ) -> Result<(Option<T>, Option<BookFault>, u64), Stop>
         ensures job { self.new.seat.job ≡ self.old.seat.job }
         ensures reader { self.new.has_reader ≡ self.old.has_reader }
-        ensures reading { IfOk result (λ r. IsReading (chances_of T.may_give T.may_fail) index input first self.old r.0 r.1 self.new) }
+        ensures reading { IfOk result (λ r. IsReading (chances_of T.may_give T.may_fail) index input first self.old r.0 r.1 r.2 self.new) }
         ensures fewer { IfOk result (λ r. IfSome r.0 (λ rest. T.most rest < T.most input)) }
         ensures stop { IfErr result (IsStopAt index (T.may_fail input)) }
     {
         let (part, rest) = next_part(alloc, index, input, first)?;
+        let parts = parts_in(&part);
         match first {
-            Some(fault) => Ok((rest, Some(fault))),
-            None => Ok((rest, self.take(rt, alloc, book, gate, index, part).err())),
+            Some(fault) => Ok((rest, Some(fault), parts)),
+            None => Ok((
+                rest,
+                self.take(rt, alloc, book, gate, index, part).err(),
+                parts,
+            )),
         }
     }
 
     /// Submits a part of an input, or notes that the input is rejected.
-    fn take<R: Wait, G: Gate, K: Keep<Of = Entry<A>>>(
+    fn take<R: Wait, G: Gate, K: Keep<Of = Entry<A>>, S: Table<A>>(
         &mut self,
         rt: &R,
         alloc: A,
-        book: &Shared<L, A, K>,
+        book: &Shared<L, A, S, K>,
         gate: &G,
         index: usize,
         part: Result<Given<A>, F>,
@@ -171,11 +180,11 @@ impl<L: Name, A: Allocator + Copy, P: Keep<Of = Receipt<A>>, F: Drop> Worker<L, 
     }
 
     /// Submits `submission` between the two calls of `gate`, and stores the receipt. Then stores a reading if the job has a reader.
-    fn submit<R: Wait, G: Gate, K: Keep<Of = Entry<A>>>(
+    fn submit<R: Wait, G: Gate, K: Keep<Of = Entry<A>>, S: Table<A>>(
         &mut self,
         rt: &R,
         alloc: A,
-        book: &Shared<L, A, K>,
+        book: &Shared<L, A, S, K>,
         gate: &G,
         submission: Given<A>,
     ) -> Result<(), BookFault>
@@ -195,11 +204,11 @@ impl<L: Name, A: Allocator + Copy, P: Keep<Of = Receipt<A>>, F: Drop> Worker<L, 
 
     /// Performs the operation and stores the receipt. Returns news of the history up to and including the receipt's entry, which
     /// the job has now seen. Reserves memory for the receipt first, so the receipt of each successful call is stored.
-    pub(crate) fn ask<R: Wait, K: Keep<Of = Entry<A>>>(
+    pub(crate) fn ask<R: Wait, K: Keep<Of = Entry<A>>, S: Table<A>>(
         &mut self,
         rt: &R,
         alloc: A,
-        book: &Shared<L, A, K>,
+        book: &Shared<L, A, S, K>,
         op: &Op<A>,
     ) -> Result<News<L>, BookFault>
         ensures job { self.new.seat.job ≡ self.old.seat.job }
@@ -216,25 +225,39 @@ impl<L: Name, A: Allocator + Copy, P: Keep<Of = Receipt<A>>, F: Drop> Worker<L, 
         Ok(news)
     }
 
-    /// Stores one reading if the job has a reader. The reading covers at least as many entries as the news.
+    /// Stores one reading if the job has a reader. The reading covers at least as many entries as the news. Never fails for a job
+    /// without a reader.
     fn read(&mut self, news: &News<L>) -> Result<(), Memory>
-        ensures read { IfOk result (λ _. ReadsOn self.old.has_reader (length news.now) self.old.readings self.new.readings) }
+        ensures read { IfOk result (λ _. ReadsOn self.old.has_reader news.now self.old.readings self.new.readings) }
+        ensures cause { OnErr result (IsTrue self.old.has_reader) }
         ensures reader { self.new.has_reader ≡ self.old.has_reader }
         ensures seat { self.new.seat ≡ self.old.seat }
         ensures receipts { self.new.receipts ≡ self.old.receipts }
         ensures refused { self.new.refused ≡ self.old.refused }
     {
         if let Some(live) = &mut self.live {
-            live.learn(news);
-            self.readings.push(live.totals())?;
+            read_once(live, news, &mut self.readings)?;
         }
         Ok(())
     }
 }
 
-ghost use Rattle.std.specs.Prelude.{◌≡◌, ◌<◌, IfOk, length};
+ghost use Rattle.std.specs.Prelude.{◌≡◌, ◌<◌, IfOk, OnOk, length};
 ghost use Rattle.covbook.specs.Kept.{IsPrefix};
 ghost use Rattle.covworkers.specs.Latest.{history_of};
+ghost use Rattle.covworkers.specs.Work.{ReadsOnce};
+
+/// Appends one reading of `live`, which learns the news first.
+fn read_once<L: Name, A: Allocator>(
+    live: &mut Live<L, A>,
+    news: &News<L>,
+    readings: &mut Readings<A>,
+) -> Result<(), Memory>
+    ensures { OnOk result (ReadsOnce news.now readings.old readings.new) }
+{
+    live.learn(news);
+    readings.push(live.totals())
+}
 
 /// Returns a copy of `news`, whose history must be longer than that of `latest`. The longer history extends the shorter one.
 fn later<L: Name>(latest: &Option<News<L>>, news: &News<L>) -> News<L>
@@ -249,10 +272,17 @@ fn later<L: Name>(latest: &Option<News<L>>, news: &News<L>) -> News<L>
 }
 
 impl<L: Name, A: Allocator, P: Keep<Of = Receipt<A>>, F: Drop> Worker<L, A, P, F> {
-    ghost use Rattle.std.specs.Prelude.{◌≡◌};
+    ghost use Rattle.std.specs.Prelude.{◌≡◌, length};
     ghost use Rattle.covbook.specs.Kept.{IsKeptWell};
     ghost use Rattle.covworkers.specs.Latest.{history_of};
     ghost use Rattle.covworkers.specs.Work.{kept_of};
+
+    /// How many submissions the job has made: one for each receipt.
+    pub(crate) fn submissions(&self) -> u64
+        ensures { result ≡ length self.now.receipts }
+    {
+        self.receipts.len() as u64
+    }
 
     /// How many entries of the history the job has seen: all up to and including the entry of its last successful call.
     pub(crate) fn seen(&self) -> u64
@@ -326,10 +356,11 @@ pub(crate) fn work<
     T: LateInput<A>,
     K: Keep<Of = Entry<A>>,
     P: Keep<Of = Receipt<A>>,
+    S: Table<A>,
 >(
     rt: &R,
     alloc: A,
-    book: &Shared<L, A, K>,
+    book: &Shared<L, A, S, K>,
     gate: &G,
     seat: Seat<L>,
     jobs: u32,
@@ -344,15 +375,45 @@ pub(crate) fn work<
     let live = reader_of(rt, book, readers);
     let mut worker = Worker::new(alloc, seat, live);
     let mut first: Option<BookFault> = None;
+    // How many submissions were read. As long as nothing failed, each one has a receipt.
+    let mut parts: u64 = 0;
     for placed in share {
-        first = worker.go_on(rt, alloc, book, gate, placed, first)?;
+        let (fault, more) = worker.go_on(rt, alloc, book, gate, placed, first)?;
+        first = fault;
+        parts = counted(first, worker.submissions(), parts, more);
     }
     match first {
         None => Ok(worker),
         Some(fault) => Err(Stop::Refused(Refusal {
             fault,
             upto: usize::MAX,
+            parts,
         })),
+    }
+}
+
+ghost use Rattle.covworkers.specs.Stops.{counted_of};
+
+/// How many submissions a job has read after one more input, of which it read `more`: those that it `submitted`, if nothing failed
+/// (`first`). Otherwise `more` than `before`, or 2^64 - 1 if that is less.
+fn counted(first: Option<BookFault>, submitted: u64, before: u64, more: u64) -> u64
+    ensures { result ≡ counted_of first submitted before more }
+{
+    match first {
+        None => submitted,
+        Some(_) => before.saturating_add(more),
+    }
+}
+
+ghost use Rattle.covworkers.specs.Work.{one_if_read};
+
+/// Returns 1 if the part is a submission, and 0 if it is an error.
+fn parts_in<A: Allocator, F: Drop>(part: &Result<Given<A>, F>) -> u64
+    ensures { result ≡ one_if_read part.now }
+{
+    match part {
+        Ok(_) => 1,
+        Err(_) => 0,
     }
 }
 
@@ -395,14 +456,15 @@ fn refused_text<F: Drop>(
         LateFault::Memory => Err(Stop::Refused(Refusal {
             fault: first.unwrap_or(BookFault::Memory),
             upto: index,
+            parts: 0,
         })),
     }
 }
 
 /// Makes a reader of the book, if `readers` asks for one per job and the book has a place for it.
-fn reader_of<R: Wait, L: Name, A: Allocator, K: Keep<Of = Entry<A>>>(
+fn reader_of<R: Wait, L: Name, A: Allocator, K: Keep<Of = Entry<A>>, S: Table<A>>(
     rt: &R,
-    book: &Shared<L, A, K>,
+    book: &Shared<L, A, S, K>,
     readers: Readers,
 ) -> Option<Live<L, A>>
     ensures { MayHaveReader readers (is_some result) }

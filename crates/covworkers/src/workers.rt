@@ -17,6 +17,7 @@ use crate::worker::{Worker, work};
 use covbook::{Entry, Keep, Receipt};
 use covdata::Memory;
 use covlock::{Name, Seats, Shared};
+use covreport::Table;
 use std::alloc::Global;
 use std::marker::Model;
 use std::snapshot::Snapshot;
@@ -56,10 +57,11 @@ pub(crate) fn do_all_work<
     T: LateInput<Global, Fault: Send> + Send,
     K: Keep<Of = Entry> + Send,
     P: Keep<Of = Receipt> + Send,
+    S: Table<Global, Plan: Send, Renaming: Send> + Send,
 >(
     rt: &R,
     alloc: Global,
-    book: &Shared<L, Global, K>,
+    book: &Shared<L, Global, S, K>,
     gate: &G,
     seats: Seats<L>,
     jobs: u32,
@@ -87,10 +89,11 @@ fn work_in_turn<
     T: LateInput<Global>,
     K: Keep<Of = Entry>,
     P: Keep<Of = Receipt>,
+    S: Table<Global>,
 >(
     rt: &R,
     alloc: Global,
-    book: &Shared<L, Global, K>,
+    book: &Shared<L, Global, S, K>,
     gate: &G,
     seats: Seats<L>,
     jobs: u32,
@@ -126,10 +129,11 @@ fn work_at_once<
     T: LateInput<Global, Fault: Send> + Send,
     K: Keep<Of = Entry> + Send,
     P: Keep<Of = Receipt> + Send,
+    S: Table<Global, Plan: Send, Renaming: Send> + Send,
 >(
     rt: &R,
     alloc: Global,
-    book: &Shared<L, Global, K>,
+    book: &Shared<L, Global, S, K>,
     gate: &G,
     seats: Seats<L>,
     jobs: u32,

@@ -9,7 +9,8 @@ use super::wrappers::op_of;
 use bumpalo::Bump;
 use covbook::{BookFault, Entries, Op};
 use covdata::Memory;
-use covjobs::{Done, Live, Name, OpenFault, ReaderFault, Seat, Seats, Shared, Start, open_book};
+use covjobs::{Done, Live, Name, OpenFault, ReaderFault, Seat, Seats, Start};
+use covnamed::{Shared, open_book};
 use covtable::Totals;
 use std::alloc::Allocator;
 use std::marker::Brand;
@@ -42,7 +43,7 @@ fn perform<L: Name, A: Allocator + Copy, R: Wait>(
     book.perform(rt, alloc, seat, op)
 }
 
-fn reader<L: Name, A: Allocator, R: Wait>(
+fn reader<L: Name, A: Allocator + Copy, R: Wait>(
     rt: &R,
     book: &Shared<L, A>,
 ) -> Result<Live<L, A>, ReaderFault> {
@@ -50,7 +51,7 @@ fn reader<L: Name, A: Allocator, R: Wait>(
 }
 
 /// Closes the book with all its seats, and returns the book's history.
-fn history_of<L: Name, A: Allocator, R: Wait + Abort>(
+fn history_of<L: Name, A: Allocator + Copy, R: Wait + Abort>(
     rt: &R,
     book: Shared<L, A>,
     seats: Vec<Seat<L>, A>,
@@ -236,7 +237,7 @@ fn check_done<L: Name, A: Allocator + Copy>(
 }
 
 /// Makes a reader with the limited capacity, and returns whether that failed.
-fn reads<L: Name, A: Allocator, R: Wait + Abort>(
+fn reads<L: Name, A: Allocator + Copy, R: Wait + Abort>(
     rt: &R,
     book: &Shared<L, A>,
     tried: Narrow<'_>,

@@ -5,7 +5,8 @@ use super::made;
 use super::said::{BEGUN, STEPS, Step, check_entry, check_told};
 use super::wrappers::op_of;
 use bumpalo::Bump;
-use covbook::{Book, BookFault, Op, Receipt};
+use covbook::{BookFault, Op, Receipt};
+use covnamed::Book;
 use std::alloc::Allocator;
 use std::process::Abort;
 use std::test::*;
@@ -50,34 +51,68 @@ fn check_book<A: Allocator + Copy>(
     assert!(rt; matches!(last, Some(entry) if entry.after == book.totals()));
 }
 
-/// Performs the step `op` of `step` as job 4 in the book of `begun`, and checks the result. Returns whether an allocation failed.
-/// Leaves the heap with ample capacity.
-fn is_step_refused<'h>(
-    rt: &impl Abort,
-    heap: &'h Bump,
-    book: &mut Book<&'h Bump>,
-    op: &Op<&'h Bump>,
-    step: Step<'_>,
+/// A step that is tried in one call or in two halves, and the heap that its book allocates from.
+#[derive(Clone, Copy)]
+struct Tried<'a> {
+    heap: &'a Bump,
+    step: Step<'a>,
     in_halves: bool,
+}
+
+/// Performs the step `op`, which is that of `tried`, as job 4 in the book of `begun`, and checks the result. Returns whether an
+/// allocation failed. Leaves the heap with ample capacity.
+fn is_step_refused<A: Allocator + Copy>(
+    rt: &impl Abort,
+    alloc: A,
+    book: &mut Book<A>,
+    op: &Op<A>,
+    tried: Tried<'_>,
 ) -> bool {
-    let taken = taken(heap, book, 4, op, in_halves);
-    widen(heap);
+    let taken = taken(alloc, book, 4, op, tried.in_halves);
+    widen(tried.heap);
     match taken {
         Ok(receipt) => {
             assert_eq!(rt; receipt.place, 1);
-            check_told(rt, heap, &receipt.op, &receipt.answer, book.totals(), step);
-            check_book(rt, heap, book, 2, 4, step);
+            check_told(
+                rt,
+                alloc,
+                &receipt.op,
+                &receipt.answer,
+                book.totals(),
+                tried.step,
+            );
+            check_book(rt, alloc, book, 2, 4, tried.step);
             false
         }
         Err(fault) => {
             assert_eq!(rt; fault, BookFault::Memory);
-            check_book(rt, heap, book, 1, 3, BEGUN);
+            check_book(rt, alloc, book, 1, 3, BEGUN);
             true
         }
     }
 }
 
 /// Performs the step in the book of `begun` with a capacity of `room`, and returns whether an allocation failed.
+fn is_refused_in<A: Allocator + Copy>(
+    rt: &impl Abort,
+    alloc: A,
+    room: usize,
+    tried: Tried<'_>,
+) -> bool {
+    let mut book = begun(rt, alloc);
+    let op = op_of(rt, alloc, tried.step.asked);
+    narrow(rt, tried.heap, room);
+    let is_refused = is_step_refused(rt, alloc, &mut book, &op, tried);
+    if is_refused {
+        assert!(rt;
+            !is_step_refused(rt, alloc, &mut book, &op, tried),
+            "refused again"
+        );
+    }
+    is_refused
+}
+
+/// `is_refused_in` with the heap as allocator.
 pub(super) fn is_refused(
     rt: &impl Abort,
     heap: &Bump,
@@ -85,17 +120,16 @@ pub(super) fn is_refused(
     step: Step<'_>,
     in_halves: bool,
 ) -> bool {
-    let mut book = begun(rt, heap);
-    let op = op_of(rt, heap, step.asked);
-    narrow(rt, heap, room);
-    let is_refused = is_step_refused(rt, heap, &mut book, &op, step, in_halves);
-    if is_refused {
-        assert!(rt;
-            !is_step_refused(rt, heap, &mut book, &op, step, in_halves),
-            "refused again"
-        );
-    }
-    is_refused
+    is_refused_in(
+        rt,
+        heap,
+        room,
+        Tried {
+            heap,
+            step,
+            in_halves,
+        },
+    )
 }
 
 #[test]

@@ -2,7 +2,7 @@
 //! totals.
 
 ghost use Rattle.std.specs.Prelude.{◌<◌, OnErr};
-ghost use Rattle.covstore.specs.Store.{max_members};
+ghost use Rattle.covtable.specs.Shown.{max_members};
 
 use super::heap::{Call, check_rising, check_rising_by, narrow, widen};
 use super::texts::{APART, DOUBLED, JOINED, RENAMED, SMALL};

@@ -3,9 +3,8 @@
 use super::steps::{Step, check_steps};
 use super::words::{answer_of, number_of};
 use super::wrappers::{copied_answer, copied_op, entries, gathered};
-use covbook::{
-    Answer, Book, Entry, GatherFault, JobLog, Logs, Reading, Readings, Receipt, Receipts,
-};
+use covbook::{Answer, Entry, GatherFault, JobLog, Logs, Reading, Readings, Receipt, Receipts};
+use covnamed::Book;
 use covtable::Totals;
 use std::process::Abort;
 use std::test::*;

@@ -3,7 +3,8 @@
 use super::steps::{Step, check_lines, check_steps};
 use super::words::op_of;
 use super::wrappers::{entries, ready, step, totals};
-use covbook::{Book, BookFault, Op, Ready};
+use covbook::{BookFault, Op};
+use covnamed::{Book, Ready};
 use std::alloc::Global;
 use std::process::Abort;
 use std::test::*;

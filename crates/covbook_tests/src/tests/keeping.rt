@@ -3,7 +3,8 @@
 
 use super::steps::check_answer;
 use super::words::op_of;
-use covbook::{Answered, Book, Op};
+use covbook::{Answered, Op};
+use covnamed::Book;
 use std::alloc::Global;
 use std::process::Abort;
 use std::test::*;

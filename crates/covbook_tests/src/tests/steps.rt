@@ -2,7 +2,8 @@
 
 use super::words::{answer_of, op_of};
 use super::wrappers::{entries, is_same_answer, is_same_op, taken, totals};
-use covbook::{Answer, Book, Entry, Op, Receipt};
+use covbook::{Answer, Entry, Op, Receipt};
+use covnamed::Book;
 use covtable::Totals;
 use std::process::Abort;
 use std::test::*;

@@ -2,10 +2,10 @@
 //! contracts. The functions panic on an error: one that returned early would have to drop what it owns on that way out.
 
 use covbook::{
-    Answer, Book, BookFault, Entry, GatherFault, JobLog, Op, PackedRef, Ready, Receipt, SubRef,
-    TextRef,
+    Answer, BookFault, Entry, GatherFault, JobLog, Op, PackedRef, Receipt, SubRef, TextRef,
 };
 use covdata::Bytes;
+use covnamed::{Book, Ready};
 use covread::{read_trace, read_trace_packed};
 use covtable::Totals;
 use std::alloc::Global;

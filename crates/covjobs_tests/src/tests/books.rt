@@ -6,7 +6,8 @@ ghost use Rattle.std.specs.Prelude.{◌≡◌};
 use super::collecting::{bytes, submission, trace};
 use super::wrappers::{close, done, start};
 use covbook::{Entries, JobLog, Op, Reading, Readings, Receipt, Receipts};
-use covjobs::{Done, Name, News, Seat, Shared, Start, open_book};
+use covjobs::{Done, Name, News, Seat, Start};
+use covnamed::{Shared, open_book};
 use std::alloc::{Allocator, Global};
 use std::process::Abort;
 use std::sync::Wait;
@@ -47,7 +48,7 @@ pub(super) fn first_of<'a, L: Name>(rt: &impl Abort, seats: &'a mut [Seat<L>]) -
 }
 
 /// Closes the book with all of its seats. Returns the book's history, and news of this history.
-pub(super) fn closed<L: Name, A: Allocator, R: Wait + Abort>(
+pub(super) fn closed<L: Name, A: Allocator + Copy, R: Wait + Abort>(
     rt: &R,
     book: Shared<L, A>,
     seats: Vec<Seat<L>, A>,
@@ -59,7 +60,7 @@ pub(super) fn closed<L: Name, A: Allocator, R: Wait + Abort>(
 }
 
 /// Closes the book with all of its seats, and returns its history.
-pub(super) fn history_of<L: Name, A: Allocator, R: Wait + Abort>(
+pub(super) fn history_of<L: Name, A: Allocator + Copy, R: Wait + Abort>(
     rt: &R,
     book: Shared<L, A>,
     seats: Vec<Seat<L>, A>,

@@ -8,10 +8,8 @@ use super::said::check_answers;
 use covbook::Op;
 use covdata::{Bytes, ReadFault};
 use covjobs::Input;
-use covworkers::{
-    CollectFault, CollectedBook, Given, IntoBookFault, LateFault, LateInput, NoGate, Part,
-    collect_into_book,
-};
+use covnamed::{CollectedBook, collect_into_book};
+use covworkers::{CollectFault, Given, IntoBookFault, LateFault, LateInput, NoGate, Part};
 use std::alloc::Global;
 use std::process::Abort;
 use std::sync::Wait;
@@ -48,10 +46,6 @@ impl<'a> LateInput<Global> for Letters<'a> {
                 Ok(Part::More(given, Letters { parts: rest }))
             },
         }
-    }
-
-    fn most_parts(&self) -> u64 {
-        self.parts.len() as u64
     }
 }
 
@@ -229,4 +223,20 @@ fn refused_memory(rt: HostRuntime) {
     for inputs in ["s ! ? s", "s ! s ?", "s s!", "s! s?"] {
         assert!(rt; ends_with(&rt, inputs, 2, memory), "{inputs}");
     }
+}
+
+/// As many submissions as a full history has entries are too many, whichever jobs read them. If memory runs out while an input is read,
+/// `Memory` takes precedence.
+#[test]
+fn a_full_history(rt: HostRuntime) -> Result<(), Fail> {
+    let full = IntoBookFault::Collect(CollectFault::Full);
+    let memory = IntoBookFault::Collect(CollectFault::Memory);
+    let half = "s".repeat(rt.alloc(), 524_288)?;
+    let exact = format!(in rt.alloc(); "{half} {half}")?;
+    let more = format!(in rt.alloc(); "{half}s x {half}")?;
+    let refused = format!(in rt.alloc(); "{exact} s !")?;
+    assert!(rt; ends_with(&rt, exact.as_str(), 2, full));
+    assert!(rt; ends_with(&rt, more.as_str(), 1, full));
+    assert!(rt; ends_with(&rt, refused.as_str(), 2, memory));
+    Ok(())
 }

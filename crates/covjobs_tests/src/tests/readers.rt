@@ -8,7 +8,8 @@ use super::books::{
 };
 use super::wrappers::{gathered, learn, reader, reading, totals};
 use covbook::{Entry, JobLog, Reading, Readings};
-use covjobs::{Live, Name, News, ReaderFault, Seat, Shared, Start};
+use covjobs::{Live, Name, News, ReaderFault, Seat, Start};
+use covnamed::Shared;
 use std::alloc::Global;
 use std::marker::Brand;
 use std::process::Abort;

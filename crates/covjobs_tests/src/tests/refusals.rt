@@ -5,7 +5,8 @@ ghost use Rattle.std.specs.Prelude.{◌≡◌};
 use super::books::{first_of, history_of, opened, started};
 use super::wrappers::done;
 use covbook::{BookFault, Op};
-use covjobs::{Name, Seat, Shared, Start};
+use covjobs::{Name, Seat, Start};
+use covnamed::Shared;
 use linked_list_allocator::LocalHeap;
 use std::alloc::Allocator;
 use std::marker::Brand;
@@ -83,7 +84,7 @@ fn no_room<L: Name, A: Allocator + Copy, R: Wait + Abort>(rt: &R, alloc: A, star
 }
 
 /// Closes the book, and checks that its history has one entry per successful call.
-fn check_length<L: Name, A: Allocator, R: Wait + Abort>(
+fn check_length<L: Name, A: Allocator + Copy, R: Wait + Abort>(
     rt: &R,
     book: Shared<L, A>,
     seats: Vec<Seat<L>, A>,

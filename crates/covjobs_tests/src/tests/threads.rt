@@ -8,7 +8,8 @@ use super::books::{
 use super::collecting::check_last;
 use super::wrappers::gathered;
 use covbook::{Answer, Entry, JobLog, Op};
-use covjobs::{Name, Seat, Shared, Start};
+use covjobs::{Name, Seat, Start};
+use covnamed::Shared;
 use std::alloc::Global;
 use std::marker::Brand;
 use std::process::Abort;

@@ -8,7 +8,8 @@ use super::books::{Ask, empty_logs, history_of, keep_reading, opened, perform, s
 use super::said::{check_entries, check_receipts};
 use super::wrappers::gathered;
 use covbook::{Entries, Entry, GatherFault, JobLog, Reading};
-use covjobs::{Name, Seat, Shared, Start};
+use covjobs::{Name, Seat, Start};
+use covnamed::Shared;
 use covtable::Totals;
 use std::alloc::Global;
 use std::marker::Brand;

@@ -1,9 +1,8 @@
 //! Wraps calls in functions without `ensures` clauses: tests look only at values, and are proved faster without such clauses.
 
 use covbook::{BookFault, Entries, Entry, GatherFault, JobLog, Op, Reading, gather};
-use covjobs::{
-    CloseFault, Done, Live, Name, News, OpenFault, ReaderFault, Seat, Seats, Shared, Start,
-};
+use covjobs::{CloseFault, Done, Live, Name, News, OpenFault, ReaderFault, Seat, Seats, Start};
+use covnamed::Shared;
 use std::alloc::{Allocator, Global};
 use std::sync::Wait;
 
@@ -22,7 +21,7 @@ pub(super) fn done<L: Name, A: Allocator + Copy, R: Wait>(
     book.perform(rt, alloc, seat, op)
 }
 
-pub(super) fn close<L: Name, A: Allocator, R: Wait>(
+pub(super) fn close<L: Name, A: Allocator + Copy, R: Wait>(
     rt: &R,
     book: Shared<L, A>,
     seats: Vec<Seat<L>, A>,

@@ -11,12 +11,11 @@ use super::record::put_branch;
 use super::totals::put_totals_if_any;
 use crate::printer::Printer;
 use covdata::{Tally, TotalKind};
-use covstore::Section;
-use std::alloc::Allocator;
+use covtable::TableSection;
 
 /// Prints the branch records of a section, and the section's branch totals.
-pub(super) fn put_branches<A: Allocator, P: Printer>(section: &Section<'_, A>, out: &mut P)
-    ensures { P.text out.new ≡ P.text out.old ++ flat_map printed (branch_records section.now.branches) }
+pub(super) fn put_branches<'s, C: TableSection<'s>, P: Printer>(section: &C, out: &mut P)
+    ensures { P.text out.new ≡ P.text out.old ++ flat_map printed (branch_records (C.shown section.now).branches) }
 {
     let mut front = Front::of(b'\n');
     let mut tally = Tally::NONE;

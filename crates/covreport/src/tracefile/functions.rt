@@ -11,14 +11,13 @@ use super::record::{put_call, put_start};
 use super::totals::put_totals_if_any;
 use crate::printer::Printer;
 use covdata::{Tally, TotalKind};
-use covstore::Section;
-use covtable::FunctionValue;
+use covtable::{FunctionValue, TableSection};
 use std::alloc::Allocator;
 
 /// A function as it is printed. The derived order is the order of printing: by start line, then by the bytes of the name. The names
 /// in a section differ, so counts don't affect the order.
 #[derive(Clone, Copy, PartialEq, Eq, PartialOrd, Ord)]
-pub(super) struct PrintedFunction<'a> {
+pub struct PrintedFunction<'a> {
     pub(super) line: u64,
     pub(super) name: &'a [u8],
     pub(super) count: u128,
@@ -38,13 +37,13 @@ impl<'a> PrintedFunction<'a> {
 }
 
 /// Prints the functions of a section and their totals. The buffer `functions` must have capacity for them.
-pub(super) fn put_functions<'a, A: Allocator, P: Printer>(
-    section: &Section<'a, A>,
+pub(super) fn put_functions<'a, A: Allocator, C: TableSection<'a>, P: Printer>(
+    section: &C,
     functions: &mut Vec<PrintedFunction<'a>, A>,
     out: &mut P,
 )
-    requires { length section.now.functions ≤ vec_capacity functions.old }
-    ensures text { P.text out.new ≡ P.text out.old ++ flat_map printed (function_records section.now.functions) }
+    requires { length (C.shown section.now).functions ≤ vec_capacity functions.old }
+    ensures text { P.text out.new ≡ P.text out.old ++ flat_map printed (function_records (C.shown section.now).functions) }
     ensures room { vec_capacity functions.new ≡ vec_capacity functions.old }
 {
     sort_by_start_line(section, functions);
@@ -55,12 +54,12 @@ pub(super) fn put_functions<'a, A: Allocator, P: Printer>(
 }
 
 /// Replaces the content of `functions` by the section's functions, in the order of printing. The list must have capacity for them.
-fn sort_by_start_line<'a, A: Allocator>(
-    section: &Section<'a, A>,
+fn sort_by_start_line<'a, A: Allocator, C: TableSection<'a>>(
+    section: &C,
     functions: &mut Vec<PrintedFunction<'a>, A>,
 )
-    requires { length section.now.functions ≤ vec_capacity functions.old }
-    ensures all { map printed_function functions.new.items ≡ by_start section.now.functions }
+    requires { length (C.shown section.now).functions ≤ vec_capacity functions.old }
+    ensures all { map printed_function functions.new.items ≡ by_start (C.shown section.now).functions }
     ensures few { length functions.new.items < 2 ^ 64 }
     ensures room { vec_capacity functions.new ≡ vec_capacity functions.old }
 {
@@ -70,12 +69,15 @@ fn sort_by_start_line<'a, A: Allocator>(
 }
 
 /// Appends the functions of a section to the empty list `functions`, which must have capacity for them.
-fn collect<'a, A: Allocator>(section: &Section<'a, A>, functions: &mut Vec<PrintedFunction<'a>, A>)
+fn collect<'a, A: Allocator, C: TableSection<'a>>(
+    section: &C,
+    functions: &mut Vec<PrintedFunction<'a>, A>,
+)
     requires empty { functions.old.items ≡ [] }
     requires none { vec_len functions.old ≡ 0 }
-    requires room { length section.now.functions ≤ vec_capacity functions.old }
-    ensures all { map printed_function functions.new.items ≡ section.now.functions }
-    ensures few { length section.now.functions < 2 ^ 64 }
+    requires room { length (C.shown section.now).functions ≤ vec_capacity functions.old }
+    ensures all { map printed_function functions.new.items ≡ (C.shown section.now).functions }
+    ensures few { length (C.shown section.now).functions < 2 ^ 64 }
     ensures room { vec_capacity functions.new ≡ vec_capacity functions.old }
 {
     for function in section.functions() {

@@ -18,7 +18,7 @@ pub(super) struct Grown<A: Allocator> {
 }
 
 impl<A: Allocator> Grown<A> {
-    ghost use Rattle.std.specs.Prelude.{◌≡◌, ◌≢◌, [], true, IfOk, OnOk, OnErr};
+    ghost use Rattle.std.specs.Prelude.{◌≡◌, ◌≢◌, [], true, false, IfOk, OnOk, OnErr};
 
     /// The empty text. Never allocates.
     pub(super) fn new(alloc: A) -> Grown<A>
@@ -37,6 +37,7 @@ impl<A: Allocator> Grown<A> {
         ensures ok { IfOk result (λ t. t ≡ self.put.bytes) }
         ensures whole { OnOk result (self.is_whole ≡ true) }
         ensures refused { OnErr result (self.put.bytes ≢ []) }
+        ensures cause { OnErr result (self.is_whole ≡ false) }
     {
         if self.is_whole {
             Ok(self.text)

@@ -10,12 +10,11 @@ use super::record::put_count;
 use super::totals::put_totals;
 use crate::printer::Printer;
 use covdata::{Tally, TotalKind};
-use covstore::Section;
-use std::alloc::Allocator;
+use covtable::TableSection;
 
 /// Prints the line records of a section, and the section's line totals.
-pub(super) fn put_lines<A: Allocator, P: Printer>(section: &Section<'_, A>, out: &mut P)
-    ensures { P.text out.new ≡ P.text out.old ++ flat_map printed (line_records section.now.lines) }
+pub(super) fn put_lines<'s, C: TableSection<'s>, P: Printer>(section: &C, out: &mut P)
+    ensures { P.text out.new ≡ P.text out.old ++ flat_map printed (line_records (C.shown section.now).lines) }
 {
     let mut front = Front::of(b'\n');
     let mut tally = Tally::NONE;

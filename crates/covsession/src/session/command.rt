@@ -19,7 +19,7 @@ use crate::session::fault::SessionFault;
 use crate::session::output::Output;
 use covbook::Op;
 use covdata::Bytes;
-use covreport::{PatternFault, Patterns};
+use covreport::{PatternFault, Patterns, Table};
 use covstream::Sink;
 use std::alloc::Allocator;
 pub use word::{Format, Pick, Word, word_of};
@@ -28,9 +28,9 @@ pub use word::{Format, Pick, Word, word_of};
 const SESSION_JOB: u32 = 0;
 
 /// Performs one step of the book, as job 0, and writes the answer to the output.
-pub fn step<O: Sink, A: Allocator + Copy>(
+pub fn step<O: Sink, A: Allocator + Copy, T: Table<A>>(
     alloc: A,
-    book: &mut SessionBook<A>,
+    book: &mut SessionBook<A, T>,
     op: &Op<A>,
     output: &mut Output<'_, O, A>,
 ) -> Result<(), SessionFault>
@@ -85,9 +85,9 @@ fn drop_op<A: Allocator>(alloc: A, test: &[u8]) -> Result<Op<A>, SessionFault>
 }
 
 /// Answers a command of one line. Answers `unfinished` to a line after which a text or two names are missing.
-pub fn answer_word<O: Sink, A: Allocator + Copy>(
+pub fn answer_word<O: Sink, A: Allocator + Copy, T: Table<A>>(
     alloc: A,
-    book: &mut SessionBook<A>,
+    book: &mut SessionBook<A, T>,
     word: Word<'_>,
     output: &mut Output<'_, O, A>,
 ) -> Result<(), SessionFault>

@@ -19,6 +19,7 @@ use crate::session::text::{LineEnd, Text};
 use covbook::Op;
 use covdata::Bytes;
 use covline::without_returns;
+use covreport::Table;
 use covstream::{Sink, Source};
 use std::alloc::Allocator;
 
@@ -95,9 +96,9 @@ fn rename_op<A: Allocator>(old: Bytes<A>, new: Bytes<A>) -> Op<A>
 }
 
 /// Reads the names after a line `rename`, and answers the rename.
-pub fn answer_rename<I: Source, O: Sink, A: Allocator + Copy>(
+pub fn answer_rename<I: Source, O: Sink, A: Allocator + Copy, T: Table<A>>(
     alloc: A,
-    book: &mut SessionBook<A>,
+    book: &mut SessionBook<A, T>,
     input: &mut SessionInput<'_, I, A>,
     output: &mut Output<'_, O, A>,
 ) -> Result<LineEnd, SessionFault>

@@ -24,6 +24,7 @@ use covbook::{Op, PackedRef};
 use covdata::{MAX_BYTES, ReadFault};
 use covpacked::PackedSubmission;
 use covread::{read_gcov_packed, read_trace_packed};
+use covreport::Table;
 use covstream::{Sink, Source};
 use std::alloc::Allocator;
 
@@ -99,9 +100,9 @@ fn read_as<A: Allocator + Copy>(
 }
 
 // Submits a parsed text, or answers why the text is rejected. `read` is the result of parsing.
-fn submit<O: Sink, A: Allocator + Copy>(
+fn submit<O: Sink, A: Allocator + Copy, T: Table<A>>(
     alloc: A,
-    book: &mut SessionBook<A>,
+    book: &mut SessionBook<A, T>,
     read: Result<PackedSubmission<A>, ReadFault>,
     output: &mut Output<'_, O, A>,
 ) -> Result<(), SessionFault>
@@ -143,9 +144,9 @@ fn keep_room<A: Allocator>(room: &mut Vec<u8, A>, text: Vec<u8, A>) {
 }
 
 /// Answers a collected text. Keeps the text's buffer in `room` after parsing, or frees the buffer.
-pub fn answer_given<O: Sink, A: Allocator + Copy>(
+pub fn answer_given<O: Sink, A: Allocator + Copy, T: Table<A>>(
     alloc: A,
-    book: &mut SessionBook<A>,
+    book: &mut SessionBook<A, T>,
     given: Given<'_, A>,
     room: &mut Vec<u8, A>,
     output: &mut Output<'_, O, A>,

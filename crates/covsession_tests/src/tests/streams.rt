@@ -3,7 +3,7 @@
 ghost use Rattle.std.specs.Prelude.{None, length, ◌-◌};
 
 use super::session_end;
-use covsession::run_session;
+use covnamed::run_session;
 use covsession::session::SessionFault;
 use covstream::{Failed, FromRead, FromWrite, Sink, Source};
 use std::alloc::Global;

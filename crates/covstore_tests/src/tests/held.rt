@@ -1,7 +1,7 @@
 //! The content of a store as text, with its totals.
 
 ghost use Rattle.std.specs.Prelude.{◌<◌, IfOk};
-ghost use Rattle.covstore.specs.Store.{max_members};
+ghost use Rattle.covtable.specs.Shown.{max_members};
 
 use super::check_bytes;
 use super::wrappers::{put_line, read};

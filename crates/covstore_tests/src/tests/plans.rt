@@ -1,7 +1,8 @@
 //! Drops plans and makes them again, and reports clashes.
 
 ghost use Rattle.std.specs.Prelude.{◌<◌};
-ghost use Rattle.covstore.specs.Store.{SameContent, max_members};
+ghost use Rattle.covstore.specs.Store.{SameContent};
+ghost use Rattle.covtable.specs.Shown.{max_members};
 
 use super::held::{NOTHING, check_held, has_test, store_of};
 use super::wrappers::{read, read_packed};

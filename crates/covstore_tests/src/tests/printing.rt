@@ -83,7 +83,7 @@ fn a_printer_that_wants_no_more(rt: HostRuntime) -> Result<(), Fail> {
 /// Prints a text that is there already.
 fn printed_text(alloc: Global, text: Bytes) -> Pieces {
     let mut pieces = printer(alloc, 1);
-    let printing: Printing<'_> = Printing::of_text(text);
+    let printing: Printing<'_, Global, Store> = Printing::of_text(text);
     printing.print(&mut pieces);
     pieces
 }

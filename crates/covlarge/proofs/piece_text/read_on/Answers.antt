@@ -16,5 +16,5 @@ returns-in-Some-clause-found g c =
     let read = c.in_ok-all.ensures.read in
     let took = until_on _ _ _ _ _ _ _ c.loop-all.invariant.took read in
     let asked : c.saturating_sub-room.result ≡ c.loop-all.wanted - length c.loop-all.all = omega (arith, c.saturating_sub-room.ensures, ap length c.get.ensures) in
-    let what = subst (λ t. IsFound c.args.most c.args.front (drop c.args.front t) (length t < c.loop-all.wanted) c.in-Some.found) c.get-in-loop-all.ensures c.in-Some.ensures.some in
-    (took.0, took.1, took.2, found_at c.args.most c.args.front _ (length c.in_ok-all.all < c.loop-all.wanted) _ c.in-Some.found (λ less. until_end _ _ _ _ _ _ read asked less) what)
+    let what = subst (λ t. IsFound c.loop-all.wanted c.args.most c.args.front (drop c.args.front t) (length t < c.loop-all.wanted) c.in-Some.found) c.get-in-loop-all.ensures c.in-Some.ensures.some in
+    (took.0, took.1, took.2, found_at c.args.least c.loop-all.wanted c.args.most c.args.front _ (length c.in_ok-all.all < c.loop-all.wanted) _ c.in-Some.found c.loop-all.invariant.least (λ less. until_end _ _ _ _ _ _ read asked less) what)

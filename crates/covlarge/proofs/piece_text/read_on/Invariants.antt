@@ -7,6 +7,7 @@ abbrev pub invariant-loop-all : goal.invariant-loop-all
 invariant-loop-all g l = record {
   took : (bytes : List ℕ) × Consumes (g.S.Source.left l.initial.source) (g.S.Source.left l.source) bytes × (l.all ≡ l.initial.all ++ bytes);
   some : 0 < l.wanted;
+  least : l.fn.least ≤ l.wanted;
   few : l.wanted ≤ l.most + 1;
   front : l.front ≤ length l.all;
   long : length l.all ≤ max (length l.initial.all) l.wanted;

@@ -1,6 +1,6 @@
-use Rattle.std.proofs.Common.{◌≡◌, ◌++◌, drop}
-use Rattle.covlist.specs.Shown.{shown_lines}
+use Rattle.covlist.proofs.Begun.{AreShown}
+use Rattle.covlist.specs.Shown.{shown_in_lines}
 use Rattle.covlist.proofs.shown.put_shown_lines.Given as goal
 
 abbrev pub invariant-loop-byte : goal.invariant-loop-byte
-invariant-loop-byte g l = l.text ++ shown_lines (drop l.byte-index l.lines) ≡ l.fn.text ++ shown_lines l.lines
+invariant-loop-byte g l = AreShown shown_in_lines l.lines l.fn.text l.text l.byte-index

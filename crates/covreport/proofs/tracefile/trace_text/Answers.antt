@@ -25,13 +25,13 @@ at_err (Err e) p = p
 
 pub returns-clause-text : goal.returns-clause-text
 returns-clause-text g c =
-    grown_is c.into_text.result _ _ (report_text (choice_data c.args.choice.now) c.args.store.now.sections) _ c.new-text.ensures.empty c.into_text.ensures.ok c.into_text.ensures.whole c.put_chosen.ensures.whole
+    grown_is c.into_text.result _ _ (report_text (choice_data c.args.choice.now) (g.T.Table.shown c.args.store.now).sections) _ c.new-text.ensures.empty c.into_text.ensures.ok c.into_text.ensures.whole c.put_chosen.ensures.whole
 
 pub returns-clause-refused : goal.returns-clause-refused
 returns-clause-refused g c =
     let begun = c.put_chosen.ensures.begun in
-    on_err c.into_text.result (begins _ begun.0 _ (report_text (choice_data c.args.choice.now) c.args.store.now.sections) c.new-text.ensures.empty begun.1) c.into_text.ensures.refused
+    on_err c.into_text.result (begins _ begun.0 _ (report_text (choice_data c.args.choice.now) (g.T.Table.shown c.args.store.now).sections) c.new-text.ensures.empty begun.1) c.into_text.ensures.refused
 
 pub returns-in_err-functions-clause-refused : goal.returns-in_err-functions-clause-refused
 returns-in_err-functions-clause-refused g c =
-    at_err c.from_residual.result (room_needed (choice_data c.args.choice.now) c.args.store.now.sections c.in_err-functions.ensures.refused)
+    at_err c.from_residual.result (room_needed (choice_data c.args.choice.now) (g.T.Table.shown c.args.store.now).sections c.in_err-functions.ensures.refused)

@@ -1,13 +1,15 @@
-use Rattle.std.proofs.Common.{Err, map, slice_get, refl, inl, inr, ap, ◌∙◌}
+use Rattle.std.proofs.Common.{Err, map, slice_get, refl, inl, inr, ap, sym, subst, ◌∙◌}
 use Rattle.std.specs.String.{string_bytes}
+use Rattle.covworkers.specs.Late.{MayComeAtAll}
 use Rattle.covworkers.specs.declared.book_fault.IntoBookFault.TheVariants as into_book
+use Rattle.covworkers.specs.declared.collect_fault.CollectFault.{CollectFault}
 use Rattle.covsession.specs.declared.session.fault.SessionFault.TheVariants as faults
 use Rattle.covrun.specs.Ending.{Unreadable, name_at, of_collect}
 use Rattle.covrun.specs.Folder.{folder_data}
 use Rattle.covrun.specs.View.{work_data}
 use Rattle.covrun.specs.declared.ending.Failure.TheVariants as failures
 use Rattle.covrun.proofs.Endings.{answer_told, ends_collected, ends_uncollected, ends_unreadable, failure_told, unreadable_told}
-use Rattle.covrun.proofs.Reading.{may_come, texts_read, unreadable_read}
+use Rattle.covrun.proofs.Reading.{comes, may_come, texts_read, unreadable_read}
 use Rattle.covrun.proofs.collecting.do_work.Goals as goal
 
 pub returns-in_default : goal.returns-in_default
@@ -53,13 +55,21 @@ returns-in-Err-Unread g c =
     (unreadable_told _ _ _ _ c.of-naming.ensures (c.file_name.ensures ∙ ap (λ index. name_at (slice_get (map string_bytes c.get-names.result.now) index)) c.in-Err-Unread.index-is) c.unreadable.ensures))
     c.report_failure-in-Err-Unread.ensures
 
+pub failure_of_collect-requires : goal.failure_of_collect-requires
+failure_of_collect-requires g c =
+    subst (λ (fault : CollectFault). MayComeAtAll fault) (sym c.in-Err-Collect.fault-is) (comes c.in-Ok.inputs.items g.F.File.Source.left g.F.File.Source.failed_reads
+    (record { own = λ one. one.folder.now; name = λ one. one.name.now; format = λ one. one.format.now; strictness = λ one. one.strictness; opened = λ one. one.opened })
+    (folder_data g.F.Folder g.F.File.Source) _ c.in-Err-Collect.fault c.in-Err-Collect.field-0-is c.in-Err-Collect.ensures.unread)
+
 pub returns : goal.returns
 returns g c =
     failure_told (folder_data g.F.Folder g.F.File.Source c.args.folder.now) (work_data c.args.work.now) _ c.failure_of_collect.result _ _ _
     (ends_uncollected (folder_data g.F.Folder g.F.File.Source c.args.folder.now) _
     (work_data c.args.work.now) _ _ (λ is. (c.in-Err-Collect.ensures.bad).0 (ap (λ fault. Err fault) (c.in-Err-Collect.field-0-is ∙ ap (λ fault. into_book.Collect fault) is)))
-    (may_come c.in-Ok.inputs.items c.args.folder.now g.F.File.Source.left
+    (may_come c.in-Ok.inputs.items c.args.folder.now g.F.File.Source.left g.F.File.Source.failed_reads
     (record { own = λ one. one.folder.now; name = λ one. one.name.now; format = λ one. one.format.now; strictness = λ one. one.strictness; opened = λ one. one.opened })
-    c.args.work.now.format c.args.work.now.strictness _ _ _ _ c.in-Err-Collect.fault (c.in-Ok.ensures.names ∙ c.get-names.ensures) c.in-Ok.ensures.own c.in-Err-Collect.field-0-is c.in-Err-Collect.ensures.unread)
+    c.args.work.now.format c.args.work.now.strictness
+    (folder_data g.F.Folder g.F.File.Source)
+    _ _ c.in-Err-Collect.fault (c.in-Ok.ensures.names ∙ c.get-names.ensures) c.in-Ok.ensures.own c.in-Err-Collect.field-0-is c.in-Err-Collect.ensures.unread)
     (c.failure_of_collect.ensures ∙ ap of_collect c.in-Err-Collect.fault-is))
     c.report_failure-in-Err-Collect.ensures

@@ -1,5 +1,5 @@
 use Rattle.std.proofs.Common.{◌∙◌, ◌++◌, ℕ, List, ap, flat_map}
-use Rattle.covstore.specs.Store.{StoreData}
+use Rattle.covtable.specs.Shown.{ShownData}
 use Rattle.covrun.specs.Strict.{asked_patterns, unmatched_line}
 use Rattle.covrun.specs.View.{question_data}
 use Rattle.covrun.proofs.Endings.{patterns_are_asked}
@@ -10,4 +10,4 @@ returns c =
     let held = c.store.ensures in
     c.in_ok-add_unmatched.ensures
     ∙ ap (λ (ls : List ℕ). ls ++ flat_map (unmatched_line c.store.result.now.sections) (asked_patterns (question_data c.args.asks.now))) c.new-lines.ensures
-    ∙ patterns_are_asked c.args.collected.now.book.entries (question_data c.args.asks.now) c.requires _ (ap (λ (s : StoreData). s.sections) held.store ∙ held.stands.content)
+    ∙ patterns_are_asked c.args.collected.now.book.entries (question_data c.args.asks.now) c.requires _ (ap (λ (s : ShownData). s.sections) held.store ∙ held.stands.content)

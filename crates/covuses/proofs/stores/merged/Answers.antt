@@ -5,6 +5,6 @@ use Rattle.covuses.proofs.stores.merged.Goals as goal
 
 pub returns : goal.returns
 returns c =
-    let first = c.commit.ensures.stands c.args.first.now [] c.in_ok-plan.ensures.planned (stands_still _ _ [] c.in_ok-plan.ensures.content c.new-store.ensures) in
+    let first = c.commit.ensures.stands c.args.first.now [] c.in_ok-plan.ensures.planned (stands_still c.new-store.result c.prepare.new.self [] c.in_ok-plan.ensures.content c.new-store.ensures) in
     c.commit-2.ensures.stands c.args.second.now (rows_of c.args.first.now ∷ []) c.in_ok-plan-2.ensures.planned
-    (stands_still _ _ (rows_of c.args.first.now ∷ []) c.in_ok-plan-2.ensures.content first)
+    (stands_still c.commit.new.self c.prepare-2.new.self (rows_of c.args.first.now ∷ []) c.in_ok-plan-2.ensures.content first)

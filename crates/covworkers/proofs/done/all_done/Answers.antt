@@ -1,8 +1,7 @@
-use Rattle.std.proofs.Common.{rules, ◌∙◌, ℕ, List, Vec, Global, map, ap, sym, subst}
+use Rattle.std.proofs.Common.{rules, List, Vec, Global, map, ap, sym, subst, arith}
 use Rattle.covworkers.specs.declared.shares.Placed.{Placed}
 use Rattle.covworkers.specs.declared.book_fault.IntoBookFault.{IntoBookFault}
 use Rattle.covworkers.specs.Late.{IsIntoBookFault, chances_of}
-use Rattle.covworkers.specs.Stops.{most_parts_in, of_stop}
 use Rattle.covworkers.proofs.Dealt.{all_fresh, ended_for_all, share_for_each}
 use Rattle.covworkers.proofs.Ended.{done_if_well}
 use Rattle.covworkers.proofs.Unread.{fault_is}
@@ -32,9 +31,8 @@ do_all_work-requires-clause-fresh g c κs within = all_fresh c.args.jobs c.args.
 pub returns-clause-unread : goal.returns-clause-unread
 returns-clause-unread g c =
     let chances = chances_of g.T.LateInput.may_give g.T.LateInput.may_fail in
-    subst (λ (fault : IntoBookFault). IsIntoBookFault g.T.LateInput.may_give g.T.LateInput.may_fail g.T.LateInput.most c.args.inputs.items fault)
-    (sym (c.fault_of.ensures ∙ ap (λ (parts : ℕ). of_stop parts c.in-Err.stop) (c.most_parts_of-most_parts.ensures ∙ ap (λ (xs : List g.row.T.Denot). most_parts_in g.T.LateInput.most xs) c.as_slice.ensures.value)))
-    (fault_is g.T.LateInput.may_give g.T.LateInput.may_fail g.T.LateInput.most c.args.readers c.args.inputs.items c.args.jobs c.in_ok-ended.ended.items c.in-Err.stop c.requires.some
+    subst (λ (fault : IntoBookFault). IsIntoBookFault g.T.LateInput.may_give g.T.LateInput.may_fail c.args.inputs.items fault) (sym c.fault_of.ensures)
+    (fault_is g.T.LateInput.may_give g.T.LateInput.may_fail c.args.readers c.args.inputs.items c.args.jobs c.in_ok-ended.ended.items c.in-Err.stop c.requires.some (omega (arith, c.args.inputs.ok.0))
     (ended_for_all chances c.args.readers c.args.inputs.items c.in_ok-dealt.dealt.inputs.value.items c.args.jobs c.args.seats c.in_ok-ended.ended.items
     (ap (λ (v : Vec g.row.T.Denot Global). v.items) c.in_ok-dealt.ensures.inputs) c.requires.seats c.in_ok-ended.ensures)
-    c.in-Err.ensures.fault)
+    c.in-Err.ensures.fault c.in-Err.ensures.parts)

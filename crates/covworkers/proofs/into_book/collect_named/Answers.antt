@@ -1,22 +1,19 @@
 use denote.Param.Send.{sendable}
-use Rattle.std.proofs.Common.{rules, ◌∙◌, IsTrue, ℕ, List, Option, ap, sym, subst}
+use Rattle.std.proofs.Common.{rules, ◌∙◌, IsTrue, ℕ, List, Option, ap, subst}
 use Rattle.std.proofs.Crossing as heap
-use Rattle.std.specs.List.{AllByRecursion, sum_by}
-use Rattle.covbook.specs.declared.book.BookFault.TheVariants as book_faults
+use Rattle.std.specs.List.{AllByRecursion}
 use Rattle.covbook.specs.Kept.{IsPrefix}
 use Rattle.covbook.specs.Op.{EntryData}
 use Rattle.covlock.specs.CloseFault.{told_job}
 use Rattle.covlock.specs.Handed.{IsLeastMissing}
 use Rattle.covlock.specs.Seat.{SeatData, calls_in}
-use Rattle.covworkers.specs.declared.collect_fault.CollectFault.{CollectFault}
 use Rattle.covworkers.specs.declared.readers.Readers.TheVariants as readers
-use Rattle.covworkers.specs.Late.{MayCome, chances_of}
+use Rattle.covworkers.specs.Late.{chances_of}
 use Rattle.covworkers.specs.Latest.{history_of}
-use Rattle.covworkers.specs.Stops.{most_parts_in, of_refused}
 use Rattle.covworkers.specs.Work.{seats_in}
 use Rattle.covworkers.proofs.AllSeated.{none_missing_yet}
+use Rattle.covworkers.proofs.Filled.{filled_if_closed}
 use Rattle.covworkers.proofs.SoFar.{AreClosed, latest_before, so_far}
-use Rattle.covworkers.proofs.Unread.{refused_may_come}
 use Rattle.covworkers.proofs.into_book.collect_named.Goals as goal
 
 pub returns-clause-collected : goal.returns-clause-collected
@@ -26,7 +23,7 @@ returns-clause-collected g c =
     let yes : IsTrue c.are_before.result = search rules in
     let latest : List (Option (List EntryData)) = c.in_ok-seats.latest.items in
     let told : AllByRecursion (λ (own : Option (List EntryData)). IsPrefix (history_of own) c.in-Ok.news) latest =
-    subst (λ (owns : List (Option (List EntryData))). AllByRecursion (λ (own : Option (List EntryData)). IsPrefix (history_of own) c.in-Ok.news) owns) c.as_slice-2.ensures.value (c.are_before.ensures.0 yes) in
+    subst (λ (owns : List (Option (List EntryData))). AllByRecursion (λ (own : Option (List EntryData)). IsPrefix (history_of own) c.in-Ok.news) owns) c.as_slice.ensures.value (c.are_before.ensures.0 yes) in
     let closed : AreClosed workers entries = record {
       kept = c.in_ok-seats.ensures.kept;
       before = latest_before latest workers entries c.in_ok-seats.ensures.latest (subst (λ (es : List EntryData). AllByRecursion (λ (own : Option (List EntryData)). IsPrefix (history_of own) es) latest) c.in-Ok.ensures.news told);
@@ -53,10 +50,10 @@ all_done-requires-send-K g c κs within = search (sendable, heap.crosses) depth 
 pub all_done-requires-send-P : goal.all_done-requires-send-P
 all_done-requires-send-P g c κs within = search (sendable, heap.crosses) depth 60 fits 20000
 
--- the closed book is full
+-- the closed book is full, so the workers have as many receipts as a full history has entries
 pub returns-then-is_full-clause-unread : goal.returns-then-is_full-clause-unread
 returns-then-is_full-clause-unread g c =
-    let most = g.T.LateInput.most in
-    subst (λ (fault : CollectFault). MayCome (sum_by most c.args.inputs.items) fault)
-    (sym (c.refused_by.ensures ∙ ap (λ (parts : ℕ). of_refused parts book_faults.Full) (c.most_parts_of-most_parts.ensures ∙ ap (λ (xs : List g.row.T.Denot). most_parts_in most xs) c.as_slice.ensures.value)))
-    (refused_may_come most c.args.inputs.items book_faults.Full)
+    let entries : List EntryData = c.in-Ok.book.entries in
+    let yes : IsTrue c.is_full.result = search rules in
+    filled_if_closed g.T.LateInput.may_give g.T.LateInput.may_fail readers.None c.args.inputs.items c.args.jobs c.in_ok-workers.workers.items entries c.requires.some c.in_ok-workers.ensures.done c.in_ok-seats.ensures.kept
+    (c.in-Ok.ensures.calls ∙ ap calls_in c.in_ok-seats.ensures.seats) (c.is_full.ensures.full.0 yes)

@@ -8,5 +8,5 @@ use Rattle.covworkers.proofs.worker.work.Given as goal
 abbrev pub invariant-loop-placed : goal.invariant-loop-placed
 invariant-loop-placed g l =
     (l.worker.seat.job ≡ l.fn.seat.job)
-    × IsGoingOn g.T.LateInput.may_give l.fn.inputs.value.items l.fn.jobs l.fn.seat.job l.placed-iterator.rest.items l.first l.worker
+    × IsGoingOn g.T.LateInput.may_give l.fn.inputs.value.items l.fn.jobs l.fn.seat.job l.placed-iterator.rest.items l.first l.parts l.worker
     × MayHaveReader l.fn.readers l.worker.has_reader

@@ -9,12 +9,12 @@ pub returns-clause-answer : goal.returns-clause-answer
 returns-clause-answer g c =
     ap DroppedAnswer
     (c.after_drop-sections.ensures.sections (table_of (ops_in c.self.inside.history.entries)) c.self.invariant.stands
-    ∙ ap (λ (b : BookData). sections_of_test c.args.test.now (table_of (ops_in b.entries))) c.self.view_is)
+    ∙ ap (λ (b : BookData g.row.T.Denot). sections_of_test c.args.test.now (table_of (ops_in b.entries))) c.self.view_is)
 
 pub returns-clause-totals : goal.returns-clause-totals
 returns-clause-totals g c =
     c.after_drop-sections.ensures.totals (table_of (ops_in c.self.inside.history.entries)) c.self.invariant.stands
-    ∙ ap (λ (b : BookData). totals_at (without_test c.args.test.now (table_of (ops_in b.entries)))) c.self.view_is
+    ∙ ap (λ (b : BookData g.row.T.Denot). totals_at (without_test c.args.test.now (table_of (ops_in b.entries)))) c.self.view_is
 
 pub returns-clause-bounds : goal.returns-clause-bounds
 returns-clause-bounds g c = c.after_drop-sections.ensures.bounds

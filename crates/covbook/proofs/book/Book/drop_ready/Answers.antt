@@ -11,7 +11,7 @@ ready_to_change-requires-clause-next g c =
     let book = c.self.inside in
     let table = table_of (ops_in c.args.self.now.entries) in
     let test = c.in_ok-copy.field-0 in
-    let there = row_there book.store book.history.room book.history.entries c.args.self.now test c.get.result.now c.self.view_is (c.in_ok-copy.ensures ∙ sym c.get.ensures)
+    let there = row_there g.T.Table.shown book.store book.history.room book.history.entries c.args.self.now test c.get.result.now c.self.view_is (c.in_ok-copy.ensures ∙ sym c.get.ensures)
     (c.if-not-has_test.ensures.rows (table_of (ops_in book.history.entries)) c.self.invariant.stands) in
     let same = c.get-2.ensures ∙ sym c.in_ok-copy.ensures in
     dropped_next c.args.self.now.entries c.args.job test (answer_data c.drop_answer-answer.result.0) c.drop_answer-answer.result.1 there
@@ -24,6 +24,6 @@ ready_to_change-requires-clause-planned g c =
     let table = table_of (ops_in c.args.self.now.entries) in
     let test = c.in_ok-copy.field-0 in
     let there : has_test table test ≡ true =
-    row_there book.store book.history.room book.history.entries c.args.self.now test c.get.result.now c.self.view_is (c.in_ok-copy.ensures ∙ sym c.get.ensures)
+    row_there g.T.Table.shown book.store book.history.room book.history.entries c.args.self.now test c.get.result.now c.self.view_is (c.in_ok-copy.ensures ∙ sym c.get.ensures)
     (c.if-not-has_test.ensures.rows (table_of (ops_in book.history.entries)) c.self.invariant.stands) in
     ap (table_after_drop table test) there ∙ ap (λ (t : List ℕ). without_test t table) (c.in_ok-copy.ensures ∙ sym c.in_ok-copy-2.ensures)

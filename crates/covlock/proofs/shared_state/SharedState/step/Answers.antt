@@ -7,7 +7,7 @@ use Rattle.covbook.specs.EntryView.{entry_data, receipt_data}
 use Rattle.covbook.specs.Step.{IsLegal, next_entry}
 use Rattle.covbook.specs.View.{op_data}
 use Rattle.covnews.specs.Publisher.{PublisherData}
-use Rattle.covlock.proofs.Steps.{comes_next, entry_after, is_not_full, news_of, no_room_is_not_full, noted_is, ok_is_no_err, told_later}
+use Rattle.covlock.proofs.Steps.{comes_next, entry_after, err_tells, is_not_full, news_of, no_room_is_not_full, noted_is, ok_is_no_err, told_later}
 use Rattle.covlock.proofs.shared_state.SharedState.step.Goals as goal
 
 pub returns-clause-entry : goal.returns-clause-entry
@@ -21,7 +21,7 @@ pub returns-clause-seen : goal.returns-clause-seen
 returns-clause-seen g c =
     let place : c.finish-receipt.result.place ≡ length c.ready.new.self.entries = ap (λ (r : ReceiptData). r.place) c.finish-receipt.ensures.receipt in
     let same : length c.ready.new.self.entries ≡ length c.self.inside.book.entries = ap (λ (xs : List EntryData). length xs) c.in_ok-ready.ensures.same.entries in
-    omega (arith, place, same, c.len.ensures, c.seen.ensures, c.if-len-seen.false)
+    omega (arith, place, same, c.len.ensures.value, c.seen.ensures, c.if-len-seen.false)
 
 pub count_call-requires-clause-few : goal.count_call-requires-clause-few
 count_call-requires-clause-few g c =
@@ -78,7 +78,7 @@ returns-clause-full g c =
     let same : length c.ready.new.self.entries ≡ length c.self.inside.book.entries = ap (λ (xs : List EntryData). length xs) c.in_ok-ready.ensures.same.entries in
     is_not_full _ faults.Full (length c.args.self.now) c.args.seat.now.seen (ok_is_no_err _ faults.Full)
     (omega (arith, lay, same, c.in_ok-ready.ensures.ready.ready.room.few))
-    (omega (arith, lay, c.len.ensures, c.seen.ensures, c.if-len-seen.false))
+    (omega (arith, lay, c.len.ensures.value, c.seen.ensures, c.if-len-seen.false))
 
 -- if the entry isn't noted, the fault isn't `Full`, and neither is the history full
 pub returns-in_default-clause-full : goal.returns-in_default-clause-full
@@ -87,12 +87,26 @@ returns-in_default-clause-full g c =
     let same : length c.ready.new.self.entries ≡ length c.self.inside.book.entries = ap (λ (xs : List EntryData). length xs) c.in_ok-ready.ensures.same.entries in
     is_not_full _ faults.Full (length c.args.self.now) c.args.seat.now.seen no_room_is_not_full
     (omega (arith, lay, same, c.in_ok-ready.ensures.ready.ready.room.few))
-    (omega (arith, lay, c.len.ensures, c.seen.ensures, c.if-len-seen.false))
+    (omega (arith, lay, c.len.ensures.value, c.seen.ensures, c.if-len-seen.false))
 
 pub returns-then-len-seen-clause-full : goal.returns-then-len-seen-clause-full
 returns-then-len-seen-clause-full g c =
     let lay : length c.self.inside.book.entries ≡ length c.args.self.now = ap (λ (xs : List EntryData). length xs) c.self.view_is in
-    ((λ is. inr (omega (arith, lay, c.len.ensures, c.seen.ensures, c.if-len-seen.true))), (λ it. refl))
+    ((λ is. inr (omega (arith, lay, c.len.ensures.value, c.seen.ensures, c.if-len-seen.true))), (λ it. refl))
+
+pub returns-then-len-seen-clause-most : goal.returns-then-len-seen-clause-most
+returns-then-len-seen-clause-most g c = λ most. refl
+
+-- the history isn't shorter than what the seat has seen, so it is full
+pub returns-in_err-ready-clause-most : goal.returns-in_err-ready-clause-most
+returns-in_err-ready-clause-most g c =
+    let p = err_from_is_err_and c.from_residual.result c.from_residual.ensures.1 in
+    rw (p.1, p.2) (λ most. err_tells _ faults.Full (c.in_err-ready.ensures.full.1 (omega (arith, c.len.ensures.value, c.len.ensures.few, c.seen.ensures, c.if-len-seen.false, most))))
+
+pub returns-in_default-clause-most : goal.returns-in_default-clause-most
+returns-in_default-clause-most g c =
+    let same : length c.ready.new.self.entries ≡ length c.self.inside.book.entries = ap (λ (xs : List EntryData). length xs) c.in_ok-ready.ensures.same.entries in
+    λ most. absurd (omega (arith, same, c.len.ensures.value, c.seen.ensures, c.if-len-seen.false, c.in_ok-ready.ensures.ready.ready.room.few, most))
 
 pub invariant_of-self : goal.invariant_of-self
 invariant_of-self g c = record {

@@ -18,7 +18,7 @@ put_calls-tally-requires g c = omega (arith, ap length c.as_slice-sorted.ensures
 pub returns-clause-text : goal.returns-clause-text
 returns-clause-text g c =
     let text = g.P.Printer.text in
-    let given : List FunctionValueData = c.args.section.now.functions in
+    let given : List FunctionValueData = (g.C.TableSection.shown c.args.section.now).functions in
     let all = by_start given in
     let t : List ℕ = text c.args.out.now in
     let t1 : List ℕ = text c.put_starts.new.out in

@@ -1,5 +1,5 @@
 use Rattle.std.proofs.Common.{ap, ◌∙◌}
-use Rattle.covstore.specs.Store.{StoreData}
+use Rattle.covtable.specs.Shown.{ShownData}
 use Rattle.covreport.specs.Choice.{ChoiceData}
 use Rattle.covreport.specs.ChoiceView.{choice_data}
 use Rattle.covreport.specs.Report.{report_text}
@@ -13,9 +13,9 @@ returns-in_ok-copy_of-in-ChosenReport c =
     let entries = c.args.collected.now.book.entries in
     let held = c.store.ensures in
     rw c.in-ChosenReport.is
-    (text_then c.of_store.result (report_text (choice_data c.in_ok-copy_of-in-ChosenReport.field-0) c.store.result.now.sections) _ c.of_store.ensures
+    (text_then c.of_store.result (report_text (choice_data c.in_ok-copy_of-in-ChosenReport.field-0) c.store.result.now.sections) _ c.of_store.ensures.text
     (ap (λ (choice : ChoiceData). report_text choice c.store.result.now.sections) c.in_ok-copy_of-in-ChosenReport.ensures
-    ∙ report_is_asked entries (choice_data c.in-ChosenReport.choice) _ (ap (λ (s : StoreData). s.sections) held.store ∙ held.stands.content)))
+    ∙ report_is_asked entries (choice_data c.in-ChosenReport.choice) _ (ap (λ (s : ShownData). s.sections) held.store ∙ held.stands.content)))
 
 pub returns-in_ok-text-in-ChosenSummary : goal.returns-in_ok-text-in-ChosenSummary
 returns-in_ok-text-in-ChosenSummary c =
@@ -23,7 +23,7 @@ returns-in_ok-text-in-ChosenSummary c =
     let held = c.store-in-ChosenSummary.ensures in
     rw c.in-ChosenSummary.is
     (c.of_text.ensures ∙ c.in_ok-text-in-ChosenSummary.ensures ∙ ap summary_of (c.chosen_totals-totals.ensures.value
-    ∙ totals_are_asked entries (choice_data c.in-ChosenSummary.choice) _ (ap (λ (s : StoreData). s.sections) held.store ∙ held.stands.content)))
+    ∙ totals_are_asked entries (choice_data c.in-ChosenSummary.choice) _ (ap (λ (s : ShownData). s.sections) held.store ∙ held.stands.content)))
 
 pub returns-in_ok-text-in-LimitedTotals : goal.returns-in_ok-text-in-LimitedTotals
 returns-in_ok-text-in-LimitedTotals c =
@@ -31,7 +31,7 @@ returns-in_ok-text-in-LimitedTotals c =
     let held = c.store-in-LimitedTotals.ensures in
     rw c.in-LimitedTotals.is
     (c.of_text-in-LimitedTotals.ensures ∙ c.in_ok-text-in-LimitedTotals.ensures ∙ ap (totals_text c.in-LimitedTotals.form) (c.chosen_totals-totals-in-LimitedTotals.ensures.value
-    ∙ totals_are_asked entries (choice_data c.in-LimitedTotals.choice) _ (ap (λ (s : StoreData). s.sections) held.store ∙ held.stands.content)))
+    ∙ totals_are_asked entries (choice_data c.in-LimitedTotals.choice) _ (ap (λ (s : ShownData). s.sections) held.store ∙ held.stands.content)))
 
 pub returns-in_ok-text-in-ChosenList : goal.returns-in_ok-text-in-ChosenList
 returns-in_ok-text-in-ChosenList c =

@@ -1,7 +1,7 @@
 use Rattle.std.proofs.Common.{ap, ◌∙◌}
 use Rattle.covlimit.specs.Limits.{shortfalls}
 use Rattle.covlimit.specs.LimitsView.{limits_data}
-use Rattle.covstore.specs.Store.{StoreData}
+use Rattle.covtable.specs.Shown.{ShownData}
 use Rattle.covreport.specs.ChoiceView.{choice_data}
 use Rattle.covrun.proofs.Endings.{text_then, totals_are_asked}
 use Rattle.covrun.proofs.question.Question.shortfalls.Goals as goal
@@ -13,4 +13,4 @@ returns-in-LimitedTotals c =
     rw c.in-LimitedTotals.is
     (text_then c.shortfall_lines.result _ _ c.shortfall_lines.ensures.lines
     (ap (shortfalls (limits_data c.in-LimitedTotals.limits)) (c.chosen_totals-totals.ensures.value
-    ∙ totals_are_asked entries (choice_data c.in-LimitedTotals.choice) _ (ap (λ (s : StoreData). s.sections) held.store ∙ held.stands.content))))
+    ∙ totals_are_asked entries (choice_data c.in-LimitedTotals.choice) _ (ap (λ (s : ShownData). s.sections) held.store ∙ held.stands.content))))

@@ -32,4 +32,5 @@ spawn_with-requires-send-F g c κs within =
     let gate : IsSync g.row.G = search (rules, c.requires) parts 8 in
     let text : IsSend (param 3 g.row.T) = search (rules, c.requires) parts 8 in
     let kept : IsSend (param 4 g.row.K) = search (rules, c.requires) parts 8 in
+    let stored : IsSend (param 6 g.row.S) = search (rules, c.requires) parts 8 in
     search (sendable, heap.crosses, shared_sync, seat.the_send, placed.the_send) depth 60 fits 20000

@@ -5,6 +5,7 @@ use Rattle.covbook.proofs.log.JobLog.TheSendSync as log
 use Rattle.covbook.proofs.op.Op.TheSendSync as op
 use Rattle.covbook.proofs.entry.Entry.TheSendSync as entry
 use Rattle.covlock.proofs.Crossing.{shared_sync}
+use Rattle.covstore.proofs.Crossing.{store_send}
 use Rattle.covlock.proofs.seat.Seat.TheSendSync as seat
 use Rattle.covjobs_tests.proofs.tests.threads.fn.ask_at_once.scope.Goals as goal
 
@@ -12,4 +13,4 @@ use Rattle.covjobs_tests.proofs.tests.threads.fn.ask_at_once.scope.Goals as goal
 pub spawn-requires-send-F : goal.spawn-requires-send-F
 spawn-requires-send-F g c κs within =
     let runtime : IsSync g.row.R = search (rules, c.requires) parts 8 in
-    search (sendable, heap.crosses, shared_sync, entry.the_send, seat.the_send, log.the_send, op.the_sync) depth 60 fits 20000
+    search (sendable, heap.crosses, shared_sync, store_send, entry.the_send, seat.the_send, log.the_send, op.the_sync) depth 60 fits 20000

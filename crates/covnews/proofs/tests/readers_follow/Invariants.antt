@@ -1,5 +1,0 @@
-use Rattle.covnews.proofs.tests.readers_follow.Given as goal
-
--- the name is that of the history that the seed begins
-abbrev pub ghosts-follow-L-Name : goal.ghosts-follow-L-Name
-ghosts-follow-L-Name g a = record { book = a.seed.book }
