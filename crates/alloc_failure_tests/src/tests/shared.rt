@@ -184,6 +184,35 @@ fn performs<L: Name, A: Allocator + Copy, R: Wait + Abort>(
     is_refused
 }
 
+/// Submits a text, and returns the totals after it.
+fn begins<L: Name, A: Allocator + Copy, R: Wait + Abort>(
+    rt: &R,
+    alloc: A,
+    book: &Shared<L, A>,
+    seat: &mut Seat<L>,
+) -> Totals {
+    let op = op_of(rt, alloc, BEGUN.asked);
+    made(rt, perform(rt, alloc, book, seat, &op))
+        .news
+        .reading()
+        .totals
+}
+
+/// Performs the operation with the limited capacity.
+fn perform_narrowly<L: Name, A: Allocator + Copy, R: Wait + Abort>(
+    rt: &R,
+    alloc: A,
+    book: &Shared<L, A>,
+    seat: &mut Seat<L>,
+    op: &Op<A>,
+    tried: Narrow<'_>,
+) -> Result<Done<L, A>, BookFault> {
+    narrow(rt, tried.heap, tried.room);
+    let done = perform(rt, alloc, book, seat, op);
+    widen(tried.heap);
+    done
+}
+
 /// Submits a text, and then tries the operation of `step` with the limited capacity. Returns whether an allocation failed.
 fn asks<L: Name, A: Allocator + Copy, R: Wait + Abort>(
     rt: &R,
@@ -193,36 +222,35 @@ fn asks<L: Name, A: Allocator + Copy, R: Wait + Abort>(
     tried: Narrow<'_>,
     step: Step<'_>,
 ) -> bool {
-    let begun = op_of(rt, alloc, BEGUN.asked);
-    let begun = made(rt, perform(rt, alloc, book, seat, &begun));
-    let totals = begun.news.reading().totals;
+    let totals = begins(rt, alloc, book, seat);
     let mut live = made(rt, reader(rt, book));
     let op = op_of(rt, alloc, step.asked);
-    narrow(rt, tried.heap, tried.room);
-    let first = perform(rt, alloc, book, seat, &op);
-    widen(tried.heap);
-    let (done, is_refused) = match first {
-        Ok(done) => (done, false),
+    match perform_narrowly(rt, alloc, book, seat, &op, tried) {
+        Ok(done) => {
+            check_done(rt, alloc, seat, &done, &mut live, step);
+            false
+        }
         Err(fault) => {
             assert_eq!(rt; fault, BookFault::Memory);
             check_seat(rt, seat, 1);
             check_live(rt, &mut live, 1, totals);
-            (made(rt, perform(rt, alloc, book, seat, &op)), true)
+            let done = made(rt, perform(rt, alloc, book, seat, &op));
+            check_done(rt, alloc, seat, &done, &mut live, step);
+            true
         }
-    };
-    check_seat(rt, seat, 2);
-    check_done(rt, alloc, &done, &mut live, step);
-    is_refused
+    }
 }
 
-/// Checks the second call's receipt, by `check_told`, and that the totals after the call are published.
+/// Checks the seat after its second call, the call's receipt, by `check_told`, and that the totals after the call are published.
 fn check_done<L: Name, A: Allocator + Copy>(
     rt: &impl Abort,
     alloc: A,
+    seat: &Seat<L>,
     done: &Done<L, A>,
     live: &mut Live<L, A>,
     step: Step<'_>,
 ) {
+    check_seat(rt, seat, 2);
     let reading = done.news.reading();
     assert_eq!(rt; (done.receipt.place, reading.upto), (1, 2));
     check_told(

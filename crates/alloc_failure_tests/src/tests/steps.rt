@@ -59,6 +59,20 @@ struct Tried<'a> {
     in_halves: bool,
 }
 
+/// Checks the receipt of the second step of the book, and the book after it.
+fn check_receipt<A: Allocator + Copy>(
+    rt: &impl Abort,
+    alloc: A,
+    book: &Book<A>,
+    receipt: &Receipt<A>,
+    step: Step<'_>,
+) {
+    assert_eq!(rt; receipt.place, 1);
+    let totals = book.totals();
+    check_told(rt, alloc, &receipt.op, &receipt.answer, totals, step);
+    check_book(rt, alloc, book, 2, 4, step);
+}
+
 /// Performs the step `op`, which is that of `tried`, as job 4 in the book of `begun`, and checks the result. Returns whether an
 /// allocation failed. Leaves the heap with ample capacity.
 fn is_step_refused<A: Allocator + Copy>(
@@ -72,16 +86,7 @@ fn is_step_refused<A: Allocator + Copy>(
     widen(tried.heap);
     match taken {
         Ok(receipt) => {
-            assert_eq!(rt; receipt.place, 1);
-            check_told(
-                rt,
-                alloc,
-                &receipt.op,
-                &receipt.answer,
-                book.totals(),
-                tried.step,
-            );
-            check_book(rt, alloc, book, 2, 4, tried.step);
+            check_receipt(rt, alloc, book, &receipt, tried.step);
             false
         }
         Err(fault) => {
