@@ -5,6 +5,7 @@ ghost use Rattle.covrun.specs.Streams.{CanWrite};
 ghost use Rattle.covrun.specs.World.{CanCall};
 
 use covrun::{FromFiles, IntoFiles, OutputFolder, Sinks, World, run};
+use covstore::Store;
 use covstream::{FromRead, FromWrite, Sink, Source};
 use std::alloc::Global;
 use std::process::Abort;
@@ -31,7 +32,7 @@ fn called<
 >(rt: &R, words: &[String], world: &mut World<P, I, O, E>) -> u8
     requires { CanCall world.old }
 {
-    run(rt, &FromFiles::new(rt), words, world)
+    run::<_, _, _, _, _, _, Store>(rt, &FromFiles::new(rt), words, world)
 }
 
 /// The exit status of a run, its output, and its error stream.
