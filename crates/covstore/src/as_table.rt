@@ -8,7 +8,8 @@ use crate::store::Store;
 use covdata::{Memory, Submission};
 use covpacked::PackedSubmission;
 use covreport::{
-    Choice, PrintedFunction, Printer, Table, list_files, most_functions_in, put_sections, without_others,
+    Choice, PrintedFunction, Printer, Table, list_files, most_functions_in, put_sections,
+    without_others,
 };
 use covtable::{FileTotals, Refuse, TableFiles, TableSection, TableSections, Totals};
 use std::alloc::Allocator;
@@ -75,8 +76,8 @@ impl<A: Allocator + Copy> Table<A> for Store<A> {
         Store::after_drop(self, test)
     }
 
-    fn drop_test(&mut self, test: &[u8]) -> u64 {
-        Store::drop_test(self, test)
+    fn drop_leaving(&mut self, test: &[u8], totals: Totals) {
+        Store::drop_leaving(self, test, totals);
     }
 
     fn totals(&self) -> Totals {
