@@ -95,14 +95,9 @@ fn run_command<
     } = asked;
     match task_for(alloc, command, strictness, size) {
         Ok(Task::Session) => serve::<P, I, O, E, T>(alloc, world),
-        Ok(Task::Collect(work)) => do_work::<R, F, P, I, O, E, T>(
-            rt,
-            folder,
-            alloc,
-            &work,
-            name_of(&file),
-            world,
-        ),
+        Ok(Task::Collect(work)) => {
+            do_work::<R, F, P, I, O, E, T>(rt, folder, alloc, &work, name_of(&file), world)
+        }
         Ok(Task::Check { options, files }) => {
             check_files(rt, folder, alloc, &options, files.get(), &mut world.sinks)
         }
