@@ -4,9 +4,8 @@
 ghost use Rattle.std.specs.Prelude.{◌≡◌, ◌≢◌, None, Some};
 
 use super::outputs::NoFiles;
-use super::{Told, check_text, kept_sinks, words_of};
-use covrun::{Folder, Opened, World, run};
-use covstore::Store;
+use super::{Told, check_text, kept_sinks, run, words_of};
+use covrun::{Folder, Opened, World};
 use covstream::{Failed, FromRead, Source};
 use std::process::Abort;
 use std::sync::Wait;
@@ -24,7 +23,7 @@ fn call_over<R: AllocGlobal + Threads + Wait + Sync, F: Folder<File: Send> + Syn
         input: FromRead::new(&b""[..]),
         sinks: kept_sinks(rt.alloc()),
     };
-    let status = run::<_, _, _, _, _, _, Store>(rt, folder, words, &mut world);
+    let status = run(rt, folder, words, &mut world);
     Told::of(status, world.sinks)
 }
 

@@ -4,9 +4,8 @@ ghost use Rattle.std.specs.Prelude.{◌≡◌, ◌<◌, ◌^◌, None, Some, map
 ghost use Rattle.std.specs.String.{string_bytes};
 
 use super::folders::OneFile;
-use super::{Told, check_text, kept_sinks, words_of};
-use covrun::{OutputFault, OutputFolder, World, run};
-use covstore::Store;
+use super::{Told, check_text, kept_sinks, run, words_of};
+use covrun::{OutputFault, OutputFolder, World};
 use covstream::{Failed, FromRead, FromWrite, Sink};
 use std::alloc::Global;
 use std::process::Abort;
@@ -123,7 +122,7 @@ fn call_onto<R: AllocGlobal + Threads + Wait + Abort + Sync, P: OutputFolder + D
         input: FromRead::new(&b""[..]),
         sinks: kept_sinks(rt.alloc()),
     };
-    let status = run::<_, _, _, _, _, _, Store>(rt, &folder, words.as_slice(), &mut world);
+    let status = run(rt, &folder, words.as_slice(), &mut world);
     let World { files, sinks, .. } = world;
     let told = Told::of(status, sinks);
     check_text(rt, asked, told.output.as_slice(), "")?;

@@ -5,9 +5,8 @@ ghost use Rattle.std.specs.Prelude.{◌<◌, ◌^◌};
 use super::faults::Closing;
 use super::folders::OneFile;
 use super::outputs::NoFiles;
-use super::{check_text, words_of};
-use covrun::{Folder, Sinks, World, run};
-use covstore::Store;
+use super::{check_text, run, words_of};
+use covrun::{Folder, Sinks, World};
 use covstream::{FromRead, FromWrite, Sink};
 use std::alloc::Global;
 use std::process::Abort;
@@ -33,7 +32,7 @@ fn call_into<R: AllocGlobal + Threads + Wait + Sync, F: Folder<File: Send> + Syn
             faults: FromWrite::new(Vec::new(rt.alloc())),
         },
     };
-    let status = run::<_, _, _, _, _, _, Store>(rt, folder, words, &mut world);
+    let status = run(rt, folder, words, &mut world);
     let World { sinks, .. } = world;
     let Sinks { output, faults } = sinks;
     (status, faults.into_inner(), output)
