@@ -10,6 +10,6 @@ pub returns : goal.returns
 returns g c =
     let held = c.store.ensures in
     c.in_ok-add_unmatched.ensures
-    ∙ ap (λ (ls : List ℕ). ls ++ flat_map (unmatched_line (map file_totals_data c.in_ok-files.files.items)) (asked_patterns (question_data c.args.asks.now))) c.new-lines.ensures
+    ∙ ap (λ (ls : List ℕ). ls ++ flat_map (unmatched_line (map file_totals_data c.as_slice.result.now)) (asked_patterns (question_data c.args.asks.now))) c.new-lines.ensures
     ∙ patterns_are_asked c.args.collected.now.book.entries (question_data c.args.asks.now) c.requires _ (ap (λ (s : ShownData). s.sections) held.store ∙ held.stands.content)
-    _ c.in_ok-files.ensures.files
+    _ (ap (map file_totals_data) c.as_slice.ensures.value ∙ c.in_ok-files.ensures.files)
