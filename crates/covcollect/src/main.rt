@@ -2,8 +2,9 @@
 //! each command on standard output. A subcommand reads the files that its arguments name, and prints one text. An error that ends
 //! the program is reported on standard error and by the exit status.
 //!
-//! `main` only collects the arguments, makes the streams and names the store; the rest of the program is covrun's `run`. By the laws of covlaws, the
-//! output of `merge`, `extract`, `remove` and `gcov` reads back: a merge of this output alone prints the same text.
+//! `main` only collects the arguments, makes the streams and names the store; the rest of the program is covrun's `run`. By the
+//! laws of covlaws, the output of `merge`, `extract`, `remove` and `gcov` reads back: a merge of this output alone prints the same
+//! text.
 //!
 //! ```text
 //! $ covcollect <<'END'
