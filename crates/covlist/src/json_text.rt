@@ -10,8 +10,7 @@ ghost use Rattle.covlist.specs.Json.{file_object, hexadecimal_name, list_json_of
 
 use crate::numbers::put_number;
 use covdata::{Bytes, Memory};
-use covreport::{Choice, chosen_totals};
-use covstore::Store;
+use covreport::{Choice, Table, chosen_totals};
 use covtable::{FileTotals, Totals};
 use json::Writer;
 use std::alloc::Allocator;
@@ -24,12 +23,12 @@ use std::alloc::Allocator;
 /// # Errors
 ///
 /// `Memory` if an allocation failed.
-pub fn list_json<A: Allocator + Copy>(
+pub fn list_json<A: Allocator + Copy, T: Table<A>>(
     alloc: A,
-    store: &Store<A>,
+    store: &T,
     choice: &Choice<A>,
 ) -> Result<Bytes<A>, Memory>
-    ensures { IfOk result (λ t. t ≡ list_json_of (chosen_files (choice_data choice.now) store.now.sections) (totals_of_chosen (choice_data choice.now) store.now.sections)) }
+    ensures { IfOk result (λ t. t ≡ list_json_of (chosen_files (choice_data choice.now) (T.shown store.now).sections) (totals_of_chosen (choice_data choice.now) (T.shown store.now).sections)) }
 {
     let mut text = Bytes::new(alloc);
     text.append(b"{\"files\":[")?;
@@ -56,16 +55,17 @@ pub fn summary_json<A: Allocator>(alloc: A, totals: &Totals) -> Result<Bytes<A>,
 }
 
 /// Appends the JSON objects of the chosen files.
-fn put_objects<A: Allocator + Copy>(
+fn put_objects<A: Allocator + Copy, T: Table<A>>(
     alloc: A,
-    store: &Store<A>,
+    store: &T,
     choice: &Choice<A>,
     text: &mut Bytes<A>,
 ) -> Result<(), Memory>
-    ensures { OnOk result (text.new ≡ text.old ++ objects (chosen_files (choice_data choice.now) store.now.sections)) }
+    ensures { OnOk result (text.new ≡ text.old ++ objects (chosen_files (choice_data choice.now) (T.shown store.now).sections)) }
 {
     let mut is_first = true;
-    for file in store.files() {
+    let files = store.files(alloc)?;
+    for file in files {
         if choice.takes(file.path) {
             put_object(alloc, file, is_first, text)?;
             is_first = false;

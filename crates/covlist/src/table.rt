@@ -11,8 +11,7 @@ ghost use Rattle.covlist.specs.Table.{cell, file_row, heading, headings, list_ta
 use crate::numbers::{digits, put_number, put_spaces};
 use crate::shown::put_shown_name;
 use covdata::{Bytes, Memory};
-use covreport::{Choice, chosen_totals, tenths};
-use covstore::Store;
+use covreport::{Choice, Table, chosen_totals, tenths};
 use covtable::{FileTotals, Totals};
 use std::alloc::Allocator;
 
@@ -24,31 +23,33 @@ use std::alloc::Allocator;
 /// # Errors
 ///
 /// `Memory` if an allocation failed.
-pub fn list_table<A: Allocator + Copy>(
+pub fn list_table<A: Allocator + Copy, T: Table<A>>(
     alloc: A,
-    store: &Store<A>,
+    store: &T,
     choice: &Choice<A>,
 ) -> Result<Bytes<A>, Memory>
-    ensures { IfOk result (λ t. t ≡ list_table_of (chosen_files (choice_data choice.now) store.now.sections) (totals_of_chosen (choice_data choice.now) store.now.sections)) }
+    ensures { IfOk result (λ t. t ≡ list_table_of (chosen_files (choice_data choice.now) (T.shown store.now).sections) (totals_of_chosen (choice_data choice.now) (T.shown store.now).sections)) }
 {
     let all = chosen_totals(store, choice);
     let mut text = Bytes::new(alloc);
     put_headings(&all, &mut text)?;
-    put_rows(store, choice, &all, &mut text)?;
+    put_rows(alloc, store, choice, &all, &mut text)?;
     put_row(&all, b"Total", &all, &mut text)?;
     Ok(text)
 }
 
 /// Appends the rows of the chosen files.
-fn put_rows<A: Allocator + Copy>(
-    store: &Store<A>,
+fn put_rows<A: Allocator + Copy, T: Table<A>>(
+    alloc: A,
+    store: &T,
     choice: &Choice<A>,
     all: &Totals,
     text: &mut Bytes<A>,
 ) -> Result<(), Memory>
-    ensures { OnOk result (text.new ≡ text.old ++ flat_map (file_row all.now) (chosen_files (choice_data choice.now) store.now.sections)) }
+    ensures { OnOk result (text.new ≡ text.old ++ flat_map (file_row all.now) (chosen_files (choice_data choice.now) (T.shown store.now).sections)) }
 {
-    for file in store.files() {
+    let files = store.files(alloc)?;
+    for file in files {
         put_if_chosen(choice, all, file, text)?;
     }
     Ok(())

@@ -22,6 +22,7 @@
 #![tactic(auto)]
 
 mod choice;
+mod files;
 pub mod laws;
 mod noted;
 mod pattern;
@@ -33,6 +34,7 @@ mod table;
 mod tracefile;
 
 pub use choice::Choice;
+pub use files::list_files;
 pub use noted::Noted;
 pub use pattern::matches;
 pub use patterns::{MAX_PATTERN_BYTES, MAX_PATTERNS, PatternFault, Patterns};

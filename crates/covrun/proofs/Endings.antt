@@ -11,6 +11,7 @@ use Rattle.covsession.specs.declared.session.fault.SessionFault.TheVariants as f
 use Rattle.covbook.specs.Gather.{LogData}
 use Rattle.covbook.specs.Op.{OpData, SubmitOp, DropTestOp, RenameOp, ReportOp, ExtractOp, RemoveOp, SummaryOp, TextAnswer, EntryData}
 use Rattle.covtable.specs.Content.{SectionData, content_at}
+use Rattle.covtable.specs.Files.{FileTotalsData, files_with_totals}
 use Rattle.covtable.specs.Table.{Table}
 use Rattle.covlimit.specs.Limits.{LimitsData}
 use Rattle.covlist.specs.Chosen.{chosen_files, totals_of_chosen}
@@ -169,11 +170,12 @@ pub list_is_asked : (entries : List EntryData) (form : TotalsForm) (choice : Cho
 list_is_asked entries form choice sections are =
     ap (λ (s : List SectionData). list_text form (chosen_files choice s) (totals_of_chosen choice s)) (sections_stay entries SummaryOp tt sections are)
 
--- the lines about patterns are those for the table after the last operation
+-- the lines about patterns are those for the files of the table after the last operation
 pub patterns_are_asked : (entries : List EntryData) (asks : QuestionData) → IsText (last_of asks) → (sections : List SectionData) → sections ≡ content_at (table_of (ops_in entries))
-    → flat_map (unmatched_line sections) (asked_patterns asks) ≡ flat_map (unmatched_line (content_at (table_of (ops_in (entries ++ next_entry entries 0 (last_of asks) ∷ []))))) (asked_patterns asks)
-patterns_are_asked entries asks is_text sections are =
-    ap (λ (s : List SectionData). flat_map (unmatched_line s) (asked_patterns asks)) (sections_stay entries (last_of asks) is_text sections are)
+    → (files : List FileTotalsData) → files ≡ files_with_totals sections
+    → flat_map (unmatched_line files) (asked_patterns asks) ≡ flat_map (unmatched_line (files_with_totals (content_at (table_of (ops_in (entries ++ next_entry entries 0 (last_of asks) ∷ [])))))) (asked_patterns asks)
+patterns_are_asked entries asks is_text sections are files listed =
+    ap (λ (fs : List FileTotalsData). flat_map (unmatched_line fs) (asked_patterns asks)) (listed ∙ ap files_with_totals (sections_stay entries (last_of asks) is_text sections are))
 
 -- a text that is this one is the other that equals it
 pub text_then : {E : Type 0} (result : Result (List ℕ) E) (text other : List ℕ) → IfOk result (λ t. t ≡ text) → text ≡ other → IfOk result (λ t. t ≡ other)

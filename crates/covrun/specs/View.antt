@@ -28,7 +28,7 @@ task_data tasks.Session = Serves
 task_data (tasks.Collect work) = Collects (work_data work)
 task_data (tasks.Check options files) = Checks options.format options.strictness options.jobs files
 
-abbrev pub ready_data : ReadyAnswer → EndingData
+abbrev pub ready_data : {T Plan Renaming : Type 0} → ReadyAnswer T Plan Renaming → EndingData
 ready_data answer = with_shortfalls answer.shortfalls answer.text
 
 abbrev pub failure_data : Failure → EndingData

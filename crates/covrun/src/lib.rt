@@ -12,7 +12,7 @@
 //! files that it writes (`OutputFolder`) and the standard streams. `FromFiles` and `IntoFiles` are the file system of std as these
 //! two folders.
 //!
-//! A sketch: the program's main function.
+//! No function names a store: all are generic over covreport's `Table`. A sketch: the program's main function.
 //!
 //! ```text
 //! fn main(rt: HostRuntime) -> ExitCode {
@@ -25,7 +25,10 @@
 //!         },
 //!     };
 //!     ExitCode::from(match words_of_call(&rt) {
-//!         Ok(words) => run(&rt, &FromFiles::new(&rt), words.as_slice(), &mut world),
+//!         Ok(words) => {
+//!             let folder = FromFiles::new(&rt);
+//!             run::<_, _, _, _, _, _, Store>(&rt, &folder, words.as_slice(), &mut world)
+//!         }
 //!         Err(fault) => refuse(fault, &mut world.sinks),
 //!     })
 //! }

@@ -19,14 +19,15 @@ use crate::written_file::write_file;
 use covcommand::CommandFault;
 use covdata::{Bytes, Memory};
 use covlist::put_shown_name;
+use covreport::Table;
 use covsession::{SessionFault, line_of, status_of};
 use covstream::{Sink, Source};
 use std::alloc::Global;
 
 /// Reports an answer and returns the exit status. The text goes to the output, or into the file that `file` names.
-pub(crate) fn report_answer<P: OutputFolder, I: Source, O: Sink, E: Sink>(
+pub(crate) fn report_answer<P: OutputFolder, I: Source, O: Sink, E: Sink, T: Table<Global>>(
     alloc: Global,
-    answer: ReadyAnswer<'_>,
+    answer: ReadyAnswer<'_, T>,
     file: Option<&str>,
     world: &mut World<P, I, O, E>,
 ) -> u8
@@ -41,7 +42,10 @@ pub(crate) fn report_answer<P: OutputFolder, I: Source, O: Sink, E: Sink>(
 }
 
 /// Prints the text of an answer, followed by the rates below their thresholds on the error stream. Returns the exit status.
-fn print_answer<O: Sink, E: Sink>(answer: ReadyAnswer<'_>, sinks: &mut Sinks<O, E>) -> u8
+fn print_answer<O: Sink, E: Sink, T: Table<Global>>(
+    answer: ReadyAnswer<'_, T>,
+    sinks: &mut Sinks<O, E>,
+) -> u8
     requires { CanWrite sinks.old }
     ensures { IsEndingPrinted (ready_data answer.entry) result sinks.old sinks.new }
 {
@@ -54,10 +58,10 @@ fn print_answer<O: Sink, E: Sink>(answer: ReadyAnswer<'_>, sinks: &mut Sinks<O, 
 
 /// Writes the text of an answer into the file called `name`, then the rates below their thresholds to the error stream. Returns the
 /// exit status.
-fn write_answer<P: OutputFolder, I: Source, O: Sink, E: Sink>(
+fn write_answer<P: OutputFolder, I: Source, O: Sink, E: Sink, T: Table<Global>>(
     alloc: Global,
     name: &str,
-    answer: ReadyAnswer<'_>,
+    answer: ReadyAnswer<'_, T>,
     world: &mut World<P, I, O, E>,
 ) -> u8
     requires { CanCall world.old }

@@ -16,10 +16,9 @@ use covcommand::TotalsForm;
 use covdata::{Bytes, Memory};
 use covlimit::{Limits, shortfall_lines};
 use covlist::{list_json, list_table, summary_json};
-use covnamed::{CollectedBook, Printing};
-use covreport::{Choice, chosen_totals, summary_text};
-use covstore::Store;
-use covtable::Totals;
+use covreport::{Choice, Printing, Table, chosen_totals, summary_text};
+use covtable::{FileTotals, Totals};
+use covworkers::CollectedBook;
 use std::alloc::Global;
 
 /// The question that a run answers after its files are collected.
@@ -46,11 +45,12 @@ pub(crate) enum Question {
 
 impl Question {
     ghost use Rattle.std.specs.List.{flat_map};
-    ghost use Rattle.std.specs.Prelude.{◌≡◌, ◌++◌, [], ◌∷◌, option_map, IfOk, OnOk};
+    ghost use Rattle.std.specs.Prelude.{◌≡◌, ◌++◌, [], ◌∷◌, map, option_map, IfOk, OnOk};
     ghost use Rattle.covbook.specs.Op.{ReportOp, SummaryOp};
     ghost use Rattle.covbook.specs.Step.{next_entry};
     ghost use Rattle.covbook.specs.Texts.{IsText};
     ghost use Rattle.covlimit.specs.LimitsView.{limits_data};
+    ghost use Rattle.covtable.specs.ValuesView.{file_totals_data};
     ghost use Rattle.covrun.specs.Ending.{asked_shortfalls, asked_text};
     ghost use Rattle.covrun.specs.Strict.{asked_patterns, unmatched_line};
     ghost use Rattle.covrun.specs.View.{question_data};
@@ -108,11 +108,11 @@ impl Question {
     }
 
     /// Prepares the requested text for printing. The operation of an `Answer` must be one that asks for a text.
-    pub(crate) fn printing<'b>(
+    pub(crate) fn printing<'b, T: Table<Global>>(
         &self,
         alloc: Global,
-        collected: &'b CollectedBook<TextFault>,
-    ) -> Result<Printing<'b>, Memory>
+        collected: &'b CollectedBook<T, TextFault>,
+    ) -> Result<Printing<'b, Global, T>, Memory>
         requires { IsText (last_of (question_data self.now)) }
         ensures { IfOk result (λ text. text ≡ asked_text (question_data self.now)
             (collected.now.book.entries ++ next_entry collected.now.book.entries 0 (last_of (question_data self.now)) ∷ [])) }
@@ -140,10 +140,10 @@ impl Question {
     }
 
     /// The lines about rates below their thresholds; empty without thresholds.
-    pub(crate) fn shortfalls(
+    pub(crate) fn shortfalls<T: Table<Global>>(
         &self,
         alloc: Global,
-        collected: &CollectedBook<TextFault>,
+        collected: &CollectedBook<T, TextFault>,
     ) -> Result<Bytes, Memory>
         ensures { IfOk result (λ lines. lines ≡ asked_shortfalls (question_data self.now)
             (collected.now.book.entries ++ next_entry collected.now.book.entries 0 (last_of (question_data self.now)) ∷ [])) }
@@ -157,16 +157,20 @@ impl Question {
         }
     }
 
-    /// Appends to `lines` a line about each pattern of the question that matches no file of `store`.
-    pub(crate) fn add_unmatched(&self, store: &Store, lines: &mut Bytes) -> Result<(), Memory>
-        ensures { OnOk result (lines.new ≡ lines.old ++ flat_map (unmatched_line store.now.sections) (asked_patterns (question_data self.now))) }
+    /// Appends to `lines` a line about each pattern of the question that matches none of `files`.
+    pub(crate) fn add_unmatched(
+        &self,
+        files: &[FileTotals<'_>],
+        lines: &mut Bytes,
+    ) -> Result<(), Memory>
+        ensures { OnOk result (lines.new ≡ lines.old ++ flat_map (unmatched_line (map file_totals_data files.now)) (asked_patterns (question_data self.now))) }
     {
         match self {
-            Question::Answer(op) => add_unmatched_of_op(op, store, lines),
+            Question::Answer(op) => add_unmatched_of_op(op, files, lines),
             Question::ChosenReport(choice)
             | Question::ChosenSummary(choice)
             | Question::LimitedTotals { choice, .. }
-            | Question::ChosenList { choice, .. } => add_unmatched_of_choice(choice, store, lines),
+            | Question::ChosenList { choice, .. } => add_unmatched_of_choice(choice, files, lines),
         }
     }
 }
@@ -183,11 +187,11 @@ fn totals_text(alloc: Global, form: TotalsForm, totals: &Totals) -> Result<Bytes
 }
 
 /// Prints the list of the chosen source files in this `form`.
-fn list_text(
+fn list_text<T: Table<Global>>(
     alloc: Global,
     form: TotalsForm,
     choice: &Choice,
-    collected: &CollectedBook<TextFault>,
+    collected: &CollectedBook<T, TextFault>,
 ) -> Result<Bytes, Memory>
     ensures { IfOk result (λ text. text ≡ asked_text (ChosenList form (choice_data choice.now))
         (collected.now.book.entries ++ next_entry collected.now.book.entries 0 SummaryOp ∷ [])) }

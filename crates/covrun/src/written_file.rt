@@ -5,11 +5,13 @@ ghost use Rattle.covrun.specs.OutputFiles.{CountsFault, Finishes};
 
 use crate::output_folder::{OutputFault, OutputFolder};
 use crate::ready_text::ReadyText;
+use covreport::Table;
+use std::alloc::Global;
 
 /// Writes `text` into the file called `name`. An older file of this name stays unchanged if the write fails.
-pub(crate) fn write_file<P: OutputFolder>(
+pub(crate) fn write_file<P: OutputFolder, T: Table<Global>>(
     name: &str,
-    text: ReadyText<'_>,
+    text: ReadyText<'_, T>,
     files: &mut P,
 ) -> Result<(), OutputFault>
     requires free { P.begun files.old ≡ None }

@@ -4,8 +4,8 @@
 ghost use Rattle.std.specs.Prelude.{◌≡◌, ◌≢◌, None, Some};
 
 use super::outputs::NoFiles;
-use super::{Told, check_text, kept_sinks, words_of};
-use covrun::{Folder, Opened, World, run};
+use super::{Told, check_text, kept_sinks, run, words_of};
+use covrun::{Folder, Opened, World};
 use covstream::{Failed, FromRead, Source};
 use std::process::Abort;
 use std::sync::Wait;

@@ -4,8 +4,8 @@ ghost use Rattle.std.specs.Prelude.{◌≡◌, ◌<◌, ◌^◌, None, Some, map
 ghost use Rattle.std.specs.String.{string_bytes};
 
 use super::folders::OneFile;
-use super::{Told, check_text, kept_sinks, words_of};
-use covrun::{OutputFault, OutputFolder, World, run};
+use super::{Told, check_text, kept_sinks, run, words_of};
+use covrun::{OutputFault, OutputFolder, World};
 use covstream::{Failed, FromRead, FromWrite, Sink};
 use std::alloc::Global;
 use std::process::Abort;

@@ -9,16 +9,16 @@ use Rattle.covrun.specs.Ending.{totals_text}
 use Rattle.covrun.proofs.question.Question.printing.Goals as goal
 
 pub returns-in_ok-copy_of-in-ChosenReport : goal.returns-in_ok-copy_of-in-ChosenReport
-returns-in_ok-copy_of-in-ChosenReport c =
+returns-in_ok-copy_of-in-ChosenReport g c =
     let entries = c.args.collected.now.book.entries in
     let held = c.store.ensures in
     rw c.in-ChosenReport.is
-    (text_then c.of_store.result (report_text (choice_data c.in_ok-copy_of-in-ChosenReport.field-0) c.store.result.now.sections) _ c.of_store.ensures.text
-    (ap (λ (choice : ChoiceData). report_text choice c.store.result.now.sections) c.in_ok-copy_of-in-ChosenReport.ensures
+    (text_then c.of_store.result (report_text (choice_data c.in_ok-copy_of-in-ChosenReport.field-0) (g.T.Table.shown c.store.result.now).sections) _ c.of_store.ensures.text
+    (ap (λ (choice : ChoiceData). report_text choice (g.T.Table.shown c.store.result.now).sections) c.in_ok-copy_of-in-ChosenReport.ensures
     ∙ report_is_asked entries (choice_data c.in-ChosenReport.choice) _ (ap (λ (s : ShownData). s.sections) held.store ∙ held.stands.content)))
 
 pub returns-in_ok-text-in-ChosenSummary : goal.returns-in_ok-text-in-ChosenSummary
-returns-in_ok-text-in-ChosenSummary c =
+returns-in_ok-text-in-ChosenSummary g c =
     let entries = c.args.collected.now.book.entries in
     let held = c.store-in-ChosenSummary.ensures in
     rw c.in-ChosenSummary.is
@@ -26,7 +26,7 @@ returns-in_ok-text-in-ChosenSummary c =
     ∙ totals_are_asked entries (choice_data c.in-ChosenSummary.choice) _ (ap (λ (s : ShownData). s.sections) held.store ∙ held.stands.content)))
 
 pub returns-in_ok-text-in-LimitedTotals : goal.returns-in_ok-text-in-LimitedTotals
-returns-in_ok-text-in-LimitedTotals c =
+returns-in_ok-text-in-LimitedTotals g c =
     let entries = c.args.collected.now.book.entries in
     let held = c.store-in-LimitedTotals.ensures in
     rw c.in-LimitedTotals.is
@@ -34,5 +34,5 @@ returns-in_ok-text-in-LimitedTotals c =
     ∙ totals_are_asked entries (choice_data c.in-LimitedTotals.choice) _ (ap (λ (s : ShownData). s.sections) held.store ∙ held.stands.content)))
 
 pub returns-in_ok-text-in-ChosenList : goal.returns-in_ok-text-in-ChosenList
-returns-in_ok-text-in-ChosenList c =
+returns-in_ok-text-in-ChosenList g c =
     rw c.in-ChosenList.is (c.of_text-in-ChosenList.ensures ∙ c.in_ok-text-in-ChosenList.ensures)

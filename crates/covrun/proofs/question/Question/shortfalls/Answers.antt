@@ -7,7 +7,7 @@ use Rattle.covrun.proofs.Endings.{text_then, totals_are_asked}
 use Rattle.covrun.proofs.question.Question.shortfalls.Goals as goal
 
 pub returns-in-LimitedTotals : goal.returns-in-LimitedTotals
-returns-in-LimitedTotals c =
+returns-in-LimitedTotals g c =
     let entries = c.args.collected.now.book.entries in
     let held = c.store.ensures in
     rw c.in-LimitedTotals.is
