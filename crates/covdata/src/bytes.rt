@@ -1,6 +1,7 @@
-ghost use Rattle.std.specs.Prelude.{◌≡◌, ◌↔◌, IfOk, OnOk, OnErr, IsOk, IsTrue, ◌++◌, [], length, take};
+ghost use Rattle.std.specs.Prelude.{◌≡◌, ◌↔◌, IfOk, OnOk, OnErr, IsOk, IsTrue, ◌++◌, [], decimal, length, take};
 
 use crate::memory::Memory;
+use itoa::Buffer;
 use std::alloc::{Allocator, Global};
 use std::marker::Model;
 
@@ -69,6 +70,14 @@ impl<A: Allocator> Bytes<A> {
     {
         self.text.extend_from_slice(more)?;
         Ok(())
+    }
+
+    /// Appends a number in decimal. Leaves the text unchanged on `Memory`.
+    pub fn append_number(&mut self, number: u64) -> Result<(), Memory>
+        ensures ok { OnOk result (self.new ≡ self.old ++ decimal number) }
+        ensures err { OnErr result (self.new ≡ self.old) }
+    {
+        self.append(Buffer::new().format(number).as_bytes())
     }
 
     /// Shortens the text to at most `len` bytes.

@@ -1,7 +1,7 @@
 //! One line of a tracefile (geninfo(1) of LCOV 1.x, section FILES).
 
-ghost use Rattle.std.specs.Prelude.{◌≡◌};
-ghost use Rattle.covdata.specs.Records.{fault_number};
+ghost use Rattle.std.specs.Prelude.{◌≡◌, ◌≤◌, length};
+ghost use Rattle.covdata.specs.Records.{fault_number, key_of};
 
 use thiserror::Error;
 
@@ -20,6 +20,23 @@ pub enum TotalKind {
     LineFound,
     /// `LH:`, the number of instrumented lines with an execution count above 0.
     LineHit,
+}
+
+impl TotalKind {
+    /// The key of the total's record.
+    pub(crate) fn key(self) -> &'static [u8]
+        ensures value { result.now ≡ key_of self }
+        ensures size { length result.now ≤ 4 }
+    {
+        match self {
+            TotalKind::FuncFound => b"FNF:",
+            TotalKind::FuncHit => b"FNH:",
+            TotalKind::BranchFound => b"BRF:",
+            TotalKind::BranchHit => b"BRH:",
+            TotalKind::LineFound => b"LF:",
+            TotalKind::LineHit => b"LH:",
+        }
+    }
 }
 
 /// The meaning of one line (a record). Names, paths and checksums are slices of the line.

@@ -120,7 +120,7 @@ impl Question {
         match self {
             Question::Answer(op) => collected.book.printing(alloc, op),
             Question::ChosenReport(choice) => {
-                Printing::of_store(alloc, collected.book.store(), copy_of(alloc, choice)?)
+                Printing::of_store(alloc, collected.book.store(), choice.copy(alloc)?)
             }
             Question::ChosenSummary(choice) => {
                 let totals = chosen_totals(collected.book.store(), choice);
@@ -196,20 +196,5 @@ fn list_text(
     match form {
         TotalsForm::Words => list_table(alloc, store, choice),
         TotalsForm::Json => list_json(alloc, store, choice),
-    }
-}
-
-/// Copies `choice`.
-fn copy_of(alloc: Global, choice: &Choice) -> Result<Choice, Memory>
-    ensures { IfOk result (λ copy. choice_data copy ≡ choice_data choice.now) }
-{
-    match choice {
-        Choice::All => Ok(Choice::All),
-        Choice::Extract(patterns) => Ok(Choice::Extract(patterns.copy(alloc)?)),
-        Choice::Remove(patterns) => Ok(Choice::Remove(patterns.copy(alloc)?)),
-        Choice::Filter { includes, excludes } => Ok(Choice::Filter {
-            includes: includes.copy(alloc)?,
-            excludes: excludes.copy(alloc)?,
-        }),
     }
 }

@@ -8,13 +8,13 @@ use Rattle.covrun.proofs.Endings.{report_is_asked, text_then, totals_are_asked}
 use Rattle.covrun.specs.Ending.{totals_text}
 use Rattle.covrun.proofs.question.Question.printing.Goals as goal
 
-pub returns-in_ok-copy_of-in-ChosenReport : goal.returns-in_ok-copy_of-in-ChosenReport
-returns-in_ok-copy_of-in-ChosenReport c =
+pub returns-in_ok-copy-in-ChosenReport : goal.returns-in_ok-copy-in-ChosenReport
+returns-in_ok-copy-in-ChosenReport c =
     let entries = c.args.collected.now.book.entries in
     let held = c.store.ensures in
     rw c.in-ChosenReport.is
-    (text_then c.of_store.result (report_text (choice_data c.in_ok-copy_of-in-ChosenReport.field-0) c.store.result.now.sections) _ c.of_store.ensures.text
-    (ap (λ (choice : ChoiceData). report_text choice c.store.result.now.sections) c.in_ok-copy_of-in-ChosenReport.ensures
+    (text_then c.of_store.result (report_text (choice_data c.in_ok-copy-in-ChosenReport.field-0) c.store.result.now.sections) _ c.of_store.ensures.text
+    (ap (λ (choice : ChoiceData). report_text choice c.store.result.now.sections) c.in_ok-copy-in-ChosenReport.ensures
     ∙ report_is_asked entries (choice_data c.in-ChosenReport.choice) _ (ap (λ (s : ShownData). s.sections) held.store ∙ held.stands.content)))
 
 pub returns-in_ok-text-in-ChosenSummary : goal.returns-in_ok-text-in-ChosenSummary
