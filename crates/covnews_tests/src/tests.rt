@@ -1,10 +1,10 @@
-//! Tests of a publisher and its readers. The entries are those of a `covnamed::Book`.
+//! Tests of a publisher and its readers. The entries are those of a book over covstore's `Store`.
 
 ghost use Rattle.std.specs.Prelude.{◌≡◌, ◌<◌, []};
 
 use covbook::Op;
-use covnamed::Book;
 use covnews::{HistorySeed, Live, Name, News, Publisher};
+use covstore::Store;
 use linked_list_allocator::LocalHeap;
 use std::alloc::{AllocGlobal, Allocator, Global};
 use std::marker::Brand;
@@ -12,6 +12,8 @@ use std::process::Abort;
 use std::sync::Wait;
 use std::test::*;
 use std::thread::{Threads, join};
+
+type Book = covbook::Book<Global, Store>;
 
 fn opened<L: Name, A: Allocator + Copy>(
     rt: &impl Abort,
