@@ -79,8 +79,7 @@ fn naming_asked(asks: &Question) -> Naming
     match asks {
         Question::Answer(_) => Naming::Plain,
         Question::ChosenReport(_)
-        | Question::ChosenSummary(_)
-        | Question::LimitedTotals { .. }
+        | Question::ChosenTotals { .. }
         | Question::ChosenList { .. } => Naming::Shown,
     }
 }
