@@ -14,7 +14,7 @@ ghost use Rattle.covsession.specs.Fault.{HasBegun};
 ghost use Rattle.covsession.specs.declared.session.fault.SessionFault.TheVariants as session_faults;
 
 use crate::check_verdict::CheckVerdict;
-use crate::files::{FileFault, file_text};
+use crate::files::file_text;
 use crate::folder::Folder;
 use crate::sinks::Sinks;
 use crate::strict::is_clean;
@@ -25,7 +25,7 @@ use covdata::{Bytes, ReadFault};
 use covlarge::{PieceFault, check_large};
 use covlist::put_shown_name;
 use covsession::{SessionFault, refused_line};
-use covstream::Sink;
+use covstream::{BlockFault, Sink};
 use std::alloc::Global;
 
 /// The report about a checked file, which is written without allocating.
@@ -115,8 +115,8 @@ fn examine_text<F: Folder>(
     let shown = shown_name(alloc, name.as_bytes())?;
     match file_text(folder, alloc, name) {
         Ok(text) => report_on_text(alloc, format, strictness, &shown, text.get()),
-        Err(FileFault::Unreadable(_)) => report_on_unread(alloc, &shown),
-        Err(FileFault::Memory) => Err(SessionFault::Memory),
+        Err(BlockFault::Unreadable) => report_on_unread(alloc, &shown),
+        Err(BlockFault::Memory) => Err(SessionFault::Memory),
     }
 }
 
