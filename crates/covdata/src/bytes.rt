@@ -77,7 +77,7 @@ impl<A: Allocator> Bytes<A> {
         ensures ok { OnOk result (self.new ≡ self.old ++ decimal number) }
         ensures err { OnErr result (self.new ≡ self.old) }
     {
-        self.append(Buffer::new().format(number).as_bytes())
+        append_number(&mut self.text, number)
     }
 
     /// Shortens the text to at most `len` bytes.
@@ -100,4 +100,13 @@ impl<A: Allocator> Bytes<A> {
     {
         Bytes::of(alloc, self.get())
     }
+}
+
+/// Appends a number in decimal. Leaves the text unchanged on `Memory`.
+pub fn append_number<A: Allocator>(text: &mut Vec<u8, A>, number: u64) -> Result<(), Memory>
+    ensures ok { OnOk result (text.new.items ≡ text.old.items ++ decimal number) }
+    ensures err { OnErr result (text.new.items ≡ text.old.items) }
+{
+    text.extend_from_slice(Buffer::new().format(number).as_bytes())?;
+    Ok(())
 }

@@ -22,7 +22,7 @@ mod tally;
 mod trace_line;
 mod version;
 
-pub use bytes::Bytes;
+pub use bytes::{Bytes, append_number};
 pub use fault::{MAX_BYTES, ReadFault};
 pub use item::{Item, Items};
 pub use memory::Memory;

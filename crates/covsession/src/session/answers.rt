@@ -11,9 +11,8 @@ ghost use Rattle.covsession.specs.declared.session.fault.SessionFault.TheVariant
 use crate::session::fault::SessionFault;
 use crate::session::output::Output;
 use covbook::Answer;
-use covdata::{LineFault, ReadFault};
+use covdata::{LineFault, ReadFault, append_number};
 use covstream::Sink;
-use itoa::Buffer;
 use std::alloc::Allocator;
 
 // Appends `words` and then `number` in decimal.
@@ -26,7 +25,7 @@ fn add_number<A: Allocator>(
     ensures fault { IfErr result (λ f. f ≡ session_faults.Memory) }
 {
     line.extend_from_slice(words)?;
-    line.extend_from_slice(Buffer::new().format(number).as_bytes())?;
+    append_number(line, number)?;
     Ok(())
 }
 
