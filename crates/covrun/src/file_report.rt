@@ -16,6 +16,7 @@ ghost use Rattle.covsession.specs.declared.session.fault.SessionFault.TheVariant
 use crate::check_verdict::CheckVerdict;
 use crate::files::file_text;
 use crate::folder::Folder;
+use crate::messages::{CANT_READ, NO_ITEMS};
 use crate::sinks::Sinks;
 use crate::strict::is_clean;
 use crate::work::CheckedFormat;
@@ -149,7 +150,7 @@ fn report_on_unread(alloc: Global, shown: &Bytes) -> Result<FileReport, SessionF
 {
     Ok(FileReport {
         line: Vec::new(alloc),
-        complaint: joined(alloc, shown.get(), b": can't read\n")?,
+        complaint: joined(alloc, shown.get(), CANT_READ)?,
         verdict: CheckVerdict::Unreadable,
     })
 }
@@ -230,7 +231,7 @@ fn unaccepted(
     ensures fault { IfErr result (λ fault. fault ≡ session_faults.Memory) }
 {
     match strictness {
-        Strictness::Lenient => joined(alloc, shown, b": no items\n"),
+        Strictness::Lenient => joined(alloc, shown, NO_ITEMS),
         Strictness::Strict => joined(alloc, line, b""),
     }
 }
