@@ -50,7 +50,7 @@ impl RecordBuffer {
         &self.bytes[self.start..]
     }
 
-    /// Replaces the content by the beginning of a function's record: `key`, `number` and a comma. The name comes next.
+    /// Replaces the content by `key`, `number` and a comma, the beginning of a function's record. The name comes next.
     #[inline]
     pub fn write_named(&mut self, key: &[u8], number: u128)
         requires { length key.now ≤ 5 }
