@@ -71,11 +71,7 @@ pub(super) fn put_branch<P: Printer>(branch: &BranchValue, record: &mut RecordBu
 }
 
 /// Prints a `DA` record: a line, its count, and its checksum if it has one. `record` is a buffer, whose content is replaced.
-pub(super) fn put_count<P: Printer>(
-    line: &LineValue<'_>,
-    record: &mut RecordBuffer,
-    out: &mut P,
-)
+pub(super) fn put_count<P: Printer>(line: &LineValue<'_>, record: &mut RecordBuffer, out: &mut P)
     ensures { P.text out.new ≡ P.text out.old ++ printed (line_record (line_data line.now)) }
 {
     match line.checksum {
