@@ -1,4 +1,4 @@
-use Rattle.std.proofs.Common.{◌≡◌, ◌<◌, ◌∷◌, ◌∙◌, ℕ, List, length, drop, ap, sym, subst, arith}
+use Rattle.std.proofs.Common.{◌<◌, ◌∷◌, ◌∙◌, ℕ, List, length, ap, sym, subst, arith}
 use Rattle.std.proofs.lemmas.List.{drop_all}
 use Rattle.covdata.proofs.record_buffer.RecordBuffer.begin.Goals as goal
 
