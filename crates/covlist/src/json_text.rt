@@ -8,7 +8,6 @@ ghost use Rattle.covreport.specs.ChoiceView.{choice_data};
 ghost use Rattle.covlist.specs.Chosen.{chosen_files, totals_of_chosen};
 ghost use Rattle.covlist.specs.Json.{file_object, hexadecimal_name, list_json_of, members, name_member, objects, points, string_name, summary_json_of};
 
-use crate::numbers::put_number;
 use covdata::{Bytes, Memory};
 use covreport::{Choice, Table, chosen_totals};
 use covtable::{FileTotals, Totals};
@@ -156,8 +155,8 @@ fn put_points<A: Allocator>(hit: u64, found: u64, text: &mut Bytes<A>) -> Result
     ensures { OnOk result (text.new ≡ text.old ++ points hit found) }
 {
     text.append(b"{\"found\":")?;
-    put_number(found, text)?;
+    text.append_number(found)?;
     text.append(b",\"hit\":")?;
-    put_number(hit, text)?;
+    text.append_number(hit)?;
     text.append(b"}")
 }

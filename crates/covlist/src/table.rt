@@ -8,10 +8,10 @@ ghost use Rattle.covlist.specs.Chosen.{chosen_among, chosen_files, totals_of_cho
 ghost use Rattle.covlist.specs.Shown.{shown_name};
 ghost use Rattle.covlist.specs.Table.{cell, file_row, heading, headings, list_table_of, numbers as numbers_of, numbers_width as width_of_numbers, percentage, rate, right_aligned, row};
 
-use crate::numbers::{digits, put_number, put_spaces};
+use crate::numbers::{digits, put_spaces};
 use crate::shown::put_shown_name;
 use covdata::{Bytes, Memory};
-use covreport::{Choice, Table, chosen_totals, tenths};
+use covreport::{Choice, Table, chosen_totals, put_tenths, tenths};
 use covtable::{FileTotals, Totals};
 use std::alloc::Allocator;
 
@@ -154,9 +154,7 @@ fn put_percentage<A: Allocator>(tenths: u32, text: &mut Bytes<A>) -> Result<(), 
     let part = u64::from(tenths % 10);
     let len = digits(whole) + 1 + digits(part) + 1;
     put_spaces(6usize.saturating_sub(len), text)?;
-    put_number(whole, text)?;
-    text.append(b".")?;
-    put_number(part, text)?;
+    put_tenths(tenths, text)?;
     text.append(b"%")
 }
 
@@ -171,7 +169,7 @@ fn put_numbers<A: Allocator>(
 {
     let len = digits(hit) + 1 + digits(found);
     put_spaces(width.saturating_sub(len), text)?;
-    put_number(hit, text)?;
+    text.append_number(hit)?;
     text.append(b"/")?;
-    put_number(found, text)
+    text.append_number(found)
 }

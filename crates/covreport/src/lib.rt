@@ -40,6 +40,6 @@ pub use pattern::matches;
 pub use patterns::{MAX_PATTERN_BYTES, MAX_PATTERNS, PatternFault, Patterns};
 pub use printer::Printer;
 pub use printing::Printing;
-pub use summary::{chosen_totals, summary_text, tenths, without_others};
+pub use summary::{chosen_totals, put_tenths, summary_text, tenths, without_others};
 pub use table::Table;
 pub use tracefile::{PrintedFunction, most_functions_in, put_sections, trace_text};

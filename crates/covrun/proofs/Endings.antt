@@ -16,7 +16,7 @@ use Rattle.covtable.specs.Table.{Table}
 use Rattle.covlimit.specs.Limits.{LimitsData}
 use Rattle.covlist.specs.Chosen.{chosen_files, totals_of_chosen}
 use Rattle.covlist.specs.Shown.{shown_name}
-use Rattle.covreport.specs.Choice.{ChoiceData}
+use Rattle.covreport.specs.Choice.{ChoiceData, AllFiles}
 use Rattle.covreport.specs.Report.{report_text}
 use Rattle.covbook.specs.Step.{answer_of, next_entry, ops_in, table_after, table_from, table_of}
 use Rattle.covbook.specs.Texts.{IsText}
@@ -48,7 +48,7 @@ use Rattle.covrun.specs.declared.ending.Failure.{Failure}
 use Rattle.covrun.specs.declared.ending.Failure.TheVariants as failures
 use Rattle.covrun.specs.Ending.{EndingData, Prints, FallsShort, Unreadable, Stopped, Refuses, IsUnclean, strict_lines, of_collect, of_collected, complaints, refusal_line, ran_out, shortfall_status, text_in, text_at, last_text, asked_shortfalls, asked_text, list_text, unless_any, with_shortfalls}
 use Rattle.covlimit.specs.Limits.{has_limit}
-use Rattle.covrun.specs.Work.{QuestionData, Answer, ChosenReport, ChosenSummary, LimitedTotals, ChosenList, last_of, choice_of, chosen_or_all, asked_of, limits_of, summary_asked, WorkData, TaskData, Serves, Collects, Checks, task_of}
+use Rattle.covrun.specs.Work.{QuestionData, Answer, ChosenReport, ChosenTotals, ChosenList, last_of, choice_of, asked_of, limits_of, summary_asked, words_asked, WorkData, TaskData, Serves, Collects, Checks, task_of}
 use Rattle.covcommand.specs.declared.asked.TextSize.{TextSize}
 use Rattle.covrun.specs.declared.work.CheckedFormat.{CheckedFormat}
 use Rattle.covrun.proofs.Reading.{HaveTexts, HaveTextsFor, collected_in}
@@ -269,17 +269,16 @@ report_or_chosen : (choice : Option ChoiceData) → IsText (last_of (asked_of Re
 report_or_chosen None = tt
 report_or_chosen (Some choice) = tt
 
-summary_or_chosen : (choice : Option ChoiceData) → IsText (last_of (asked_of SummaryOp ChosenSummary choice))
-summary_or_chosen None = tt
-summary_or_chosen (Some choice) = tt
+all_are_text : (limits : LimitsData) (has : Bool) → IsText (last_of (if has then ChosenTotals forms.Words AllFiles limits else Answer SummaryOp))
+all_are_text limits true = tt
+all_are_text limits false = tt
 
-words_are_text : (limits : LimitsData) (choice : Option ChoiceData) → (has : Bool)
-    → IsText (last_of (if has then LimitedTotals forms.Words (chosen_or_all choice) limits else asked_of SummaryOp ChosenSummary choice))
-words_are_text limits choice true = tt
-words_are_text limits choice false = summary_or_chosen choice
+words_are_text : (limits : LimitsData) (choice : Option ChoiceData) → IsText (last_of (words_asked limits choice))
+words_are_text limits None = all_are_text limits (has_limit limits)
+words_are_text limits (Some choice) = tt
 
 totals_are_text : (form : TotalsForm) (limits : LimitsData) (choice : Option ChoiceData) → IsText (last_of (summary_asked form limits choice))
-totals_are_text forms.Words limits choice = words_are_text limits choice (has_limit limits)
+totals_are_text forms.Words limits choice = words_are_text limits choice
 totals_are_text forms.Json limits choice = tt
 
 asks_text_of : (command : Command) (strictness : Strictness) (size : TextSize) → AsksText (task_of command strictness size)

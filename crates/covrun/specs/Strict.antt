@@ -23,7 +23,7 @@ use Rattle.covreport.specs.Pattern.{matches}
 use Rattle.covsession.specs.Session.{said}
 use Rattle.covtable.specs.Content.{SectionData}
 use Rattle.covtable.specs.Files.{FileTotalsData, files_with_totals}
-use Rattle.covrun.specs.Work.{QuestionData, Answer, ChosenReport, ChosenSummary, LimitedTotals, ChosenList}
+use Rattle.covrun.specs.Work.{QuestionData, Answer, ChosenReport, ChosenTotals, ChosenList}
 use Rattle.covrun.specs.declared.text_fault.TextFault.{TextFault}
 use Rattle.covrun.specs.declared.text_fault.TextFault.TheVariants.{Faulty, Unclean}
 
@@ -96,8 +96,7 @@ patterns_of_choice (Filtered includes excludes) = includes ++ excludes
 abbrev pub asked_patterns : QuestionData → List (List ℕ)
 asked_patterns (Answer op) = patterns_of_op op
 asked_patterns (ChosenReport choice) = patterns_of_choice choice
-asked_patterns (ChosenSummary choice) = patterns_of_choice choice
-asked_patterns (LimitedTotals form choice limits) = patterns_of_choice choice
+asked_patterns (ChosenTotals form choice limits) = patterns_of_choice choice
 asked_patterns (ChosenList form choice) = patterns_of_choice choice
 
 -- the pattern matches the path of one of these files

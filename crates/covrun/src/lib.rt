@@ -47,6 +47,7 @@ mod file_report;
 mod files;
 mod folder;
 mod large_input;
+mod messages;
 mod naming;
 mod output;
 mod output_folder;

@@ -12,6 +12,7 @@ ghost use Rattle.covrun.specs.World.{CanCall};
 ghost use Rattle.covsession.specs.declared.session.fault.SessionFault.TheVariants as session_faults;
 
 use crate::ending::{Failure, ReadyAnswer};
+use crate::messages::{CANT_READ, CANT_WRITE, line_of_argument};
 use crate::output_folder::{OutputFault, OutputFolder};
 use crate::sinks::Sinks;
 use crate::world::World;
@@ -87,7 +88,7 @@ fn unwritten_line(alloc: Global, name: &str) -> Result<Bytes, Memory>
 {
     let mut line = Bytes::new(alloc);
     put_shown_name(name.as_bytes(), &mut line)?;
-    line.append(b": can't write\n")?;
+    line.append(CANT_WRITE)?;
     Ok(line)
 }
 
@@ -123,8 +124,8 @@ fn say_failure<O: Sink, E: Sink>(failure: Failure, sinks: &mut Sinks<O, E>) -> u
     ensures { IsEndingPrinted (failure_data failure) result sinks.old sinks.new }
 {
     match failure {
-        Failure::Words(fault) => complain(b"", fault.line(), 2, sinks),
-        Failure::Unreadable(name) => complain(name.get(), b": can't read\n", 1, sinks),
+        Failure::Words(fault) => complain(b"", line_of_argument(fault), 2, sinks),
+        Failure::Unreadable(name) => complain(name.get(), CANT_READ, 1, sinks),
         Failure::Stopped(fault) => complain(b"", line_of(fault), status_of(fault), sinks),
         Failure::Refused(lines) => complain(b"", lines.get(), 4, sinks),
         Failure::Unclean(lines) => complain(b"", lines.get(), 5, sinks),

@@ -11,6 +11,7 @@ ghost use Rattle.covbook.specs.View.{op_data};
 ghost use Rattle.covrun.specs.Files.{IsUncleanFault};
 ghost use Rattle.covrun.specs.Strict.{HoldsIn, IsStrictOutcome, is_clean as is_clean_summary, is_matched, patterns_of_choice, patterns_of_op, unmatched_line};
 
+use crate::messages::MATCHES_NO_FILE;
 use crate::text_fault::TextFault;
 use covbook::{Op, PackedRef};
 use covcheck::{Format, TextSummary, summary_line, summary_of};
@@ -131,7 +132,7 @@ fn add_if_unmatched(
         return Ok(());
     }
     put_shown_name(pattern, lines)?;
-    lines.append(b": matches no file\n")?;
+    lines.append(MATCHES_NO_FILE)?;
     Ok(())
 }
 

@@ -1,7 +1,7 @@
 use Rattle.std.proofs.Common.{rules}
 use Rattle.std.proofs.lemmas.Fmt.{length-decimal-le}
 use Rattle.std.proofs.lemmas.List.{length-drop, length-append}
-use Rattle.covreport.proofs.tracefile.front.Front.put_number.Goals as goal
+use Rattle.covdata.proofs.record_buffer.RecordBuffer.put_number.Goals as goal
 
 -- a number of 64 bits has at most 20 digits, and there is room for them
 pub write_digits-self-inside-requires : goal.write_digits-self-inside-requires

@@ -1,6 +1,6 @@
-use Rattle.std.proofs.Common.{◌≡◌, ◌<◌, ◌∷◌, ◌∙◌, ℕ, List, length, drop, ap, sym, subst, arith}
+use Rattle.std.proofs.Common.{◌<◌, ◌∷◌, ◌∙◌, ℕ, List, length, ap, sym, subst, arith}
 use Rattle.std.proofs.lemmas.List.{drop_all}
-use Rattle.covreport.proofs.tracefile.front.Front.begin.Goals as goal
+use Rattle.covdata.proofs.record_buffer.RecordBuffer.begin.Goals as goal
 
 -- behind the last byte there is nothing
 pub put-requires : goal.put-requires
