@@ -192,8 +192,8 @@ fn the_order_of_parts(rt: HostRuntime) {
     check_order::<_, Store>(&rt, "12s 2", TWO_CLASHES);
 }
 
-/// Whether collecting the inputs ends with the error `wanted`.
-pub(super) fn ends_with<
+/// Whether collecting the inputs in a table `T` ends with the error `wanted`.
+fn ends_over<
     R: Threads + Wait + Sync + AllocGlobal + Abort,
     T: Table<Global, Plan: Send, Renaming: Send> + Send,
 >(rt: &R, inputs: &str, jobs: u32, wanted: IntoBookFault) -> bool {
@@ -201,6 +201,16 @@ pub(super) fn ends_with<
         Ok(_collected) => false,
         Err(fault) => fault == wanted,
     }
+}
+
+/// Whether collecting the inputs ends with the error `wanted`.
+pub(super) fn ends_with<R: Threads + Wait + Sync + AllocGlobal + Abort>(
+    rt: &R,
+    inputs: &str,
+    jobs: u32,
+    wanted: IntoBookFault,
+) -> bool {
+    ends_over::<R, Store>(rt, inputs, jobs, wanted)
 }
 
 /// Inputs, the number of jobs, and the index of the first unreadable input, which is reported. A job may reach a later one first. An
@@ -224,7 +234,7 @@ fn the_first_unread_input(rt: HostRuntime) {
     for (inputs, jobs, index) in UNREAD {
         let wanted = IntoBookFault::Unread { index };
         assert!(rt;
-            ends_with::<_, Store>(&rt, inputs, jobs, wanted),
+            ends_with(&rt, inputs, jobs, wanted),
             "{inputs}, {jobs} jobs"
         );
     }
@@ -236,7 +246,7 @@ fn the_first_unread_input(rt: HostRuntime) {
 fn refused_memory(rt: HostRuntime) {
     let memory = IntoBookFault::Collect(CollectFault::Memory);
     for inputs in ["s ! ? s", "s ! s ?", "s s!", "s! s?"] {
-        assert!(rt; ends_with::<_, Store>(&rt, inputs, 2, memory), "{inputs}");
+        assert!(rt; ends_with(&rt, inputs, 2, memory), "{inputs}");
     }
 }
 
@@ -250,8 +260,8 @@ fn a_full_history(rt: HostRuntime) -> Result<(), Fail> {
     let exact = format!(in rt.alloc(); "{half} {half}")?;
     let more = format!(in rt.alloc(); "{half}s x {half}")?;
     let refused = format!(in rt.alloc(); "{exact} s !")?;
-    assert!(rt; ends_with::<_, Store>(&rt, exact.as_str(), 2, full));
-    assert!(rt; ends_with::<_, Store>(&rt, more.as_str(), 1, full));
-    assert!(rt; ends_with::<_, Store>(&rt, refused.as_str(), 2, memory));
+    assert!(rt; ends_with(&rt, exact.as_str(), 2, full));
+    assert!(rt; ends_with(&rt, more.as_str(), 1, full));
+    assert!(rt; ends_with(&rt, refused.as_str(), 2, memory));
     Ok(())
 }

@@ -5,7 +5,6 @@ use super::into_book;
 use super::wrappers::start;
 use covbook::{GatherFault, Op};
 use covjobs::{CloseFault, OpenFault, ReaderFault};
-use covstore::Store;
 use covworkers::{CollectFault, IntoBookFault, NoGate};
 use std::alloc::Global;
 use std::process::Abort;
@@ -40,7 +39,7 @@ fn is_bad_for_owned<R: Threads + Wait + Sync + AllocGlobal>(rt: &R, jobs: u32) -
 /// Whether `collect_into_book` rejects this number of jobs.
 fn is_bad_for_a_book<R: Threads + Wait + Sync + AllocGlobal + Abort>(rt: &R, jobs: u32) -> bool {
     let bad = IntoBookFault::Collect(CollectFault::BadJobs);
-    into_book::ends_with::<R, Store>(rt, "s", jobs, bad)
+    into_book::ends_with(rt, "s", jobs, bad)
 }
 
 /// Checks whether this number of jobs is rejected.
