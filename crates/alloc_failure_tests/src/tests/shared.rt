@@ -160,11 +160,21 @@ fn uses<L: Name, A: Allocator + Copy, R: Wait + Abort, T: Table<A>>(
     }
 }
 
+/// Like `uses`, with a new book over a `Store`.
+fn uses_store<A: Allocator + Copy, R: Wait + Abort>(
+    rt: &R,
+    alloc: A,
+    jobs: u32,
+    tried: Narrow<'_>,
+) -> bool {
+    uses::<Brand, A, R, Store<A>>(rt, alloc, made(rt, start(alloc, jobs)), tried)
+}
+
 /// Like `uses`, with a new book: one with nine jobs for `HandIn`, otherwise one with one job.
 fn uses_anew<R: Wait + Abort>(rt: &R, heap: &Bump, room: usize, used: Use<'_>) -> bool {
     let jobs = if matches!(used, Use::HandIn) { 9 } else { 1 };
     let tried = Narrow { heap, room, used };
-    uses::<Brand, &Bump, R, Store<&Bump>>(rt, heap, made(rt, start(heap, jobs)), tried)
+    uses_store(rt, heap, jobs, tried)
 }
 
 /// Performs the step `step` in a book with one submission and a reader. Checks the history at the end. Returns whether an

@@ -113,7 +113,17 @@ fn is_refused_in<A: Allocator + Copy, T: Table<A>>(
     is_refused
 }
 
-/// `is_refused_in` with the heap as allocator.
+/// `is_refused_in` with a book over a `Store`.
+fn is_refused_in_store<A: Allocator + Copy>(
+    rt: &impl Abort,
+    alloc: A,
+    room: usize,
+    tried: Tried<'_>,
+) -> bool {
+    is_refused_in::<A, Store<A>>(rt, alloc, room, tried)
+}
+
+/// `is_refused_in_store` with the heap as allocator.
 pub(super) fn is_refused(
     rt: &impl Abort,
     heap: &Bump,
@@ -121,7 +131,7 @@ pub(super) fn is_refused(
     step: Step<'_>,
     in_halves: bool,
 ) -> bool {
-    is_refused_in::<&Bump, Store<&Bump>>(
+    is_refused_in_store(
         rt,
         heap,
         room,

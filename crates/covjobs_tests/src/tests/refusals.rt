@@ -99,10 +99,15 @@ fn check_length<L: Name, A: Allocator + Copy, R: Wait + Abort, T: Table<A>>(
     assert_eq!(rt; entries.get().len() as u64, calls);
 }
 
+/// Like `no_room`, with a new book over a `Store`.
+fn no_room_anew<A: Allocator + Copy, R: Wait + Abort>(rt: &R, alloc: A) {
+    no_room::<Brand, A, R, Store<A>>(rt, alloc, started(rt, alloc, 1));
+}
+
 #[test]
 fn a_heap_without_room(rt: HostRuntime) -> Result<(), Fail> {
     let heap = LocalHeap::new(rt.alloc(), 800_000)?;
-    no_room::<Brand, &LocalHeap, _, Store<&LocalHeap>>(&rt, &heap, started(&rt, &heap, 1));
+    no_room_anew(&rt, &heap);
     Ok(())
 }
 
