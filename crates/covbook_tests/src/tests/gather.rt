@@ -298,9 +298,18 @@ fn check_whole<T: Table<Global>>(
     Ok(())
 }
 
+/// `check_whole` with a book over a `Store`.
+fn check_in_store(
+    rt: &(impl Abort + AllocGlobal),
+    steps: &[Step<'_>],
+    examples: &[Example<'_>],
+) -> Result<(), Fail> {
+    check_whole::<Store>(rt, steps, examples)
+}
+
 #[test]
 fn what_two_jobs_kept(rt: HostRuntime) -> Result<(), Fail> {
-    check_whole::<Store>(&rt, SIX_CALLS, EXAMPLES)
+    check_in_store(&rt, SIX_CALLS, EXAMPLES)
 }
 
 /// Like `SIX_CALLS`, but job 1 renames the test that both jobs submit, instead of dropping an unknown test.
@@ -341,7 +350,7 @@ const OF_A_RENAME: &[Example<'static>] = &[
 /// A rename has an entry and a receipt like any other operation, and doesn't change the totals.
 #[test]
 fn a_rename_among_six_calls(rt: HostRuntime) -> Result<(), Fail> {
-    check_whole::<Store>(&rt, A_RENAME, OF_A_RENAME)
+    check_in_store(&rt, A_RENAME, OF_A_RENAME)
 }
 
 /// Examples for `SIX_CALLS` without the last entry.
