@@ -11,7 +11,11 @@
 //! An example, proved and run in `covuses`: the merged tracefile of the files that match a pattern, and the summary of all files.
 //!
 //! ```text
-//! pub fn reports(alloc: Global, store: &Store, pattern: &[u8]) -> Result<(Bytes, Bytes), PatternFault> {
+//! pub fn reports<T: Table<Global>>(
+//!     alloc: Global,
+//!     store: &T,
+//!     pattern: &[u8],
+//! ) -> Result<(Bytes, Bytes), PatternFault> {
 //!     let mut patterns = Patterns::new(alloc);
 //!     patterns.add(alloc, pattern)?;
 //!     let tracefile = trace_text(alloc, store, &Choice::Extract(patterns))?;

@@ -1,4 +1,4 @@
-use Rattle.alloc_failure_tests.proofs.tests.shared.uses_anew.Given as goal
+use Rattle.alloc_failure_tests.proofs.tests.shared.uses_store.Given as goal
 
 -- the name of the book that is about to be opened, and its number of jobs
 abbrev pub ghosts-uses-L-Ledger : goal.ghosts-uses-L-Ledger

@@ -1,4 +1,4 @@
-use Rattle.covjobs_tests.proofs.tests.refusals.a_heap_without_room.Given as goal
+use Rattle.covjobs_tests.proofs.tests.refusals.no_room_anew.Given as goal
 
 -- the name of the book that is about to be opened, and its number of jobs
 abbrev pub ghosts-no_room-L-Ledger : goal.ghosts-no_room-L-Ledger
