@@ -19,3 +19,7 @@ pub mod ShownSizes
 pub mod ShownTotals
 pub mod ShownValues
 pub mod SameContentAsRows
+pub mod LinesAlike
+pub mod Version1
+pub mod WithoutSkipped
+pub mod Numbered

@@ -1,2 +1,4 @@
+pub mod Numbered
 pub mod Printable
 pub mod ReadsBack
+pub mod Version1
