@@ -19,6 +19,7 @@ pub mod ShownSizes
 pub mod ShownTotals
 pub mod ShownValues
 pub mod SameContentAsRows
+pub mod ChunkRows
 pub mod LinesAlike
 pub mod Version1
 pub mod WithoutSkipped

@@ -1,3 +1,4 @@
+pub mod Chunks
 pub mod Numbered
 pub mod Printable
 pub mod ReadsBack

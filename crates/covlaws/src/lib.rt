@@ -11,7 +11,8 @@
 //! - no machine drops or renames a test before its report,
 //! - each report has at most 67,108,864 bytes.
 //!
-//! A tracefile of version 1 means the same as one of LCOV 2, with a few exceptions.
+//! Tracefiles that are read in chunks count as whole tracefiles do. A tracefile of version 1 means the same as one of LCOV 2, with a
+//! few exceptions.
 //!
 //! The laws are about definitions in `specs/`. The contracts of `covread::read_trace` and `covbook::Book` connect these definitions
 //! to the code: `read_trace` returns the submission that the definitions assign to the input, and a book gives the answers that the
@@ -22,6 +23,7 @@ ghost use Rattle.std.specs.Prelude.{◌≡◌, ◌≤◌, ◌++◌, ◌∷◌, �
 ghost use Rattle.std.specs.List.{AllByRecursion, flat_map};
 ghost use Rattle.covdata.specs.Row.{Row, SubmissionData, rows_of};
 ghost use Rattle.covdata.specs.declared.fault.ReadFault.{ReadFault as Fault};
+ghost use Rattle.covdata.specs.declared.version.LcovVersion.{LcovVersion};
 ghost use Rattle.covline.specs.Lines.{lines_of};
 ghost use Rattle.covdata.specs.Lawful.{IsLawful};
 ghost use Rattle.covread.specs.Outcome.{IsOutcome, max_bytes};
@@ -35,9 +37,10 @@ ghost use Rattle.covtable.specs.Table.{all_rows};
 ghost use Rattle.covreport.specs.Choice.{ChoiceData, is_chosen};
 ghost use Rattle.covreport.specs.Report.{section_text};
 ghost use Rattle.covbook.specs.Op.{AreLawfulOps, EntryData, HaveGoodNames, OpData, SubmitOp, TextAnswer};
-ghost use Rattle.covbook.specs.Order.{AreAgreeing};
+ghost use Rattle.covbook.specs.Order.{AreAgreeing, AreTheSame};
 ghost use Rattle.covbook.specs.Step.{IsLegal, answer_of, ops_in, table_of};
 ghost use Rattle.covbook.specs.Texts.{IsText};
+ghost use Rattle.covlaws.specs.Chunks.{AreAllChunksOf};
 ghost use Rattle.covlaws.specs.Printable.{IsLawfulRow, IsPrintable, submission_shown};
 ghost use Rattle.covlaws.specs.ReadsBack.{AreMergesOf, IsReport, ReadsBack};
 ghost use Rattle.covlaws.specs.Numbered.{IsNewAfter, numbers_in};
@@ -115,6 +118,17 @@ pub fn lawful_rows_are_printable()
 pub fn a_report_stands_for_its_rows()
     ensures { (rows others : List Row) → content_of (rows_of (submission_shown (content_of rows)) ++ others) ≡ content_of (rows ++ others) }
 {}
+
+/// Tracefiles that are read in chunks (`--large`) count as whole tracefiles do. If the checksums of all chunks agree, a book with
+/// the chunks, submitted in any order, prints the same texts as a book with the submissions of the whole tracefiles.
+pub fn chunks_count_as_the_whole()
+    ensures { (version : LcovVersion) (files : List (List SubmissionData)) (wholes submitted : List SubmissionData) → AreAllChunksOf version files wholes → AreTheSame submitted (flat_map (λ chunks. chunks) files) → AreAgreeing submitted
+        → (op : OpData) → IsText op → answer_of (table_of (map SubmitOp submitted)) op ≡ answer_of (table_of (map SubmitOp wholes)) op }
+{
+    each_line_has_one_meaning();
+    each_lcov2_line_has_one_meaning();
+    order_does_not_matter();
+}
 
 /// A tracefile of version 1 has the same outcome when it is read as LCOV 2 (`--lcov2`). The exceptions are lines that begin with
 /// `FNL:` or `FNA:`, and `FN:` lines whose name begins with digits, a comma and another byte. In a tracefile with an error, `BRDA:`
