@@ -24,3 +24,6 @@ pub mod LinesAlike
 pub mod Version1
 pub mod WithoutSkipped
 pub mod Numbered
+pub mod JsonLexemes
+pub mod JsonTokens
+pub mod ListBack

@@ -1,4 +1,5 @@
 pub mod Chunks
+pub mod ListValue
 pub mod Numbered
 pub mod Printable
 pub mod ReadsBack

@@ -12,14 +12,14 @@
 //! - each report has at most 67,108,864 bytes.
 //!
 //! Tracefiles that are read in chunks count as whole tracefiles do. A tracefile of version 1 means the same as one of LCOV 2, with a
-//! few exceptions.
+//! few exceptions. The JSON of a list is read back as its files and totals.
 //!
 //! The laws are about definitions in `specs/`. The contracts of `covread::read_trace` and `covbook::Book` connect these definitions
 //! to the code: `read_trace` returns the submission that the definitions assign to the input, and a book gives the answers that the
 //! definitions assign to a run of lawful operations.
 #![tactic(auto)]
 
-ghost use Rattle.std.specs.Prelude.{◌≡◌, ◌≤◌, ◌++◌, ◌∷◌, ℕ, true, List, Option, None, Ok, Err, length, map, filter};
+ghost use Rattle.std.specs.Prelude.{◌≡◌, ◌≤◌, ◌++◌, ◌∷◌, ℕ, true, List, Option, Some, None, Ok, Err, length, map, filter};
 ghost use Rattle.std.specs.List.{AllByRecursion, flat_map};
 ghost use Rattle.covdata.specs.Row.{Row, SubmissionData, rows_of};
 ghost use Rattle.covdata.specs.declared.fault.ReadFault.{ReadFault as Fault};
@@ -33,16 +33,21 @@ ghost use Rattle.covlcov2.specs.Reads.{branch_number, has_expression};
 ghost use Rattle.covlcov2.specs.Spells.{Lcov2Data};
 ghost use Rattle.covtable.specs.Clash.{Agree, checksums_in};
 ghost use Rattle.covtable.specs.Content.{SectionData, content_of};
+ghost use Rattle.covtable.specs.Files.{FileTotalsData};
 ghost use Rattle.covtable.specs.Table.{all_rows};
+ghost use Rattle.covtable.specs.declared.totals.Totals.{Totals as TotalsData};
+ghost use Rattle.covlist.specs.Json.{list_json_of, summary_json_of};
 ghost use Rattle.covreport.specs.Choice.{ChoiceData, is_chosen};
 ghost use Rattle.covreport.specs.Report.{section_text};
 ghost use Rattle.covbook.specs.Op.{AreLawfulOps, EntryData, HaveGoodNames, OpData, SubmitOp, TextAnswer};
 ghost use Rattle.covbook.specs.Order.{AreAgreeing, AreTheSame};
 ghost use Rattle.covbook.specs.Step.{IsLegal, answer_of, ops_in, table_of};
 ghost use Rattle.covbook.specs.Texts.{IsText};
+ghost use Rattle.json.specs.Json.{document, object};
 ghost use Rattle.covlaws.specs.Chunks.{AreAllChunksOf};
 ghost use Rattle.covlaws.specs.Printable.{IsLawfulRow, IsPrintable, submission_shown};
 ghost use Rattle.covlaws.specs.ReadsBack.{AreMergesOf, IsReport, ReadsBack};
+ghost use Rattle.covlaws.specs.ListValue.{FitTotals, FitsFile, list_value, totals_members};
 ghost use Rattle.covlaws.specs.Numbered.{IsNewAfter, numbers_in};
 ghost use Rattle.covlaws.specs.Version1.{IsOfVersion1, IsReadAlike};
 
@@ -129,6 +134,15 @@ pub fn chunks_count_as_the_whole()
     each_lcov2_line_has_one_meaning();
     order_does_not_matter();
 }
+
+/// The JSON of a list and of a summary is read back, by the kit's crate `json`, as a value that has the files and the totals. Different
+/// files or totals have different values.
+pub fn json_is_read_back()
+    ensures list { (files : List FileTotalsData) (all : TotalsData) → AllByRecursion FitsFile files → FitTotals all → document (list_json_of files all) ≡ Some (list_value files all) }
+    ensures summary { (totals : TotalsData) → FitTotals totals → document (summary_json_of totals) ≡ Some (object (totals_members totals)) }
+    ensures table { (files others : List FileTotalsData) (all other : TotalsData) → AllByRecursion FitsFile files → FitTotals all → AllByRecursion FitsFile others → FitTotals other
+        → list_value files all ≡ list_value others other → (files ≡ others) × (all ≡ other) }
+{}
 
 /// A tracefile of version 1 has the same outcome when it is read as LCOV 2 (`--lcov2`). The exceptions are lines that begin with
 /// `FNL:` or `FNA:`, and `FN:` lines whose name begins with digits, a comma and another byte. In a tracefile with an error, `BRDA:`
