@@ -18,6 +18,7 @@
 //! covjobs re-exports all of this, so a user of covjobs lists no other crate. The page of covjobs has a sketch.
 #![tactic(auto)]
 
+mod latest;
 mod seat;
 mod seat_list;
 mod shared;
@@ -25,6 +26,7 @@ mod shared_state;
 mod start;
 
 pub use covbook::Reading;
+pub use latest::later;
 pub use covnews::{Live, Name, News, ReaderFault};
 pub use seat::Seat;
 pub use seat_list::Seats;

@@ -1,4 +1,4 @@
--- Private steps: the history of a job's latest news.
+-- The history of a job's latest news.
 use Rattle.std.specs.Prelude.{List, [], Option, None, Some}
 use Rattle.covbook.specs.Op.{EntryData}
 
