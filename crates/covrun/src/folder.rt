@@ -3,9 +3,9 @@
 ghost use Rattle.std.specs.Prelude.{◌≡◌, ℕ, List, Option, None, IfOk, IfErr};
 ghost use Rattle.std.specs.Io.KnownBytes.{Keeps};
 
+use crate::named_file::{Named, open_named};
 use covstream::{Failed, FromRead, Source};
-use std::fs;
-use std::fs::OpenFile;
+use std::fs::{OpenFile, OpenOptions};
 use std::rt::Files;
 
 /// An open file, and the length that it claims to have.
@@ -46,8 +46,8 @@ pub trait Folder {
 /// The file system of std as a folder.
 ///
 /// std's `Files` doesn't specify what a file holds, and another program may change a file at any time. So `holds` is `None` for
-/// every file, just as `left` of a `FromRead` is `None` for a reader whose bytes std doesn't specify. It is assumed that std
-/// opens the file with the given name and reads the bytes of that file.
+/// every file, just as `left` of a `FromRead` is `None` for a reader whose bytes std doesn't specify. `may_open` says that std was
+/// asked for this name. It is assumed that std opens the file with the given name and reads the bytes of that file.
 #[derive(Clone, Copy)]
 pub struct FromFiles<'a, R> {
     files: &'a R,
@@ -65,17 +65,19 @@ impl<'a, R: Files> Folder for FromFiles<'a, R> {
 
     ghost may_refuse = { λ _ _. Unit {0} };
 
-    ghost may_open = { λ _ _ _. Unit {0} };
+    ghost may_open = { λ _ name file. file.name.bytes ≡ name };
 
-    type File = FromRead<R::File>;
+    type File = Named<FromRead<R::File>>;
 
-    fn open(&self, name: &str) -> Result<Opened<FromRead<R::File>>, Failed> {
-        let Ok(file) = fs::open(self.files, name) else {
+    fn open(&self, name: &str) -> Result<Opened<Named<FromRead<R::File>>>, Failed> {
+        let mut how = OpenOptions::new();
+        how.read(true);
+        let Ok(file) = open_named(self.files, &how, name) else {
             return Err(Failed);
         };
-        let awaited = size_of(&file);
+        let awaited = size_of(file.get());
         Ok(Opened {
-            source: FromRead::new(file),
+            source: file.into_source(),
             awaited,
         })
     }

@@ -33,6 +33,7 @@
 #![tactic(auto)]
 
 mod argument_fault;
+mod begun;
 mod block;
 mod block_printer;
 mod check_verdict;
@@ -44,9 +45,11 @@ mod file_report;
 mod files;
 mod folder;
 mod large_input;
+mod named_file;
 mod naming;
 mod output;
 mod output_folder;
+mod placed_names;
 mod program;
 mod question;
 mod ready_text;
