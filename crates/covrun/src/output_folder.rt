@@ -152,7 +152,8 @@ impl<'a, R: Files + RandomSource + AllocGlobal> OutputFolder for IntoFiles<'a, R
 
     fn finish(&mut self, file: UnfinishedFile<R::File>) -> Result<(), OutputFault> {
         let Some(begun) = self.begun.take() else {
-            self.abandon(file);
+            abandon_file(self.rt, file);
+            self.failed += 1;
             return Err(OutputFault::Failed);
         };
         match finish_file(self.rt, file, begun) {

@@ -268,8 +268,9 @@ impl OutputFolder for Shorts {
         }
     }
 
-    fn finish(&mut self, file: Short) -> Result<(), OutputFault> {
-        self.abandon(file);
+    fn finish(&mut self, _file: Short) -> Result<(), OutputFault> {
+        self.begun = None;
+        self.failed += 1;
         Err(OutputFault::Failed)
     }
 
