@@ -36,18 +36,24 @@ pub(crate) fn open_named<R: Files>(
     })
 }
 
+/// Opens the file called `name` for appending. So what is written goes straight to the file of this name.
+pub(crate) fn append_named<R: Files>(
+    files: &R,
+    name: String,
+) -> io::Result<(Named<R::File>, PlacedFile)>
+    ensures name { IfOk result (λ r. r.0.name.bytes ≡ string_bytes name) }
+    ensures placed { IfOk result (λ r. r.1.name ≡ name) }
+{
+    let mut how = OpenOptions::new();
+    how.append(true);
+    let file = open_named(files, &how, name.as_str())?;
+    Ok((file, PlacedFile { name }))
+}
+
 impl<F> Named<F> {
     /// The open file.
     pub(crate) fn get(&self) -> &F {
         &self.file
-    }
-
-    /// Returns the evidence that the file has its name, since it was opened by it. `name` is this name.
-    pub(crate) fn placed(&self, name: String) -> PlacedFile
-        requires { self.now.name.bytes ≡ string_bytes name }
-        ensures { result.name ≡ name }
-    {
-        PlacedFile { name }
     }
 }
 
@@ -201,7 +207,8 @@ impl Target {
     }
 }
 
-/// The evidence that a file has its name: std opened the file by this name, or renamed it to what the name means.
+/// The evidence that a file has its name: std opened the file by this name for appending, or renamed a stored file to what the
+/// name means.
 #[derive(Drop)]
 pub struct PlacedFile {
     name: String,

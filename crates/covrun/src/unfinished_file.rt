@@ -5,7 +5,7 @@ ghost use Rattle.std.specs.String.{string_bytes};
 ghost use Rattle.covrun.specs.Begun.{begun_name};
 
 use crate::begun::Begun;
-use crate::named_file::{Named, PlacedFile, Target, open_named};
+use crate::named_file::{Named, PlacedFile, Target, append_named, open_named};
 use crate::output_folder::OutputFault;
 use covstream::{Failed, FromWrite, Sink};
 use std::alloc::{AllocError, AllocGlobal};
@@ -175,10 +175,7 @@ fn begin_in_place<R: Files + AllocGlobal>(
     ensures named { IfOk result (λ r. begun_name r.1 ≡ name.now) }
 {
     let called = String::from_str(rt.alloc(), name)?;
-    let mut how = OpenOptions::new();
-    how.append(true);
-    let file = open_named(rt, &how, name)?;
-    let placed = file.placed(called);
+    let (file, placed) = append_named(rt, called)?;
     Ok((in_place(file), Begun::InPlace(placed)))
 }
 
