@@ -1,6 +1,7 @@
 //! A file of std that is written under a temporary name, beside the file that it will replace.
 
-ghost use Rattle.std.specs.Prelude.{◌≡◌, IfOk, ForSome};
+ghost use Rattle.std.specs.Prelude.{◌≡◌, IfOk};
+ghost use Rattle.std.specs.Option.{ForSome};
 ghost use Rattle.std.specs.String.{string_bytes};
 ghost use Rattle.covrun.specs.Begun.{begun_name};
 
