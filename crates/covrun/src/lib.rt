@@ -62,8 +62,8 @@ mod world;
 mod written_file;
 
 pub use argument_fault::ArgumentFault;
+pub use covreport::Noted;
 pub use folder::{Folder, FromFiles, Opened};
-pub use named_file::Named;
 pub use output_folder::{IntoFiles, OutputFault, OutputFolder};
 pub use program::{refuse, run};
 pub use sinks::Sinks;

@@ -7,6 +7,7 @@
 ghost use Rattle.std.specs.Prelude.{◌≡◌, IfOk};
 ghost use Rattle.std.specs.String.{string_bytes};
 
+use crate::folder::Opened;
 use covreport::Noted;
 use covstream::{Failed, FromRead, FromWrite, Sink, Source};
 use std::alloc::{AllocError, AllocGlobal, Global};
@@ -14,7 +15,7 @@ use std::fs::{OpenFile, OpenOptions};
 use std::io;
 use std::rt::Files;
 
-/// An open file of std, or a source or a sink of its bytes. Contracts see the name that std opened the file by.
+/// An open file of std, or a sink of its bytes. Contracts see the name that std opened the file by.
 #[derive(Drop)]
 pub struct Named<F> {
     file: F,
@@ -59,29 +60,18 @@ impl<F> Named<F> {
 
 impl<F: io::Read> Named<F> {
     /// The file as a source, with no calls counted yet.
-    pub(crate) fn into_source(self) -> Named<FromRead<F>>
+    pub(crate) fn into_opened(self, awaited: u64) -> Opened<FromRead<F>>
         ensures name { result.name ≡ self.name }
-        ensures bytes { ⟦<Named<FromRead<F>> as Source>⟧.left result ≡ F.remaining self.file }
-        ensures calls { ⟦<Named<FromRead<F>> as Source>⟧.reads result ≡ 0 }
-        ensures failures { ⟦<Named<FromRead<F>> as Source>⟧.failed_reads result ≡ 0 }
+        ensures bytes { ⟦<FromRead<F> as Source>⟧.left result.source ≡ F.remaining self.file }
+        ensures calls { ⟦<FromRead<F> as Source>⟧.reads result.source ≡ 0 }
+        ensures failures { ⟦<FromRead<F> as Source>⟧.failed_reads result.source ≡ 0 }
     {
         let Named { file, name } = self;
-        Named {
-            file: FromRead::new(file),
+        Opened {
+            source: FromRead::new(file),
+            awaited,
             name,
         }
-    }
-}
-
-impl<F: io::Read> Source for Named<FromRead<F>> {
-    ghost left = { λ s. ⟦<FromRead<F> as Source>⟧.left s.file };
-
-    ghost reads = { λ s. ⟦<FromRead<F> as Source>⟧.reads s.file };
-
-    ghost failed_reads = { λ s. ⟦<FromRead<F> as Source>⟧.failed_reads s.file };
-
-    fn read(&mut self, buffer: &mut [u8]) -> Result<usize, Failed> {
-        self.file.read(buffer)
     }
 }
 
