@@ -22,9 +22,9 @@ is_some {a = a} is none = some_is_something a (is ∙ none)
     some_is_something b e = cc
 
 -- what holds at all holds for an error
-pub for_error : {A E : Type 0} (result : Result A E) {P : Type 0} → P → OnErr result P
-for_error (Ok value) holds = tt
-for_error (Err fault) holds = holds
+pub at_err : {A E : Type 0} (result : Result A E) {P : Type 0} → P → OnErr result P
+at_err (Ok value) holds = tt
+at_err (Err fault) holds = holds
 
 help_is_no_memory : kind.OutOfMemory ≡ kind.DisplayHelp → ⊥
 help_is_no_memory e = cc
