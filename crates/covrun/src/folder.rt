@@ -50,8 +50,8 @@ pub trait Folder {
 /// The file system of std as a folder.
 ///
 /// std's `Files` doesn't specify what a file holds, and another program may change a file at any time. So `holds` is `None` for
-/// every file, just as `left` of a `FromRead` is `None` for a reader whose bytes std doesn't specify. It is assumed that std opens the
-/// file with the given name (`open_named`) and reads the bytes of that file.
+/// every file, just as `left` of a `FromRead` is `None` for a reader whose bytes std doesn't specify. It is assumed that std opens
+/// the file with the given name (`open_named`) and reads the bytes of that file.
 #[derive(Clone, Copy)]
 pub struct FromFiles<'a, R> {
     files: &'a R,

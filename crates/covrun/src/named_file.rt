@@ -1,7 +1,7 @@
 //! The calls of std that open, store and rename files. Contracts see the names that these calls were given.
 //!
-//! Each function here makes one call of std, whose contract doesn't say what happens to files. It is assumed that std does what the
-//! call asks for. No other module can make these types. So a `StoredFile` or a `PlacedFile` shows that the calls before it
+//! A function here makes at most one call of std, whose contract doesn't say what happens to files. It is assumed that std does
+//! what the call asks for. No other module can make these types. So a `StoredFile` or a `PlacedFile` shows that the calls before it
 //! succeeded.
 
 ghost use Rattle.std.specs.Prelude.{◌≡◌, IfOk};
