@@ -384,11 +384,11 @@ unwritten_with name (b ∷ lines) text status old new unwritten = inr unwritten
 
 -- the file couldn't be written, and these words were said
 pub answer_unwritten : (name lines text words : List ℕ) (status : ℕ) (old new : WorldData) → words ≡ shown_name name ++ said (codes ": can't write") → status ≡ 1
-    → (new.files.finished ≡ old.files.finished) × (new.files.begun ≡ old.files.begun) × (new.files.failed ≡ suc old.files.failed)
+    → (new.files.finished ≡ old.files.finished) × (new.files.names ≡ old.files.names) × (new.files.begun ≡ old.files.begun) × (new.files.failed ≡ suc old.files.failed)
     → Withholds old.sinks new.sinks → Complains words old.sinks new.sinks → IsEndingWritten name (with_shortfalls lines text) status old new
-answer_unwritten name lines text words status old new are is (finished, begun, counted) withheld told =
+answer_unwritten name lines text words status old new are is (finished, names, begun, counted) withheld told =
     unwritten_with name lines text status old new
-    (is, finished, begun, counted, withheld, subst (λ (ws : List ℕ). Complains ws old.sinks new.sinks) are told)
+    (is, finished, names, begun, counted, withheld, subst (λ (ws : List ℕ). Complains ws old.sinks new.sinks) are told)
 
 -- a failure of the work is reported
 pub failure_told : (folder : FolderData) (work : WorkData) (file : Option (List ℕ)) (failure : Failure) (status : ℕ) (old new : WorldData) → WorkEnds folder file work (failure_data failure)

@@ -36,6 +36,7 @@
 #![tactic(auto)]
 
 mod argument_fault;
+mod begun;
 mod block;
 mod block_printer;
 mod check_verdict;
@@ -48,9 +49,11 @@ mod files;
 mod folder;
 mod large_input;
 mod messages;
+mod named_file;
 mod naming;
 mod output;
 mod output_folder;
+mod placed_names;
 mod program;
 mod question;
 mod ready_text;
@@ -63,6 +66,7 @@ mod world;
 mod written_file;
 
 pub use argument_fault::ArgumentFault;
+pub use covreport::Noted;
 pub use folder::{Folder, FromFiles, Opened};
 pub use output_folder::{IntoFiles, OutputFault, OutputFolder};
 pub use program::{refuse, run};
