@@ -5,4 +5,4 @@ use Rattle.covcollect.proofs.main.Goals as goal
 
 -- the store may go to another thread
 pub run-requires-send-T : goal.run-requires-send-T
-run-requires-send-T c κs within = search (sendable, heap.crosses, store_send) depth 60 fits 20000
+run-requires-send-T c κs = search (sendable, heap.crosses, store_send) depth 60 fits 20000
