@@ -1,25 +1,38 @@
--- The index of a file, seen as plain data: committed, and staged.
-use Rattle.std.specs.Prelude.{[]}
+-- The index of a file, seen as plain data: committed, and staged. As long as the index has no counts, they are those of the file's
+-- only test.
+use Rattle.std.specs.Prelude.{◌≡◌, ℕ, true, [], option_map}
+use Rattle.std.specs.Option.{is_some}
+use Rattle.std.specs.Ordering.{nat_cmp}
 use Rattle.covstore.specs.declared.index.FileIndex.{FileIndex}
-use Rattle.covstore.specs.FileIndex.{FileIndexData, KeepsIndex}
+use Rattle.covstore.specs.declared.point_counts.PointCounts.{PointCounts}
+use Rattle.covstore.specs.declared.test.Test.{Test}
+use Rattle.covmap.specs.Puts.{value_of}
+use Rattle.covstore.specs.Checksums.{StayTexts}
+use Rattle.covstore.specs.FileIndex.{FileIndexData}
+use Rattle.covstore.specs.KeptCounts.{counts_or}
+use Rattle.covstore.specs.Kinds.{CountsOf, Each}
+use Rattle.covstore.specs.Sums.{TestData}
+use Rattle.covstore.specs.TestView.{test_committed}
 
 abbrev pub empty_index : FileIndexData
 empty_index = record { counts = record { lines = []; functions = []; branches = [] }; holders = []; texts = [] }
 
-abbrev pub index_committed : {A : Type 0} → FileIndex A → FileIndexData
-index_committed index = record {
-  counts = record { lines = index.lines.committed; functions = index.functions.committed; branches = index.branches.committed };
-  holders = index.checksums.committed;
-  texts = index.checksums.texts;
-}
+abbrev pub all_committed : {A : Type 0} → PointCounts A → Each CountsOf
+all_committed counts = record { lines = counts.lines.committed; functions = counts.functions.committed; branches = counts.branches.committed }
 
-abbrev pub index_staged : {A : Type 0} → FileIndex A → FileIndexData
-index_staged index = record {
-  counts = record { lines = index.lines.staged; functions = index.functions.staged; branches = index.branches.staged };
-  holders = index.checksums.staged;
-  texts = index.checksums.texts;
-}
+abbrev pub all_staged : {A : Type 0} → PointCounts A → Each CountsOf
+all_staged counts = record { lines = counts.lines.staged; functions = counts.functions.staged; branches = counts.branches.staged }
 
--- the committed numbers stay, and so does each committed checksum that a test holds
-abbrev pub KeepsCommitted : {A : Type 0} → FileIndex A → FileIndex A → Type 0
-KeepsCommitted before after = KeepsIndex (index_committed before) (index_committed after)
+-- `test` is the only test, if there are no counts
+abbrev pub index_committed : {A : Type 0} → TestData → FileIndex A → FileIndexData
+index_committed test index = record { counts = counts_or test (option_map all_committed index.counts); holders = index.checksums.committed; texts = index.checksums.texts }
+
+abbrev pub index_staged : {A : Type 0} → TestData → FileIndex A → FileIndexData
+index_staged test index = record { counts = counts_or test (option_map all_staged index.counts); holders = index.checksums.staged; texts = index.checksums.texts }
+
+-- staging leaves what is committed of a test and of its file's index: the points, the counts, and each checksum that a test holds
+pub record KeepsCommitted {A : Type 0} (test : Test A) (index : FileIndex A) (test_after : Test A) (index_after : FileIndex A) : Type 0 where
+  pub points : test_committed test_after ≡ test_committed test
+  pub counts : option_map all_committed index_after.counts ≡ option_map all_committed index.counts
+  pub holders : index_after.checksums.committed ≡ index.checksums.committed
+  pub texts : StayTexts index.checksums.committed index.checksums.texts index_after.checksums.texts

@@ -11,7 +11,7 @@ use Rattle.covstore.specs.Checksums.{KeepsTexts}
 use Rattle.covstore.specs.FileIndex.{FileIndexData}
 use Rattle.covstore.specs.PointIndexCounts.{AreCounts}
 use Rattle.covstore.specs.Kinds.{Kind, at}
-use Rattle.covmap.specs.Puts.{value_of}
+use Rattle.covmap.specs.Puts.{ArePairs, value_of}
 use Rattle.covstore.specs.State.{IsIndexOf}
 use Rattle.covstore.specs.Sums.{TestData}
 
@@ -22,6 +22,7 @@ pub record HasRoomOfKind {K V : Type 0} (cmp : K → K → Ordering) (is_above :
   pub front : List (List (K × V))
   pub back : List (List (K × V))
   pub kept : AreCounts cmp is_above (front ++ points ∷ back) counts
+  pub sorted : ArePairs cmp points
   pub few_tests : length (front ++ points ∷ back) ≤ 2 ^ 63
   pub few : length counts < 2 ^ 63
 
@@ -30,6 +31,7 @@ pub record HasRoomForRun {K V : Type 0} (cmp : K → K → Ordering) (is_above :
   pub front : List (List (K × V))
   pub back : List (List (K × V))
   pub kept : AreCounts cmp is_above (front ++ points ∷ back) counts
+  pub sorted : ArePairs cmp points
   pub few_tests : length (front ++ points ∷ back) ≤ 2 ^ 63
   pub few : length counts + items ≤ 2 ^ 63
 

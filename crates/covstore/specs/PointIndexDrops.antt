@@ -3,7 +3,7 @@ use Rattle.std.specs.Prelude.{◌≡◌, ℕ, ◌+◌, ◌-◌, ◌<◌, ◌≤�
 use Rattle.std.specs.declared.cmp.Ordering.{Ordering}
 use Rattle.std.specs.Ordering.{nat_cmp}
 use Rattle.std.specs.Option.{is_some}
-use Rattle.covstore.specs.declared.point_index.KindTally.{KindTally}
+use Rattle.covstore.specs.declared.points.KindTally.{KindTally}
 use Rattle.covstore.specs.declared.sums.LineSum.{LineSum}
 use Rattle.covstore.specs.declared.sums.TestCounts.{TestCounts}
 use Rattle.covtable.specs.declared.totals.Totals.{Totals}

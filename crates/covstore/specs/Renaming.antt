@@ -9,8 +9,8 @@ use Rattle.covstore.specs.Checksums.{held_more}
 use Rattle.covstore.specs.FileSection.{HasFile}
 use Rattle.covstore.specs.FileIndex.{FileIndexData}
 use Rattle.covstore.specs.Items.{HasRoom, KeepsCounts, KeepsTextsOf}
-use Rattle.covstore.specs.Kinds.{Kind, at, of_each}
-use Rattle.covmap.specs.Puts.{put, value_of}
+use Rattle.covstore.specs.Kinds.{Kind, at, cmp_of, of_each}
+use Rattle.covmap.specs.Puts.{ArePairs, put, value_of}
 use Rattle.covtable.specs.Renamed.{moved_rows, renamed}
 use Rattle.covstore.specs.Runs.{addend_of, as_run, points_with}
 use Rattle.covstore.specs.StoreSection.{rows_of_items}
@@ -112,6 +112,7 @@ HasHolders lines holders =
 -- there is room in this test and in the index of its file for the points of `source`, another test of the file
 pub record HasRoomForPoints (source test : TestData) (index : FileIndexData) : Type 0 where
   pub room : HasRoom test index
+  pub sorted : (kind : Kind) → ArePairs (cmp_of kind) (at kind test)
   pub few : (kind : Kind) → length (at kind index.counts) + length (at kind source) ≤ 2 ^ 63
   pub holders : HasHolders source.lines index.holders
 

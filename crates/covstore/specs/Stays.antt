@@ -8,7 +8,9 @@ use Rattle.covstore.specs.declared.sums.FunctionAddend.{FunctionAddend}
 use Rattle.covstore.specs.declared.sums.FunctionSum.{FunctionSum}
 use Rattle.covstore.specs.declared.sums.LineAddend.{LineAddend}
 use Rattle.covstore.specs.declared.sums.LineSum.{LineSum}
-use Rattle.covstore.specs.PointIndexCounts.{is_above_at}
+use Rattle.covstore.specs.declared.sums.TestCounts.{TestCounts}
+use Rattle.covstore.specs.declared.sums.TestsAddend.{TestsAddend}
+use Rattle.covstore.specs.PointIndexCounts.{is_above_at, is_hit_by_some, one_if, test_counts_with}
 use Rattle.covstore.specs.Kinds.{branch_above, function_above, line_above}
 use Rattle.covstore.specs.Sums.{branch_with, function_with, line_with, sum_taken}
 use Rattle.covtable.specs.Value.{bounded, is_taken}
@@ -33,3 +35,7 @@ taken_stays (Some before) (Some taken) e = more_above before taken e
 pub branch_stays : (more : BranchAddend) (before : Option BranchSum) → is_above_at branch_above before ≡ true → branch_above (branch_with more.times before) ≡ true
 branch_stays more None e = absurd (false≢true e)
 branch_stays more (Some sum) e = taken_stays sum.times more.times e
+
+pub tests_stay : (more : TestsAddend) (before : Option TestCounts) → is_above_at is_hit_by_some before ≡ true → is_hit_by_some (test_counts_with more before) ≡ true
+tests_stay more None e = absurd (false≢true e)
+tests_stay more (Some tests) e = lt-ltb 0 (tests.hit + one_if more.is_hit) (omega (arith, ltb-true 0 tests.hit e))

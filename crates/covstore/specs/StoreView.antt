@@ -8,7 +8,6 @@ use Rattle.covstore.specs.declared.store.Touched.{Touched}
 use Rattle.covtable.specs.declared.totals.Totals.{Totals}
 use Rattle.covtable.specs.Clash.{Agree, checksums_in}
 use Rattle.covstore.specs.FileView.{file_staged, file_committed}
-use Rattle.covstore.specs.FileIndexView.{index_staged, index_committed}
 use Rattle.covstore.specs.State.{FileData, IsStateOf, totals_in}
 use Rattle.covtable.specs.Shown.{max_members}
 use Rattle.covtable.specs.Table.{Table, all_rows}
@@ -48,7 +47,7 @@ AreUntouched tests file = AllByRecursion (λ pair. list_any (λ test. bytes_eq t
 -- nothing is staged in the file's tests, except in those that `tests` names. If it names none of them, nothing is staged in the
 -- file's index either
 pub record IsSettledBut {A : Type 0} (tests : List (List ℕ)) (file : File A) : Type 0 where
-  pub index : AreUntouched tests file → index_staged file.index ≡ index_committed file.index
+  pub index : AreUntouched tests file → (file_staged file).index ≡ (file_committed file).index
   pub points : AllByRecursion (λ pair. list_any (λ test. bytes_eq test pair.0.items) tests ≡ false → test_staged pair.1 ≡ test_committed pair.1) file.tests.entries
 
 -- nothing is staged in the files, except in the tests that `touched` lists

@@ -106,7 +106,7 @@ impl<'a, A: Allocator> Section<'a, A> {
         ensures value { result ≡ self.now.functions }
         ensures few { length result < 2 ^ 64 }
     {
-        Functions::of(self.points.functions.entries())
+        Functions::of(self.points.functions.values().entries())
     }
 
     /// The branches, ascending by line, block and number. There are fewer than 2^64 branches.
@@ -114,7 +114,7 @@ impl<'a, A: Allocator> Section<'a, A> {
         ensures value { result ≡ self.now.branches }
         ensures few { length result < 2 ^ 64 }
     {
-        Branches::of(self.points.branches.entries())
+        Branches::of(self.points.branches.values().entries())
     }
 
     /// The lines, ascending by number. There are fewer than 2^64 lines.
@@ -122,7 +122,7 @@ impl<'a, A: Allocator> Section<'a, A> {
         ensures value { result ≡ self.now.lines }
         ensures few { length result < 2 ^ 64 }
     {
-        Lines::of(self.points.lines.entries(), &self.index.checksums)
+        Lines::of(self.points.lines.values().entries(), &self.index.checksums)
     }
 }
 

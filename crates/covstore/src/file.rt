@@ -17,9 +17,8 @@ use std::alloc::Allocator;
 use std::marker::Model;
 use std::mem;
 
-/// The tests of a file with their points, and the file's index. Before a second test is added, the index follows the only test and
-/// stores no counts of points. From then on, the index counts the points of all tests, even if only one test is left. Contracts see
-/// the tests and the index.
+/// The tests of a file with their points, and the file's index. Before a second test is added, the index stores no counts of points.
+/// From then on, the index counts the points of all tests, even if only one test is left. Contracts see the tests and the index.
 #[derive(Drop)]
 pub(crate) struct File<A: Allocator> {
     tests: Tests<A>,
@@ -31,11 +30,11 @@ impl<A: Allocator> Model for File<A> {
 
     ghost Value = { FileParts A };
 
-    ghost use Rattle.covstore.specs.Follows.{FollowsSole};
+    ghost use Rattle.covstore.specs.FileView.{CountsMany};
 
     ghost view = { λ f. record { tests = f.tests; index = f.index } };
 
-    ghost invariant = { λ f. FollowsSole f.tests.entries f.index };
+    ghost invariant = { λ f. CountsMany f.tests.entries f.index };
 }
 
 impl<A: Allocator> File<A> {
@@ -62,9 +61,7 @@ impl<A: Allocator + Copy> File<A> {
     ghost use Rattle.std.specs.Str.{bytes_eq};
     ghost use Rattle.covstore.specs.FileDrops.{IsWithoutTest};
     ghost use Rattle.covstore.specs.FileSection.{AddsItems, ClashesIn, HasRoomIn, KeepsIn};
-    ghost use Rattle.covstore.specs.FileIndexView.{index_committed, index_staged};
-    ghost use Rattle.covstore.specs.Follows.{CanFollow};
-    ghost use Rattle.covstore.specs.FileView.{KeepsFile, file_staged, file_committed, no_file, with_test};
+    ghost use Rattle.covstore.specs.FileView.{CountsSome, KeepsFile, file_staged, file_committed, no_file, with_test};
     ghost use Rattle.covstore.specs.StoreView.{IsSettledBut};
     ghost use Rattle.covmap.specs.Puts.{value_of};
     ghost use Rattle.covtable.specs.RefuseView.{refuse_data};
@@ -160,8 +157,8 @@ impl<A: Allocator + Copy> File<A> {
         self.copy_points(alloc, old, new)
     }
 
-    /// Adds an empty test, unless the file has a test of this name. The index can follow only one test, so it starts to count
-    /// points before a second test is added. If an allocation fails, contracts see the file unchanged.
+    /// Adds an empty test, unless the file has a test of this name. The index starts to count points before a second test is added.
+    /// If an allocation fails, contracts see the file unchanged.
     fn open(&mut self, alloc: A, test: &[u8]) -> Result<(), Memory>
         ensures committed { OnOk result (file_committed self.new ≡ with_test test.now (file_committed self.old)) }
         ensures staged { OnOk result (file_staged self.new ≡ with_test test.now (file_staged self.old)) }
@@ -183,12 +180,12 @@ impl<A: Allocator + Copy> File<A> {
     /// Makes the index count points, if the file has a test. Then a second test can be added.
     fn start_counting(&mut self, alloc: A) -> Result<(), Memory>
         ensures same { self.new.tests ≡ self.old.tests }
-        ensures committed { index_committed self.new.index ≡ index_committed self.old.index }
-        ensures staged { index_staged self.new.index ≡ index_staged self.old.index }
-        ensures ok { OnOk result (CanFollow self.new.tests.entries self.new.index) }
+        ensures committed { file_committed self.new ≡ file_committed self.old }
+        ensures staged { file_staged self.new ≡ file_staged self.old }
+        ensures ok { OnOk result (CountsSome self.new.tests.entries self.new.index) }
     {
-        if let Some((_, points)) = self.tests.iter().next() {
-            self.index.start_counting(alloc, points.get())?;
+        if let Some(test) = self.tests.first() {
+            self.index.start_counting(alloc, test)?;
         }
         Ok(())
     }
@@ -230,9 +227,8 @@ impl<A: Allocator + Copy> File<A> {
         let Some(points) = self.tests.get_mut(test) else {
             return;
         };
-        let points = points.get_mut();
-        points.commit();
-        self.index.commit(points);
+        points.get_mut().commit();
+        self.index.commit();
     }
 
     /// Discards the staged values of `test` and of the file's index, if the file has the test.
@@ -243,23 +239,22 @@ impl<A: Allocator + Copy> File<A> {
         let Some(points) = self.tests.get_mut(test) else {
             return;
         };
-        let points = points.get_mut();
-        points.rollback();
-        self.index.rollback(points);
+        points.get_mut().rollback();
+        self.index.rollback();
     }
 
     /// The staged totals of the file.
     pub(crate) fn totals(&self) -> Totals
         ensures { result ≡ file_totals (file_staged self.now) }
     {
-        self.index.totals()
+        self.index.totals(self.tests.first())
     }
 
     /// The committed totals of the file.
     pub(crate) fn committed_totals(&self) -> Totals
         ensures { result ≡ file_totals (file_committed self.now) }
     {
-        self.index.committed_totals()
+        self.index.committed_totals(self.tests.first())
     }
 
     /// Whether the test has committed points.
@@ -293,6 +288,6 @@ impl<A: Allocator + Copy> File<A> {
             let points = points.get();
             return (!points.is_empty(), self.index.totals_without(points));
         }
-        (false, self.index.committed_totals())
+        (false, self.committed_totals())
     }
 }

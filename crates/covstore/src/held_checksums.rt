@@ -1,10 +1,9 @@
 //! Stages the checksums of a section's items as held by the test, before the items' sums are staged.
 
-ghost use Rattle.std.specs.Prelude.{◌≡◌, List, ◌++◌, ◌∷◌, IfErr, IfSome, IsTrue, OnOk, ℕ};
+ghost use Rattle.std.specs.Prelude.{◌<◌, ◌≤◌, List, ◌++◌, ◌∷◌, IfErr, IfSome, OnOk, length, take, ℕ};
 ghost use Rattle.std.specs.List.Sorted.{IsStrictlySortedBy};
 ghost use Rattle.std.specs.Ordering.{nat_cmp};
 ghost use Rattle.covpacked.specs.ItemRefs.{item_ref_data};
-ghost use Rattle.covstore.specs.Follows.{Follows, StillFollows};
 ghost use Rattle.covstore.specs.FileIndexView.{KeepsCommitted, index_staged};
 ghost use Rattle.covstore.specs.Items.{HasRoom, IsClashOf};
 ghost use Rattle.covstore.specs.Section.{Clashes};
@@ -12,24 +11,35 @@ ghost use Rattle.covstore.specs.TestView.{test_staged};
 ghost use Rattle.covstore.specs.HeldChecksums.{AscendFrom, HasRoomToHold, HoldsText, HoldsTexts, checked_line, checked_lines};
 
 use crate::index::FileIndex;
+use crate::runs::MAX_STAGED_AT_ONCE;
 use crate::stage::fault::StageFault;
 use crate::sums::LineSum;
 use crate::test::Test;
+use covmap::SlotIndex;
 use covpacked::{ItemRef, PackedItems};
 use std::alloc::Allocator;
 
-/// Whether the lines of the items with a checksum strictly ascend, and all these lines are below the greatest `u64`.
-pub(crate) fn checked_lines_ascend(items: &PackedItems<'_>) -> bool
-    ensures { IsTrue result → IsStrictlySortedBy nat_cmp (checked_lines items.now) }
+/// The length of the first batch of `items`, which mustn't be empty: at most `MAX_STAGED_AT_ONCE` items, and no item whose
+/// checksum is of a line that isn't above those before.
+pub(crate) fn ascending_len(items: &PackedItems<'_>) -> usize
+    requires { 0 < length items.now }
+    ensures some { 0 < result }
+    ensures few { result ≤ length items.now }
+    ensures ascend { IsStrictlySortedBy nat_cmp (checked_lines (take result items.now)) }
 {
+    let mut len = 0;
     let mut least = 0;
     for item in items.copy() {
         let Some(next) = least_after(&item, least) else {
-            return false;
+            break;
         };
+        if len == MAX_STAGED_AT_ONCE {
+            break;
+        }
         least = next;
+        len += 1;
     }
-    true
+    len.max(1)
 }
 
 /// Returns the least line that the next item with a checksum may have. Returns `None` if `item` has a checksum of a line that is
@@ -63,50 +73,48 @@ fn line_after(line: u64, least: u64) -> Option<u64>
 /// strictly ascend, so that no line comes twice. Then no item changes whether the test already holds the checksum of a later item's
 /// line.
 pub(crate) fn hold_checksums<A: Allocator + Copy>(
-    test: &mut Test<A>,
+    test: &Test<A>,
     index: &mut FileIndex<A>,
     alloc: A,
     items: &PackedItems<'_>,
 ) -> Result<(), StageFault<A>>
-    requires follows { Follows test.old index.old }
-    requires room { HasRoom (test_staged test.old) (index_staged index.old) }
+    requires room { HasRoom (test_staged test.now) (index_staged (test_staged test.now) index.old) }
     requires ascend { IsStrictlySortedBy nat_cmp (checked_lines items.now) }
-    ensures test { test.new ≡ test.old }
-    ensures index_committed { KeepsCommitted index.old index.new }
-    ensures follows { StillFollows index.old test.new index.new }
-    ensures ok { OnOk result (HoldsTexts items.now (test_staged test.old) (index_staged index.old) (index_staged index.new)) }
-    ensures clash { IfErr result (Clashes items.now (test_staged test.old) (index_staged index.old)) }
+    ensures keeps { KeepsCommitted test.now index.old test.now index.new }
+    ensures ok { OnOk result (HoldsTexts items.now (test_staged test.now) (index_staged (test_staged test.now) index.old) (index_staged (test_staged test.now) index.new)) }
+    ensures clash { IfErr result (Clashes items.now (test_staged test.now) (index_staged (test_staged test.now) index.old)) }
 {
+    let mut place = SlotIndex::first();
     for item in items.copy() {
-        hold_checksum(test, index, alloc, &item)?;
+        place = hold_checksum(test, index, alloc, &item, place)?;
     }
     Ok(())
 }
 
-/// Stages an item's checksum, if it has one, as held by the test.
+/// Stages an item's checksum, if it has one, as held by the test. `guess` is the slot that is tried first for the item's line in
+/// the test. Returns the guess for the next item.
 fn hold_checksum<A: Allocator + Copy>(
-    test: &mut Test<A>,
+    test: &Test<A>,
     index: &mut FileIndex<A>,
     alloc: A,
     item: &ItemRef<'_>,
-) -> Result<(), StageFault<A>>
-    requires follows { Follows test.old index.old }
-    requires room { HasRoomToHold (item_ref_data item.now) (test_staged test.old) (index_staged index.old) }
-    ensures test { test.new ≡ test.old }
-    ensures index_committed { KeepsCommitted index.old index.new }
-    ensures follows { StillFollows index.old test.new index.new }
-    ensures ok { OnOk result (HoldsText (item_ref_data item.now) (test_staged test.old) (index_staged index.old) (index_staged index.new)) }
-    ensures clash { IfErr result (IsClashOf (item_ref_data item.now) (index_staged index.old)) }
+    guess: SlotIndex,
+) -> Result<SlotIndex, StageFault<A>>
+    requires { HasRoomToHold (item_ref_data item.now) (test_staged test.now) (index_staged (test_staged test.now) index.old) }
+    ensures keeps { KeepsCommitted test.now index.old test.now index.new }
+    ensures ok { OnOk result (HoldsText (item_ref_data item.now) (test_staged test.now) (index_staged (test_staged test.now) index.old) (index_staged (test_staged test.now) index.new)) }
+    ensures clash { IfErr result (IsClashOf (item_ref_data item.now) (index_staged (test_staged test.now) index.old)) }
 {
-    if let ItemRef::Line {
+    let ItemRef::Line {
         line,
         checksum: Some(text),
         ..
     } = item
-    {
-        let before = test.lines.lookup_staged(*line);
-        let is_held = LineSum::is_checked(&before);
-        index.checksums.hold(alloc, *line, text, is_held)?;
-    }
-    Ok(())
+    else {
+        return Ok(guess);
+    };
+    let (before, place) = test.lines.values().staged_at(*line, guess);
+    let is_held = LineSum::is_checked(&before);
+    index.checksums.hold(alloc, *line, text, is_held)?;
+    Ok(place)
 }

@@ -8,12 +8,10 @@ ghost use Rattle.covstore.specs.Order.{HasNoChecksum};
 ghost use Rattle.covstore.specs.Runs.{HasRoomForRuns, KeepsCountsOfKinds, KeepsHeld, runs_of, runs_with, with_runs};
 ghost use Rattle.covstore.specs.RunsView.{runs_seen};
 ghost use Rattle.covstore.specs.Section.{Adds, HasRoomFor};
-ghost use Rattle.covstore.specs.Follows.{Follows, StillFollows};
 ghost use Rattle.covstore.specs.FileIndexView.{KeepsCommitted, index_staged};
-ghost use Rattle.covstore.specs.TestView.{test_staged, test_committed};
+ghost use Rattle.covstore.specs.TestView.{test_staged};
 
 use crate::index::FileIndex;
-use crate::stage::point_run::{stage_one_by_one, stage_whole_run};
 use crate::sums::{BranchAddend, FunctionAddend, LineAddend};
 use crate::test::Test;
 use covdata::BranchPoint;
@@ -96,36 +94,30 @@ pub(crate) fn runs_in<'a, A: Allocator + Copy>(
     Ok(runs)
 }
 
-/// Stages the run of each kind of points, in the test and in the file's index.
+/// Stages the run of each kind of points: first in the test, and then what changed in the file's counts, if the file has any.
 pub(crate) fn stage_runs<'a, A: Allocator + Copy>(
     test: &mut Test<A>,
     index: &mut FileIndex<A>,
     alloc: A,
     runs: &Runs<'a, A>,
 ) -> Result<(), AllocError>
-    requires follows { Follows test.old index.old }
-    requires room { HasRoomForRuns (runs_seen runs.now) (test_staged test.old) (index_staged index.old) }
-    ensures test_committed { test_committed test.new ≡ test_committed test.old }
-    ensures index_committed { KeepsCommitted index.old index.new }
-    ensures follows { StillFollows index.old test.new index.new }
+    requires { HasRoomForRuns (runs_seen runs.now) (test_staged test.old) (index_staged (test_staged test.old) index.old) }
+    ensures keeps { KeepsCommitted test.old index.old test.new index.new }
     ensures test { OnOk result (test_staged test.new ≡ with_runs (runs_seen runs.now) (test_staged test.old)) }
-    ensures counts { OnOk result (KeepsCountsOfKinds (test_staged test.old) (test_staged test.new) (index_staged index.old) (index_staged index.new)) }
-    ensures held { OnOk result (KeepsHeld (index_staged index.old) (index_staged index.new)) }
+    ensures counts { OnOk result (KeepsCountsOfKinds (test_staged test.old) (test_staged test.new) (index_staged (test_staged test.old) index.old) (index_staged (test_staged test.new) index.new)) }
+    ensures held { OnOk result (KeepsHeld (index_staged (test_staged test.old) index.old) (index_staged (test_staged test.new) index.new)) }
 {
-    stage_whole_run(&mut test.lines, &mut index.lines, alloc, &runs.lines)?;
+    let lines = test.lines.add_run(alloc, &runs.lines)?;
     // A tracefile usually lists functions by line, but the map orders them by name. So staging functions one by one is faster.
-    stage_one_by_one(
-        &mut test.functions,
-        &mut index.functions,
-        alloc,
-        &runs.functions,
-    )?;
-    stage_whole_run(
-        &mut test.branches,
-        &mut index.branches,
-        alloc,
-        &runs.branches,
-    )?;
+    let functions = test.functions.add_each(alloc, &runs.functions)?;
+    let branches = test.branches.add_run(alloc, &runs.branches)?;
+    let Some(counts) = &mut index.counts else {
+        return Ok(());
+    };
+    let counts = counts.get_mut();
+    counts.lines.add_run(alloc, &lines)?;
+    counts.functions.add_each(alloc, &functions)?;
+    counts.branches.add_run(alloc, &branches)?;
     Ok(())
 }
 
@@ -136,13 +128,10 @@ pub(crate) fn stage_as_they_are<A: Allocator + Copy>(
     alloc: A,
     items: &PackedItems<'_>,
 ) -> Result<(), AllocError>
-    requires follows { Follows test.old index.old }
-    requires room { HasRoomFor items.now (test_staged test.old) (index_staged index.old) }
+    requires room { HasRoomFor items.now (test_staged test.old) (index_staged (test_staged test.old) index.old) }
     requires plain { All HasNoChecksum items.now }
-    ensures test_committed { test_committed test.new ≡ test_committed test.old }
-    ensures index_committed { KeepsCommitted index.old index.new }
-    ensures follows { StillFollows index.old test.new index.new }
-    ensures ok { OnOk result (Adds items.now (test_staged test.old) (index_staged index.old) (test_staged test.new) (index_staged index.new)) }
+    ensures keeps { KeepsCommitted test.old index.old test.new index.new }
+    ensures ok { OnOk result (Adds items.now (test_staged test.old) (index_staged (test_staged test.old) index.old) (test_staged test.new) (index_staged (test_staged test.new) index.new)) }
 {
     let mut rest = items.copy();
     while !rest.is_empty() {

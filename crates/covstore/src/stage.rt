@@ -2,9 +2,5 @@
 
 mod by_line;
 pub(crate) mod copied;
-mod counted;
 pub(crate) mod fault;
-mod one_item;
-pub(crate) mod point_run;
 pub(crate) mod section;
-mod sole;

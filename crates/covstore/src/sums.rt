@@ -4,11 +4,11 @@
 ghost use Rattle.std.specs.Prelude.{◌≡◌, Bool, true, Option};
 ghost use Rattle.std.proofs.Common.{refl};
 ghost use Rattle.covstore.specs.PointIndexCounts.{change_of, is_above_at, is_hit_by_some, tests_fit, test_counts_with};
-ghost use Rattle.covstore.specs.SoleTest.{count_of_one};
+ghost use Rattle.covstore.specs.KeptCounts.{count_of_one};
 ghost use Rattle.covstore.specs.Kinds.{Branch, Function, Line, branch_above, function_above, line_above};
 ghost use Rattle.covstore.specs.Runs.{addend_of};
 ghost use Rattle.covstore.specs.State.{has_checksum};
-ghost use Rattle.covstore.specs.Stays.{branch_stays, function_stays, line_stays};
+ghost use Rattle.covstore.specs.Stays.{branch_stays, function_stays, line_stays, tests_stay};
 ghost use Rattle.covstore.specs.Sums.{branch_with, function_with, line_with};
 
 use crate::packed_taken::PackedTaken;
@@ -25,9 +25,15 @@ pub(crate) trait PointSum: Value {
         ensures { result ≡ above self.now };
 }
 
-/// The amount that an item, or the sum of another test, adds to the sum at a point. A sum above 0 stays above 0. `report` returns
-/// the change of the point's counts in the index.
-pub(crate) trait PointAddend<S: PointSum>: ReportingAddend<S, TestsAddend> {
+/// What is added to the value of a point, so that a value above 0 stays above 0. `report` returns the change of the point's counts.
+pub(crate) trait CountedAddend<S: PointSum>: ReportingAddend<S, TestsAddend> {
+    ghost keeps_above: { (more : Self) (before : Option S) → is_above_at S.above before ≡ true → S.above (Self.sum more before) ≡ true };
+
+    ghost tells: { (more : Self) (before : Option S) (after : S) → Self.reports more before after ≡ change_of S.above before after };
+}
+
+/// The amount that an item, or the sum of another test, adds to the sum at a point.
+pub(crate) trait PointAddend<S: PointSum>: CountedAddend<S> {
     ghost addend: { S → Self };
 
     /// Makes an addend that adds as much as `sum` has.
@@ -35,10 +41,6 @@ pub(crate) trait PointAddend<S: PointSum>: ReportingAddend<S, TestsAddend> {
         ensures { result ≡ addend sum.now };
 
     ghost always_fits: { (more : Self) (before : Option S) → Self.fits more before };
-
-    ghost stays: { (more : Self) (before : Option S) → is_above_at S.above before ≡ true → S.above (Self.sum more before) ≡ true };
-
-    ghost tells: { (more : Self) (before : Option S) (after : S) → Self.reports more before after ≡ change_of S.above before after };
 }
 
 /// Whether `value` is a sum above 0.
@@ -116,6 +118,12 @@ impl ReportingAddend<LineSum, TestsAddend> for LineAddend {
     }
 }
 
+impl CountedAddend<LineSum> for LineAddend {
+    ghost keeps_above = { line_stays };
+
+    ghost tells = { λ more before after. refl };
+}
+
 impl PointAddend<LineSum> for LineAddend {
     ghost addend = { addend_of Line };
 
@@ -127,10 +135,6 @@ impl PointAddend<LineSum> for LineAddend {
     }
 
     ghost always_fits = { λ more before. tt };
-
-    ghost stays = { line_stays };
-
-    ghost tells = { λ more before after. refl };
 }
 
 /// A function's item: its start line and its count.
@@ -167,6 +171,12 @@ impl ReportingAddend<FunctionSum, TestsAddend> for FunctionAddend {
     }
 }
 
+impl CountedAddend<FunctionSum> for FunctionAddend {
+    ghost keeps_above = { function_stays };
+
+    ghost tells = { λ more before after. refl };
+}
+
 impl PointAddend<FunctionSum> for FunctionAddend {
     ghost addend = { addend_of Function };
 
@@ -178,10 +188,6 @@ impl PointAddend<FunctionSum> for FunctionAddend {
     }
 
     ghost always_fits = { λ more before. tt };
-
-    ghost stays = { function_stays };
-
-    ghost tells = { λ more before after. refl };
 }
 
 /// A branch's item: how often the branch was taken, or `None` if its block was never executed.
@@ -214,6 +220,12 @@ impl ReportingAddend<BranchSum, TestsAddend> for BranchAddend {
     }
 }
 
+impl CountedAddend<BranchSum> for BranchAddend {
+    ghost keeps_above = { branch_stays };
+
+    ghost tells = { λ more before after. refl };
+}
+
 impl PointAddend<BranchSum> for BranchAddend {
     ghost addend = { addend_of Branch };
 
@@ -224,10 +236,6 @@ impl PointAddend<BranchSum> for BranchAddend {
     }
 
     ghost always_fits = { λ more before. tt };
-
-    ghost stays = { branch_stays };
-
-    ghost tells = { λ more before after. refl };
 }
 
 /// A test's change of a point's `TestCounts`. `is_new`: one more test has the point. `is_hit`: one more test hits the point (value
@@ -281,6 +289,12 @@ impl ReportingAddend<TestCounts, TestsAddend> for TestsAddend {
     fn report(self, before: &Option<TestCounts>, after: &TestCounts) -> Option<TestsAddend> {
         TestsAddend::of(before, after)
     }
+}
+
+impl CountedAddend<TestCounts> for TestsAddend {
+    ghost keeps_above = { tests_stay };
+
+    ghost tells = { λ more before after. refl };
 }
 
 /// How many tests of a file have a point, and how many tests hit the point (value above 0).

@@ -8,6 +8,7 @@ ghost use Rattle.std.specs.List.Sorted.{IsStrictlySortedBy};
 ghost use Rattle.std.specs.Map.{keys_of, lookup, remove_entry};
 ghost use Rattle.std.specs.Option.{is_some};
 ghost use Rattle.std.specs.Ordering.{nat_cmp};
+ghost use Rattle.covstore.specs.FileView.{first_test};
 ghost use Rattle.covstore.specs.TestsLends.{lends_test};
 
 use crate::boxed::Boxed;
@@ -63,6 +64,14 @@ impl<A: Allocator> Tests<A> {
             Held::One(only) => Left::One(only),
             Held::Many(tests) => Left::Many(tests.iter()),
         })
+    }
+
+    /// The first test.
+    pub(crate) fn first(&self) -> Option<&Test<A>>
+        ensures { option_map (λ test. test.now) result ≡ first_test self.now.entries }
+    {
+        let (_, points) = self.iter().next()?;
+        Some(points.get())
     }
 
     /// How many tests there are.

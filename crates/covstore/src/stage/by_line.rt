@@ -6,9 +6,8 @@ ghost use Rattle.std.specs.List.{All};
 ghost use Rattle.covpacked.specs.ItemRefs.{item_ref_data};
 ghost use Rattle.covstore.specs.Order.{AreSpotsOf, HasNoChecksum, at_spots};
 ghost use Rattle.covstore.specs.Section.{Adds, HasRoomFor};
-ghost use Rattle.covstore.specs.Follows.{Follows, StillFollows};
 ghost use Rattle.covstore.specs.FileIndexView.{KeepsCommitted, index_staged};
-ghost use Rattle.covstore.specs.TestView.{test_staged, test_committed};
+ghost use Rattle.covstore.specs.TestView.{test_staged};
 ghost use Rattle.covstore.specs.Runs.{runs_of};
 ghost use Rattle.covstore.specs.RunsView.{runs_seen};
 
@@ -42,13 +41,10 @@ pub(crate) fn stage_without_checksums<A: Allocator + Copy>(
     alloc: A,
     items: &PackedItems<'_>,
 ) -> Result<(), AllocError>
-    requires follows { Follows test.old index.old }
-    requires room { HasRoomFor items.now (test_staged test.old) (index_staged index.old) }
+    requires room { HasRoomFor items.now (test_staged test.old) (index_staged (test_staged test.old) index.old) }
     requires plain { All HasNoChecksum items.now }
-    ensures test_committed { test_committed test.new ≡ test_committed test.old }
-    ensures index_committed { KeepsCommitted index.old index.new }
-    ensures follows { StillFollows index.old test.new index.new }
-    ensures ok { OnOk result (Adds items.now (test_staged test.old) (index_staged index.old) (test_staged test.new) (index_staged index.new)) }
+    ensures keeps { KeepsCommitted test.old index.old test.new index.new }
+    ensures ok { OnOk result (Adds items.now (test_staged test.old) (index_staged (test_staged test.old) index.old) (test_staged test.new) (index_staged (test_staged test.new) index.new)) }
 {
     if items.len() >= MIN_SORTED && falls_often(items) {
         return stage_in_order(test, index, alloc, items);
@@ -112,13 +108,10 @@ fn stage_in_order<A: Allocator + Copy>(
     alloc: A,
     items: &PackedItems<'_>,
 ) -> Result<(), AllocError>
-    requires follows { Follows test.old index.old }
-    requires room { HasRoomFor items.now (test_staged test.old) (index_staged index.old) }
+    requires room { HasRoomFor items.now (test_staged test.old) (index_staged (test_staged test.old) index.old) }
     requires plain { All HasNoChecksum items.now }
-    ensures test_committed { test_committed test.new ≡ test_committed test.old }
-    ensures index_committed { KeepsCommitted index.old index.new }
-    ensures follows { StillFollows index.old test.new index.new }
-    ensures ok { OnOk result (Adds items.now (test_staged test.old) (index_staged index.old) (test_staged test.new) (index_staged index.new)) }
+    ensures keeps { KeepsCommitted test.old index.old test.new index.new }
+    ensures ok { OnOk result (Adds items.now (test_staged test.old) (index_staged (test_staged test.old) index.old) (test_staged test.new) (index_staged (test_staged test.new) index.new)) }
 {
     let spots = sorted_spots(alloc, items)?;
     stage_at(test, index, alloc, items, &spots)?;
@@ -133,13 +126,10 @@ fn stage_at<A: Allocator + Copy>(
     items: &PackedItems<'_>,
     spots: &[Spot],
 ) -> Result<(), AllocError>
-    requires follows { Follows test.old index.old }
-    requires room { HasRoomFor (at_spots items.now spots.now) (test_staged test.old) (index_staged index.old) }
+    requires room { HasRoomFor (at_spots items.now spots.now) (test_staged test.old) (index_staged (test_staged test.old) index.old) }
     requires plain { All HasNoChecksum items.now }
-    ensures test_committed { test_committed test.new ≡ test_committed test.old }
-    ensures index_committed { KeepsCommitted index.old index.new }
-    ensures follows { StillFollows index.old test.new index.new }
-    ensures ok { OnOk result (Adds (at_spots items.now spots.now) (test_staged test.old) (index_staged index.old) (test_staged test.new) (index_staged index.new)) }
+    ensures keeps { KeepsCommitted test.old index.old test.new index.new }
+    ensures ok { OnOk result (Adds (at_spots items.now spots.now) (test_staged test.old) (index_staged (test_staged test.old) index.old) (test_staged test.new) (index_staged (test_staged test.new) index.new)) }
 {
     for some in spots.chunks(MAX_STAGED_AT_ONCE) {
         let runs = runs_at(alloc, items, some)?;

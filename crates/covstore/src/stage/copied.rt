@@ -1,11 +1,11 @@
 //! Adds the points of a test to another test of the same file.
 
-ghost use Rattle.std.specs.Prelude.{◌≡◌, None, length, IfSome, OnOk};
-ghost use Rattle.covmap.specs.Puts.{ArePairs};
+ghost use Rattle.std.specs.Prelude.{◌≡◌, ◌+◌, ◌≤◌, true, length, OnOk};
+ghost use Rattle.std.specs.Option.{is_some};
+ghost use Rattle.covmap.specs.Puts.{ArePairs, put, value_of};
 ghost use Rattle.covmap.specs.Run.{summed};
 ghost use Rattle.covstore.specs.FileIndexView.{KeepsCommitted, index_staged};
-ghost use Rattle.covstore.specs.Follows.{Follows, StillFollows};
-ghost use Rattle.covstore.specs.Items.{HasRoomForRun, KeepsCountsOfKind};
+ghost use Rattle.covstore.specs.Items.{HasRoomForRun, HasRoomOfKind, KeepsCountsOfKind};
 ghost use Rattle.covstore.specs.Renaming.{AddsPoints, HasHolders, HasRoomForPoints, held_again};
 ghost use Rattle.covstore.specs.Runs.{as_run};
 ghost use Rattle.covstore.specs.TestView.{test_staged, test_committed};
@@ -14,39 +14,43 @@ ghost use Rattle.std.specs.Ordering.{nat_cmp};
 use crate::file_checksums::FileChecksums;
 use crate::index::FileIndex;
 use crate::keys::PointKey;
-use crate::kind_index::KindIndex;
-use crate::stage::one_item::stage_addend;
-use crate::sums::{BranchAddend, FunctionAddend, LineAddend, LineSum, PointAddend, PointSum};
+use crate::points::Points;
+use crate::sums::{
+    BranchAddend, FunctionAddend, LineAddend, LineSum, PointAddend, PointSum, TestCounts,
+};
 use crate::test::Test;
 use covdata::Memory;
-use covmap::{SlotIndex, StagedMap};
+use covmap::{Key, Query, SlotIndex, StagedMap};
 use std::alloc::{AllocError, Allocator};
 
-/// Adds the points of `source` to `test`, and stages the changes in the index. Both tests must belong to the file of `index`.
+/// Adds the points of `source` to `test`, and stages the changes in the index. Both tests must belong to the file of `index`, which
+/// therefore counts points.
 pub(crate) fn stage_points<A: Allocator + Copy>(
     test: &mut Test<A>,
     index: &mut FileIndex<A>,
     alloc: A,
     source: &Test<A>,
 ) -> Result<(), Memory>
-    requires follows { Follows test.old index.old }
-    requires room { HasRoomForPoints (test_committed source.now) (test_staged test.old) (index_staged index.old) }
-    ensures test_committed { test_committed test.new ≡ test_committed test.old }
-    ensures index_committed { KeepsCommitted index.old index.new }
-    ensures follows { StillFollows index.old test.new index.new }
-    ensures ok { OnOk result (AddsPoints (test_committed source.now) (test_staged test.old) (index_staged index.old) (test_staged test.new) (index_staged index.new)) }
+    requires room { HasRoomForPoints (test_committed source.now) (test_staged test.old) (index_staged (test_staged test.old) index.old) }
+    requires counts { is_some index.old.counts ≡ true }
+    ensures keeps { KeepsCommitted test.old index.old test.new index.new }
+    ensures ok { OnOk result (AddsPoints (test_committed source.now) (test_staged test.old) (index_staged (test_staged test.old) index.old) (test_staged test.new) (index_staged (test_staged test.new) index.new)) }
 {
-    hold_again(&mut index.checksums, alloc, &source.lines, &test.lines)?;
-    add_points::<LineAddend, _, _, _>(&mut test.lines, &mut index.lines, alloc, &source.lines)?;
+    hold_again(&mut index.checksums, alloc, source.lines.values(), test.lines.values())?;
+    let Some(counts) = &mut index.counts else {
+        unreachable!();
+    };
+    let counts = counts.get_mut();
+    add_points::<LineAddend, _, _, _>(&mut test.lines, &mut counts.lines, alloc, &source.lines)?;
     add_points::<FunctionAddend, _, _, _>(
         &mut test.functions,
-        &mut index.functions,
+        &mut counts.functions,
         alloc,
         &source.functions,
     )?;
     add_points::<BranchAddend, _, _, _>(
         &mut test.branches,
-        &mut index.branches,
+        &mut counts.branches,
         alloc,
         &source.branches,
     )?;
@@ -79,24 +83,46 @@ fn hold_again<A: Allocator + Copy>(
     Ok(())
 }
 
-/// Adds the sums of `source` to the sums of a test at the same points, and stages the changes in the index.
+/// Adds the sums of `source` to the sums of a test at the same points, and stages the changes of the points' counts.
 fn add_points<'a, M: PointAddend<S>, K: PointKey<'a, A> + Drop, S: PointSum, A: Allocator + Copy>(
-    points: &mut StagedMap<K, S, A>,
-    kept: &mut KindIndex<K, S, A>,
+    points: &mut Points<K, S, A>,
+    counts: &mut Points<K, TestCounts, A>,
     alloc: A,
-    source: &'a StagedMap<K, S, A>,
+    source: &'a Points<K, S, A>,
 ) -> Result<(), AllocError>
-    requires follows { IfSome kept.old.follows (λ seen. seen ≡ points.old) }
-    requires room { HasRoomForRun K.cmp S.above points.old.staged kept.old.staged (length source.now.committed) }
+    requires { HasRoomForRun K.cmp S.above points.old.staged counts.old.staged (length source.now.committed) }
     ensures test_committed { points.new.committed ≡ points.old.committed }
-    ensures index_committed { kept.new.committed ≡ kept.old.committed }
-    ensures follows { IfSome kept.new.follows (λ seen. seen ≡ points.new) }
-    ensures counted { kept.old.follows ≡ None → kept.new.follows ≡ None }
+    ensures counts_committed { counts.new.committed ≡ counts.old.committed }
     ensures test { OnOk result (points.new.staged ≡ summed K.cmp (λ key. key) M.sum (as_run M.addend source.now.committed) points.old.staged) }
-    ensures counts { OnOk result (KeepsCountsOfKind K.cmp S.above points.old.staged points.new.staged kept.old.staged kept.new.staged) }
+    ensures counts { OnOk result (KeepsCountsOfKind K.cmp S.above points.old.staged points.new.staged counts.old.staged counts.new.staged) }
 {
-    for (key, sum) in source.entries() {
-        stage_addend(points, kept, alloc, key.name(), M::of(sum))?;
+    for (key, sum) in source.values().entries() {
+        add_sum(points, counts, alloc, key.name(), M::of(sum))?;
     }
     Ok(())
+}
+
+/// Adds `addend` to a test's staged sum at a point, and stages the change of the point's counts.
+fn add_sum<
+    K: Key + Drop,
+    S: PointSum,
+    A: Allocator + Copy,
+    Q: Query<K, A>,
+    M: PointAddend<S>,
+>(
+    points: &mut Points<K, S, A>,
+    counts: &mut Points<K, TestCounts, A>,
+    alloc: A,
+    query: Q,
+    addend: M,
+) -> Result<(), AllocError>
+    requires { HasRoomOfKind K.cmp S.above points.old.staged counts.old.staged }
+    ensures test_committed { points.new.committed ≡ points.old.committed }
+    ensures counts_committed { counts.new.committed ≡ counts.old.committed }
+    ensures test { OnOk result (points.new.staged ≡ put K.cmp (Q.named query) (M.sum addend (value_of K.cmp (Q.named query) points.old.staged)) points.old.staged) }
+    ensures counts { OnOk result (KeepsCountsOfKind K.cmp S.above points.old.staged points.new.staged counts.old.staged counts.new.staged) }
+    ensures few { OnOk result (length counts.new.staged ≤ length counts.old.staged + 1) }
+{
+    let added = points.add(alloc, query, addend, points.values().cursor())?;
+    counts.count(alloc, query, added.change, added.place)
 }

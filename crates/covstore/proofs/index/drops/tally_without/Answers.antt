@@ -1,13 +1,22 @@
-use Rattle.covstore.proofs.Words.{◌∙◌, List, ap, refl, subst, MapData, TestCounts, IsTallyWithout}
-use Rattle.covstore.proofs.KindSteps.{counted_committed, sole_without}
-use Rattle.covstore.proofs.index.drops.tally_without.Goals as goal
+use Rattle.covstore.proofs.FewerLoops.{tallying_all, tallying_at, tallying_can, tallying_more}
+use Rattle.covstore.proofs.index.drops.tally_without_counted.Goals as goal
 
-pub returns-in-OfOneTest : goal.returns-in-OfOneTest
-returns-in-OfOneTest g c =
-    sole_without g.K.Key.cmp g.S.PointSum.above c.args.kept.now c.kept.inside.counts c.in-OfOneTest.field-0 c.kept.view_is c.in-OfOneTest.is c.args.points.now c.requires.follows
-    (record { total = g.K.Key.total; exact = g.K.Key.exact }) (record { found = 0; hit = 0 }) refl refl
+pub walk_without-walk-requires-clause-lose : goal.walk_without-walk-requires-clause-lose
+walk_without-walk-requires-clause-lose g c =
+    tallying_can (record { total = g.K.Key.total; exact = g.K.Key.exact }) g.S.PointSum.above c.args.points.now.committed c.args.kept.now.committed
+    c.in-Some.key.now c.in-Some.sum.now _ c.name.ensures c.is_above.result c.is_above.ensures c.loop-key.key-iterator c.next.new.self c.in-Some.ensures.steps c.loop-key.walk.tally c.loop-key.invariant c.requires
 
-pub returns-in-OfTests : goal.returns-in-OfTests
-returns-in-OfTests g c =
-    subst (λ (own : List (g.row.K.Denot × TestCounts)). IsTallyWithout g.K.Key.cmp g.S.PointSum.above c.args.points.now.committed own c.tally_without_counted.result)
-    (ap (λ (k : MapData g.row.K.Denot TestCounts). k.committed) c.get.ensures ∙ counted_committed g.K.Key.cmp g.S.PointSum.above c.args.kept.now c.kept.inside.counts c.in-OfTests.counts c.kept.view_is c.in-OfTests.is) c.tally_without_counted.ensures
+pub walk_without-walk-requires-clause-at : goal.walk_without-walk-requires-clause-at
+walk_without-walk-requires-clause-at g c =
+    tallying_at (record { total = g.K.Key.total; exact = g.K.Key.exact }) g.S.PointSum.above c.args.points.now.committed c.args.kept.now.committed
+    c.in-Some.key.now c.in-Some.sum.now _ c.name.ensures c.is_above.result c.is_above.ensures c.loop-key.key-iterator c.next.new.self c.in-Some.ensures.steps c.loop-key.walk.tally c.loop-key.invariant c.requires
+
+pub loop-key-preserved : goal.loop-key-preserved
+loop-key-preserved g c =
+    tallying_more (record { total = g.K.Key.total; exact = g.K.Key.exact }) g.S.PointSum.above c.args.points.now.committed c.args.kept.now.committed
+    c.in-Some.key.now c.in-Some.sum.now _ c.name.ensures c.is_above.result c.is_above.ensures c.loop-key.key-iterator c.next.new.self c.in-Some.ensures.steps c.loop-key.walk.tally c.loop-key.invariant
+    c.walk_without-walk.result.tally c.walk_without-walk.ensures
+
+pub returns : goal.returns
+returns g c =
+    tallying_all (record { total = g.K.Key.total; exact = g.K.Key.exact }) g.S.PointSum.above c.args.points.now.committed c.args.kept.now.committed c.loop-key.key-iterator c.loop-key.walk.tally c.in-None.ensures.steps.0 c.loop-key.invariant
