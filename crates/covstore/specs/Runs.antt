@@ -9,7 +9,7 @@ use Rattle.covstore.specs.declared.sums.FunctionAddend.{FunctionAddend}
 use Rattle.covstore.specs.declared.sums.LineAddend.{LineAddend}
 use Rattle.covstore.specs.FileIndex.{FileIndexData}
 use Rattle.covstore.specs.Items.{HasRoomForRun, KeepsCountsOfKind}
-use Rattle.covstore.specs.Kinds.{Branch, Each, Function, KeyOf, Kind, Line, PointsOf, SumOf, above_of, at, cmp_of, of_each}
+use Rattle.covstore.specs.Kinds.{Branch, CountsOf, Each, Function, KeyOf, Kind, Line, PointsOf, SumOf, above_of, at, cmp_of, of_each}
 use Rattle.covstore.specs.Sums.{TestData, branch_with, function_with, line_with, with_item}
 
 -- ---- what items add to a kind of points
@@ -82,13 +82,13 @@ with_items [] test = test
 with_items (item ∷ items) test = with_items items (with_item item test)
 
 -- there is room for the run of each kind
-abbrev pub HasRoomForRuns : Each RunOf → TestData → FileIndexData → Type 0
-HasRoomForRuns runs test index = (kind : Kind) → HasRoomForRun (cmp_of kind) (above_of kind) (at kind test) (at kind index.counts) (length (at kind runs))
+abbrev pub HasRoomForRuns : Each RunOf → TestData → Each CountsOf → Type 0
+HasRoomForRuns runs test counts = (kind : Kind) → HasRoomForRun (cmp_of kind) (above_of kind) (at kind test) (at kind counts) (length (at kind runs))
 
--- one test changes from `before` to `after`. For each kind, and whatever the other tests are: if the counts in `index` are those
--- of all tests before this change, the counts in `more` are those after it
-abbrev pub KeepsCountsOfKinds : TestData → TestData → FileIndexData → FileIndexData → Type 0
-KeepsCountsOfKinds before after index more = (kind : Kind) → KeepsCountsOfKind (cmp_of kind) (above_of kind) (at kind before) (at kind after) (at kind index.counts) (at kind more.counts)
+-- one test changes from `before` to `after`. For each kind, and whatever the other tests are: if `counts` are those of all tests
+-- before this change, `more` are those after it
+abbrev pub KeepsCountsOfKinds : TestData → TestData → Each CountsOf → Each CountsOf → Type 0
+KeepsCountsOfKinds before after counts more = (kind : Kind) → KeepsCountsOfKind (cmp_of kind) (above_of kind) (at kind before) (at kind after) (at kind counts) (at kind more)
 
 -- the checksums stay, and so do the numbers of tests that hold them
 pub record KeepsHeld (before after : FileIndexData) : Type 0 where

@@ -1,20 +1,26 @@
 //! Splits the items of a section by kind into runs, and stages the runs. A run of lines or branches is staged at once, a run of
 //! functions item by item.
 
-ghost use Rattle.std.specs.Prelude.{◌≡◌, [], IfOk, OnOk};
+ghost use Rattle.std.specs.Prelude.{◌≡◌, [], IfOk, OnOk, length};
 ghost use Rattle.std.specs.List.{All};
 ghost use Rattle.covpacked.specs.ItemRefs.{item_ref_data};
 ghost use Rattle.covstore.specs.Order.{HasNoChecksum};
 ghost use Rattle.covstore.specs.Runs.{HasRoomForRuns, KeepsCountsOfKinds, KeepsHeld, runs_of, runs_with, with_runs};
 ghost use Rattle.covstore.specs.RunsView.{runs_seen};
 ghost use Rattle.covstore.specs.Section.{Adds, HasRoomFor};
-ghost use Rattle.covstore.specs.FileIndexView.{KeepsCommitted, index_staged};
-ghost use Rattle.covstore.specs.TestView.{test_staged};
+ghost use Rattle.covstore.specs.FileIndexView.{KeepsCommitted, all_committed, all_staged, index_staged};
+ghost use Rattle.covstore.specs.Items.{HasRoomForRun, KeepsCountsOfKind};
+ghost use Rattle.covstore.specs.Kinds.{CountsOf, Each};
+ghost use Rattle.covmap.specs.Run.{summed};
+ghost use Rattle.covstore.specs.TestView.{test_committed, test_staged};
 
 use crate::index::FileIndex;
-use crate::sums::{BranchAddend, FunctionAddend, LineAddend};
+use crate::point_counts::PointCounts;
+use crate::points::Points;
+use crate::sums::{BranchAddend, FunctionAddend, LineAddend, PointAddend, PointSum, TestCounts};
 use crate::test::Test;
 use covdata::BranchPoint;
+use covmap::{Key, Query};
 use covpacked::{ItemRef, PackedItems};
 use std::alloc::{AllocError, Allocator};
 
@@ -94,30 +100,105 @@ pub(crate) fn runs_in<'a, A: Allocator + Copy>(
     Ok(runs)
 }
 
-/// Stages the run of each kind of points: first in the test, and then what changed in the file's counts, if the file has any.
+/// Stages the run of each kind of points, in the test and in the file's counts, if the file has any.
 pub(crate) fn stage_runs<'a, A: Allocator + Copy>(
     test: &mut Test<A>,
     index: &mut FileIndex<A>,
     alloc: A,
     runs: &Runs<'a, A>,
 ) -> Result<(), AllocError>
-    requires { HasRoomForRuns (runs_seen runs.now) (test_staged test.old) (index_staged (test_staged test.old) index.old) }
+    requires { HasRoomForRuns (runs_seen runs.now) (test_staged test.old) (index_staged (test_staged test.old) index.old).counts }
     ensures keeps { KeepsCommitted test.old index.old test.new index.new }
     ensures test { OnOk result (test_staged test.new ≡ with_runs (runs_seen runs.now) (test_staged test.old)) }
-    ensures counts { OnOk result (KeepsCountsOfKinds (test_staged test.old) (test_staged test.new) (index_staged (test_staged test.old) index.old) (index_staged (test_staged test.new) index.new)) }
-    ensures held { OnOk result (KeepsHeld (index_staged (test_staged test.old) index.old) (index_staged (test_staged test.new) index.new)) }
+    ensures counts { OnOk result (KeepsCountsOfKinds (test_staged test.old) (test_staged test.new) (index_staged (test_staged test.old) index.old).counts (index_staged (test_staged test.new) index.new).counts) }
+    ensures held { KeepsHeld (index_staged (test_staged test.old) index.old) (index_staged (test_staged test.new) index.new) }
 {
-    let lines = test.lines.add_run(alloc, &runs.lines)?;
-    // A tracefile usually lists functions by line, but the map orders them by name. So staging functions one by one is faster.
-    let functions = test.functions.add_each(alloc, &runs.functions)?;
-    let branches = test.branches.add_run(alloc, &runs.branches)?;
     let Some(counts) = &mut index.counts else {
-        return Ok(());
+        return stage_alone(test, alloc, runs);
     };
-    let counts = counts.get_mut();
-    counts.lines.add_run(alloc, &lines)?;
-    counts.functions.add_each(alloc, &functions)?;
-    counts.branches.add_run(alloc, &branches)?;
+    stage_counted(test, counts.get_mut(), alloc, runs)
+}
+
+/// Stages the run of each kind of points in the only test of a file.
+fn stage_alone<'a, A: Allocator + Copy>(
+    test: &mut Test<A>,
+    alloc: A,
+    runs: &Runs<'a, A>,
+) -> Result<(), AllocError>
+    requires { (counts : Each CountsOf) × HasRoomForRuns (runs_seen runs.now) (test_staged test.old) counts }
+    ensures committed { test_committed test.new ≡ test_committed test.old }
+    ensures ok { OnOk result (test_staged test.new ≡ with_runs (runs_seen runs.now) (test_staged test.old)) }
+{
+    test.lines.add_run(alloc, &runs.lines)?;
+    // A tracefile usually lists functions by line, but the map orders them by name. So staging functions one by one is faster.
+    test.functions.add_each(alloc, &runs.functions)?;
+    test.branches.add_run(alloc, &runs.branches)?;
+    Ok(())
+}
+
+/// Stages the run of each kind of points in a test, and what changes in the counts of the file.
+fn stage_counted<'a, A: Allocator + Copy>(
+    test: &mut Test<A>,
+    counts: &mut PointCounts<A>,
+    alloc: A,
+    runs: &Runs<'a, A>,
+) -> Result<(), AllocError>
+    requires { HasRoomForRuns (runs_seen runs.now) (test_staged test.old) (all_staged counts.old) }
+    ensures committed { test_committed test.new ≡ test_committed test.old }
+    ensures counts_committed { all_committed counts.new ≡ all_committed counts.old }
+    ensures ok { OnOk result (test_staged test.new ≡ with_runs (runs_seen runs.now) (test_staged test.old)) }
+    ensures counts { OnOk result (KeepsCountsOfKinds (test_staged test.old) (test_staged test.new) (all_staged counts.old) (all_staged counts.new)) }
+{
+    stage_run(&mut test.lines, &mut counts.lines, alloc, &runs.lines)?;
+    stage_each(&mut test.functions, &mut counts.functions, alloc, &runs.functions)?;
+    stage_run(&mut test.branches, &mut counts.branches, alloc, &runs.branches)
+}
+
+/// Stages a run of items of one kind, in their test and in the counts of the file.
+fn stage_run<
+    K: Key + Drop,
+    S: PointSum,
+    A: Allocator + Copy,
+    Q: Query<K, A>,
+    M: PointAddend<S>,
+>(
+    points: &mut Points<K, S, A>,
+    counts: &mut Points<K, TestCounts, A>,
+    alloc: A,
+    run: &[(Q, M)],
+) -> Result<(), AllocError>
+    requires { HasRoomForRun K.cmp S.above points.old.staged counts.old.staged (length run.now) }
+    ensures test_committed { points.new.committed ≡ points.old.committed }
+    ensures counts_committed { counts.new.committed ≡ counts.old.committed }
+    ensures test { OnOk result (points.new.staged ≡ summed K.cmp Q.named M.sum run.now points.old.staged) }
+    ensures counts { OnOk result (KeepsCountsOfKind K.cmp S.above points.old.staged points.new.staged counts.old.staged counts.new.staged) }
+{
+    let changes = points.add_run(alloc, run)?;
+    counts.add_run(alloc, changes.as_slice())?;
+    Ok(())
+}
+
+/// Does the same as `stage_run`, one item after another.
+fn stage_each<
+    K: Key + Drop,
+    S: PointSum,
+    A: Allocator + Copy,
+    Q: Query<K, A>,
+    M: PointAddend<S>,
+>(
+    points: &mut Points<K, S, A>,
+    counts: &mut Points<K, TestCounts, A>,
+    alloc: A,
+    run: &[(Q, M)],
+) -> Result<(), AllocError>
+    requires { HasRoomForRun K.cmp S.above points.old.staged counts.old.staged (length run.now) }
+    ensures test_committed { points.new.committed ≡ points.old.committed }
+    ensures counts_committed { counts.new.committed ≡ counts.old.committed }
+    ensures test { OnOk result (points.new.staged ≡ summed K.cmp Q.named M.sum run.now points.old.staged) }
+    ensures counts { OnOk result (KeepsCountsOfKind K.cmp S.above points.old.staged points.new.staged counts.old.staged counts.new.staged) }
+{
+    let changes = points.add_each(alloc, run)?;
+    counts.add_each(alloc, changes.as_slice())?;
     Ok(())
 }
 
