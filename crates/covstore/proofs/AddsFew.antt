@@ -1,10 +1,10 @@
 -- The index of a file has at most as many points of a kind as there are rows: each of these points is in some row, and the index
 -- has it once.
-use Rattle.covstore.proofs.Words.{◌≡◌, ℕ, ◌≤◌, Bool, Option, Some, List, [], ◌∷◌, length, filter, map, refl, sym, ap, ◌∙◌, subst, inl, inr, ⊎_elim, arith, slice_cmp, Ordering, Less, flat_map, nat_cmp, length-map, ItemData, Row, TestCounts, AreCounts, value_of, FileData, IsStateOf, IsConsistentFile, points_in, tests_in, TestData, sum_at, test_of, Key, has_key, items_at, KeyOf, Kind, PointsOf, SumOf, at, cmp_of, point_of, In-ascending, In-to_ascending, IsExactOrder, ascending_sorted, length-ascending, not_itself, In-flat, In-unfilter, In-unflat, In, All-in, In-unmap, names_order}
+use Rattle.covstore.proofs.Words.{◌≡◌, ℕ, ◌≤◌, Bool, Option, Some, List, [], ◌∷◌, ◌++◌, length, filter, map, refl, sym, ap, ◌∙◌, subst, inl, inr, ⊎_elim, arith, slice_cmp, Ordering, Less, flat_map, nat_cmp, length-map, ItemData, Row, TestCounts, AreCounts, ArePairs, value_of, FileData, IsStateOf, IsConsistentFile, points_in, tests_in, TestData, sum_at, test_of, Key, has_key, items_at, KeyOf, Kind, PointsOf, SumOf, at, cmp_of, point_of, In-ascending, In-to_ascending, IsExactOrder, ascending_sorted, length-ascending, not_itself, In-flat, In-joined, In-unfilter, In-unflat, In, All-in, In-unmap, names_order}
 use Rattle.std.specs.Cmp.{IsTotalOrder}
 use Rattle.std.specs.List.Sorted.{IsStrictlySortedBy}
 use Rattle.covtable.specs.Ascending.{ascending}
-use Rattle.covstore.proofs.CountsFound.{points_kept, points_of, sorted_keys}
+use Rattle.covstore.proofs.CountsFound.{kept_from, points_kept, points_of, sorted_keys}
 use Rattle.covtable.proofs.Few.{few_parts, one_branch, one_function, one_line}
 use Rattle.covstore.proofs.Puts.{pair_in, value_of_pair}
 use Rattle.covstore.proofs.StateSections.{points_there}
@@ -38,6 +38,19 @@ length-within {X} {cmp} t (x ∷ xs) (y ∷ ys) sorted ordered within =
     (within x (inl refl))
 
 -- ---- the points of one kind
+
+-- a test has no more points than are counted
+pub few_points : {K V : Type 0} {cmp : K → K → Ordering} (o : IsExactOrder cmp) {is_above : V → Bool} (front : List (List (K × V))) (points : List (K × V)) (back : List (List (K × V))) (counts : List (K × TestCounts))
+    → AreCounts cmp is_above (front ++ points ∷ back) counts → ArePairs cmp points → length points ≤ length counts
+few_points {K} {V} {cmp} o front points back counts are sorted =
+    let within : (key : K) → In key (points_of points) → In key (points_of counts) =
+    λ key i. kept_from o (front ++ points ∷ back) counts are key (In-flat points_of (front ++ points ∷ back) points key (In-joined front (points ∷ back) points (inr (inl refl))) i) in
+    omega (
+      arith,
+      length-map points (λ (pair : K × V). pair.0),
+      length-map counts (λ (pair : K × TestCounts). pair.0),
+      length-within o.total (points_of points) (points_of counts) (sorted_keys cmp points sorted) (sorted_keys cmp counts are.ascending) within,
+    )
 
 -- if the list `all` has each point of the tests, the counts have at most as many points as this list
 kept_within : {K V : Type 0} {cmp : K → K → Ordering} (o : IsExactOrder cmp) {is_above : V → Bool} (tests : List (List (K × V))) (counts : List (K × TestCounts)) → AreCounts cmp is_above tests counts → (all : List K)

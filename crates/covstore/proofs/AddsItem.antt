@@ -1,5 +1,5 @@
 -- What items do to their test and to the index of its file.
-use Rattle.covstore.proofs.Words.{◌≡◌, ℕ, Some, None, List, [], ◌∷◌, ◌++◌, sym, ap, ◌∙◌, subst, inl, inr, ⊎_elim, Contains, slice_cmp, nat_cmp, flat_map-append, ItemData, LineItem, FuncItem, BranchItem, Row, rows_of_sect, Adds, IsIn, section_of_items, with_items, Agree, Checksum, checksum_of, checksum_of_row, checksums_in, first_clash, FileIndexData, put, value_of, FileData, IsStateOf, file_with, IsTextOf, KeepsCounts, KeepsTextsOf, TestData, with_item, In-unflat, In, In-from, In-parts, In-unmap, names_order}
+use Rattle.covstore.proofs.Words.{◌≡◌, ℕ, Some, None, List, [], ◌∷◌, ◌++◌, sym, ap, ◌∙◌, subst, inl, inr, ⊎_elim, Contains, slice_cmp, nat_cmp, flat_map-append, ItemData, LineItem, FuncItem, BranchItem, Row, rows_of_sect, Adds, IsIn, section_of_items, with_items, Agree, Checksum, checksum_of, checksum_of_row, checksums_in, first_clash, FileIndexData, put, value_of, FileData, IsStateOf, file_with, IsTextOf, KeepsCounts, KeepsTextsOf, TestData, In-unflat, In, In-from, In-parts, In-unmap, names_order}
 use Rattle.covstore.proofs.AddsPlace.{checksum_held, state_agrees, text_kept, whole_after}
 use Rattle.covtable.proofs.Clashes.{agree_none}
 use Rattle.covstore.proofs.Puts.{value_of-put}
@@ -64,11 +64,3 @@ pub items_add : (items : List ItemData) (test test_after : TestData) (index inde
     → ((item : ItemData) → In item items → IsTextOf item index_after) → KeepsTextsOf index index_after → Adds items test index test_after index_after
 items_add items test test_after index index_after more counts own texts rows files file name tests is =
     items_add_at items test test_after index index_after more counts own texts rows files file name tests is
-
-pub item_adds : (item : ItemData) (test test_after : TestData) (index index_after : FileIndexData) → test_after ≡ with_item item test → KeepsCounts test test_after index index_after → IsTextOf item index_after
-    → KeepsTextsOf index index_after → Adds (item ∷ []) test index test_after index_after
-item_adds item test test_after index index_after more counts own texts = items_add (item ∷ []) test test_after index index_after more counts (λ other i. by other i) texts
-  where
-    by : (other : ItemData) → In other (item ∷ []) → IsTextOf other index_after
-    by other (inl is) = subst (λ (one : ItemData). IsTextOf one index_after) is own
-    by other (inr none) = absurd none

@@ -95,33 +95,3 @@ all_hold false y z first second other = first
 pub two_checksums : (file : List ℕ) (line : ℕ) (given held : List ℕ) → (held ≡ given → ⊥) → differs (record { file = file; line = line; checksum = given }) (record { file = file; line = line; checksum = held }) ≡ true
 two_checksums file line given held other =
     all_hold (bytes_eq file file) (line == line) (bytes_eq given held) ((bytes_eq-Decides file file).1 refl) (eq-eqb line line refl) (λ same. other (sym ((bytes_eq-Decides given held).0 same)))
-
-line_clashes : (line count : ℕ) (checksum : List ℕ) (test : TestData) (index : FileIndexData) (held : List ℕ) → IsOtherText index line held checksum
-    → ClashesAt (LineItem line count (Some checksum) ∷ []) test index line held checksum
-line_clashes line count checksum test index held other rows files file name tests is =
-    let own : Checksum = record { file = file; line = line; checksum = checksum } in
-    let before : Checksum = record { file = file; line = line; checksum = held } in
-    let all : checksums_in rows ≡ checksums_in rows ++ [] = sym (append-nil (checksums_in rows)) in
-    told_first (checksums_in rows) (own ∷ []) (clash_in_file file line held checksum) (record {
-      before = [];
-      first = own;
-      after = [];
-      other = before;
-      place = refl;
-      among = subst (λ (cs : List Checksum). Contains cs before) all (Contains-from (checksums_in rows) before (held_text is line held other.is_held other.is_kept));
-      differ = two_checksums file line checksum held other.other;
-      none_before = subst Agree all is.agree;
-      told = refl;
-    })
-
-pub item_clashes : (item : ItemData) (test : TestData) (index : FileIndexData) (told : ℕ) (held given : List ℕ) → IsClashAt item index told held given → ClashesAt (item ∷ []) test index told held given
-item_clashes (LineItem line count (Some checksum)) test index told held given clash rows files file name tests is =
-    line_clashes line count checksum test index held clash.2 rows files file name tests is
-    ∙ ap (λ (n : ℕ). Some (clash_in_file file n held checksum)) (sym clash.0) ∙ ap (λ (text : List ℕ). Some (clash_in_file file told held text)) (sym clash.1)
-item_clashes (LineItem line count None) test index told held given clash rows files file name tests is = absurd clash
-item_clashes (FuncItem function line count) test index told held given clash rows files file name tests is = absurd clash
-item_clashes (BranchItem line block branch taken) test index told held given clash rows files file name tests is = absurd clash
-
-pub one_clashes : {A : Type 0} (item : ItemData) (test : TestData) (index : FileIndexData) (stop : StageFault A) → IsClashOf item index stop → Clashes (item ∷ []) test index stop
-one_clashes item test index Memory clash = tt
-one_clashes item test index (Clash line held given) clash = item_clashes item test index line held given clash

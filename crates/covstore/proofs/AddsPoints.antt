@@ -1,7 +1,7 @@
 -- The points of a test are added to another test of its file: the room for them, and the index afterwards.
-use Rattle.covstore.proofs.Words.{◌≡◌, ℕ, Bool, true, false, ◌||◌, Option, Some, None, List, length, refl, ap, ◌∙◌, nat_cmp, ArePairs, value_of, LineSum, FileIndexData, HasRoomForRun, Kind, Line, above_of, at, cmp_of, is_above_at, AddsPoints, HasRoomForPoints, held_again, merged, KeepsCountsOfKinds, addend_of, sum_of, has_checksum, TestData, lines_order}
+use Rattle.covstore.proofs.Words.{◌≡◌, ℕ, Bool, true, false, ◌||◌, Option, Some, None, List, ◌∷◌, ◌++◌, length, length-map, map, subst, arith, refl, ap, ◌∙◌, nat_cmp, AreCounts, ArePairs, PointsOf, value_of, LineSum, FileIndexData, HasRoomForRun, Kind, Line, above_of, at, cmp_of, is_above_at, AddsPoints, HasRoomForPoints, held_again, merged, KeepsCountsOfKinds, addend_of, sum_of, has_checksum, TestData, lines_order}
 use Rattle.std.specs.Option.{is_some}
-use Rattle.covstore.proofs.EachKind.{room_in}
+use Rattle.covstore.proofs.EachKind.{map_between}
 use Rattle.covstore.proofs.HoldsAgain.{again_keeps, again_still}
 use Rattle.covstore.proofs.Merges.{added, added_at}
 use Rattle.covstore.proofs.RunsKept.{counts_between}
@@ -10,9 +10,14 @@ use Rattle.covstore.proofs.StepsKept.{is_holding}
 -- there is room for the points of each kind, as for a run
 pub points_room : (kind : Kind) (source test : TestData) (index : FileIndexData) → HasRoomForPoints source test index
     → HasRoomForRun (cmp_of kind) (above_of kind) (at kind test) (at kind index.counts) (length (at kind source))
-points_room kind source test index room =
-    let own = room_in kind test index room.room in
-    record { front = own.front; back = own.back; kept = own.kept; few_tests = own.few_tests; few = room.few kind }
+points_room kind source test index room = record {
+  front = map (at kind) room.room.front;
+  back = map (at kind) room.room.back;
+  kept = subst (λ (tests : List (PointsOf kind)). AreCounts (cmp_of kind) (above_of kind) tests (at kind index.counts)) (map_between (at kind) room.room.front test room.room.back) (room.room.kept.counts kind);
+  sorted = room.sorted kind;
+  few_tests = omega (arith, ap (λ (tests : List (PointsOf kind)). length tests) (map_between (at kind) room.room.front test room.room.back), length-map (room.room.front ++ test ∷ room.room.back) (at kind), room.room.few_tests);
+  few = room.few kind;
+}
 
 -- ---- all kinds
 
@@ -34,7 +39,7 @@ sum_holds None value = refl
 sum_holds (Some more) None = or_none more.has_checksum
 sum_holds (Some more) (Some value) = or_turned value.has_checksum more.has_checksum
 
-module _ (source test after : TestData) (index more : FileIndexData) (sorted : ArePairs nat_cmp source.lines) (is : after ≡ merged source test) (counts : KeepsCountsOfKinds test after index more)
+module _ (source test after : TestData) (index more : FileIndexData) (sorted : ArePairs nat_cmp source.lines) (is : after ≡ merged source test) (counts : KeepsCountsOfKinds test after index.counts more.counts)
     (holders : more.holders ≡ held_again source.lines test.lines index.holders) (texts : more.texts ≡ index.texts) where
   holding : (line : ℕ) → is_holding line after ≡ (is_above_at has_checksum (value_of nat_cmp line source.lines) || is_holding line test)
   holding line =
@@ -46,7 +51,7 @@ module _ (source test after : TestData) (index more : FileIndexData) (sorted : A
   points_added = record {
     points = is;
     counts = λ front back are. record {
-      counts = λ kind. counts_between kind test after index more counts front back (are.counts kind);
+      counts = λ kind. counts_between kind test after index.counts more.counts counts front back (are.counts kind);
       holders = again_keeps source.lines sorted test after holding index.holders more.holders holders front back are.holders;
     };
     texts = record {

@@ -1,6 +1,7 @@
 -- Nothing is staged in a file but in some of its tests. This stays true after items of one of these tests are staged, and after
 -- one of them is prepared.
-use Rattle.covstore.proofs.Words.{◌≡◌, ℕ, Bool, true, false, cond, ◌||◌, Some, List, [], ◌∷◌, ◌++◌, Vec, filter, map, refl, sym, ap, ◌∙◌, subst, insert_entry, is_at, slice_cmp, Ordering, Less, Equal, Greater, AllByRecursion, list_any, lookup, set_value, match_ordering, nat_cmp, bytes_eq, false≢true, tells_apart, none-some, same_Some, bytes_eq-Decides, File, Test, AreSettledBut, IsSettledBut, tests_of, index_staged, index_committed, test_staged, test_committed, names_order}
+use Rattle.covstore.proofs.Words.{◌≡◌, ℕ, Bool, true, false, cond, ◌||◌, Some, List, [], ◌∷◌, ◌++◌, Vec, filter, map, refl, sym, ap, ◌∙◌, subst, insert_entry, is_at, slice_cmp, Ordering, Less, Equal, Greater, AllByRecursion, list_any, lookup, set_value, match_ordering, nat_cmp, bytes_eq, false≢true, tells_apart, none-some, same_Some, bytes_eq-Decides, File, Test, AreSettledBut, IsSettledBut, tests_of, FileData, file_committed, file_staged, test_staged, test_committed, names_order}
+use Rattle.covstore.specs.FileParts.{FileTests}
 use Rattle.covstore.proofs.StoreKept.{All-inserted}
 
 -- if all entries satisfy `P`, they still do after a value is replaced by one that satisfies it
@@ -61,14 +62,25 @@ test_settled {A} tests test among before after v w found written settled = recor
       settled.points);
 }
 
-pub test_inserted : {A : Type 0} (tests : List (List ℕ)) (cmp : Vec ℕ A → Vec ℕ A → Ordering) (before after : File A) (key : Vec ℕ A) (w : Test A) → test_staged w ≡ test_committed w → after.index ≡ before.index
-    → after.tests.entries ≡ insert_entry cmp before.tests.entries key w → IsSettledBut tests before → IsSettledBut tests after
-test_inserted {A} tests cmp before after key w same index written settled = record {
+-- the tests stay, and so does what is seen of the file
+pub settled_same : {A : Type 0} (tests : List (List ℕ)) (before after : File A) → after.tests ≡ before.tests → file_committed after ≡ file_committed before → file_staged after ≡ file_staged before
+    → IsSettledBut tests before → IsSettledBut tests after
+settled_same {A} tests before after same committed staged settled = record {
   index = λ all.
-      ap index_staged index
+      ap (λ (f : FileData). f.index) staged
+      ∙ settled.index (subst (λ (t : FileTests A). AllByRecursion (λ (pair : Vec ℕ A × Test A). list_any (λ test. bytes_eq test pair.0.items) tests ≡ false) t.entries) same all) ∙ sym (ap (λ (f : FileData). f.index) committed);
+  points = subst (λ (t : FileTests A). AllByRecursion (IsSettledTest tests) t.entries) (sym same) settled.points;
+}
+
+pub test_inserted : {A : Type 0} (tests : List (List ℕ)) (cmp : Vec ℕ A → Vec ℕ A → Ordering) (before after : File A) (key : Vec ℕ A) (w : Test A) → test_staged w ≡ test_committed w
+    → (file_staged after).index ≡ (file_staged before).index → (file_committed after).index ≡ (file_committed before).index
+    → after.tests.entries ≡ insert_entry cmp before.tests.entries key w → IsSettledBut tests before → IsSettledBut tests after
+test_inserted {A} tests cmp before after key w same staged committed written settled = record {
+  index = λ all.
+      staged
       ∙ settled.index (keys_inserted cmp (λ (name : Vec ℕ A). list_any (λ test. bytes_eq test name.items) tests ≡ false) key w before.tests.entries
       (subst (AllByRecursion (λ (pair : Vec ℕ A × Test A). list_any (λ test. bytes_eq test pair.0.items) tests ≡ false)) written all))
-      ∙ sym (ap index_committed index);
+      ∙ sym committed;
   points = subst (AllByRecursion (IsSettledTest tests)) (sym written) (All-inserted cmp (IsSettledTest tests) key w before.tests.entries (λ e. same) (λ other is e. same) settled.points);
 }
 

@@ -63,6 +63,7 @@ module _ (tests : List (List ℕ × TestData)) (index : FileIndexData) where
         let same = adds_up old source its_source room.rows room.files room.name room.stands in
         record {
           room = its_room new target its_target room.rows room.files room.name room.stands few_rows few;
+          sorted = its_sorted new target its_target room.rows room.files room.name room.stands;
           few = λ kind. omega (arith, kept kind, room.few, sums_few kind items, ap (λ (test : TestData). length (at kind test)) same);
           holders = λ line has. (held_by_test source index own line has, holders_few source index own line);
         }

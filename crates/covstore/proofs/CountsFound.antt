@@ -59,7 +59,7 @@ module _ {K V : Type 0} {cmp : K → K → Ordering} (o : IsExactOrder cmp) {is_
       subst (λ (k : K). In k (flat_map points_of tests)) pair.2
       (In-flat points_of tests test.0 pair.0.0 test.1 (In-map (λ (p : K × V). p.0) test.0 (pair.0.0, value.0) (pair_in o pair.0.0 value.0 test.0 value.1)))
 
-  kept_from : (key : K) → In key (flat_map points_of tests) → In key (points_of counts)
+  pub kept_from : (key : K) → In key (flat_map points_of tests) → In key (points_of counts)
   kept_from key i =
       let test = In-unflat points_of tests key i in
       let pair = In-unmap (λ (p : K × V). p.0) test.0 key test.2 in

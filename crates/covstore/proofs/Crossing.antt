@@ -13,10 +13,8 @@ use Rattle.covstore.specs.contracts.checksums.Checksums as Checksums
 use Rattle.covstore.specs.contracts.file.File as File
 use Rattle.covstore.specs.contracts.file_checksums.FileChecksums as FileChecksums
 use Rattle.covstore.specs.contracts.index.FileIndex as FileIndex
-use Rattle.covstore.specs.contracts.kind_index.Counts as Counts
-use Rattle.covstore.specs.contracts.kind_index.KindIndex as KindIndex
-use Rattle.covstore.specs.contracts.point_index.PointIndex as PointIndex
-use Rattle.covstore.specs.contracts.sole_test.SoleTest as SoleTest
+use Rattle.covstore.specs.contracts.point_counts.PointCounts as PointCounts
+use Rattle.covstore.specs.contracts.points.Points as Points
 use Rattle.covstore.specs.contracts.store.Store as Store
 use Rattle.covstore.specs.contracts.test.Test as Test
 
@@ -26,20 +24,14 @@ map_send K V k sk sv = search (sendable, heap.crosses) depth 40
 boxed_send : (T : RattleType) → IsSend T → IsSend (Boxed.the_field T Heap.the_row ghosts).row
 boxed_send T s = search (sendable, heap.crosses) depth 40
 
+points_send : (K S : RattleType) (k : Key.Ghosts K.Denot) (s : PointSum.Ghosts S.Denot) → IsSend K → IsSend S → IsSend (Points.the_row K S Heap.the_row k s ghosts)
+points_send K S k s sk ss = search (sendable, heap.crosses, map_send) depth 40
+
 test_send : IsSend (Test.the_field Heap.the_row ghosts).row
-test_send = search (sendable, heap.crosses, map_send) depth 40 fits 20000
+test_send = search (sendable, heap.crosses, points_send) depth 40 fits 20000
 
-index_send : (K : RattleType) (k : Key.Ghosts K.Denot) → IsSend K → IsSend (PointIndex.the_row K Heap.the_row k ghosts)
-index_send K k sk = search (sendable, heap.crosses, map_send) depth 40
-
-sole_send : (K S : RattleType) (k : Key.Ghosts K.Denot) (s : PointSum.Ghosts S.Denot) → IsSend K → IsSend S → IsSend (SoleTest.the_row K S Heap.the_row k s ghosts)
-sole_send K S k s sk ss = search sendable depth 40
-
-counts_send : (K S : RattleType) (k : Key.Ghosts K.Denot) (s : PointSum.Ghosts S.Denot) → IsSend K → IsSend S → IsSend (Counts.the_field K S Heap.the_row k s ghosts).row
-counts_send K S k s sk ss = search (sendable, boxed_send, index_send, sole_send) depth 40
-
-kind_send : (K S : RattleType) (k : Key.Ghosts K.Denot) (s : PointSum.Ghosts S.Denot) → IsSend K → IsSend S → IsSend (KindIndex.the_row K S Heap.the_row k s ghosts)
-kind_send K S k s sk ss = search (sendable, counts_send) depth 40
+counts_send : IsSend (PointCounts.the_field Heap.the_row ghosts).row
+counts_send = search (sendable, heap.crosses, points_send) depth 40 fits 20000
 
 checksums_send : IsSend (Checksums.the_row Heap.the_row ghosts)
 checksums_send = search (sendable, heap.crosses, map_send) depth 40 fits 20000
@@ -48,7 +40,7 @@ file_checksums_send : IsSend (FileChecksums.the_row Heap.the_row ghosts)
 file_checksums_send = search (sendable, heap.crosses, boxed_send, checksums_send) depth 40 fits 20000
 
 file_index_send : IsSend (FileIndex.the_field Heap.the_row ghosts).row
-file_index_send = search (sendable, heap.crosses, kind_send, file_checksums_send) depth 40 fits 20000
+file_index_send = search (sendable, heap.crosses, boxed_send, counts_send, file_checksums_send) depth 40 fits 20000
 
 file_send : IsSend (File.the_field Heap.the_row ghosts).row
 file_send = search (sendable, heap.crosses, maps.crosses, boxed_send, test_send, file_index_send) depth 40 fits 20000

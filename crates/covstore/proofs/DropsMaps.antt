@@ -1,5 +1,5 @@
 -- The store's maps after a test is dropped from their files.
-use Rattle.covstore.proofs.Words.{◌≡◌, ℕ, Bool, true, false, cond, List, [], ◌∷◌, ◌++◌, refl, sym, ap, subst, inl, inr, Vec, AllByRecursion, remove_entry, File, AreWithoutTest, IsWithoutTest, file_committed, AreSettledBut, IsSettledBut, files_committed, tests_of, index_staged, index_committed, All-in, In-joined}
+use Rattle.covstore.proofs.Words.{◌≡◌, ℕ, Bool, true, false, cond, List, [], ◌∷◌, ◌++◌, refl, sym, ap, subst, inl, inr, Vec, AllByRecursion, remove_entry, File, AreWithoutTest, IsWithoutTest, file_committed, AreSettledBut, IsSettledBut, files_committed, tests_of, file_staged, All-in, In-joined}
 use Rattle.covstore.proofs.DropsRetain.{AreWritten}
 use Rattle.covstore.proofs.AddsSettled.{IsSettledTest}
 
@@ -37,7 +37,7 @@ All-removed {K} {X} P here (entry ∷ entries) all = by (here entry.0) (All-remo
     by false rest = (all.0, rest)
 
 -- one of the file's tests is removed, and nothing is staged in its index. Then nothing is staged but in these tests, as before
-pub removed_settled : {A : Type 0} (tests : List (List ℕ)) (here : Vec ℕ A → Bool) (before after : File A) → index_staged after.index ≡ index_committed after.index
+pub removed_settled : {A : Type 0} (tests : List (List ℕ)) (here : Vec ℕ A → Bool) (before after : File A) → (file_staged after).index ≡ (file_committed after).index
     → after.tests.entries ≡ remove_entry here before.tests.entries → IsSettledBut tests before → IsSettledBut tests after
 removed_settled {A} tests here before after index left settled = record {
   index = λ none. index;

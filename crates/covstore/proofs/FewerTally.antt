@@ -1,7 +1,7 @@
 -- One test loses a point: how many points are found afterwards, and how many of them are hit.
 use Rattle.covstore.proofs.Words.{◌≡◌, ℕ, ◌+◌, ◌-◌, Bool, true, false, cond, nat_lt, Option, Some, None, List, refl, sym, ap, ◌∙◌, subst, arith, Ordering, false≢true, lt-ltb, ltb-true, TestCounts, IsTallyOf, found_of, hit_of, one_if, CanBeLess, IsLess, IsTallyAt, counts_without, fewer_of, fewer_tests, is_hit, ArePairs, value_of, IsExactOrder}
 use Rattle.std.specs.Option.{is_some}
-use Rattle.covstore.specs.declared.point_index.KindTally.{KindTally}
+use Rattle.covstore.specs.declared.points.KindTally.{KindTally}
 use Rattle.covmap.specs.Assigned.{assigned}
 use Rattle.covstore.proofs.Assigned.{sum_assigned}
 use Rattle.covstore.proofs.Puts.{at_before, counted_one}

@@ -1,11 +1,10 @@
 -- Items are added in two steps: first their checksums are held, then their runs are staged. The first item whose checksum
 -- differs from the held one is the clash.
-use Rattle.covstore.proofs.Words.{◌≡◌, ℕ, true, false, Option, Some, None, List, ◌∷◌, ◌++◌, length, map, refl, sym, ap, ◌∙◌, subst, inl, ⊎_elim, Contains, slice_cmp, is_eq, nat_cmp, false≢true, tied_itself, flat_map-append, ItemData, LineItem, FuncItem, BranchItem, Row, rows_of_sect, put, value_of, Agree, Checksum, checksum_of_row, checksums_in, clash_of, FileIndexData, HasRoomForRun, IsClashAt, IsClashOf, IsOtherText, KeepsCounts, AreCounts, CountsOf, Each, above_of, at, cmp_of, HasRoomForRuns, KeepsCountsOfKinds, KeepsHeld, RunOf, runs_of, with_runs, Adds, Clashes, ClashesAt, HasRoomFor, IsIn, clash_in_file, section_of_items, FileData, file_with, holders_at, text_in, TestData, index_staged, test_staged, Test, In-unflat, Contains-from, In, In-from, In-joined, In-parts, In-unmap, names_order}
+use Rattle.covstore.proofs.Words.{◌≡◌, ℕ, true, false, Option, Some, None, List, ◌∷◌, ◌++◌, length, map, refl, sym, ap, ◌∙◌, subst, inl, ⊎_elim, Contains, slice_cmp, is_eq, nat_cmp, false≢true, tied_itself, flat_map-append, ItemData, LineItem, FuncItem, BranchItem, Row, rows_of_sect, put, value_of, Agree, Checksum, checksum_of_row, checksums_in, clash_of, FileIndexData, HasRoomForRun, IsClashAt, IsClashOf, IsOtherText, KeepsCounts, AreCounts, CountsOf, Each, above_of, at, cmp_of, HasRoomForRuns, KeepsCountsOfKinds, KeepsHeld, RunOf, runs_of, with_runs, Adds, Clashes, ClashesAt, HasRoomFor, IsIn, clash_in_file, section_of_items, FileData, file_with, holders_at, text_in, TestData, In-unflat, Contains-from, In, In-from, In-joined, In-parts, In-unmap, names_order}
 use Rattle.std.specs.Option.{is_some}
 use Rattle.covstore.specs.declared.stage.fault.StageFault.{StageFault}
 use Rattle.covstore.specs.declared.stage.fault.StageFault.TheVariants.{Clash, Memory}
 use Rattle.covstore.specs.HeldChecksums.{HoldsTexts}
-use Rattle.covstore.specs.declared.index.FileIndex.{FileIndex}
 use Rattle.covstore.proofs.AddsItem.{items_add, texts_after}
 use Rattle.covstore.proofs.AddsMore.{checksums_joined, two_checksums}
 use Rattle.covstore.proofs.AddsPlace.{agree_by_text, held_text}
@@ -21,17 +20,17 @@ use Rattle.covstore.proofs.TextsHeld.{HasHeld, IsApartFrom, text_stays, texts_bo
 -- ---- items that are added
 
 module _ (items : List ItemData) (runs : Each RunOf) (are : runs ≡ runs_of items) (test : TestData) (index held : FileIndexData) (texts : HoldsTexts items test index held) where
-  pub room_of_held : HasRoomFor items test index → HasRoomForRuns runs test held
+  pub room_of_held : HasRoomFor items test index → HasRoomForRuns runs test held.counts
   room_of_held room kind =
       subst (λ (counts : Each CountsOf). HasRoomForRun (cmp_of kind) (above_of kind) (at kind test) (at kind counts) (length (at kind runs))) (sym texts.counts)
       (room_of_runs items runs are test index room kind)
 
-  pub held_add : (after : TestData) (more : FileIndexData) → after ≡ with_runs runs test → KeepsCountsOfKinds test after held more → KeepsHeld held more → Adds items test index after more
+  pub held_add : (after : TestData) (more : FileIndexData) → after ≡ with_runs runs test → KeepsCountsOfKinds test after held.counts more.counts → KeepsHeld held more → Adds items test index after more
   held_add after more is counts stay =
       let all = is ∙ ap (λ (some : Each RunOf). with_runs some test) are ∙ runs_sum items test in
       let kept = texts_kept held more stay in
       let keeps : KeepsCounts test after index more = λ front back before. record {
-        counts = λ kind. counts_between kind test after held more counts front back
+        counts = λ kind. counts_between kind test after held.counts more.counts counts front back
             (subst (λ (own : Each CountsOf). AreCounts (cmp_of kind) (above_of kind) (map (at kind) (front ++ test ∷ back)) (at kind own)) (sym texts.counts) (before.counts kind));
         holders = λ line.
             ap (value_of nat_cmp line) stay.holders
@@ -39,22 +38,6 @@ module _ (items : List ItemData) (runs : Each RunOf) (are : runs ≡ runs_of ite
             ∙ ap (λ (own : TestData). holders_at line (front ++ own ∷ back)) (sym all);
       } in
       items_add items test after index more all keeps (λ item i. text_stays item held more kept (texts.own item (Contains-from items item i))) (texts_both index held more texts.texts kept)
-
--- the same for a test as the program has it. The test doesn't change while the checksums are held
-module _ {A : Type 0} (items : List ItemData) (runs : Each RunOf) (are : runs ≡ runs_of items) (test test_held : Test A) (index index_held : FileIndex A) (stays : test_held ≡ test)
-    (texts : HoldsTexts items (test_staged test) (index_staged index) (index_staged index_held)) where
-  pub room_of_held_in : HasRoomFor items (test_staged test) (index_staged index) → HasRoomForRuns runs (test_staged test_held) (index_staged index_held)
-  room_of_held_in room =
-      subst (λ (own : Test A). HasRoomForRuns runs (test_staged own) (index_staged index_held)) (sym stays)
-      (room_of_held items runs are (test_staged test) (index_staged index) (index_staged index_held) texts room)
-
-  pub held_add_in : (test_after : Test A) (index_after : FileIndex A) → test_staged test_after ≡ with_runs runs (test_staged test_held)
-      → KeepsCountsOfKinds (test_staged test_held) (test_staged test_after) (index_staged index_held) (index_staged index_after) → KeepsHeld (index_staged index_held) (index_staged index_after)
-      → Adds items (test_staged test) (index_staged index) (test_staged test_after) (index_staged index_after)
-  held_add_in test_after index_after is counts held =
-      held_add items runs are (test_staged test) (index_staged index) (index_staged index_held) texts (test_staged test_after) (index_staged index_after)
-      (is ∙ ap (λ (own : Test A). with_runs runs (test_staged own)) stays)
-      (subst (λ (own : Test A). KeepsCountsOfKinds (test_staged own) (test_staged test_after) (index_staged index_held) (index_staged index_after)) stays counts) held
 
 -- ---- items that agree
 

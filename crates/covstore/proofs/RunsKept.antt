@@ -1,9 +1,10 @@
 -- Items without a checksum are added. If the counts of each kind stay right, the index still counts its tests.
-use Rattle.covstore.proofs.Words.{◌≡◌, ℕ, Bool, false, Some, None, inl, inr, List, [], ◌∷◌, ◌++◌, length, map, refl, sym, ap, ◌∙◌, subst, arith, Ordering, TestCounts, nat_cmp, flat_map, ItemData, LineItem, FuncItem, BranchItem, value_of, FileIndexData, HasRoomForRun, KeepsCounts, AreCounts, is_above_at, Branch, Function, Kind, Line, PointsOf, above_of, at, cmp_of, HasNoChecksum, HasRoomForRuns, KeepsCountsOfKinds, KeepsHeld, run_of, runs_of, with_items, HasRoomFor, file_with, has_checksum, TestData, line_with, with_item, LineSum, In, lines_order, length-map}
+use Rattle.covstore.proofs.Words.{◌≡◌, ℕ, Bool, false, Some, None, inl, inr, List, [], ◌∷◌, ◌++◌, length, map, refl, sym, ap, ◌∙◌, subst, arith, Ordering, TestCounts, nat_cmp, flat_map, ItemData, LineItem, FuncItem, BranchItem, value_of, FileIndexData, HasRoomForRun, KeepsCounts, AreCounts, ArePairs, CountsOf, Each, is_above_at, Branch, Function, Kind, Line, PointsOf, above_of, at, cmp_of, HasNoChecksum, HasRoomForRuns, KeepsCountsOfKinds, KeepsHeld, run_of, runs_of, with_items, HasRoomFor, file_with, has_checksum, TestData, items_at, line_with, with_item, LineSum, In, lines_order, length-map}
 use Rattle.covstore.proofs.AddsFew.{kept_few}
-use Rattle.covstore.proofs.AddsPlace.{as_many, its_back, its_front, its_kept}
+use Rattle.covstore.proofs.AddsPlace.{as_many, its_back, its_front, its_kept, test_at}
 use Rattle.covstore.proofs.Assigned.{any_key}
 use Rattle.covstore.proofs.EachKind.{map_between}
+use Rattle.covstore.proofs.Merges.{sums_sorted}
 use Rattle.covstore.proofs.Puts.{value_of-put, value_of-put_apart}
 use Rattle.covstore.proofs.RunsSums.{run_few}
 use Rattle.covstore.proofs.StepsCounts.{line_bare}
@@ -28,23 +29,23 @@ plain_hold (item ∷ items) plain test line =
 
 -- ---- the numbers
 
-pub counts_between : (kind : Kind) (before after : TestData) (index more : FileIndexData) → KeepsCountsOfKinds before after index more → (front back : List TestData)
-    → AreCounts (cmp_of kind) (above_of kind) (map (at kind) (front ++ before ∷ back)) (at kind index.counts) → AreCounts (cmp_of kind) (above_of kind) (map (at kind) (front ++ after ∷ back)) (at kind more.counts)
-counts_between kind before after index more keeps front back are =
-    subst (λ (tests : List (PointsOf kind)). AreCounts (cmp_of kind) (above_of kind) tests (at kind more.counts)) (sym (map_between (at kind) front after back))
+pub counts_between : (kind : Kind) (before after : TestData) (counts more : Each CountsOf) → KeepsCountsOfKinds before after counts more → (front back : List TestData)
+    → AreCounts (cmp_of kind) (above_of kind) (map (at kind) (front ++ before ∷ back)) (at kind counts) → AreCounts (cmp_of kind) (above_of kind) (map (at kind) (front ++ after ∷ back)) (at kind more)
+counts_between kind before after counts more keeps front back are =
+    subst (λ (tests : List (PointsOf kind)). AreCounts (cmp_of kind) (above_of kind) tests (at kind more)) (sym (map_between (at kind) front after back))
     (keeps kind (map (at kind) front) (map (at kind) back)
-    (subst (λ (tests : List (PointsOf kind)). AreCounts (cmp_of kind) (above_of kind) tests (at kind index.counts)) (map_between (at kind) front before back) are))
+    (subst (λ (tests : List (PointsOf kind)). AreCounts (cmp_of kind) (above_of kind) tests (at kind counts)) (map_between (at kind) front before back) are))
 
 pub plain_keep : (items : List ItemData) → ((item : ItemData) → In item items → HasNoChecksum item) → (test after : TestData) (index more : FileIndexData) → after ≡ with_items items test
-    → KeepsCountsOfKinds test after index more → KeepsHeld index more → KeepsCounts test after index more
+    → KeepsCountsOfKinds test after index.counts more.counts → KeepsHeld index more → KeepsCounts test after index more
 plain_keep items plain test after index more is keeps held front back are = record {
-  counts = λ kind. counts_between kind test after index more keeps front back (are.counts kind);
+  counts = λ kind. counts_between kind test after index.counts more.counts keeps front back (are.counts kind);
   holders = holders_same front test after back index.holders more.holders (λ line. ap (is_holding line) is ∙ plain_hold items plain test line) held.holders are.holders;
 }
 
 -- ---- the room
 
-pub runs_have_room : (items : List ItemData) (test : TestData) (index : FileIndexData) → HasRoomFor items test index → HasRoomForRuns (runs_of items) test index
+pub runs_have_room : (items : List ItemData) (test : TestData) (index : FileIndexData) → HasRoomFor items test index → HasRoomForRuns (runs_of items) test index.counts
 runs_have_room items test index room kind =
     let kept = kept_few room.rows room.files room.stands.state room.file (file_with room.tests index) room.stands.its_file in
     let front = its_front room.stands in
@@ -54,6 +55,7 @@ runs_have_room items test index room kind =
       front = map (at kind) front;
       back = map (at kind) back;
       kept = subst (λ (tests : List (PointsOf kind)). AreCounts (cmp_of kind) (above_of kind) tests (at kind index.counts)) (map_between (at kind) front test back) ((its_kept room.stands).counts kind);
+      sorted = subst (λ (own : TestData). ArePairs (cmp_of kind) (at kind own)) (sym (test_at room.stands room.name test room.stands.its_test)) (sums_sorted kind (items_at (record { file = room.file; test = room.name }) room.rows));
       few_tests = omega (arith, ap (λ (tests : List (PointsOf kind)). length tests) (map_between (at kind) front test back), length-map (front ++ test ∷ back) (at kind), as_many room.stands, room.few_tests);
       few = omega (arith, kept kind, room.few, some, run_at kind);
     }

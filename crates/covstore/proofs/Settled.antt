@@ -1,5 +1,5 @@
 -- Nothing is staged in a file but in some of its tests, and nothing in all files but in some of their tests.
-use Rattle.covstore.proofs.Words.{◌≡◌, ℕ, Bool, true, false, cond, ◌||◌, length, arith, Some, None, List, [], ◌∷◌, ◌++◌, map, filter, refl, sym, ap, ◌∙◌, subst, Vec, slice_cmp, AllByRecursion, list_any, lookup, set_value, is_eq, nat_cmp, bytes_eq, length_push, map-append, map_push, bytes_eq-Decides, File, Test, FileIndexData, FileData, file_with, TestData, file_staged, file_committed, AreSettledBut, IsSettledBut, files_staged, files_committed, tests_of, touched_data, index_staged, index_committed, test_staged, test_committed, All-weaker, All-from}
+use Rattle.covstore.proofs.Words.{◌≡◌, ℕ, Bool, true, false, cond, ◌||◌, length, arith, Some, None, List, [], ◌∷◌, ◌++◌, map, filter, refl, sym, ap, ◌∙◌, subst, Vec, slice_cmp, AllByRecursion, list_any, lookup, set_value, is_eq, nat_cmp, bytes_eq, length_push, map-append, map_push, bytes_eq-Decides, File, Test, FileIndexData, FileData, file_with, TestData, file_staged, file_committed, AreSettledBut, IsSettledBut, files_staged, files_committed, tests_of, touched_data, test_staged, test_committed, All-weaker, All-from}
 use Rattle.std.specs.List.Sorted.{IsStrictlySortedBy}
 use Rattle.std.specs.Map.{keys_of}
 use Rattle.std.proofs.lemmas.List.{append-nil}
@@ -30,7 +30,7 @@ module _ {A : Type 0} (tests : List (List ℕ)) (test : List ℕ) (before after 
   pub settled_found : (v w : Test A) → IsStrictlySortedBy (λ (a b : Vec ℕ A). slice_cmp nat_cmp a.items b.items) (keys_of before.tests.entries)
       → after.tests.entries ≡ set_value (λ (k : Vec ℕ A). is_eq (slice_cmp nat_cmp test k.items)) before.tests.entries w
       → lookup (λ (k : Vec ℕ A). is_eq (slice_cmp nat_cmp test k.items)) before.tests.entries ≡ Some v → test_staged w ≡ test_committed w
-      → index_staged after.index ≡ index_committed after.index → IsSettledBut tests after
+      → (file_staged after).index ≡ (file_committed after).index → IsSettledBut tests after
   settled_found v w sorted written found settled index = record {
     index = λ all. index;
     points = subst (AllByRecursion (IsSettledTest tests)) (sym written)
@@ -42,12 +42,13 @@ module _ {A : Type 0} (tests : List (List ℕ)) (test : List ℕ) (before after 
       → IsSettledBut tests after
   settled_unfound none same index = record {
     index = λ all.
-        ap index_staged index
+        let whole : after ≡ before = λ i. record { tests = record { entries = same i }; index = index i } in
+        ap (λ (f : File A). (file_staged f).index) whole
         ∙ was.index
         (All-unfound (λ (k : Vec ℕ A). k.items) test (λ (pair : Vec ℕ A × Test A). among pair.0.items tests ≡ false) (λ (pair : Vec ℕ A × Test A). among pair.0.items (tests ++ test ∷ []) ≡ false) before.tests.entries none
         (λ pair e apart. not_among pair.0.items test tests (λ is. apart (sym is)) e)
         (subst (AllByRecursion (λ (pair : Vec ℕ A × Test A). among pair.0.items tests ≡ false)) same all))
-        ∙ sym (ap index_committed index);
+        ∙ sym (ap (λ (f : File A). (file_committed f).index) whole);
     points = subst (AllByRecursion (IsSettledTest tests)) (sym same)
         (All-unfound (λ (k : Vec ℕ A). k.items) test (IsSettledTest (tests ++ test ∷ [])) (IsSettledTest tests) before.tests.entries none others_stay was.points);
   }

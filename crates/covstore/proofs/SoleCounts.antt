@@ -1,9 +1,9 @@
 -- The counts of the only test of a file: no other test has a point, and each of its points counts once.
-use Rattle.covstore.proofs.Words.{◌≡◌, ℕ, ◌+◌, ◌≤◌, Bool, true, false, cond, nat_lt, Option, Some, None, option_map, List, [], ◌∷◌, ◌++◌, refl, sym, ap, ◌∙◌, subst, arith, Ordering, Less, AllByRecursion, is_eq, ltb-false, none-some, same_Some, ArePairs, value_of, TestCounts, IsTallyOf, AreCounts, count_above, count_with, one_if, IsTallyWithout, LosesTest, IsExactOrder}
-use Rattle.covstore.specs.declared.point_index.KindTally.{KindTally}
-use Rattle.covstore.specs.SoleTest.{count_of_one, counts_of}
+use Rattle.covstore.proofs.Words.{◌≡◌, ℕ, ◌+◌, ◌≤◌, Bool, true, false, cond, nat_lt, Option, Some, None, option_map, List, [], ◌∷◌, ◌++◌, refl, sym, ap, ◌∙◌, subst, arith, Ordering, Less, AllByRecursion, is_eq, ltb-false, none-some, same_Some, ArePairs, value_of, TestCounts, AreCounts, count_above, count_with, one_if, LosesTest, IsExactOrder, KeepsCountsOfKind, KeepsCountsOfKinds, Branch, Each, Function, Kind, Line, RunOf, TestData, above_of, at, branch_above, branches_order, cmp_of, count_of_one, counts_of, counts_of_test, function_above, line_above, lines_order, names_order, sum_of, summed, with_runs}
 use Rattle.covstore.proofs.Counts.{above_le_with, same_tests, tests_among, tests_at-between}
+use Rattle.covstore.proofs.EachKind.{each_kind}
 use Rattle.covstore.proofs.Fewer.{one_rest}
+use Rattle.covstore.proofs.Tallies.{run_ascends}
 
 none_of : (n hit : ℕ) (some : Bool) → nat_lt 0 n ≡ some → ◌≡◌ {A = Option TestCounts} None (cond some (Some (record { tests = n; hit = hit })) None) → n ≡ 0
 none_of n hit true e is = absurd (none-some (record { tests = n; hit = hit }) is)
@@ -80,7 +80,22 @@ module _ {K V : Type 0} (cmp : K → K → Ordering) (is_above : V → Bool) whe
     counted = λ key. same_tests {tests = 0} {others = count_with cmp key others} {hit = 0} {above = count_above cmp is_above key others} (sym (no_others [] others points are key)) (sym (none_above [] others points are key));
   }
 
-  pub sole_tally : (o : IsExactOrder cmp) (points : List (K × V)) (tally : KindTally) → tally.found ≡ 0 → tally.hit ≡ 0 → IsTallyWithout cmp is_above points (counts_of is_above points) tally
-  sole_tally o points tally found hit others rest are own =
-      subst (λ (counts : List (K × TestCounts)). IsTallyOf counts tally) (sym (one_rest o others rest [] own (sole_loses points others are)))
-      (record { found = found; hit = hit })
+  pub sole_rest : (o : IsExactOrder cmp) (points : List (K × V)) (others : List (List (K × V))) (rest : List (K × TestCounts)) → AreCounts cmp is_above (points ∷ others) (counts_of is_above points)
+      → AreCounts cmp is_above others rest → rest ≡ []
+  sole_rest o points others rest are own = one_rest o others rest [] own (sole_loses points others are)
+
+-- ---- a run of items
+
+pub run_alone : {K V Q M : Type 0} {cmp : K → K → Ordering} (o : IsExactOrder cmp) (is_above : V → Bool) (named : Q → K) (sum : M → Option V → V) (run : List (Q × M)) (points : List (K × V))
+    → KeepsCountsOfKind cmp is_above points (summed cmp named sum run points) (counts_of is_above points) (counts_of is_above (summed cmp named sum run points))
+run_alone {cmp = cmp} o is_above named sum run points front back are =
+    still_alone cmp is_above front back points are (summed cmp named sum run points) (run_ascends o named sum run points (points_ascend cmp is_above points are.ascending))
+
+-- the run of each kind
+pub runs_alone : (runs : Each RunOf) (test after : TestData) → after ≡ with_runs runs test → KeepsCountsOfKinds test after (counts_of_test test) (counts_of_test after)
+runs_alone runs test after is =
+    subst (λ (later : TestData). KeepsCountsOfKinds test later (counts_of_test test) (counts_of_test later)) (sym is)
+    (each_kind
+    (λ (kind : Kind). KeepsCountsOfKind (cmp_of kind) (above_of kind) (at kind test) (at kind (with_runs runs test)) (at kind (counts_of_test test)) (at kind (counts_of_test (with_runs runs test))))
+    (run_alone lines_order line_above (λ key. key) (sum_of Line) runs.lines test.lines) (run_alone names_order function_above (λ key. key) (sum_of Function) runs.functions test.functions)
+    (run_alone branches_order branch_above (λ key. key) (sum_of Branch) runs.branches test.branches))

@@ -4,7 +4,6 @@ use Rattle.covstore.proofs.Counts.{IsWithin, count_by-between, counts_within}
 use Rattle.covstore.proofs.CountsPut.{counts_put}
 use Rattle.covstore.proofs.Puts.{value_of-put, value_of-put_apart}
 use Rattle.covstore.proofs.Assigned.{any_key}
-use Rattle.covstore.proofs.EachKind.{keeps_added}
 
 -- ---- one kind of points
 
@@ -89,38 +88,3 @@ module _ (front : List TestData) (before after : TestData) (back : List TestData
       (λ (e : is_eq (nat_cmp line other) ≡ false).
       ap (value_of nat_cmp other) moves ∙ other_holders line other (is_holding line before) e ∙ are other ∙ holding_same other (apart other e))
       (cases_Bool (is_eq (nat_cmp line other)))
-
--- ---- one item more
-
--- the points of one kind change, and the test holds checksums of the same lines as before
-pub keeps_point : (own : Kind) (after : PointsOf own) (counts : CountsOf own) (test : TestData) (index more : FileIndexData) → KeepsCountsOfKind (cmp_of own) (above_of own) (at own test) after (at own index.counts) counts
-    → more.counts ≡ with_at own counts index.counts → ((line : ℕ) → is_holding line (with_at own after test) ≡ is_holding line test) → more.holders ≡ index.holders
-    → KeepsCounts test (with_at own after test) index more
-keeps_point own after counts test index more keeps moved same stay front back are = record {
-  counts = λ kind. subst (λ (all : Each CountsOf). AreCounts (cmp_of kind) (above_of kind) (map (at kind) (front ++ with_at own after test ∷ back)) (at kind all)) (sym moved) (keeps_added own after counts test index keeps front back are kind);
-  holders = holders_same front test (with_at own after test) back index.holders more.holders same stay are.holders;
-}
-
--- an item of a line is added, with or without a checksum
-module _ (line : ℕ) (value : LineSum) (after : List (ℕ × LineSum)) (counts : List (ℕ × TestCounts)) (test : TestData) (index more : FileIndexData) (puts : after ≡ put nat_cmp line value test.lines)
-    (keeps : KeepsCountsOfKind nat_cmp line_above test.lines after index.counts.lines counts) (moved : more.counts ≡ with_at Line counts index.counts) where
-  abbrev changed : TestData
-  changed = with_at Line after test
-
-  apart_holding : (other : ℕ) → is_eq (nat_cmp line other) ≡ false → is_holding other changed ≡ is_holding other test
-  apart_holding other apart =
-      ap (λ (own : List (ℕ × LineSum)). is_above_at has_checksum (value_of nat_cmp other own)) puts ∙ ap (is_above_at has_checksum) (value_of-put_apart lines_order line other value test.lines apart)
-
-  own_holding : is_holding line changed ≡ value.has_checksum
-  own_holding = ap (λ (own : List (ℕ × LineSum)). is_above_at has_checksum (value_of nat_cmp line own)) puts ∙ ap (is_above_at has_checksum) (value_of-put lines_order line value test.lines)
-
-  pub keeps_line_checked : value.has_checksum ≡ true → more.holders ≡ held_more line (is_holding line test) index.holders → KeepsCounts test changed index more
-  keeps_line_checked holds moves front back are = record {
-    counts = λ kind. subst (λ (all : Each CountsOf). AreCounts (cmp_of kind) (above_of kind) (map (at kind) (front ++ changed ∷ back)) (at kind all)) (sym moved) (keeps_added Line after counts test index keeps front back are kind);
-    holders = holders_more front test changed back index.holders more.holders line (own_holding ∙ holds) apart_holding moves are.holders;
-  }
-
-  pub keeps_line_bare : value.has_checksum ≡ is_holding line test → more.holders ≡ index.holders → KeepsCounts test changed index more
-  keeps_line_bare same =
-      keeps_point Line after counts test index more keeps moved
-      (any_key lines_order (λ (other : ℕ). is_holding other changed ≡ is_holding other test) line (own_holding ∙ same) apart_holding)

@@ -1,5 +1,6 @@
 -- The items of a run are added to a test's points one after another, and the counts of the file's points stay right.
-use Rattle.covstore.proofs.Words.{◌≡◌, ◌+◌, ◌≤◌, Bool, Option, List, [], ◌∷◌, length, sym, ap, ◌∙◌, subst, arith, Ordering, length-append, put, value_of, sum_put, summed, TestCounts, HasRoomForRun, HasRoomOfKind, KeepsCountsOfKind}
+use Rattle.covstore.proofs.Words.{◌≡◌, ◌+◌, ◌≤◌, Bool, Option, List, [], ◌∷◌, length, sym, ap, ◌∙◌, subst, arith, Ordering, length-append, ArePairs, IsExactOrder, put, value_of, sum_put, summed, TestCounts, HasRoomForRun, HasRoomOfKind, KeepsCountsOfKind}
+use Rattle.covstore.proofs.Puts.{ArePairs-put}
 
 module _ {K V Q M : Type 0} (cmp : K → K → Ordering) (is_above : V → Bool) (named : Q → K) (sum : M → Option V → V) (all : List (Q × M)) (points : List (K × V)) (counts : List (K × TestCounts)) where
   -- the items that are left are still to be added. So far the counts are right
@@ -18,12 +19,13 @@ module _ {K V Q M : Type 0} (cmp : K → K → Ordering) (is_above : V → Bool)
   pub summing_all : (left : List (Q × M)) (now : List (K × V)) (counts_now : List (K × TestCounts)) → left ≡ [] → IsSumming left now counts_now → now ≡ summed cmp named sum all points
   summing_all left now counts_now none is = sym (ap (λ (some : List (Q × M)). summed cmp named sum some now) none) ∙ is.sums
 
-  module _ (item : Q × M) (left rest : List (Q × M)) (now : List (K × V)) (counts_now : List (K × TestCounts)) (first : left ≡ item ∷ rest) (is : IsSumming left now counts_now) where
+  module _ (o : IsExactOrder cmp) (item : Q × M) (left rest : List (Q × M)) (now : List (K × V)) (counts_now : List (K × TestCounts)) (first : left ≡ item ∷ rest) (is : IsSumming left now counts_now) where
     pub summing_room : HasRoomOfKind cmp is_above now counts_now
     summing_room = record {
       front = is.room.front;
       back = is.room.back;
       kept = is.room.kept;
+      sorted = is.room.sorted;
       few_tests = is.room.few_tests;
       few = omega (arith, is.room.few, ap (λ (some : List (Q × M)). length some) first);
     }
@@ -36,6 +38,7 @@ module _ {K V Q M : Type 0} (cmp : K → K → Ordering) (is_above : V → Bool)
         front = is.room.front;
         back = is.room.back;
         kept = keeps is.room.front is.room.back is.room.kept;
+        sorted = subst (ArePairs cmp) (sym puts) (ArePairs-put o (named item.0) (sum item.1 (value_of cmp (named item.0) now)) now is.room.sorted);
         few_tests = omega (arith, is.room.few_tests, length-append is.room.front (now ∷ is.room.back), length-append is.room.front (later ∷ is.room.back));
         few = omega (arith, few, is.room.few, ap (λ (some : List (Q × M)). length some) first);
       };

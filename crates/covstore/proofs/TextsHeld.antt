@@ -1,15 +1,13 @@
 -- The checksums of items are held one after another: how many tests then hold a checksum of each line, and that other lines stay.
-use Rattle.covstore.proofs.Words.{◌≡◌, ℕ, Bool, true, false, Some, None, List, [], ◌∷◌, ◌++◌, refl, sym, ap, ◌∙◌, subst, inl, inr, ◌⊎◌, Less, AllByRecursion, IfSome, is_eq, nat_cmp, flat_map-append, ItemData, LineItem, FuncItem, BranchItem, value_of, held_more, one_more, FileIndexData, HasRoom, IsTextOf, KeepsTextsOf, is_above_at, with_items, has_checksum, holders_at, TestData, line_with, with_item, test_staged, KeepsCommitted, index_staged, LineSum, Test, Contains-from, In, In-from, In-joined, In-parts, lines_order}
+use Rattle.covstore.proofs.Words.{◌≡◌, ℕ, Bool, true, false, Some, None, List, [], ◌∷◌, ◌++◌, refl, sym, ap, ◌∙◌, subst, inl, inr, ◌⊎◌, Less, AllByRecursion, IfSome, is_eq, nat_cmp, flat_map-append, ItemData, LineItem, FuncItem, BranchItem, value_of, held_more, one_more, FileIndexData, HasRoom, IsTextOf, KeepsTextsOf, is_above_at, with_items, has_checksum, holders_at, TestData, line_with, with_item, LineSum, Contains-from, In, In-from, In-joined, In-parts, lines_order}
 use Rattle.std.specs.Prelude.{◌≤◌, ◌^◌}
 use Rattle.std.specs.List.Sorted.{IsStrictlySortedBy}
 use Rattle.std.specs.Option.{is_some}
 use Rattle.covstore.specs.HeldChecksums.{HasRoomToHold, HoldsText, HoldsTexts, KeepsHolders, checked_line, checked_lines, holders_with}
-use Rattle.covstore.specs.declared.index.FileIndex.{FileIndex}
 use Rattle.covstore.proofs.Puts.{value_of-put, value_of-put_apart}
 use Rattle.covstore.proofs.RunsKept.{plain_holds}
 use Rattle.covstore.proofs.StepsCounts.{line_checked}
 use Rattle.covstore.proofs.StepsItems.{held_by_test, holders_few}
-use Rattle.covstore.proofs.StepsMore.{held_both}
 use Rattle.covstore.proofs.StepsKept.{holders_more, holders_same, is_holding}
 
 -- ---- texts that stay
@@ -183,34 +181,6 @@ module _ (items : List ItemData) (item : ItemData) (test : TestData) (before now
       by other (inr (inl same)) = subst (λ (x : ItemData). IsTextOf x after) same one.own
       by other (inr (inr none)) = absurd none
 
--- the same for a test and an index as the program has them: the test and all that is committed are unchanged
-pub record HasHeldIn {A : Type 0} (items : List ItemData) (test : Test A) (index : FileIndex A) (test_now : Test A) (index_now : FileIndex A) : Type 0 where
-  pub same_test : test_now ≡ test
-  pub same_index : KeepsCommitted index index_now
-  pub so_far : HasHeld items (test_staged test) (index_staged index) (index_staged index_now)
-
-pub none_held_in : {A : Type 0} (test : Test A) (index : FileIndex A) → HasHeldIn [] test index test index
-none_held_in test index = record {
-  same_test = refl;
-  same_index = record { counts = refl; holders = refl; texts = λ line e. refl };
-  so_far = none_held (test_staged test) (index_staged index);
-}
-
 module _ (items : List ItemData) (item : ItemData) (left : List ItemData) (all : List ItemData) (parts : all ≡ items ++ item ∷ left) (ascend : IsStrictlySortedBy nat_cmp (checked_lines all)) where
   pub its_apart : IsApartFrom items item
   its_apart = ascending_apart items item left (subst (λ (some : List ItemData). IsStrictlySortedBy nat_cmp (checked_lines some)) parts ascend)
-
-  module _ {A : Type 0} (test : Test A) (index : FileIndex A) (test_now : Test A) (index_now : FileIndex A) (is : HasHeldIn items test index test_now index_now) where
-    pub next_room_in : HasRoom (test_staged test) (index_staged index) → HasRoomToHold item (test_staged test_now) (index_staged index_now)
-    next_room_in room =
-        subst (λ (own : Test A). HasRoomToHold item (test_staged own) (index_staged index_now)) (sym is.same_test)
-        (next_room items item (test_staged test) (index_staged index) (index_staged index_now) is.so_far its_apart room)
-
-    pub next_held_in : (test_after : Test A) (index_after : FileIndex A) → test_after ≡ test_now → KeepsCommitted index_now index_after → HoldsText item (test_staged test_now) (index_staged index_now) (index_staged index_after)
-        → HasHeldIn (items ++ item ∷ []) test index test_after index_after
-    next_held_in test_after index_after same keeps one = record {
-      same_test = same ∙ is.same_test;
-      same_index = held_both index index_now index_after is.same_index keeps;
-      so_far = next_held items item (test_staged test) (index_staged index) (index_staged index_now) is.so_far its_apart (index_staged index_after)
-          (subst (λ (own : Test A). HoldsText item (test_staged own) (index_staged index_now) (index_staged index_after)) is.same_test one);
-    }

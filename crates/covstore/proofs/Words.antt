@@ -7,13 +7,14 @@ pub use Rattle.covmap.specs.Run.{FitRun, reports_one, reports_run, sum_put, summ
 pub use Rattle.covstore.specs.Checksums.{AreAmong, ChecksumsData, HaveTexts, KeepsTexts, StayTexts, held_more, one_more}
 pub use Rattle.covstore.specs.FileDrops.{AreWithoutTest, IsWithoutTest, tests_without}
 pub use Rattle.covstore.specs.FileIndex.{FileIndexData, counts_totals, index_totals}
-pub use Rattle.covstore.specs.FileIndexView.{KeepsCommitted, empty_index, index_committed, index_staged}
+pub use Rattle.covstore.specs.FileIndexView.{KeepsCommitted, all_committed, all_staged, empty_index, index_committed, index_staged}
 pub use Rattle.covstore.specs.FileSection.{AddsItems, ClashesIn, HasFile, HasRoomIn, KeepsIn}
-pub use Rattle.covstore.specs.FileView.{KeepsFile, file_committed, file_staged, no_file, tests_with, with_test}
+pub use Rattle.covstore.specs.FileView.{CountsMany, CountsSome, KeepsFile, file_committed, file_of, file_staged, first_points, first_test, no_file, tests_with, with_test}
 pub use Rattle.covstore.specs.Items.{HasRoom, HasRoomForRun, HasRoomOfKind, IsClashAt, IsClashOf, IsOtherText, IsTextOf, KeepsCounts, KeepsCountsOfKind, KeepsTextsOf}
+pub use Rattle.covstore.specs.KeptCounts.{count_of_one, counts_of, counts_of_test, counts_or}
 pub use Rattle.covstore.specs.Kinds.{Branch, CountsOf, Each, Function, KeyOf, Kind, Line, PointsOf, SumOf, above_of, at, branch_above, cmp_of, function_above, line_above, of_each, point_of, with_at}
 pub use Rattle.covstore.specs.Order.{AreSpotsOf, HasNoChecksum, at_spots}
-pub use Rattle.covstore.specs.PointIndex.{IsTallyOf, changed}
+pub use Rattle.covstore.specs.PointIndex.{IsTallyBy, IsTallyOf, changed, found_by, hit_by}
 pub use Rattle.covstore.specs.PointIndexCounts.{AreCounts, change_by, change_of, count_above, count_with, counts_with, found_of, hit_of, is_above_at, is_hit_by_some, is_new, is_newly_hit, one_if, test_counts_with, tests_at, tests_fit, tests_more}
 pub use Rattle.covstore.specs.PointIndexDrops.{AreHolders, AreHoldersWith, AreWith, CanBeLess, CanLose, IsLess, IsTallyAt, IsTallyWithout, LosesHolders, LosesTest, counts_without, fewer_of, fewer_tests, held_less, is_hit, less_of, one_less, totals_by, with_lines}
 pub use Rattle.covstore.specs.Renaming.{AddsPoints, Copies, CopiesIn, HasHolders, HasRoomForPoints, HasRoomToCopy, HasRoomToCopyIn, IsMoving, IsMovingIfAny, copied_rows, held_again, held_if, key_of, merged, names_with}

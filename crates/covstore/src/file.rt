@@ -184,9 +184,10 @@ impl<A: Allocator + Copy> File<A> {
         ensures staged { file_staged self.new ≡ file_staged self.old }
         ensures ok { OnOk result (CountsSome self.new.tests.entries self.new.index) }
     {
-        if let Some(test) = self.tests.first() {
-            self.index.start_counting(alloc, test)?;
-        }
+        let Some(test) = self.tests.first() else {
+            return Ok(());
+        };
+        self.index.start_counting(alloc, test)?;
         Ok(())
     }
 
@@ -227,7 +228,8 @@ impl<A: Allocator + Copy> File<A> {
         let Some(points) = self.tests.get_mut(test) else {
             return;
         };
-        points.get_mut().commit();
+        let points = points.get_mut();
+        points.commit();
         self.index.commit();
     }
 
@@ -239,7 +241,8 @@ impl<A: Allocator + Copy> File<A> {
         let Some(points) = self.tests.get_mut(test) else {
             return;
         };
-        points.get_mut().rollback();
+        let points = points.get_mut();
+        points.rollback();
         self.index.rollback();
     }
 

@@ -1,6 +1,6 @@
 //! The index of a file: how many tests have each point, and the checksums of the lines.
 
-ghost use Rattle.std.specs.Prelude.{◌≡◌, true, OnOk, option_map};
+ghost use Rattle.std.specs.Prelude.{◌≡◌, true, OnOk, option_copied, option_map};
 ghost use Rattle.std.specs.Option.{is_some};
 
 mod drops;
@@ -56,9 +56,9 @@ impl<A: Allocator + Copy> FileIndex<A> {
         ensures still { is_some self.old.counts ≡ true → is_some self.new.counts ≡ true }
         ensures ok { OnOk result (is_some self.new.counts ≡ true) }
     {
-        if self.counts.is_some() {
+        let None = &self.counts else {
             return Ok(());
-        }
+        };
         let counts = PointCounts::of(alloc, test)?;
         self.counts = Some(Boxed::new(alloc, counts)?);
         Ok(())
@@ -70,10 +70,11 @@ impl<A: Allocator + Copy> FileIndex<A> {
         ensures staged { (test : TestData) → index_staged test self.new ≡ index_staged test self.old }
         ensures still { is_some self.new.counts ≡ is_some self.old.counts }
     {
-        if let Some(counts) = &mut self.counts {
-            counts.get_mut().commit();
-        }
         self.checksums.commit();
+        let Some(counts) = &mut self.counts else {
+            return;
+        };
+        counts.get_mut().commit();
     }
 
     /// Discards the staged values.
@@ -82,15 +83,16 @@ impl<A: Allocator + Copy> FileIndex<A> {
         ensures staged { (test : TestData) → index_staged test self.new ≡ index_committed test self.old }
         ensures still { is_some self.new.counts ≡ is_some self.old.counts }
     {
-        if let Some(counts) = &mut self.counts {
-            counts.get_mut().rollback();
-        }
         self.checksums.rollback();
+        let Some(counts) = &mut self.counts else {
+            return;
+        };
+        counts.get_mut().rollback();
     }
 
     /// The staged totals of the file. `first` is the file's first test, if it has one.
     pub(crate) fn totals(&self, first: Option<&Test<A>>) -> Totals
-        ensures { result ≡ index_totals (index_staged (points_or_none (option_map (λ test. test_staged test.now) first)) self.now) }
+        ensures { result ≡ index_totals (index_staged (points_or_none (option_map test_staged (option_copied first))) self.now) }
     {
         if let Some(counts) = &self.counts {
             return counts.get().totals();
@@ -103,7 +105,7 @@ impl<A: Allocator + Copy> FileIndex<A> {
 
     /// The committed totals of the file. `first` is the file's first test, if it has one.
     pub(crate) fn committed_totals(&self, first: Option<&Test<A>>) -> Totals
-        ensures { result ≡ index_totals (index_committed (points_or_none (option_map (λ test. test_committed test.now) first)) self.now) }
+        ensures { result ≡ index_totals (index_committed (points_or_none (option_map test_committed (option_copied first))) self.now) }
     {
         if let Some(counts) = &self.counts {
             return counts.get().committed_totals();
@@ -123,13 +125,14 @@ impl<A: Allocator + Copy> FileIndex<A> {
         ensures staged { (test : TestData) → index_staged test self.new ≡ index_committed test self.new }
         ensures still { is_some self.new.counts ≡ is_some self.old.counts }
     {
-        if let Some(counts) = &mut self.counts {
-            let counts = counts.get_mut();
-            uncount_lines(&mut counts.lines, points.lines.values());
-            uncount_functions(&mut counts.functions, points.functions.values());
-            uncount_branches(&mut counts.branches, points.branches.values());
-        }
         release_checksums(&mut self.checksums, points.lines.values());
+        let Some(counts) = &mut self.counts else {
+            return;
+        };
+        let counts = counts.get_mut();
+        uncount_lines(&mut counts.lines, points.lines.values());
+        uncount_functions(&mut counts.functions, points.functions.values());
+        uncount_branches(&mut counts.branches, points.branches.values());
     }
 
     /// Returns the committed totals that the file would have without the test whose points are `points`. If there are no counts,

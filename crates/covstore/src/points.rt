@@ -238,7 +238,7 @@ impl<K: Key + Drop, S: PointSum, A: Allocator + Copy> Points<K, S, A> {
         let mut rest = run;
         while let Some((item, others)) = rest.split_first() {
             let (query, addend) = *item;
-            let added = self.add(alloc, query, addend, self.values.cursor())?;
+            let added = self.add(alloc, query, addend, self.values().cursor())?;
             push_change(&mut changes, query, added.change)?;
             rest = others;
         }
@@ -294,10 +294,11 @@ impl<K: CopyKey<A> + Drop, S: PointSum, A: Allocator + Copy> Points<K, S, A> {
         ensures staged { IfOk result (λ counts. counts.staged ≡ counts_of S.above self.now.staged) }
     {
         let values = self.values.images(alloc)?;
-        Ok(Points {
+        let counts = Points {
             values,
             totals: self.totals,
             staged_totals: self.staged_totals,
-        })
+        };
+        Ok(counts)
     }
 }

@@ -68,7 +68,7 @@ impl<A: Allocator> Tests<A> {
 
     /// The first test.
     pub(crate) fn first(&self) -> Option<&Test<A>>
-        ensures { option_map (λ test. test.now) result ≡ first_test self.now.entries }
+        ensures { option_copied result ≡ first_test self.now.entries }
     {
         let (_, points) = self.iter().next()?;
         Some(points.get())
