@@ -1,5 +1,5 @@
 -- A list of items that is taken part by part.
-use Rattle.std.proofs.Common.{◌≡◌, ℕ, ◌==◌, Bool, true, List, ◌++◌, length, take, drop, sym, ap, ◌∙◌, arith}
+use Rattle.std.proofs.Common.{◌≡◌, ℕ, ◌==◌, ◌<◌, Bool, true, false, List, ◌++◌, length, take, drop, sym, ap, ◌∙◌, arith}
 use Rattle.std.proofs.lemmas.Bool.Decides.{nat_tests}
 use Rattle.std.proofs.lemmas.List.{take-append-drop}
 
@@ -8,3 +8,6 @@ parted {X} rest some others n s o = sym (ap (λ (xs : List X). xs ++ others) s �
 
 pub none_left : {X : Type 0} (rest : List X) (is_empty : Bool) → is_empty ≡ (length rest == 0) → is_empty ≡ true → length rest ≡ 0
 none_left rest is_empty e f = grind (arith, nat_tests, e, f)
+
+pub some_left : {X : Type 0} (rest : List X) (is_empty : Bool) → is_empty ≡ (length rest == 0) → is_empty ≡ false → 0 < length rest
+some_left rest is_empty e f = grind (arith, nat_tests, e, f)

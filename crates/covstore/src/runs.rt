@@ -151,7 +151,8 @@ fn stage_counted<'a, A: Allocator + Copy>(
 {
     stage_run(&mut test.lines, &mut counts.lines, alloc, &runs.lines)?;
     stage_each(&mut test.functions, &mut counts.functions, alloc, &runs.functions)?;
-    stage_run(&mut test.branches, &mut counts.branches, alloc, &runs.branches)
+    stage_run(&mut test.branches, &mut counts.branches, alloc, &runs.branches)?;
+    Ok(())
 }
 
 /// Stages a run of items of one kind, in their test and in the counts of the file.

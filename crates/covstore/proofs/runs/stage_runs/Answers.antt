@@ -1,43 +1,45 @@
-use Rattle.covstore.proofs.Words.{length, ap, ◌∙◌, sym, length-map, slice_cmp, nat_cmp, index_staged, KeepsCountsOfKind, Branch, CountsOf, Function, Kind, Line, PointsOf, above_of, at, cmp_of, points_with, sum_of, with_runs, test_staged, branch_cmp}
-use Rattle.covdata.specs.PointView.{branch_point_data}
+use Rattle.covstore.proofs.Words.{◌≡◌, ◌∙◌, Some, ap, refl, sym, subst, on_ok_weaker, option_map, CountsOf, Each, KeepsCountsOfKinds, HasRoomForRuns, TestData, all_committed, all_staged, counts_of_test, counts_or, index_staged, test_staged}
 use Rattle.covstore.specs.RunsView.{runs_seen}
-use Rattle.covstore.proofs.EachKind.{each_kind, same_test}
-use Rattle.covstore.proofs.RunsKept.{room_as_long}
-use Rattle.covstore.proofs.RunsSums.{summed_as}
+use Rattle.covstore.proofs.SoleCounts.{runs_alone}
 use Rattle.covstore.proofs.runs.stage_runs.Goals as goal
 
-pub stage_whole_run-requires-clause-room : goal.stage_whole_run-requires-clause-room
-stage_whole_run-requires-clause-room g c = room_as_long (length c.deref.result.now) (length c.args.runs.now.lines.items) (ap (λ run. length run) c.deref.ensures.value) (c.requires.room Line)
+-- the file has no counts
 
-pub stage_one_by_one-requires-clause-room : goal.stage_one_by_one-requires-clause-room
-stage_one_by_one-requires-clause-room g c =
-    let run = c.args.runs.now.functions.items in
-    room_as_long (length c.deref-2.result.now) (length (runs_seen c.args.runs.now).functions) (ap (λ run. length run) c.deref-2.ensures.value ∙ sym (length-map run (λ pair. (pair.0.now, pair.1)))) (c.requires.room Function)
+pub stage_alone-requires : goal.stage_alone-requires
+stage_alone-requires g c = ((index_staged (test_staged c.args.test.now) c.args.index.now).counts, c.requires)
 
-pub stage_whole_run-requires-2-clause-room : goal.stage_whole_run-requires-2-clause-room
-stage_whole_run-requires-2-clause-room g c =
-    let run = c.args.runs.now.branches.items in
-    room_as_long (length c.deref-3.result.now) (length (runs_seen c.args.runs.now).branches) (ap (λ run. length run) c.deref-3.ensures.value ∙ sym (length-map run (λ pair. (branch_point_data pair.0, pair.1))))
-    (c.requires.room Branch)
+pub returns-in_default-clause-counts : goal.returns-in_default-clause-counts
+returns-in_default-clause-counts g c =
+    let runs = runs_seen c.args.runs.now in
+    let test = test_staged c.args.test.now in
+    let after = test_staged c.stage_alone.new.test in
+    let own : (points : TestData) → counts_of_test points ≡ counts_or points (option_map all_staged c.args.index.now.counts) = λ points. sym (ap (λ counts. counts_or points (option_map all_staged counts)) c.in_default.is) in
+    on_ok_weaker c.stage_alone.result
+    (λ is.
+    subst (λ (counts : Each CountsOf). KeepsCountsOfKinds test after counts (counts_or after (option_map all_staged c.args.index.now.counts))) (own test)
+    (subst (KeepsCountsOfKinds test after (counts_of_test test)) (own after) (runs_alone runs test after is)))
+    c.stage_alone.ensures.ok
 
-pub returns-clause-test : goal.returns-clause-test
-returns-clause-test g c =
-    let runs = c.args.runs.now in
-    let test = c.args.test.now in
-    let lines = c.stage_whole_run.new.points.staged in
-    let functions = c.stage_one_by_one.new.points.staged in
-    let branches = c.stage_whole_run-2.new.points.staged in
-    same_test (record { lines = lines; functions = functions; branches = branches }) (with_runs (runs_seen runs) (test_staged test))
-    (c.in_ok-stage_whole_run.ensures.test ∙ ap (λ run. points_with Line run test.lines.staged) c.deref.ensures.value)
-    (summed_as (slice_cmp nat_cmp) (λ name. name.now) (sum_of Function) runs.functions.items c.deref-2.result.now test.functions.staged functions c.in_ok-stage_one_by_one.ensures.test c.deref-2.ensures.value)
-    (summed_as branch_cmp branch_point_data (sum_of Branch) runs.branches.items c.deref-3.result.now test.branches.staged branches c.in_ok-stage_whole_run-2.ensures.test c.deref-3.ensures.value)
+-- the file has counts
+
+pub stage_counted-requires : goal.stage_counted-requires
+stage_counted-requires g c =
+    let test = test_staged c.args.test.now in
+    subst (HasRoomForRuns (runs_seen c.args.runs.now) test) (ap (λ counts. counts_or test (option_map all_staged counts)) c.in-Some.is ∙ ap all_staged (sym c.get_mut.ensures.value)) c.requires
+
+pub returns-clause-keeps : goal.returns-clause-keeps
+returns-clause-keeps g c = record {
+  points = c.stage_counted.ensures.committed;
+  counts = ap Some c.stage_counted.ensures.counts_committed ∙ ap (λ counts. Some (all_committed counts)) c.get_mut.ensures.value ∙ sym (ap (option_map all_committed) c.in-Some.is);
+  holders = refl;
+  texts = λ line e. refl;
+}
 
 pub returns-clause-counts : goal.returns-clause-counts
 returns-clause-counts g c =
-    each_kind
-    (λ (kind : Kind).
-    KeepsCountsOfKind (cmp_of kind) (above_of kind) (at kind (test_staged c.args.test.now))
-    (at {T = PointsOf} kind (record { lines = c.stage_whole_run.new.points.staged; functions = c.stage_one_by_one.new.points.staged; branches = c.stage_whole_run-2.new.points.staged }))
-    (at kind (index_staged c.args.index.now).counts)
-    (at {T = CountsOf} kind (record { lines = c.stage_whole_run.new.kept.staged; functions = c.stage_one_by_one.new.kept.staged; branches = c.stage_whole_run-2.new.kept.staged })))
-    c.in_ok-stage_whole_run.ensures.counts c.in_ok-stage_one_by_one.ensures.counts c.in_ok-stage_whole_run-2.ensures.counts
+    let test = test_staged c.args.test.now in
+    let after = test_staged c.stage_counted.new.test in
+    let more = all_staged c.stage_counted.new.counts in
+    on_ok_weaker c.stage_counted.result
+    (λ keeps. subst (λ (counts : Each CountsOf). KeepsCountsOfKinds test after counts more) (ap all_staged c.get_mut.ensures.value ∙ sym (ap (λ counts. counts_or test (option_map all_staged counts)) c.in-Some.is)) keeps)
+    c.stage_counted.ensures.counts

@@ -1,5 +1,5 @@
 use Rattle.covstore.proofs.FewerLoops.{tallying_all, tallying_at, tallying_can, tallying_more}
-use Rattle.covstore.proofs.index.drops.tally_without_counted.Goals as goal
+use Rattle.covstore.proofs.index.drops.tally_without.Goals as goal
 
 pub walk_without-walk-requires-clause-lose : goal.walk_without-walk-requires-clause-lose
 walk_without-walk-requires-clause-lose g c =

@@ -1,5 +1,5 @@
 use Rattle.covstore.proofs.FewerLoops.{IsTallying}
-use Rattle.covstore.proofs.index.drops.tally_without_counted.Given as goal
+use Rattle.covstore.proofs.index.drops.tally_without.Given as goal
 
 -- the tally is that of the counts without the points so far
 abbrev pub invariant-loop-key : goal.invariant-loop-key

@@ -1,5 +1,5 @@
 use Rattle.covstore.proofs.FewerLoops.{losing_all, losing_can, losing_more}
-use Rattle.covstore.proofs.index.drops.drop_counted.Goals as goal
+use Rattle.covstore.proofs.index.drops.uncount_points.Goals as goal
 
 pub take_test_off-requires : goal.take_test_off-requires
 take_test_off-requires g c =

@@ -1,6 +1,6 @@
 use Rattle.std.proofs.Common.{◌≡◌}
 use Rattle.covstore.proofs.FewerLoops.{IsLosing}
-use Rattle.covstore.proofs.index.drops.drop_counted.Given as goal
+use Rattle.covstore.proofs.index.drops.uncount_points.Given as goal
 
 -- the points that are left are still to be removed from the counts
 abbrev pub invariant-loop-key : goal.invariant-loop-key
