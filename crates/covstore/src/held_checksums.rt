@@ -19,27 +19,33 @@ use covmap::SlotIndex;
 use covpacked::{ItemRef, PackedItems};
 use std::alloc::Allocator;
 
-/// The length of the first batch of `items`, which mustn't be empty: at most `MAX_STAGED_AT_ONCE` items, and no item whose
-/// checksum is of a line that isn't above those before.
+/// The length of the first batch of `items`, which mustn't be empty. A batch has at most `MAX_STAGED_AT_ONCE` items, and the lines of
+/// its items with a checksum strictly ascend.
 pub(crate) fn ascending_len(items: &PackedItems<'_>) -> usize
     requires { 0 < length items.now }
     ensures some { 0 < result }
     ensures few { result ≤ length items.now }
     ensures ascend { IsStrictlySortedBy nat_cmp (checked_lines (take result items.now)) }
 {
-    let mut len = 0;
-    let mut least = 0;
-    for item in items.copy() {
+    let mut rest = items.copy();
+    let Some(first) = rest.next() else {
+        unreachable!();
+    };
+    let Some(mut least) = least_after(&first, 0) else {
+        return 1;
+    };
+    let mut len = 1;
+    for item in rest {
         let Some(next) = least_after(&item, least) else {
-            break;
+            return len;
         };
         if len == MAX_STAGED_AT_ONCE {
-            break;
+            return len;
         }
         least = next;
         len += 1;
     }
-    len.max(1)
+    len
 }
 
 /// Returns the least line that the next item with a checksum may have. Returns `None` if `item` has a checksum of a line that is

@@ -27,7 +27,7 @@ loop-rest-preserved g c =
     let l = c.loop-rest in
     let e = c.in_ok-stage_runs.ensures in
     next_taken (λ xs. xs) (λ xs ys. refl) items c.args.test.now c.args.index.now l.rest c.split_at-some.result.0 c.split_at-some.result.1 (parted l.rest _ _ _ c.split_at-some.ensures.first c.split_at-some.ensures.others) l.test l.index l.invariant
-    (runs_seen c.in_ok-runs.runs) c.in_ok-runs.ensures (all_plain items items (λ item i. i) c.requires.plain) c.stage_runs.new.test c.stage_runs.new.index c.stage_runs.ensures.keeps e.test e.counts e.held
+    (runs_seen c.in_ok-runs.runs) c.in_ok-runs.ensures (all_plain items items (λ item i. i) c.requires.plain) c.stage_runs.new.test c.stage_runs.new.index c.stage_runs.ensures.keeps e.test e.counts c.stage_runs.ensures.held
 
 pub returns-clause-ok : goal.returns-clause-ok
 returns-clause-ok g c =

@@ -29,7 +29,7 @@ loop-some-preserved g c =
     let l = c.loop-some in
     let e = c.in_ok-stage_runs.ensures in
     next_taken (at_spots items) (λ xs ys. spots_joined items xs ys) c.args.spots.now c.args.test.now c.args.index.now (chunks_rest l.some-iterator) c.in-Some.some.now (chunks_rest c.next.new.self) c.in-Some.ensures.steps.1.0 l.test l.index l.invariant
-    (runs_seen c.in_ok-runs.runs) c.in_ok-runs.ensures (spots_plain items c.args.spots.now c.requires.plain) c.stage_runs.new.test c.stage_runs.new.index c.stage_runs.ensures.keeps e.test e.counts e.held
+    (runs_seen c.in_ok-runs.runs) c.in_ok-runs.ensures (spots_plain items c.args.spots.now c.requires.plain) c.stage_runs.new.test c.stage_runs.new.index c.stage_runs.ensures.keeps e.test e.counts c.stage_runs.ensures.held
 
 pub returns-clause-ok : goal.returns-clause-ok
 returns-clause-ok g c =
