@@ -1,7 +1,7 @@
 -- The counts of the only test of a file: no other test has a point, and each of its points counts once.
-use Rattle.covstore.proofs.Words.{◌≡◌, ℕ, ◌+◌, ◌≤◌, Bool, true, false, cond, nat_lt, Option, Some, None, option_map, List, [], ◌∷◌, ◌++◌, refl, sym, ap, ◌∙◌, subst, arith, Ordering, Less, AllByRecursion, is_eq, ltb-false, none-some, same_Some, ArePairs, value_of, TestCounts, AreCounts, count_above, count_with, one_if, LosesTest, IsExactOrder, KeepsCountsOfKind, KeepsCountsOfKinds, Branch, Each, Function, Kind, Line, RunOf, TestData, above_of, at, branch_above, branches_order, cmp_of, count_of_one, counts_of, counts_of_test, function_above, line_above, lines_order, names_order, sum_of, summed, with_runs}
+use Rattle.covstore.proofs.Words.{◌≡◌, ℕ, ◌+◌, ◌≤◌, Bool, true, false, cond, nat_lt, Option, Some, None, option_map, List, [], ◌∷◌, ◌++◌, refl, sym, ap, ◌∙◌, subst, arith, Ordering, Less, AllByRecursion, is_eq, ltb-false, none-some, same_Some, ArePairs, value_of, TestCounts, AreCounts, count_above, count_with, one_if, LosesTest, IsExactOrder, KeepsCountsOfKind, KeepsCountsOfKinds, Branch, Each, Function, Kind, Line, RunOf, TestData, above_of, at, FileIndexData, IsIndexOf, branch_above, branch_cmp, branches_order, cmp_of, counts_totals, index_totals, map, nat_cmp, no_totals, slice_cmp, test_of, count_of_one, counts_of, counts_of_test, function_above, line_above, lines_order, names_order, sum_of, summed, with_runs}
 use Rattle.covstore.proofs.Counts.{above_le_with, same_tests, tests_among, tests_at-between}
-use Rattle.covstore.proofs.EachKind.{each_kind}
+use Rattle.covstore.proofs.EachKind.{each_kind, same_each}
 use Rattle.covstore.proofs.Fewer.{one_rest}
 use Rattle.covstore.proofs.Tallies.{run_ascends}
 
@@ -99,3 +99,21 @@ runs_alone runs test after is =
     (λ (kind : Kind). KeepsCountsOfKind (cmp_of kind) (above_of kind) (at kind test) (at kind (with_runs runs test)) (at kind (counts_of_test test)) (at kind (counts_of_test (with_runs runs test))))
     (run_alone lines_order line_above (λ key. key) (sum_of Line) runs.lines test.lines) (run_alone names_order function_above (λ key. key) (sum_of Function) runs.functions test.functions)
     (run_alone branches_order branch_above (λ key. key) (sum_of Branch) runs.branches test.branches))
+
+-- ---- the only test is dropped
+
+module _ (test : TestData) (others : List TestData) (are : (kind : Kind) → AreCounts (cmp_of kind) (above_of kind) (map (at kind) (test ∷ others)) (at kind (counts_of_test test))) where
+  pub sole_lost : (kind : Kind) → AreCounts (cmp_of kind) (above_of kind) (map (at kind) others) (at kind (counts_of_test (test_of [])))
+  sole_lost =
+      each_kind (λ (kind : Kind). AreCounts (cmp_of kind) (above_of kind) (map (at kind) others) (at kind (counts_of_test (test_of []))))
+      (sole_loses nat_cmp line_above test.lines (map (at Line) others) (are Line))
+      (sole_loses (slice_cmp nat_cmp) function_above test.functions (map (at Function) others) (are Function))
+      (sole_loses branch_cmp branch_above test.branches (map (at Branch) others) (are Branch))
+
+  pub sole_totals : (rest : FileIndexData) → IsIndexOf others rest → no_totals ≡ index_totals rest
+  sole_totals rest own =
+      sym (ap counts_totals (same_each rest.counts (counts_of_test (test_of []))
+      (each_kind (λ (kind : Kind). at kind rest.counts ≡ at kind (counts_of_test (test_of [])))
+      (sole_rest nat_cmp line_above lines_order test.lines (map (at Line) others) rest.counts.lines (are Line) (own.counts Line))
+      (sole_rest (slice_cmp nat_cmp) function_above names_order test.functions (map (at Function) others) rest.counts.functions (are Function) (own.counts Function))
+      (sole_rest branch_cmp branch_above branches_order test.branches (map (at Branch) others) rest.counts.branches (are Branch) (own.counts Branch)))))
