@@ -120,7 +120,7 @@ module _ {K A : Type 0} where
       pub many_after : CountsMany entries_after index_after
       many_after = subst (λ (all : List (K × Test A)). CountsMany all index_after) (sym written) (many_written entries index index_after later many still)
 
-      found_after : lookup here entries_after ≡ Some later
+      pub found_after : lookup here entries_after ≡ Some later
       found_after = ap (lookup here) written ∙ lookup_written entries test later found
 
       pub after_committed : index_committed (first_points (names_with name test_committed entries_after)) index_after ≡ index_committed (test_committed later) index_after

@@ -1,5 +1,5 @@
 -- What is committed of a test and of its file's index stays as it is in two steps, one after the other.
-use Rattle.covstore.proofs.Words.{◌≡◌, ℕ, true, Option, Some, None, List, option_map, refl, sym, ap, ◌∙◌, nat_cmp, KeepsCommitted, all_committed, index_committed, CountsOf, Each, FileIndexData, counts_or, value_of, TestData, Test, test_committed}
+use Rattle.covstore.proofs.Words.{◌≡◌, ℕ, true, Option, Some, None, List, option_map, refl, sym, ap, ◌∙◌, subst, nat_cmp, KeepsCommitted, all_committed, index_committed, CountsOf, Each, FileIndexData, counts_or, value_of, TestData, Test, test_committed}
 use Rattle.std.specs.Option.{is_some}
 use Rattle.covstore.specs.FileIndex.{KeepsIndex}
 use Rattle.covstore.specs.declared.index.FileIndex.{FileIndex}
@@ -36,3 +36,7 @@ module _ {A : Type 0} (test : Test A) (index : FileIndex A) (later : Test A) (af
 pub same_index : {counts more : Each CountsOf} {holders others : List (ℕ × ℕ)} {texts also : List (ℕ × List ℕ)} → counts ≡ more → holders ≡ others → texts ≡ also
     → ◌≡◌ {A = FileIndexData} (record { counts = counts; holders = holders; texts = texts }) (record { counts = more; holders = others; texts = also })
 same_index c h t = λ i. record { counts = c i; holders = h i; texts = t i }
+
+-- what is seen of an index may be replaced by what equals it
+pub kept_between : {before first later after : FileIndexData} → before ≡ first → after ≡ later → KeepsIndex first later → KeepsIndex before after
+kept_between {before} {first} {later} {after} same equal keeps = subst (λ (i : FileIndexData). KeepsIndex i after) (sym same) (subst (KeepsIndex first) (sym equal) keeps)

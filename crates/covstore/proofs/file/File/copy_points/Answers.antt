@@ -1,13 +1,14 @@
-use Rattle.covstore.proofs.Words.{slice_cmp, nat_cmp, value_of, ◌≡◌, ℕ, true, ◌≤◌, ◌^◌, Some, Vec, List, length, refl, sym, ap, ◌∙◌, subst, arith, length-map, on_ok_weaker, File, file_committed, file_staged, index_staged, CopiesIn, HasRoomToCopyIn, FileData, IsSettledBut, TestData, test_staged, test_committed, names_order}
+use Rattle.covstore.proofs.Words.{slice_cmp, nat_cmp, value_of, ◌≡◌, ℕ, true, ◌≤◌, ◌^◌, Some, Vec, List, length, refl, sym, ap, ◌∙◌, subst, arith, length-map, on_ok_weaker, File, file_committed, file_staged, first_points, index_staged, AddsPoints, CopiesIn, FileIndexData, HasRoomForPoints, HasRoomToCopyIn, FileData, IsSettledBut, TestData, test_staged, test_committed, names_order}
 use Rattle.std.specs.Option.{is_some}
 use Rattle.covstore.proofs.AddsFile.{not_there, test_value}
 use Rattle.covstore.proofs.AddsSettled.{test_settled}
 use Rattle.covstore.proofs.CopiesFile.{copies_in, copies_room}
 use Rattle.covstore.proofs.CopiesMap.{other_found, other_there, place_there, put_back, same_back}
-use Rattle.covstore.proofs.FollowsSole.{sole_found, sole_written, written_again}
+use Rattle.covstore.proofs.FirstTest.{after_committed, after_staged, found_after, found_committed, found_staged, many_after, two_counted}
 use Rattle.covstore.proofs.MapKeys.{seen}
 use Rattle.covstore.proofs.MapNames.{has_name}
 use Rattle.covstore.proofs.Settled.{file_name, same_file}
+use Rattle.covstore.proofs.StepsMore.{keeps_index, kept_between, still_counts}
 use Rattle.covstore.proofs.file.File.copy_points.Goals as goal
 
 -- the file has both tests, so the one that is taken out can be put back
@@ -51,24 +52,35 @@ stage_points-added-requires-clause-room g c =
     let its_source = subst (λ (f : File g.row.A.Denot). value_of (slice_cmp nat_cmp) c.args.old.now (file_staged f).tests ≡ value_of (slice_cmp nat_cmp) c.args.old.now (file_committed f).tests) (sym c.self.view_is) c.requires.same ∙ other_found name test_committed new pairs (c.get_mut.follows.lender empty).entries target empty c.get_mut.ensures.ordered found (c.get_mut.follows.holds empty) old c.requires.apart source
     (sym c.in-Some-get.ensures.value ∙ ap Some (sym c.get-2.ensures)) in
     let few : length tests ≤ 2 ^ 63 = omega (arith, length-map {B = List ℕ × TestData} pairs (λ pair. (name pair.0, test_staged pair.1)), c.len.ensures.len, c.len.ensures.small) in
-    copies_room tests (index_staged c.self.inside.index) old new (test_committed source) (test_staged target) its_source (test_value name test_staged new pairs target found) (subst (λ (f : File g.row.A.Denot). HasRoomToCopyIn c.args.old.now (file_staged f)) (sym c.self.view_is) c.requires.room) few
+    subst (HasRoomForPoints (test_committed source) (test_staged target)) (found_staged (has_name file_name new) file_name pairs c.self.inside.index target found c.self.invariant)
+    (copies_room tests (index_staged (first_points tests) c.self.inside.index) old new (test_committed source) (test_staged target) its_source (test_value name test_staged new pairs target found) (subst (λ (f : File g.row.A.Denot). HasRoomToCopyIn c.args.old.now (file_staged f)) (sym c.self.view_is) c.requires.room) few)
 
-pub stage_points-added-requires-clause-follows : goal.stage_points-added-requires-clause-follows
-stage_points-added-requires-clause-follows g c =
-    sole_found (has_name file_name c.args.new.now) c.self.inside.tests.entries c.self.inside.index c.get_mut-2.result.now
-    (sym c.in-Some.ensures.value ∙ ap Some (sym c.replace-points.ensures.value) ∙ ap Some (sym c.get_mut-2.ensures.value)) c.self.invariant
+pub stage_points-added-requires-clause-counts : goal.stage_points-added-requires-clause-counts
+stage_points-added-requires-clause-counts g c =
+    let here = has_name file_name c.args.new.now in
+    let pairs = c.self.inside.tests.entries in
+    let index = c.self.inside.index in
+    let target = c.replace-points.result in
+    let empty = c.replace-points.new.dest in
+    let found = sym c.in-Some.ensures.value ∙ ap Some (sym c.replace-points.ensures.value) in
+    two_counted c.args.old.now c.args.new.now c.requires.apart (c.get_mut.follows.lender empty).entries index c.in-Some-get.source.now empty (sym c.in-Some-get.ensures.value)
+    (found_after here file_name pairs (c.get_mut.follows.lender empty).entries index index target empty found (c.get_mut.follows.holds empty) c.self.invariant (λ some. some))
+    (many_after here file_name pairs (c.get_mut.follows.lender empty).entries index index target empty found (c.get_mut.follows.holds empty) c.self.invariant (λ some. some))
 
 -- the test is put back
 
 pub invariant_of-self : goal.invariant_of-self
 invariant_of-self g c =
     let here = has_name file_name c.args.new.now in
-    let entries = c.self.inside.tests.entries in
+    let pairs = c.self.inside.tests.entries in
+    let index = c.self.inside.index in
+    let lent = c.get_mut-2.result.now in
     let empty = c.replace-points.new.dest in
     let points = c.stage_points-added.new.test in
-    rw ((c.get_mut-3.follows.holds points), (c.get_mut.follows.holds empty), written_again here entries empty points)
-    (sole_written here entries c.self.inside.index c.stage_points-added.new.index c.get_mut-2.result.now points
-    (sym c.in-Some.ensures.value ∙ ap Some (sym c.replace-points.ensures.value) ∙ ap Some (sym c.get_mut-2.ensures.value)) c.self.invariant c.stage_points-added.ensures.follows)
+    many_after here file_name (c.get_mut.follows.lender empty).entries (c.get_mut-3.follows.lender points).entries index c.stage_points-added.new.index c.in-Some-get_mut.place.now points (sym c.in-Some-get_mut.ensures.value)
+    (c.get_mut-3.follows.holds points)
+    (many_after here file_name pairs (c.get_mut.follows.lender empty).entries index index c.replace-points.result empty (sym c.in-Some.ensures.value ∙ ap Some (sym c.replace-points.ensures.value)) (c.get_mut.follows.holds empty) c.self.invariant (λ some. some))
+    (still_counts lent index points c.stage_points-added.new.index c.stage_points-added.ensures.keeps)
 
 pub returns-clause-committed : goal.returns-clause-committed
 returns-clause-committed g c =
@@ -78,12 +90,20 @@ returns-clause-committed g c =
     let empty = c.replace-points.new.dest in
     let points = c.stage_points-added.new.test in
     let found = sym c.in-Some.ensures.value ∙ ap Some (sym c.replace-points.ensures.value) ∙ ap Some (sym c.get_mut-2.ensures.value) in
+    let here = has_name name new in
+    let pairs = c.self.inside.tests.entries in
+    let index = c.self.inside.index in
+    let more = c.stage_points-added.new.index in
+    let keeps = c.stage_points-added.ensures.keeps in
     rw (← c.self.view_is)
     (record {
       tests = same_back name test_committed new c.self.inside.tests.entries (c.get_mut.follows.lender empty).entries lent empty c.get_mut.ensures.ordered found (c.get_mut.follows.holds empty)
           c.in-Some-get_mut.place.now points (c.get_mut-3.follows.lender points).entries c.get_mut-3.ensures.ordered (sym c.in-Some-get_mut.ensures.value) (c.get_mut-3.follows.holds points)
-          c.stage_points-added.ensures.test_committed;
-      index = c.stage_points-added.ensures.index_committed;
+          c.stage_points-added.ensures.keeps.points;
+      index = kept_between (found_committed here name pairs index lent found c.self.invariant)
+          (after_committed here name (c.get_mut.follows.lender empty).entries (c.get_mut-3.follows.lender points).entries index more c.in-Some-get_mut.place.now points (sym c.in-Some-get_mut.ensures.value) (c.get_mut-3.follows.holds points)
+          (many_after here name pairs (c.get_mut.follows.lender empty).entries index index lent empty found (c.get_mut.follows.holds empty) c.self.invariant (λ some. some)) (still_counts lent index points more keeps))
+          (keeps_index lent index points more keeps);
     })
 
 pub returns-clause-ok : goal.returns-clause-ok
@@ -102,15 +122,20 @@ returns-clause-ok g c =
     let source = c.get-2.result.now in
     let its_source = subst (λ (f : File g.row.A.Denot). value_of (slice_cmp nat_cmp) c.args.old.now (file_staged f).tests ≡ value_of (slice_cmp nat_cmp) c.args.old.now (file_committed f).tests) (sym c.self.view_is) c.requires.same ∙ other_found name test_committed new pairs (c.get_mut.follows.lender empty).entries lent empty c.get_mut.ensures.ordered found lifted old c.requires.apart source
     (sym c.in-Some-get.ensures.value ∙ ap Some (sym c.get-2.ensures)) in
+    let here = has_name name new in
+    let index = before.index in
+    let more = c.stage_points-added.new.index in
     let is = same_file
     (put_back name test_staged new pairs (c.get_mut.follows.lender empty).entries lent empty c.get_mut.ensures.ordered found lifted c.in-Some-get_mut.place.now points
     (c.get_mut-3.follows.lender points).entries c.get_mut-3.ensures.ordered (sym c.in-Some-get_mut.ensures.value) (c.get_mut-3.follows.holds points))
-    refl in
+    (after_staged here name (c.get_mut.follows.lender empty).entries (c.get_mut-3.follows.lender points).entries index more c.in-Some-get_mut.place.now points (sym c.in-Some-get_mut.ensures.value) (c.get_mut-3.follows.holds points)
+    (many_after here name pairs (c.get_mut.follows.lender empty).entries index index lent empty found lifted c.self.invariant (λ some. some)) (still_counts lent index points more c.stage_points-added.ensures.keeps)) in
     rw (← c.self.view_is)
     (on_ok_weaker c.stage_points-added.result
     (λ adds. subst (λ (file : FileData). CopiesIn old new (file_staged before) file) (sym is)
-    (copies_in tests (index_staged before.index) old new (test_committed source) (test_staged lent) its_source (test_value name test_staged new pairs lent found)
-    (test_staged points) (index_staged c.stage_points-added.new.index) adds))
+    (copies_in tests (index_staged (first_points tests) index) old new (test_committed source) (test_staged lent) its_source (test_value name test_staged new pairs lent found)
+    (test_staged points) (index_staged (test_staged points) more)
+    (subst (λ (i : FileIndexData). AddsPoints (test_committed source) (test_staged lent) i (test_staged points) (index_staged (test_staged points) more)) (sym (found_staged here name pairs index lent found c.self.invariant)) adds)))
     c.stage_points-added.ensures.ok)
 
 pub returns-clause-settled : goal.returns-clause-settled

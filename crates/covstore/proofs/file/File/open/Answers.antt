@@ -1,10 +1,8 @@
-use Rattle.covstore.proofs.Words.{◌≡◌, Vec, ℕ, List, refl, sym, ap, ◌∙◌, subst, slice_cmp, nat_cmp, File, Test, index_committed, index_staged, file_staged, file_committed, FileData, IsSettledBut, test_staged, test_committed}
+use Rattle.covstore.proofs.Words.{◌≡◌, Vec, ℕ, List, refl, sym, ap, ◌∙◌, subst, slice_cmp, nat_cmp, CountsSome, File, Test, file_of, first_points, index_committed, index_staged, file_staged, file_committed, FileData, IsSettledBut, test_staged, test_committed}
 use Rattle.covmap.proofs.SlotWrites.{on_err}
 use Rattle.covstore.specs.FileParts.{FileTests}
-use Rattle.covstore.specs.Follows.{CanFollow}
-use Rattle.covstore.proofs.AddsSettled.{test_inserted}
-use Rattle.covstore.proofs.FollowsSettled.{settled_same}
-use Rattle.covstore.proofs.FollowsSole.{is_no_test, sole_inserted}
+use Rattle.covstore.proofs.AddsSettled.{settled_same, test_inserted}
+use Rattle.covstore.proofs.FirstTest.{inserted_committed, inserted_staged, many_inserted}
 use Rattle.covstore.proofs.MapNames.{names_with}
 use Rattle.covstore.proofs.Settled.{file_name, same_file}
 use Rattle.covstore.proofs.WithTest.{not_found, test_there, test_opened}
@@ -25,14 +23,10 @@ returns-then-contains-clause-staged g c =
 -- the tests can't be counted
 
 pub returns-in_err-start_counting-clause-err_committed : goal.returns-in_err-start_counting-clause-err_committed
-returns-in_err-start_counting-clause-err_committed g c =
-    on_err c.from_residual-in_err-start_counting.result
-    (same_file (ap (λ (f : FileTests g.row.A.Denot). names_with file_name test_committed f.entries) c.start_counting.ensures.same) c.start_counting.ensures.committed)
+returns-in_err-start_counting-clause-err_committed g c = on_err c.from_residual-in_err-start_counting.result c.start_counting.ensures.committed
 
 pub returns-in_err-start_counting-clause-err_staged : goal.returns-in_err-start_counting-clause-err_staged
-returns-in_err-start_counting-clause-err_staged g c =
-    on_err c.from_residual-in_err-start_counting.result
-    (same_file (ap (λ (f : FileTests g.row.A.Denot). names_with file_name test_staged f.entries) c.start_counting.ensures.same) c.start_counting.ensures.staged)
+returns-in_err-start_counting-clause-err_staged g c = on_err c.from_residual-in_err-start_counting.result c.start_counting.ensures.staged
 
 pub returns-in_err-start_counting-clause-settled : goal.returns-in_err-start_counting-clause-settled
 returns-in_err-start_counting-clause-settled g c = λ tests settled. settled_same tests c.args.self.now c.start_counting.new.self c.start_counting.ensures.same c.start_counting.ensures.committed c.start_counting.ensures.staged settled
@@ -46,22 +40,21 @@ returns-in_err-start_counting-clause-there g c = λ there.
 
 pub returns-in_err-insert-clause-err_committed : goal.returns-in_err-insert-clause-err_committed
 returns-in_err-insert-clause-err_committed g c =
-    let entries = c.in_err-insert.ensures.err ∙ ap (λ (f : File g.row.A.Denot). f.tests.entries) c.self-2.view_is ∙ ap (λ (t : FileTests g.row.A.Denot). t.entries) c.start_counting.ensures.same in
     on_err c.from_residual-in_err-insert.result
-    (same_file (ap (names_with file_name test_committed) entries) (ap (λ (f : File g.row.A.Denot). index_committed f.index) c.self-2.view_is ∙ c.start_counting.ensures.committed))
+    (ap (λ (es : List (Vec ℕ g.row.A.Denot × Test g.row.A.Denot)). file_of (λ t. index_committed t c.self-2.inside.index) (names_with file_name test_committed es)) c.in_err-insert.ensures.err
+    ∙ ap file_committed c.self-2.view_is ∙ c.start_counting.ensures.committed)
 
 pub returns-in_err-insert-clause-err_staged : goal.returns-in_err-insert-clause-err_staged
 returns-in_err-insert-clause-err_staged g c =
-    let entries = c.in_err-insert.ensures.err ∙ ap (λ (f : File g.row.A.Denot). f.tests.entries) c.self-2.view_is ∙ ap (λ (t : FileTests g.row.A.Denot). t.entries) c.start_counting.ensures.same in
     on_err c.from_residual-in_err-insert.result
-    (same_file (ap (names_with file_name test_staged) entries) (ap (λ (f : File g.row.A.Denot). index_staged f.index) c.self-2.view_is ∙ c.start_counting.ensures.staged))
+    (ap (λ (es : List (Vec ℕ g.row.A.Denot × Test g.row.A.Denot)). file_of (λ t. index_staged t c.self-2.inside.index) (names_with file_name test_staged es)) c.in_err-insert.ensures.err
+    ∙ ap file_staged c.self-2.view_is ∙ c.start_counting.ensures.staged)
 
 pub returns-in_err-insert-clause-settled : goal.returns-in_err-insert-clause-settled
 returns-in_err-insert-clause-settled g c = λ tests settled.
     let later : File g.row.A.Denot = record { tests = record { entries = c.insert.new.self.entries }; index = c.self-2.inside.index } in
-    let same : later.tests ≡ c.start_counting.new.self.tests = ap (λ (es : List (Vec ℕ g.row.A.Denot × Test g.row.A.Denot)). record { entries = es }) c.in_err-insert.ensures.err ∙ ap (λ (f : File g.row.A.Denot). f.tests) c.self-2.view_is in
-    settled_same tests c.args.self.now later (same ∙ c.start_counting.ensures.same) (ap (λ (f : File g.row.A.Denot). index_committed f.index) c.self-2.view_is ∙ c.start_counting.ensures.committed)
-    (ap (λ (f : File g.row.A.Denot). index_staged f.index) c.self-2.view_is ∙ c.start_counting.ensures.staged) settled
+    let same : later ≡ c.start_counting.new.self = ap (λ (es : List (Vec ℕ g.row.A.Denot × Test g.row.A.Denot)). record { tests = record { entries = es }; index = c.self-2.inside.index }) c.in_err-insert.ensures.err ∙ c.self-2.view_is in
+    settled_same tests c.args.self.now later (ap (λ (f : File g.row.A.Denot). f.tests) same ∙ c.start_counting.ensures.same) (ap file_committed same ∙ c.start_counting.ensures.committed) (ap file_staged same ∙ c.start_counting.ensures.staged) settled
 
 pub returns-in_err-insert-clause-there : goal.returns-in_err-insert-clause-there
 returns-in_err-insert-clause-there g c = λ there.
@@ -72,36 +65,54 @@ returns-in_err-insert-clause-there g c = λ there.
 
 pub invariant_of-self-2 : goal.invariant_of-self-2
 invariant_of-self-2 g c =
-    let points = c.in_ok-points.points in
-    let none = is_no_test points (ap test_committed c.in_ok-points.ensures ∙ c.new.ensures.committed) (ap test_staged c.in_ok-points.ensures ∙ c.new.ensures.staged) in
     rw c.in_ok-insert.ensures.entries
-    (sole_inserted (λ (a b : Vec ℕ g.row.A.Denot). slice_cmp nat_cmp a.items b.items) c.self-2.inside.tests.entries c.in_ok-name.name points c.self-2.inside.index none
-    (subst (λ (f : File g.row.A.Denot). CanFollow f.tests.entries f.index) (sym c.self-2.view_is) c.in_ok-start_counting.ensures.ok))
+    (many_inserted (λ (a b : Vec ℕ g.row.A.Denot). slice_cmp nat_cmp a.items b.items) c.self-2.inside.tests.entries c.in_ok-name.name c.in_ok-points.points c.self-2.inside.index
+    (subst (λ (f : File g.row.A.Denot). CountsSome f.tests.entries f.index) (sym c.self-2.view_is) c.in_ok-start_counting.ensures.ok))
 
 pub returns-clause-committed : goal.returns-clause-committed
 returns-clause-committed g c =
     let first = ap (λ (f : File g.row.A.Denot). f.tests.entries) c.self.view_is in
     let entries = ap (λ (f : File g.row.A.Denot). f.tests.entries) c.self-2.view_is ∙ ap (λ (t : FileTests g.row.A.Denot). t.entries) c.start_counting.ensures.same in
+    let index = c.self-2.inside.index in
+    let empty = ap test_committed c.in_ok-points.ensures ∙ c.new.ensures.committed in
     let opened = test_opened file_name test_committed (file_committed c.args.self.now) c.self-2.inside.tests.entries (ap (names_with file_name test_committed) entries) c.args.test.now c.contains.result
     (rw (entries ∙ sym first) c.contains.ensures) c.if-contains.false
-    c.in_ok-name.name c.in_ok-name.ensures.items c.in_ok-points.points (ap test_committed c.in_ok-points.ensures ∙ c.new.ensures.committed) c.insert.new.self.entries c.in_ok-insert.ensures.entries in
-    same_file (ap (λ (f : FileData). f.tests) opened) (ap (λ (f : File g.row.A.Denot). index_committed f.index) c.self-2.view_is ∙ c.start_counting.ensures.committed)
+    c.in_ok-name.name c.in_ok-name.ensures.items c.in_ok-points.points empty c.insert.new.self.entries c.in_ok-insert.ensures.entries in
+    same_file (ap (λ (f : FileData). f.tests) opened)
+    (ap (λ (es : List (Vec ℕ g.row.A.Denot × Test g.row.A.Denot)). index_committed (first_points (names_with file_name test_committed es)) index) c.in_ok-insert.ensures.entries
+    ∙ inserted_committed (λ (a b : Vec ℕ g.row.A.Denot). slice_cmp nat_cmp a.items b.items) file_name c.self-2.inside.tests.entries c.in_ok-name.name c.in_ok-points.points index
+    (subst (λ (f : File g.row.A.Denot). CountsSome f.tests.entries f.index) (sym c.self-2.view_is) c.in_ok-start_counting.ensures.ok) empty
+    ∙ ap (λ (f : File g.row.A.Denot). (file_committed f).index) c.self-2.view_is ∙ ap (λ (f : FileData). f.index) c.start_counting.ensures.committed)
 
 pub returns-clause-staged : goal.returns-clause-staged
 returns-clause-staged g c =
     let first = ap (λ (f : File g.row.A.Denot). f.tests.entries) c.self.view_is in
     let entries = ap (λ (f : File g.row.A.Denot). f.tests.entries) c.self-2.view_is ∙ ap (λ (t : FileTests g.row.A.Denot). t.entries) c.start_counting.ensures.same in
+    let index = c.self-2.inside.index in
+    let empty = ap test_staged c.in_ok-points.ensures ∙ c.new.ensures.staged in
     let opened = test_opened file_name test_staged (file_staged c.args.self.now) c.self-2.inside.tests.entries (ap (names_with file_name test_staged) entries) c.args.test.now c.contains.result
     (rw (entries ∙ sym first) c.contains.ensures) c.if-contains.false
-    c.in_ok-name.name c.in_ok-name.ensures.items c.in_ok-points.points (ap test_staged c.in_ok-points.ensures ∙ c.new.ensures.staged) c.insert.new.self.entries c.in_ok-insert.ensures.entries in
-    same_file (ap (λ (f : FileData). f.tests) opened) (ap (λ (f : File g.row.A.Denot). index_staged f.index) c.self-2.view_is ∙ c.start_counting.ensures.staged)
+    c.in_ok-name.name c.in_ok-name.ensures.items c.in_ok-points.points empty c.insert.new.self.entries c.in_ok-insert.ensures.entries in
+    same_file (ap (λ (f : FileData). f.tests) opened)
+    (ap (λ (es : List (Vec ℕ g.row.A.Denot × Test g.row.A.Denot)). index_staged (first_points (names_with file_name test_staged es)) index) c.in_ok-insert.ensures.entries
+    ∙ inserted_staged (λ (a b : Vec ℕ g.row.A.Denot). slice_cmp nat_cmp a.items b.items) file_name c.self-2.inside.tests.entries c.in_ok-name.name c.in_ok-points.points index
+    (subst (λ (f : File g.row.A.Denot). CountsSome f.tests.entries f.index) (sym c.self-2.view_is) c.in_ok-start_counting.ensures.ok) empty
+    ∙ ap (λ (f : File g.row.A.Denot). (file_staged f).index) c.self-2.view_is ∙ ap (λ (f : FileData). f.index) c.start_counting.ensures.staged)
 
 pub returns-clause-settled : goal.returns-clause-settled
 returns-clause-settled g c = λ tests settled.
-    let middle : File g.row.A.Denot = record { tests = record { entries = c.self-2.inside.tests.entries }; index = c.self-2.inside.index } in
-    let later : File g.row.A.Denot = record { tests = record { entries = c.insert.new.self.entries }; index = c.self-2.inside.index } in
-    test_inserted tests (λ a b. slice_cmp nat_cmp a.items b.items) middle later c.in_ok-name.name c.in_ok-points.points
-    (ap test_staged c.in_ok-points.ensures ∙ c.new.ensures.staged ∙ sym (ap test_committed c.in_ok-points.ensures ∙ c.new.ensures.committed)) refl c.in_ok-insert.ensures.entries
+    let index = c.self-2.inside.index in
+    let middle : File g.row.A.Denot = record { tests = record { entries = c.self-2.inside.tests.entries }; index = index } in
+    let later : File g.row.A.Denot = record { tests = record { entries = c.insert.new.self.entries }; index = index } in
+    let staged = ap test_staged c.in_ok-points.ensures ∙ c.new.ensures.staged in
+    let committed = ap test_committed c.in_ok-points.ensures ∙ c.new.ensures.committed in
+    let some = subst (λ (f : File g.row.A.Denot). CountsSome f.tests.entries f.index) (sym c.self-2.view_is) c.in_ok-start_counting.ensures.ok in
+    test_inserted tests (λ a b. slice_cmp nat_cmp a.items b.items) middle later c.in_ok-name.name c.in_ok-points.points (staged ∙ sym committed)
+    (ap (λ (es : List (Vec ℕ g.row.A.Denot × Test g.row.A.Denot)). index_staged (first_points (names_with file_name test_staged es)) index) c.in_ok-insert.ensures.entries
+    ∙ inserted_staged (λ (a b : Vec ℕ g.row.A.Denot). slice_cmp nat_cmp a.items b.items) file_name middle.tests.entries c.in_ok-name.name c.in_ok-points.points index some staged)
+    (ap (λ (es : List (Vec ℕ g.row.A.Denot × Test g.row.A.Denot)). index_committed (first_points (names_with file_name test_committed es)) index) c.in_ok-insert.ensures.entries
+    ∙ inserted_committed (λ (a b : Vec ℕ g.row.A.Denot). slice_cmp nat_cmp a.items b.items) file_name middle.tests.entries c.in_ok-name.name c.in_ok-points.points index some committed)
+    c.in_ok-insert.ensures.entries
     (subst (λ (f : File g.row.A.Denot). IsSettledBut tests f) (sym c.self-2.view_is) (settled_same tests c.args.self.now c.start_counting.new.self c.start_counting.ensures.same c.start_counting.ensures.committed c.start_counting.ensures.staged settled))
 
 pub returns-clause-there : goal.returns-clause-there

@@ -1,22 +1,23 @@
-use Rattle.covstore.proofs.Words.{◌≡◌, not, Option, Some, option_map, sym, ap, ◌∙◌, subst, File, IsWithoutTest, tests_without, file_committed, index_committed, IsConsistentFile, has_no_points, points_or_none, TestData, test_committed}
+use Rattle.covstore.proofs.Words.{◌≡◌, ◌∷◌, not, Option, Some, None, option_map, slice_cmp, nat_cmp, value_of, sym, ap, ◌∙◌, subst, File, IsWithoutTest, tests_without, file_committed, first_points, index_committed, IsConsistentFile, IsIndexOf, has_no_points, points_or_none, TestData, test_committed}
 use Rattle.covstore.proofs.DropsKept.{index_after, index_first, points_of_all, totals_unfound}
-use Rattle.covstore.proofs.FollowsSole.{sole_found}
+use Rattle.covstore.proofs.FirstTest.{found_committed}
 use Rattle.covstore.proofs.MapNames.{has_name, names_with, value_of_named}
 use Rattle.covstore.proofs.Settled.{file_name}
 use Rattle.covstore.proofs.file.File.without_test.Goals as goal
 
-pub totals_without-requires-clause-follows : goal.totals_without-requires-clause-follows
-totals_without-requires-clause-follows g c =
-    rw c.get-points.ensures (sole_found (has_name file_name c.args.test.now) c.self.inside.tests.entries c.self.inside.index c.in-Some.points.now (sym c.in-Some.ensures.value) c.self.invariant)
-
-pub totals_without-requires-clause-counted : goal.totals_without-requires-clause-counted
-totals_without-requires-clause-counted g c =
+pub totals_without-requires : goal.totals_without-requires
+totals_without-requires g c =
     let entries = c.self.inside.tests.entries in
     let tests = names_with file_name test_committed entries in
     let test = c.args.test.now in
+    let points = c.in-Some.points.now in
+    let index = c.self.inside.index in
     let found = value_of_named file_name test_committed test entries ∙ ap (option_map test_committed) (sym c.in-Some.ensures.value) in
-    let same : c.get-points.result.now ≡ c.in-Some.points.now = c.get-points.ensures in
-    rw same (points_of_all (tests_without test tests), index_first test (test_committed c.in-Some.points.now) tests (index_committed c.self.inside.index) (subst (λ (f : File g.row.A.Denot). IsConsistentFile (file_committed f)) (sym c.self.view_is) c.requires) found)
+    let same : c.get-points.result.now ≡ points = c.get-points.ensures in
+    rw same
+    (points_of_all (tests_without test tests),
+      subst (IsIndexOf (test_committed points ∷ points_of_all (tests_without test tests))) (found_committed (has_name file_name test) file_name entries index points (sym c.in-Some.ensures.value) c.self.invariant)
+          (index_first test (test_committed points) tests (index_committed (first_points tests) index) (subst (λ (f : File g.row.A.Denot). IsConsistentFile (file_committed f)) (sym c.self.view_is) c.requires) found))
 
 pub returns-in-Some-clause-has_points : goal.returns-in-Some-clause-has_points
 returns-in-Some-clause-has_points g c =
@@ -32,7 +33,10 @@ returns-in-Some-clause-totals g c = λ after is.
     let test = c.args.test.now in
     let found = value_of_named file_name test_committed test entries ∙ ap (option_map test_committed) (sym c.in-Some.ensures.value) in
     let same : c.get-points.result.now ≡ c.in-Some.points.now = c.get-points.ensures in
-    c.totals_without.ensures (points_of_all (tests_without test tests)) after.index (rw same (index_first test (test_committed c.in-Some.points.now) tests (index_committed c.self.inside.index) (subst (λ (f : File g.row.A.Denot). IsConsistentFile (file_committed f)) (sym c.self.view_is) c.requires) found))
+    c.totals_without.ensures (points_of_all (tests_without test tests)) after.index
+    (rw same (subst (IsIndexOf (test_committed c.in-Some.points.now ∷ points_of_all (tests_without test tests)))
+    (found_committed (has_name file_name test) file_name entries c.self.inside.index c.in-Some.points.now (sym c.in-Some.ensures.value) c.self.invariant)
+    (index_first test (test_committed c.in-Some.points.now) tests (index_committed (first_points tests) c.self.inside.index) (subst (λ (f : File g.row.A.Denot). IsConsistentFile (file_committed f)) (sym c.self.view_is) c.requires) found)))
     (index_after test (file_committed file) after (subst (λ (f : File g.row.A.Denot). IsWithoutTest test (file_committed f) after) (sym c.self.view_is) is))
 
 pub returns-clause-has_points : goal.returns-clause-has_points
@@ -43,8 +47,7 @@ returns-clause-has_points g c =
 
 pub returns-clause-totals : goal.returns-clause-totals
 returns-clause-totals g c = λ after is.
-    let file : File g.row.A.Denot = record { tests = record { entries = c.self.inside.tests.entries }; index = c.self.inside.index } in
     let test = c.args.test.now in
     let none = value_of_named file_name test_committed test c.self.inside.tests.entries ∙ ap (option_map test_committed) (sym c.in_default.ensures.value) in
     c.committed_totals.ensures
-    ∙ totals_unfound test (file_committed file) (subst (λ (f : File g.row.A.Denot). IsConsistentFile (file_committed f)) (sym c.self.view_is) c.requires) none after (subst (λ (f : File g.row.A.Denot). IsWithoutTest test (file_committed f) after) (sym c.self.view_is) is)
+    ∙ totals_unfound test (file_committed c.args.self.now) c.requires (subst (λ (f : File g.row.A.Denot). value_of (slice_cmp nat_cmp) test (file_committed f).tests ≡ None) c.self.view_is none) after is
