@@ -31,9 +31,10 @@ pub(crate) fn ascending_len(items: &PackedItems<'_>) -> usize
     let Some(first) = rest.next() else {
         unreachable!();
     };
-    let Some(mut least) = least_after(&first, 0) else {
+    let Some(next) = least_after(&first, 0) else {
         return 1;
     };
+    let mut least = next;
     let mut len = 1;
     for item in rest {
         let Some(next) = least_after(&item, least) else {

@@ -9,7 +9,6 @@ ghost use Rattle.covstore.specs.PointIndexDrops.{totals_by};
 
 mod counts;
 
-pub(crate) use self::counts::TallyWalk;
 use crate::sums::{CountedAddend, PointSum, TestCounts, TestsAddend};
 use covmap::{CopyKey, Key, Query, SlotIndex, StagedMap};
 use covtable::Totals;
@@ -270,7 +269,7 @@ impl<K: Key + Drop, S: PointSum, A: Allocator + Copy> Points<K, S, A> {
 }
 
 /// Appends the change of a point, unless it is `None`.
-fn push_change<Q, A: Allocator>(
+fn push_change<Q: Copy, A: Allocator>(
     changes: &mut Vec<(Q, TestsAddend), A>,
     query: Q,
     change: Option<TestsAddend>,

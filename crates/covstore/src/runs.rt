@@ -150,19 +150,23 @@ fn stage_counted<'a, A: Allocator + Copy>(
     ensures counts { OnOk result (KeepsCountsOfKinds (test_staged test.old) (test_staged test.new) (all_staged counts.old) (all_staged counts.new)) }
 {
     stage_run(&mut test.lines, &mut counts.lines, alloc, &runs.lines)?;
-    stage_each(&mut test.functions, &mut counts.functions, alloc, &runs.functions)?;
-    stage_run(&mut test.branches, &mut counts.branches, alloc, &runs.branches)?;
+    stage_each(
+        &mut test.functions,
+        &mut counts.functions,
+        alloc,
+        &runs.functions,
+    )?;
+    stage_run(
+        &mut test.branches,
+        &mut counts.branches,
+        alloc,
+        &runs.branches,
+    )?;
     Ok(())
 }
 
 /// Stages a run of items of one kind, in their test and in the counts of the file.
-fn stage_run<
-    K: Key + Drop,
-    S: PointSum,
-    A: Allocator + Copy,
-    Q: Query<K, A>,
-    M: PointAddend<S>,
->(
+fn stage_run<K: Key + Drop, S: PointSum, A: Allocator + Copy, Q: Query<K, A>, M: PointAddend<S>>(
     points: &mut Points<K, S, A>,
     counts: &mut Points<K, TestCounts, A>,
     alloc: A,
@@ -180,13 +184,7 @@ fn stage_run<
 }
 
 /// Does the same as `stage_run`, one item after another.
-fn stage_each<
-    K: Key + Drop,
-    S: PointSum,
-    A: Allocator + Copy,
-    Q: Query<K, A>,
-    M: PointAddend<S>,
->(
+fn stage_each<K: Key + Drop, S: PointSum, A: Allocator + Copy, Q: Query<K, A>, M: PointAddend<S>>(
     points: &mut Points<K, S, A>,
     counts: &mut Points<K, TestCounts, A>,
     alloc: A,

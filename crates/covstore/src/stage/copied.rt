@@ -36,7 +36,12 @@ pub(crate) fn stage_points<A: Allocator + Copy>(
     ensures keeps { KeepsCommitted test.old index.old test.new index.new }
     ensures ok { OnOk result (AddsPoints (test_committed source.now) (test_staged test.old) (index_staged (test_staged test.old) index.old) (test_staged test.new) (index_staged (test_staged test.new) index.new)) }
 {
-    hold_again(&mut index.checksums, alloc, source.lines.values(), test.lines.values())?;
+    hold_again(
+        &mut index.checksums,
+        alloc,
+        source.lines.values(),
+        test.lines.values(),
+    )?;
     let Some(counts) = &mut index.counts else {
         unreachable!();
     };
@@ -103,13 +108,7 @@ fn add_points<'a, M: PointAddend<S>, K: PointKey<'a, A> + Drop, S: PointSum, A: 
 }
 
 /// Adds `addend` to a test's staged sum at a point, and stages the change of the point's counts.
-fn add_sum<
-    K: Key + Drop,
-    S: PointSum,
-    A: Allocator + Copy,
-    Q: Query<K, A>,
-    M: PointAddend<S>,
->(
+fn add_sum<K: Key + Drop, S: PointSum, A: Allocator + Copy, Q: Query<K, A>, M: PointAddend<S>>(
     points: &mut Points<K, S, A>,
     counts: &mut Points<K, TestCounts, A>,
     alloc: A,

@@ -7,7 +7,7 @@ pub returns-in_default-clause-ascend : goal.returns-in_default-clause-ascend
 returns-in_default-clause-ascend c = one_ascends (item_ref_data c.in-Some.first) c.args.items.now c.next.new.rest (sym c.copy-rest.ensures ∙ c.in-Some.ensures.steps)
 
 pub loop-item-init : goal.loop-item-init
-loop-item-init c = ascending_first (item_ref_data c.in-Some.first) c.args.items.now _ c.in-Some-least_after.least (sym c.copy-rest.ensures ∙ c.in-Some.ensures.steps ) c.in-Some-least_after.ensures
+loop-item-init c = ascending_first (item_ref_data c.in-Some.first) c.args.items.now _ c.in-Some-least_after.least (sym c.copy-rest.ensures ∙ c.in-Some.ensures.steps) c.in-Some-least_after.ensures
 
 pub returns-in_default-least_after-clause-few : goal.returns-in_default-least_after-clause-few
 returns-in_default-least_after-clause-few c = ascending_few c.args.items.now c.loop-item.item-iterator c.loop-item.len c.loop-item.least c.loop-item.invariant

@@ -15,10 +15,11 @@ uncount_test-requires g c =
     let index = c.self.inside.index in
     let points = test_committed c.in-Some.points in
     let found = value_of_named file_name test_committed test entries ∙ ap (option_map test_committed) (sym c.in-Some.ensures.value) in
-    rw c.get.ensures
-    (points_of_all (tests_without test tests),
+    rw c.get.ensures (
+      points_of_all (tests_without test tests),
       subst (IsIndexOf (points ∷ points_of_all (tests_without test tests))) (found_committed (has_name file_name test) file_name entries index c.in-Some.points (sym c.in-Some.ensures.value) c.self.invariant)
-          (index_first test points tests (index_committed (first_points tests) index) (subst (λ (f : File g.row.A.Denot). IsConsistentFile (file_committed f)) (sym c.self.view_is) c.requires) found))
+          (index_first test points tests (index_committed (first_points tests) index) (subst (λ (f : File g.row.A.Denot). IsConsistentFile (file_committed f)) (sym c.self.view_is) c.requires) found),
+    )
 
 pub returns-in-Some-clause-committed : goal.returns-in-Some-clause-committed
 returns-in-Some-clause-committed g c =

@@ -14,10 +14,11 @@ totals_without-requires g c =
     let index = c.self.inside.index in
     let found = value_of_named file_name test_committed test entries ∙ ap (option_map test_committed) (sym c.in-Some.ensures.value) in
     let same : c.get-points.result.now ≡ points = c.get-points.ensures in
-    rw same
-    (points_of_all (tests_without test tests),
+    rw same (
+      points_of_all (tests_without test tests),
       subst (IsIndexOf (test_committed points ∷ points_of_all (tests_without test tests))) (found_committed (has_name file_name test) file_name entries index points (sym c.in-Some.ensures.value) c.self.invariant)
-          (index_first test (test_committed points) tests (index_committed (first_points tests) index) (subst (λ (f : File g.row.A.Denot). IsConsistentFile (file_committed f)) (sym c.self.view_is) c.requires) found))
+          (index_first test (test_committed points) tests (index_committed (first_points tests) index) (subst (λ (f : File g.row.A.Denot). IsConsistentFile (file_committed f)) (sym c.self.view_is) c.requires) found),
+    )
 
 pub returns-in-Some-clause-has_points : goal.returns-in-Some-clause-has_points
 returns-in-Some-clause-has_points g c =

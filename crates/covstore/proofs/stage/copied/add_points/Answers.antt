@@ -18,7 +18,7 @@ pub add_sum-requires : goal.add_sum-requires
 add_sum-requires g c =
     let addend = g.M.PointAddend.addend in
     summing_room g.K.Key.cmp g.S.PointSum.above (λ key. key) g.M.Addend.sum (as_run addend c.args.source.now.committed) c.args.points.now.staged c.args.counts.now.staged (record { total = g.K.Key.total; exact = g.K.Key.exact })
-          (c.in-Some.key.now, addend c.in-Some.sum.now) (as_run addend c.loop-key.key-iterator) (as_run addend c.next.new.self) c.loop-key.points.staged c.loop-key.counts.staged
+    (c.in-Some.key.now, addend c.in-Some.sum.now) (as_run addend c.loop-key.key-iterator) (as_run addend c.next.new.self) c.loop-key.points.staged c.loop-key.counts.staged
     (ap (as_run addend) c.in-Some.ensures.steps) c.loop-key.invariant.0
 
 pub loop-key-preserved : goal.loop-key-preserved
