@@ -1,5 +1,5 @@
 -- What items do to their test and to the index of its file.
-use Rattle.covstore.proofs.Words.{◌≡◌, ℕ, Some, None, List, [], ◌∷◌, ◌++◌, sym, ap, ◌∙◌, subst, inl, inr, ⊎_elim, Contains, slice_cmp, nat_cmp, flat_map-append, ItemData, LineItem, FuncItem, BranchItem, Row, rows_of_sect, Adds, IsIn, section_of_items, with_items, Agree, Checksum, checksum_of, checksum_of_row, checksums_in, first_clash, FileIndexData, put, value_of, FileData, IsStateOf, file_with, IsTextOf, KeepsCounts, KeepsTextsOf, TestData, In-unflat, In, In-from, In-parts, In-unmap, names_order}
+use Rattle.covstore.proofs.Words.{◌≡◌, ℕ, Some, None, List, ◌++◌, sym, ap, ◌∙◌, subst, inl, inr, ⊎_elim, Contains, slice_cmp, nat_cmp, flat_map-append, ItemData, LineItem, FuncItem, BranchItem, Row, rows_of_sect, Adds, IsIn, section_of_items, with_items, Agree, Checksum, checksum_of, checksum_of_row, checksums_in, first_clash, FileIndexData, put, value_of, FileData, IsStateOf, file_with, IsTextOf, KeepsCounts, KeepsTextsOf, TestData, In-unflat, In, In-from, In-parts, In-unmap, names_order}
 use Rattle.covstore.proofs.AddsPlace.{checksum_held, state_agrees, text_kept, whole_after}
 use Rattle.covtable.proofs.Clashes.{agree_none}
 use Rattle.covstore.proofs.Puts.{value_of-put}

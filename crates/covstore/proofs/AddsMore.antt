@@ -1,11 +1,8 @@
 -- Items that are added one after another: what they do together, and when they clash.
-use Rattle.covstore.proofs.Words.{◌≡◌, ℕ, Bool, true, false, ◌&&◌, ◌==◌, not, Some, None, List, [], ◌∷◌, ◌++◌, refl, sym, ap, ◌∙◌, subst, append_assoc, Contains, slice_cmp, nat_cmp, bytes_eq, eq-eqb, map-append, flat_map-append, bytes_eq-Decides, ItemData, LineItem, FuncItem, BranchItem, Row, rows_of_sect, Adds, Clashes, ClashesAt, IsIn, clash_in_file, files_with, section_of_items, Agree, Checksum, checksum_of_row, checksums_in, clash_of, differs, first_clash, FileIndexData, put, FileData, file_with, IsClashAt, IsClashOf, IsOtherText, TestData, Contains-from, names_order}
+use Rattle.covstore.proofs.Words.{◌≡◌, ℕ, Bool, true, false, ◌&&◌, ◌==◌, not, None, List, [], ◌++◌, refl, sym, ap, ◌∙◌, subst, append_assoc, slice_cmp, nat_cmp, bytes_eq, eq-eqb, map-append, flat_map-append, bytes_eq-Decides, ItemData, Row, rows_of_sect, Adds, ClashesAt, IsIn, clash_in_file, files_with, section_of_items, Checksum, checksum_of_row, checksums_in, clash_of, differs, first_clash, FileIndexData, put, FileData, file_with, TestData, names_order}
 use Rattle.std.proofs.lemmas.List.{append-nil}
-use Rattle.covstore.specs.declared.stage.fault.StageFault.{StageFault}
-use Rattle.covstore.specs.declared.stage.fault.StageFault.TheVariants.{Clash, Memory}
 use Rattle.covstore.proofs.AddsLists.{clash_before, clash_after, put_there, put_twice}
-use Rattle.covstore.proofs.AddsPlace.{held_text, its_whole}
-use Rattle.covtable.proofs.Clashes.{told_first}
+use Rattle.covstore.proofs.AddsPlace.{its_whole}
 
 -- ---- no items
 

@@ -1,5 +1,5 @@
 -- Statements about each kind of points, and what stays when the points of one kind change.
-use Rattle.covstore.proofs.Words.{◌≡◌, List, ◌∷◌, ◌++◌, length, map, sym, ap, subst, arith, ℕ, length-map, map-append, FileIndexData, counts_totals, HasRoom, HasRoomOfKind, KeepsCountsOfKind, AreCounts, Branch, CountsOf, Each, Function, Kind, Line, PointsOf, above_of, at, cmp_of, of_each, with_at, FileData, IsIndexOf, found_at, hit_at, totals_in, TestData, IsTallyOf, totals_by, IsExactOrder, branches_order, lines_order, names_order, sum_by}
+use Rattle.covstore.proofs.Words.{◌≡◌, List, ◌∷◌, ◌++◌, map, ℕ, map-append, counts_totals, Branch, CountsOf, Each, Function, Kind, Line, at, cmp_of, of_each, FileData, found_at, hit_at, totals_in, TestData, IsTallyOf, totals_by, IsExactOrder, branches_order, lines_order, names_order, sum_by}
 use Rattle.covstore.specs.declared.points.KindTally.{KindTally}
 
 -- ---- by cases, for each kind. Other files state and prove things of any kind at once

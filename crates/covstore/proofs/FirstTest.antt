@@ -1,6 +1,6 @@
 -- A file's index is seen with the file's first test. As long as the index has no counts, the file has at most one test. So the index
 -- is seen in the same way with any test that is found. This stays so when a test is written, inserted or removed.
-use Rattle.covstore.proofs.Words.{◌≡◌, ℕ, Bool, true, false, cond, Option, Some, None, option_map, List, [], ◌∷◌, Vec, refl, sym, ap, ◌∙◌, subst, insert_entry, Ordering, lookup, remove_entry, set_value, cond-false, cond-true, false≢true, names_order, none-some, same_Some, tells_apart, test_of, CountsOf, Each, CountsMany, CountsSome, FileData, FileIndexData, Test, TestData, all_committed, all_staged, counts_or, file_of, first_points, first_test, index_committed, index_staged, points_or_none, test_committed, test_staged}
+use Rattle.covstore.proofs.Words.{◌≡◌, ℕ, Bool, true, false, cond, Option, Some, None, option_map, List, [], ◌∷◌, Vec, refl, sym, ap, ◌∙◌, subst, insert_entry, Ordering, lookup, remove_entry, set_value, cond-false, cond-true, false≢true, names_order, none-some, same_Some, tells_apart, test_of, CountsOf, Each, CountsMany, CountsSome, FileIndexData, Test, TestData, all_committed, all_staged, counts_or, file_of, first_points, first_test, index_committed, index_staged, points_or_none, test_committed, test_staged}
 use Rattle.std.specs.Option.{is_some}
 use Rattle.covstore.specs.declared.index.FileIndex.{FileIndex}
 use Rattle.covstore.specs.declared.point_counts.PointCounts.{PointCounts}
@@ -47,10 +47,6 @@ module _ {K A : Type 0} where
   some_counts [] index counts = tt
   some_counts (pair ∷ pairs) index counts = counts
 
-  pub some_many : (entries : List (K × Test A)) (index : FileIndex A) → CountsSome entries index → CountsMany entries index
-  some_many [] index some = tt
-  some_many (pair ∷ pairs) index some = counted_many (pair ∷ pairs) index some
-
   pub many_still : (entries : List (K × Test A)) (before after : FileIndex A) → CountsMany entries before → (is_some before.counts ≡ true → is_some after.counts ≡ true) → CountsMany entries after
   many_still [] before after many still = tt
   many_still (pair ∷ []) before after many still = tt
@@ -67,11 +63,11 @@ module _ {K A : Type 0} where
     alone false pair test found = absurd (none-some test found)
 
     -- the index is seen with the first test as with any test that is found, and after that test is removed as without a test
-    module _ (name : K → List ℕ) (seen : Test A → TestData) (index : FileIndex A) (view : TestData → FileIndexData) (alike : is_some index.counts ≡ true → (test other : TestData) → view test ≡ view other) where
+    module _ (name : K → List ℕ) (seen : Test A → TestData) (index : FileIndex A) (view : TestData → FileIndexData) (same : is_some index.counts ≡ true → (test other : TestData) → view test ≡ view other) where
       first_found : (entries : List (K × Test A)) (test : Test A) → lookup here entries ≡ Some test → CountsMany entries index → view (first_points (names_with name seen entries)) ≡ view (seen test)
       first_found [] test found many = absurd (none-some test found)
       first_found (pair ∷ []) test found many = ap (λ (t : Test A). view (seen t)) (alone (here pair.0) pair test found)
-      first_found (pair ∷ other ∷ pairs) test found many = alike many (seen pair.1) (seen test)
+      first_found (pair ∷ other ∷ pairs) test found many = same many (seen pair.1) (seen test)
 
       first_removed : (entries : List (K × Test A)) (test : Test A) → lookup here entries ≡ Some test → CountsMany entries index → view (first_points (names_with name seen (remove_entry here entries))) ≡ view (test_of [])
       first_removed [] test found many = absurd (none-some test found)
@@ -80,7 +76,7 @@ module _ {K A : Type 0} where
           at : (is : Bool) → cond is (Some pair.1) None ≡ Some test → view (first_points (names_with name seen (cond is [] (pair ∷ [])))) ≡ view (test_of [])
           at true found = refl
           at false found = absurd (none-some test found)
-      first_removed (pair ∷ other ∷ pairs) test found many = alike many (first_points (names_with name seen (remove_entry here (pair ∷ other ∷ pairs)))) (test_of [])
+      first_removed (pair ∷ other ∷ pairs) test found many = same many (first_points (names_with name seen (remove_entry here (pair ∷ other ∷ pairs)))) (test_of [])
 
     module _ (name : K → List ℕ) (entries : List (K × Test A)) (index : FileIndex A) (test : Test A) (found : lookup here entries ≡ Some test) (many : CountsMany entries index) where
       pub found_committed : index_committed (first_points (names_with name test_committed entries)) index ≡ index_committed (test_committed test) index
@@ -149,11 +145,11 @@ module _ {K A : Type 0} where
 module _ {K A : Type 0} (cmp : K → K → Ordering) (name : K → List ℕ) (entries : List (K × Test A)) (key : K) (test : Test A) (index : FileIndex A) (some : CountsSome entries index) where
   inserted_first : (seen : Test A → TestData) (view : TestData → FileIndexData) → (is_some index.counts ≡ true → (test other : TestData) → view test ≡ view other) → seen test ≡ test_of []
       → view (first_points (names_with name seen (insert_entry cmp entries key test))) ≡ view (first_points (names_with name seen entries))
-  inserted_first seen view alike empty = by entries some
+  inserted_first seen view same empty = by entries some
     where
       by : (all : List (K × Test A)) → CountsSome all index → view (first_points (names_with name seen (insert_entry cmp all key test))) ≡ view (first_points (names_with name seen all))
       by [] some = ap view empty
-      by (pair ∷ pairs) some = alike some (first_points (names_with name seen (insert_entry cmp (pair ∷ pairs) key test))) (seen pair.1)
+      by (pair ∷ pairs) some = same some (first_points (names_with name seen (insert_entry cmp (pair ∷ pairs) key test))) (seen pair.1)
 
   pub inserted_committed : test_committed test ≡ test_of [] → index_committed (first_points (names_with name test_committed (insert_entry cmp entries key test))) index ≡ index_committed (first_points (names_with name test_committed entries)) index
   inserted_committed = inserted_first test_committed (λ t. index_committed t index) (alike_committed index)

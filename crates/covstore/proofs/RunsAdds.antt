@@ -1,6 +1,6 @@
 -- Items without a checksum are split by kind into runs. Once the runs are staged, the items are added. This can be done with
 -- some of the items at a time.
-use Rattle.covstore.proofs.Words.{◌≡◌, ℕ, Some, None, List, [], ◌++◌, length, refl, sym, ap, ◌∙◌, subst, inl, inr, All, nat_cmp, ItemData, LineItem, FuncItem, BranchItem, value_of, FileIndexData, IsTextOf, KeepsTextsOf, Each, HasNoChecksum, HasRoomForRuns, KeepsCountsOfKinds, KeepsHeld, RunOf, runs_of, with_runs, Adds, Clashes, ClashesAt, HasRoomFor, TestData, Contains-from, In, In-joined, KeepsCommitted, index_staged, test_staged, Test, nil_from_length}
+use Rattle.covstore.proofs.Words.{◌≡◌, ℕ, Some, None, List, [], ◌++◌, length, sym, ap, ◌∙◌, subst, inl, inr, All, nat_cmp, ItemData, LineItem, FuncItem, BranchItem, value_of, FileIndexData, IsTextOf, KeepsTextsOf, Each, HasNoChecksum, HasRoomForRuns, KeepsCountsOfKinds, KeepsHeld, RunOf, runs_of, with_runs, Adds, Clashes, ClashesAt, HasRoomFor, TestData, Contains-from, In, In-joined, KeepsCommitted, index_staged, test_staged, Test, nil_from_length}
 use Rattle.std.specs.Option.{is_some}
 use Rattle.std.proofs.lemmas.List.Elements.{All-contains}
 use Rattle.covstore.proofs.AddsItem.{items_add}

@@ -1,9 +1,8 @@
 -- The index of a file still counts its tests after one more item is added to one of them.
-use Rattle.covstore.proofs.Words.{◌≡◌, ℕ, ◌+◌, ◌≤◌, ◌^◌, Bool, true, false, cond, if◌then◌else◌, nat_lt, Option, Some, None, List, ◌∷◌, ◌++◌, length, map, refl, sym, ap, ◌∙◌, subst, ⊎_elim, arith, Ordering, IfSome, is_eq, nat_cmp, cases_Bool, cond-true, lt-ltb, ltb-false, tells_apart, LineSum, TestCounts, CountsOf, Each, Kind, Line, PointsOf, above_of, at, cmp_of, line_above, with_at, held_more, one_more, AreCounts, counts_with, is_above_at, one_if, FileIndexData, put, value_of, has_checksum, holders_at, holding, HasRoomOfKind, KeepsCounts, KeepsCountsOfKind, TestData, IsExactOrder, lines_order}
+use Rattle.covstore.proofs.Words.{◌≡◌, ℕ, ◌+◌, ◌≤◌, ◌^◌, Bool, true, false, cond, if◌then◌else◌, nat_lt, Option, Some, None, List, ◌∷◌, ◌++◌, length, refl, sym, ap, ◌∙◌, subst, ⊎_elim, arith, Ordering, IfSome, is_eq, nat_cmp, cases_Bool, cond-true, lt-ltb, ltb-false, tells_apart, TestCounts, held_more, one_more, AreCounts, counts_with, is_above_at, one_if, put, value_of, has_checksum, holders_at, holding, HasRoomOfKind, KeepsCountsOfKind, TestData, IsExactOrder, lines_order}
 use Rattle.covstore.proofs.Counts.{IsWithin, count_by-between, counts_within}
 use Rattle.covstore.proofs.CountsPut.{counts_put}
 use Rattle.covstore.proofs.Puts.{value_of-put, value_of-put_apart}
-use Rattle.covstore.proofs.Assigned.{any_key}
 
 -- ---- one kind of points
 

@@ -1,5 +1,5 @@
 -- How many points are found, and how many of them are hit, after the value of one point changes, and after a run of addends.
-use Rattle.covstore.proofs.Words.{◌≡◌, ◌+◌, ◌≤◌, Bool, true, false, ◌&&◌, not, cond, Option, Some, None, List, [], ◌∷◌, ◌++◌, length, refl, ap, ◌∙◌, arith, Ordering, length-map, sum_by-append, ArePairs, put, value_of, sum_put, summed, reports_one, reports_run, TestCounts, IsTallyBy, IsTallyOf, change_by, change_of, found_by, hit_by, is_above_at, is_new, is_newly_hit, nat_lt, one_if, counts_of, count_of_one, false≢true, IsExactOrder, sym}
+use Rattle.covstore.proofs.Words.{◌≡◌, ℕ, ◌+◌, ◌≤◌, Bool, true, false, ◌&&◌, not, cond, Option, Some, None, List, [], ◌∷◌, ◌++◌, length, refl, ap, ◌∙◌, arith, Ordering, length-map, sum_by-append, ArePairs, put, value_of, sum_put, summed, reports_one, reports_run, TestCounts, IsTallyBy, IsTallyOf, change_by, change_of, found_by, hit_by, is_above_at, is_new, is_newly_hit, nat_lt, one_if, counts_of, count_of_one, false≢true, IsExactOrder, sym}
 use Rattle.std.specs.List.{count_by}
 use Rattle.covstore.specs.declared.points.KindTally.{KindTally}
 use Rattle.covstore.specs.declared.sums.TestsAddend.{TestsAddend}

@@ -1,12 +1,9 @@
 -- The index of a file, seen as plain data: committed, and staged. As long as the index has no counts, they are those of the file's
 -- only test.
-use Rattle.std.specs.Prelude.{◌≡◌, ℕ, true, [], option_map}
-use Rattle.std.specs.Option.{is_some}
-use Rattle.std.specs.Ordering.{nat_cmp}
+use Rattle.std.specs.Prelude.{◌≡◌, [], option_map}
 use Rattle.covstore.specs.declared.index.FileIndex.{FileIndex}
 use Rattle.covstore.specs.declared.point_counts.PointCounts.{PointCounts}
 use Rattle.covstore.specs.declared.test.Test.{Test}
-use Rattle.covmap.specs.Puts.{value_of}
 use Rattle.covstore.specs.Checksums.{StayTexts}
 use Rattle.covstore.specs.FileIndex.{FileIndexData}
 use Rattle.covstore.specs.KeptCounts.{counts_or}

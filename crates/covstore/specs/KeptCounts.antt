@@ -1,5 +1,5 @@
 -- The counts of a file's points: those that the index has, or if it has none, those of the only test.
-use Rattle.std.specs.Prelude.{ℕ, Bool, Option, Some, None, List, map}
+use Rattle.std.specs.Prelude.{Bool, Option, Some, None, List, map}
 use Rattle.covstore.specs.declared.sums.TestCounts.{TestCounts}
 use Rattle.covstore.specs.Kinds.{CountsOf, Each, branch_above, function_above, line_above}
 use Rattle.covstore.specs.PointIndexCounts.{one_if}

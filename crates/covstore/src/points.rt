@@ -183,8 +183,6 @@ impl<K: Key, S: PointSum, A: Allocator> Points<K, S, A> {
 }
 
 impl<K: Key + Drop, S: PointSum, A: Allocator + Copy> Points<K, S, A> {
-    ghost use Rattle.std.specs.Prelude.{List};
-
     /// Adds an addend to the staged value of a point. The point is found without a search if `guess` is its slot, or the slot right
     /// before. A failed allocation discards the staged values.
     pub(crate) fn add<Q: Query<K, A>, M: CountedAddend<S>>(

@@ -1,6 +1,6 @@
 //! Stages the items of a section, in their test and in the file's index.
 
-ghost use Rattle.std.specs.Prelude.{◌≡◌, IfErr, OnOk};
+ghost use Rattle.std.specs.Prelude.{IfErr, OnOk};
 ghost use Rattle.std.specs.List.Sorted.{IsStrictlySortedBy};
 ghost use Rattle.std.specs.Ordering.{nat_cmp};
 ghost use Rattle.covstore.specs.Section.{Adds, Clashes, HasRoomFor};

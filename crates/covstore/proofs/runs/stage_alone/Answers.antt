@@ -1,4 +1,4 @@
-use Rattle.covstore.proofs.Words.{◌≡◌, ◌∙◌, ap, arith, length, length-map, sym, slice_cmp, nat_cmp, Option, Branch, Function, Line, LineSum, branch_cmp, branches_order, lines_order, names_order, points_with, sum_of, test_staged, with_runs}
+use Rattle.covstore.proofs.Words.{◌∙◌, ap, arith, length, length-map, slice_cmp, nat_cmp, Branch, Function, Line, branch_cmp, branches_order, lines_order, names_order, points_with, sum_of, test_staged, with_runs}
 use Rattle.covdata.specs.PointView.{branch_point_data}
 use Rattle.covmap.proofs.Run.{fit_always}
 use Rattle.covstore.specs.RunsView.{runs_seen}

@@ -1,4 +1,4 @@
-use Rattle.covstore.proofs.Words.{slice_cmp, nat_cmp, value_of, ◌≡◌, ℕ, true, ◌≤◌, ◌^◌, Some, Vec, List, length, refl, sym, ap, ◌∙◌, subst, arith, length-map, on_ok_weaker, File, file_committed, file_staged, first_points, index_staged, AddsPoints, CopiesIn, FileIndexData, HasRoomForPoints, HasRoomToCopyIn, FileData, IsSettledBut, TestData, test_staged, test_committed, names_order}
+use Rattle.covstore.proofs.Words.{slice_cmp, nat_cmp, value_of, ◌≡◌, ℕ, true, ◌≤◌, ◌^◌, Some, Vec, List, length, sym, ap, ◌∙◌, subst, arith, length-map, on_ok_weaker, File, file_committed, file_staged, first_points, index_staged, AddsPoints, CopiesIn, FileIndexData, HasRoomForPoints, HasRoomToCopyIn, FileData, IsSettledBut, TestData, test_staged, test_committed, names_order}
 use Rattle.std.specs.Option.{is_some}
 use Rattle.covstore.proofs.AddsFile.{not_there, test_value}
 use Rattle.covstore.proofs.AddsSettled.{test_settled}

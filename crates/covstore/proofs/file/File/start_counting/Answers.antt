@@ -1,4 +1,4 @@
-use Rattle.covstore.proofs.Words.{◌∙◌, ap, sym, FileIndexData, TestData, file_with, first_points, index_committed, index_staged, test_committed, test_staged}
+use Rattle.covstore.proofs.Words.{◌∙◌, ap, sym, FileIndexData, TestData, file_with, index_committed, index_staged, test_committed, test_staged}
 use Rattle.covstore.proofs.FirstTest.{first_is, many_still, none_counts, some_counts}
 use Rattle.covstore.proofs.MapNames.{names_with}
 use Rattle.covstore.proofs.Settled.{file_name}

@@ -1,4 +1,4 @@
-use Rattle.covstore.proofs.Words.{[], ◌∷◌, ◌∙◌, ap, map, refl, subst, sym, option_map, AreCounts, Branch, CountsOf, Each, Function, Kind, Line, above_of, all_committed, all_staged, at, cmp_of, counts_or, index_committed, test_committed, test_of}
+use Rattle.covstore.proofs.Words.{[], ◌∷◌, ◌∙◌, ap, map, refl, subst, sym, option_map, AreCounts, Branch, CountsOf, Each, Function, Kind, Line, above_of, all_committed, all_staged, at, cmp_of, counts_or, test_committed, test_of}
 use Rattle.covstore.proofs.EachKind.{each_kind}
 use Rattle.covstore.proofs.FewerHolders.{holders_of_lines}
 use Rattle.covstore.proofs.SoleCounts.{sole_lost}

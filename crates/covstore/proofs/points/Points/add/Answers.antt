@@ -1,4 +1,4 @@
-use Rattle.covstore.proofs.Words.{◌≡◌, ◌∙◌, ap, subst, sym, List, Option, IsTallyBy, change_of, put, value_of}
+use Rattle.covstore.proofs.Words.{◌≡◌, ◌∙◌, ap, subst, sym, List, Option, IsTallyBy, change_of, value_of}
 use Rattle.covstore.proofs.Tallies.{tally_put}
 use Rattle.covstore.proofs.points.Points.add.Goals as goal
 

@@ -1,4 +1,4 @@
-use Rattle.covstore.proofs.Words.{◌≡◌, ◌≤◌, ◌∙◌, ◌++◌, Bool, true, false, List, Option, ap, append_assoc, arith, length, refl, subst, sym, FitRun, IsExactOrder, is_new, one_if, reports_one, reports_run, summed, value_of}
+use Rattle.covstore.proofs.Words.{◌≤◌, ◌∙◌, ◌++◌, Bool, true, false, List, Option, ap, append_assoc, arith, length, refl, subst, sym, FitRun, is_new, one_if, reports_one, reports_run, summed, value_of}
 use Rattle.covstore.specs.declared.sums.TestsAddend.{TestsAddend}
 use Rattle.covstore.proofs.Puts.{length-put}
 use Rattle.covstore.proofs.points.Points.add_each.Goals as goal

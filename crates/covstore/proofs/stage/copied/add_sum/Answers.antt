@@ -1,4 +1,4 @@
-use Rattle.covstore.proofs.Words.{Option, List, ◌+◌, ◌≤◌, ap, arith, length, subst, sym, ◌∙◌, on_ok_weaker, put, value_of, change_of, changed, counts_with, TestCounts}
+use Rattle.covstore.proofs.Words.{List, ◌+◌, ◌≤◌, ap, arith, length, subst, sym, ◌∙◌, on_ok_weaker, value_of, changed, TestCounts}
 use Rattle.covstore.proofs.AddsFew.{few_points}
 use Rattle.covstore.proofs.StepsCounts.{changed_is}
 use Rattle.covstore.proofs.StepsKept.{put_keeps, room_at}

@@ -1,4 +1,4 @@
-use Rattle.covstore.proofs.Words.{◌≡◌, ◌∙◌, Some, ap, length, refl, subst, sym, false≢true, option_map, index_staged, HasRoomForRun, KeepsCountsOfKind, KeepsCountsOfKinds, Branch, CountsOf, Each, Function, Kind, Line, PointsOf, above_of, all_committed, all_staged, at, cmp_of, counts_or, merged, TestData, test_committed, test_staged}
+use Rattle.covstore.proofs.Words.{◌∙◌, ap, length, refl, subst, sym, false≢true, option_map, index_staged, HasRoomForRun, KeepsCountsOfKind, KeepsCountsOfKinds, Branch, CountsOf, Each, Function, Kind, Line, above_of, all_staged, at, cmp_of, counts_or, merged, TestData, test_committed, test_staged}
 use Rattle.std.specs.Option.{is_some}
 use Rattle.covstore.proofs.AddsPoints.{points_added, points_room}
 use Rattle.covstore.proofs.EachKind.{each_kind, same_test}
