@@ -40,7 +40,7 @@ pub(crate) fn ascending_len(items: &PackedItems<'_>) -> usize
         let Some(next) = least_after(&item, least) else {
             return len;
         };
-        if len == MAX_STAGED_AT_ONCE {
+        if len >= MAX_STAGED_AT_ONCE {
             return len;
         }
         least = next;

@@ -92,7 +92,7 @@ impl<A: Allocator + Copy> FileIndex<A> {
 
     /// The staged totals of the file. `first` is the file's first test, if it has one.
     pub(crate) fn totals(&self, first: Option<&Test<A>>) -> Totals
-        ensures { result ≡ index_totals (index_staged (points_or_none (option_map test_staged (option_copied first))) self.now) }
+        ensures { result ≡ index_totals (index_staged (points_or_none (option_map test_staged (option_copied first.entry))) self.now) }
     {
         if let Some(counts) = &self.counts {
             return counts.get().totals();
@@ -105,7 +105,7 @@ impl<A: Allocator + Copy> FileIndex<A> {
 
     /// The committed totals of the file. `first` is the file's first test, if it has one.
     pub(crate) fn committed_totals(&self, first: Option<&Test<A>>) -> Totals
-        ensures { result ≡ index_totals (index_committed (points_or_none (option_map test_committed (option_copied first))) self.now) }
+        ensures { result ≡ index_totals (index_committed (points_or_none (option_map test_committed (option_copied first.entry))) self.now) }
     {
         if let Some(counts) = &self.counts {
             return counts.get().committed_totals();
