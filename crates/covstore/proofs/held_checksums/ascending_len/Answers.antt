@@ -4,7 +4,7 @@ use Rattle.covstore.proofs.TextsAscend.{ascending_few, ascending_first, ascendin
 use Rattle.covstore.proofs.held_checksums.ascending_len.Goals as goal
 
 pub returns-in_default-clause-ascend : goal.returns-in_default-clause-ascend
-returns-in_default-clause-ascend c = one_ascends (item_ref_data c.in-Some.first) c.args.items.now c.next.new.rest (sym c.copy-rest.ensures ∙ c.in-Some.ensures.steps)
+returns-in_default-clause-ascend c = one_ascends (item_ref_data c.in-Some.first) c.args.items.now c.next.new.self (sym c.copy-rest.ensures ∙ c.in-Some.ensures.steps)
 
 pub loop-item-init : goal.loop-item-init
 loop-item-init c = ascending_first (item_ref_data c.in-Some.first) c.args.items.now _ c.in-Some-least_after.least (sym c.copy-rest.ensures ∙ c.in-Some.ensures.steps) c.in-Some-least_after.ensures

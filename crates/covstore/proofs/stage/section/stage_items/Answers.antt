@@ -13,9 +13,6 @@ loop-rest-init g c =
 pub ascending_len-requires : goal.ascending_len-requires
 ascending_len-requires g c = some_left c.loop-rest.rest _ c.is_empty.ensures c.loop-rest-test.true
 
-pub split_at-some-requires : goal.split_at-some-requires
-split_at-some-requires g c = c.ascending_len.ensures.few
-
 pub stage_some-requires : goal.stage_some-requires
 stage_some-requires g c =
     let l = c.loop-rest in
