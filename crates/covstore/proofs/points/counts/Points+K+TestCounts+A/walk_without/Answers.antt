@@ -1,6 +1,6 @@
 use Rattle.covstore.proofs.Words.{◌≡◌, ◌∙◌, Some, ap, sym, TestCounts, MapData, value_of}
 use Rattle.covstore.proofs.FewerTally.{can_be_less_at, tally_less_at}
-use Rattle.covstore.proofs.points.Points.walk_without.Goals as goal
+use Rattle.covstore.proofs.points.counts.Points+K+TestCounts+A.walk_without.Goals as goal
 
 pub less-requires : goal.less-requires
 less-requires g c =

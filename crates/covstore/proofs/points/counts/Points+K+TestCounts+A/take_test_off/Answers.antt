@@ -1,7 +1,7 @@
 use Rattle.covstore.proofs.Words.{◌≡◌, ◌∙◌, List, Some, ap, refl, subst, sym, TestCounts, IsTallyOf, counts_without, fewer_of, MapData, value_of}
 use Rattle.covmap.specs.Assigned.{assigned}
 use Rattle.covstore.proofs.FewerTally.{can_be_less_at, tally_less_at}
-use Rattle.covstore.proofs.points.Points.take_test_off.Goals as goal
+use Rattle.covstore.proofs.points.counts.Points+K+TestCounts+A.take_test_off.Goals as goal
 
 pub less-self-inside-requires : goal.less-self-inside-requires
 less-self-inside-requires g c =
