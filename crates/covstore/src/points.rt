@@ -119,6 +119,7 @@ pub(crate) struct Points<K: Key, S: PointSum, A: Allocator> {
 
 impl<K: Key, S: PointSum, A: Allocator> Model for Points<K, S, A> {
     ghost use Rattle.covmap.specs.MapData.{MapData};
+    ghost use Rattle.covstore.specs.PointIndex.{IsTallyBy};
 
     ghost Value = { MapData K S };
 
